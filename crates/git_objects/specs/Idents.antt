@@ -1,8 +1,8 @@
 -- Idents: who made a commit, and when.
-use Rattle.std.specs.Prelude.{◌≡◌, ℕ, Bool, true, false, not, cond, ◌&&◌, ◌||◌, ◌==◌, nat_le, List, [], ◌∷◌, ◌++◌, length, Option, Some, None}
+use Rattle.std.specs.Prelude.{◌≡◌, ℕ, Bool, true, false, not, cond, ◌&&◌, ◌||◌, ◌==◌, nat_le, [], ◌∷◌, ◌++◌, length, Option, Some, None}
 use Rattle.std.specs.Option.{option_map, option_map_or}
 use Rattle.std.specs.List.{list_all}
-use Rattle.git_objects.specs.Paths.{Bytes, is_bytes, is_nil}
+use Rattle.git_objects.specs.Paths.{Bytes, is_nil}
 
 abbrev pub is_digit : ℕ → Bool
 is_digit x = nat_le 48 x && nat_le x 57

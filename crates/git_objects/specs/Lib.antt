@@ -5,4 +5,5 @@ pub mod Idents
 pub mod Commits
 pub mod Entries
 pub mod Parts
+pub mod Laws
 pub mod Rows

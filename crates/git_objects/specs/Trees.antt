@@ -1,6 +1,5 @@
 -- Trees: finite maps from paths to leaves, in which no two paths are comparable.
-use Rattle.std.specs.Prelude.{Bool, true, not, cond, ◌&&◌, ◌==◌, T, List, [], ◌∷◌, ◌++◌, Option, Some, None, filter, map, length}
-use Rattle.std.specs.Option.{option_map}
+use Rattle.std.specs.Prelude.{Bool, true, not, cond, ◌&&◌, ◌==◌, T, List, [], ◌∷◌, ◌++◌, Option, Some, None, filter, length}
 use Rattle.std.specs.List.{list_all, filter_map}
 use Rattle.std.specs.FinMap.{put as put_entry, is_sorted}
 use Rattle.git_objects.specs.Paths.{Path, Bytes, is_bytes, is_path, path_cmp, comparable, is_prefix, same_bytes, same_path}

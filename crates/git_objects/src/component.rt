@@ -1,6 +1,6 @@
 // Components of paths.
 ghost use Rattle.std.specs.Prelude.{◌≡◌, ℕ, List, IfOk, true};
-ghost use Rattle.git_objects.specs.Paths.{is_plain, is_component};
+ghost use Rattle.git_objects.specs.Paths.{is_bytes, is_plain, is_component};
 
 use std::alloc::{AllocError, Global};
 use std::marker::Model;
@@ -45,7 +45,8 @@ impl Component {
 
 // Whether no byte is zero or `/`.
 fn is_plain(c: &[u8]) -> bool
-    ensures { result ≡ is_plain c.now }
+    ensures plain { result ≡ is_plain c.now }
+    ensures bytes { is_bytes c.now ≡ true }
 {
     c.iter().all(|x| *x != 0 && *x != b'/')
 }
@@ -54,10 +55,16 @@ fn is_plain(c: &[u8]) -> bool
 pub fn is_component(c: &[u8]) -> bool
     ensures { result ≡ is_component c.now }
 {
-    if !is_plain(c) || c.is_empty() {
+    if !is_plain(c) {
         return false;
     }
-    if c == b".".as_slice() || c == b"..".as_slice() {
+    if c.is_empty() {
+        return false;
+    }
+    if c == b".".as_slice() {
+        return false;
+    }
+    if c == b"..".as_slice() {
         return false;
     }
     c != b".git".as_slice()

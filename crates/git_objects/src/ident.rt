@@ -1,14 +1,15 @@
 // Idents: who made a commit, and when.
 ghost use Rattle.std.specs.Prelude.{◌≡◌, ◌==◌, ℕ, List, IfOk, IsErrOf, position, true, false};
+ghost use Rattle.std.specs.List.{list_all};
 ghost use Rattle.std.specs.Option.{option_map};
-ghost use Rattle.git_objects.specs.Idents.{is_ident, is_ident_name, is_ident_rest, is_ident_end, is_time, is_offset, is_quiet, is_number, ends_in_space, cut_at};
+ghost use Rattle.git_objects.specs.Idents.{is_ident, is_ident_name, is_ident_rest, is_ident_end, is_time, is_offset, is_quiet, is_number, is_digit, ends_in_space, cut_at};
 
 use std::alloc::{AllocError, Global};
 use std::marker::Model;
 use thiserror::Error;
 
 /// Why a text is not an ident.
-#[derive(Debug, Drop, Error)]
+#[derive(Clone, Copy, Debug, PartialEq, Eq, Error)]
 pub enum IdentFault {
     #[error("not an ident")]
     Bad,
@@ -79,13 +80,22 @@ fn cut(byte: u8, text: &[u8]) -> Option<(&[u8], &[u8])>
     }
 }
 
+fn all_digits(text: &[u8]) -> bool
+    ensures { result ≡ list_all is_digit text.now }
+{
+    text.iter().all(|x| 48 <= *x && *x <= 57)
+}
+
 fn is_number(most: usize, text: &[u8]) -> bool
     ensures { result ≡ is_number most text.now }
 {
-    if text.is_empty() || text.len() > most {
+    if text.is_empty() {
         return false;
     }
-    text.iter().all(|x| 48 <= *x && *x <= 57)
+    if text.len() > most {
+        return false;
+    }
+    all_digits(text)
 }
 
 fn is_quiet(text: &[u8]) -> bool

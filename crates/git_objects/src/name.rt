@@ -1,5 +1,7 @@
 // Names of objects.
-ghost use Rattle.std.specs.Prelude.{◌≡◌, ◌∷◌, [], refl};
+ghost use Rattle.std.specs.Prelude.{◌≡◌, ◌∷◌, []};
+ghost use Rattle.std.proofs.Common.{rules};
+ghost use Rattle.std.specs.Cmp.Rules.{hashing};
 ghost use Rattle.git_objects.specs.Names.{name};
 ghost use Rattle.git_objects.specs.Commits.{hex};
 
@@ -12,6 +14,17 @@ use std::hash::{Hash, Hasher};
 /// The 20 bytes of an object's name.
 #[derive(Clone, Copy, Debug, PartialEq, Eq)]
 pub struct Name(pub [u8; 20]);
+
+// One write of all 20 bytes: a map keyed by names hashes each of them once.
+impl Hash for Name {
+    ghost hash_input = { λ n. n.0 ∷ [] };
+
+    ghost respects_eq = { Prim.search (hashing, rules) };
+
+    fn hash<H: Hasher>(&self, state: &mut H) {
+        state.write(&self.0);
+    }
+}
 
 impl Name {
     /// The 40 lower-case digits.

@@ -1,0 +1,5 @@
+pub mod Basics
+pub mod Order
+pub mod Texts
+pub mod Spellings
+pub mod IdentSpelling

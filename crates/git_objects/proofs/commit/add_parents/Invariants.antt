@@ -1,0 +1,7 @@
+use Rattle.std.proofs.Common.{◌≡◌, ◌++◌, [], map, take}
+use Rattle.git_objects.specs.Commits.{parent_lines}
+use Rattle.git_objects.specs.Parts.{name_bytes}
+use Rattle.git_objects.proofs.commit.add_parents.Given as goal
+
+abbrev pub invariant-loop-parent : goal.invariant-loop-parent
+invariant-loop-parent l = l.body.items ≡ l.fn.body.items ++ parent_lines (map name_bytes (take l.parent-index l.parents)) []
