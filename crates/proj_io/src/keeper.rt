@@ -14,8 +14,8 @@ pub enum KeepError {
     OutOfMemory,
 }
 
-/// Where items are kept: lists of 1 to 2^29 bytes, at most 1,048,576 of them. Its count of faults is a u64 that stays at
-/// its last value.
+/// Where items are kept: lists of 1 to 2^29 bytes, at most 1,048,576 of them, numbered from 0. Its count of faults is a
+/// u64 that stays at its last value.
 pub trait Keeper {
     /// Whether it tells its items. No call changes that.
     ghost tells: { Self → Type 0 };
@@ -42,7 +42,7 @@ pub trait Keeper {
         ensures told { tells self.new ↔ tells self.old }
         ensures cause { Counts (faults self.old) (faults self.new) (IsErr result) };
 
-    /// The length of an item in bytes, 0 where there is no such item. Items are numbered from 0.
+    /// The length of an item in bytes, 0 where there is no such item.
     fn size(&mut self, item: u32) -> Result<u32, Failed>
         requires { is_open self.old }
         ensures size { IfOk result (λ n. IfSome (items self.old) (λ all. n ≡ length (item_of all item))) }

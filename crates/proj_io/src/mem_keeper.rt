@@ -47,35 +47,6 @@ impl Model for MemKeeper {
     ghost invariant = { λ s. (length s.items.items ≤ 2 ^ 20) × All (λ item. length item ≤ 2 ^ 29) s.items.items };
 }
 
-// The entry for a call.
-fn failing_at(failing: &[Failing], call: u64) -> Option<Failing>
-    ensures { result ≡ find (λ entry. entry.call == call) failing.now }
-{
-    failing.iter().copied().find(|entry| entry.call == call)
-}
-
-// The bytes of an item, none where there is no such item.
-fn item_bytes(items: &[Bytes], item: u32) -> &[u8]
-    ensures bytes { result.now ≡ item_of items.now item }
-    ensures none { length items.now ≤ item → length result.now ≡ 0 }
-    ensures size { All (λ bytes. length bytes ≤ 2 ^ 29) items.now → length result.now ≤ 2 ^ 29 }
-{
-    match items.get(item as usize) {
-        Some(bytes) => bytes.bytes(),
-        None => &[],
-    }
-}
-
-// Adds an item.
-fn add(alloc: Global, items: &mut Vec<Bytes>, bytes: &[u8]) -> Result<(), AllocError>
-    ensures ok { OnOk result (items.new.items ≡ items.old.items ++ bytes.now ∷ []) }
-    ensures err { OnErr result (items.new.items ≡ items.old.items) }
-{
-    let copy = bytes.to_vec(alloc)?;
-    items.push(Bytes::of(copy))?;
-    Ok(())
-}
-
 impl MemKeeper {
     /// An empty keeper. The calls numbered in `failing` fail; the first entry of a number counts.
     pub fn new(alloc: Global, failing: Vec<Failing>) -> MemKeeper
@@ -132,14 +103,6 @@ impl MemKeeper {
         }
         self.faults = self.faults.saturating_add(1);
         Err(Failed)
-    }
-}
-
-#[cfg(test)]
-impl MemKeeper {
-    // Its count of faults.
-    pub(crate) fn faults(&self) -> u64 {
-        self.faults
     }
 }
 
@@ -242,5 +205,42 @@ impl Keeper for MemKeeper {
         self.faults = self.faults.saturating_add(1);
         self.broken = true;
         Err(KeepError::Failed)
+    }
+}
+
+// The entry for a call.
+fn failing_at(failing: &[Failing], call: u64) -> Option<Failing>
+    ensures { result ≡ find (λ entry. entry.call == call) failing.now }
+{
+    failing.iter().copied().find(|entry| entry.call == call)
+}
+
+// The bytes of an item, none where there is no such item.
+fn item_bytes(items: &[Bytes], item: u32) -> &[u8]
+    ensures bytes { result.now ≡ item_of items.now item }
+    ensures none { length items.now ≤ item → length result.now ≡ 0 }
+    ensures size { All (λ bytes. length bytes ≤ 2 ^ 29) items.now → length result.now ≤ 2 ^ 29 }
+{
+    match items.get(item as usize) {
+        Some(bytes) => bytes.bytes(),
+        None => &[],
+    }
+}
+
+// Adds an item.
+fn add(alloc: Global, items: &mut Vec<Bytes>, bytes: &[u8]) -> Result<(), AllocError>
+    ensures ok { OnOk result (items.new.items ≡ items.old.items ++ bytes.now ∷ []) }
+    ensures err { OnErr result (items.new.items ≡ items.old.items) }
+{
+    let copy = bytes.to_vec(alloc)?;
+    items.push(Bytes::of(copy))?;
+    Ok(())
+}
+
+#[cfg(test)]
+impl MemKeeper {
+    // Its count of faults.
+    pub(crate) fn faults(&self) -> u64 {
+        self.faults
     }
 }
