@@ -3,3 +3,9 @@ pub mod Order
 pub mod Texts
 pub mod Spellings
 pub mod IdentSpelling
+pub mod Maps
+pub mod Pointwise
+pub mod Under
+pub mod Levels
+pub mod Bodies
+pub mod Inserts

@@ -1,0 +1,6 @@
+pub mod SplitParts
+pub mod Joins
+pub mod Pairs
+pub mod Comparables
+pub mod Levels
+pub mod Readings

@@ -1,0 +1,4 @@
+pub mod PathTexts
+pub mod RefNames
+pub mod Laws
+pub mod Rows

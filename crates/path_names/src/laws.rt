@@ -1,0 +1,20 @@
+// Laws of paths.
+ghost use Rattle.path_names.specs.Laws.{ComparableLaw, PathOrderLaw, PathTextLaw};
+
+/// Any two paths stand in one of the orders less, equal and greater, and equal ones alone are tied. This order compares
+/// the components from the first on, each with the slash that follows it, and gives the same answer as comparing the
+/// bytes of the whole texts.
+pub fn path_order_law()
+    ensures { PathOrderLaw }
+{}
+
+/// Two paths are comparable whichever of them is named first.
+pub fn comparable_law()
+    ensures { ComparableLaw }
+{}
+
+/// A text that is read as a path is the text of that path, and the text of any path has its components as the parts
+/// between slashes.
+pub fn path_text_law()
+    ensures { PathTextLaw }
+{}

@@ -1,0 +1,15 @@
+//! Paths and ref names.
+#![tactic(auto)]
+
+mod laws;
+mod order;
+mod parts;
+mod path;
+mod ref_name;
+#[cfg(test)]
+mod tests;
+
+pub use laws::{comparable_law, path_order_law, path_text_law};
+pub use order::{before, comparable};
+pub use path::{Path, PathFault};
+pub use ref_name::{RefFault, RefName, is_ref_name};

@@ -1,0 +1,143 @@
+// Paths.
+ghost use Rattle.std.specs.Prelude.{◌≡◌, ◌⊎◌, ◌++◌, ◌+◌, ◌<◌, ℕ, List, length, true, IfOk, OnOk, MatchResult, Ok, Err};
+ghost use Rattle.std.specs.List.{list_all};
+ghost use Rattle.git_objects.specs.Paths.{is_component, is_path, text};
+ghost use Rattle.path_names.specs.PathTexts.{path_of};
+
+use crate::parts::{components_of, count_parts};
+use git_objects::Component;
+use std::alloc::{AllocError, Global};
+use std::marker::Model;
+use thiserror::Error;
+
+/// Why a text is not read as a path.
+#[derive(Clone, Copy, Debug, PartialEq, Eq, Error)]
+pub enum PathFault {
+    /// The text is empty.
+    #[error("empty path")]
+    Empty,
+    /// A part between slashes is no component.
+    #[error("bad component")]
+    BadComponent,
+    /// A component has more than 255 bytes.
+    #[error("long component")]
+    LongComponent,
+    /// More than 128 components.
+    #[error("too many components")]
+    TooDeep,
+    /// More than 4,096 bytes.
+    #[error("path too long")]
+    TooLong,
+    #[error("out of memory")]
+    OutOfMemory,
+}
+
+/// A path from the root of a tree, of one or more components.
+#[derive(Debug, Drop)]
+pub struct Path {
+    components: Vec<Component>,
+}
+
+impl Model for Path {
+    ghost Value = { List (List ℕ) };
+
+    ghost view = { λ p. p.components.items };
+
+    ghost invariant = { λ p. is_path p.components.items ≡ true };
+}
+
+impl Path {
+    /// Reads components between slashes.
+    pub fn parse(alloc: Global, text: &[u8]) -> Result<Path, PathFault>
+        ensures { MatchResult result (λ path. path_of text.now ≡ Ok path)
+            (λ fault. (fault ≡ PathFault.OutOfMemory) ⊎ (path_of text.now ≡ Err fault)) }
+    {
+        let count = count_parts(text)?;
+        match components_of(alloc, text, count) {
+            Ok(components) => Ok(Path { components }),
+            Err(_) => Err(PathFault::OutOfMemory),
+        }
+    }
+
+    /// The components of both in order, without the limits of `parse`.
+    pub fn of_parts(
+        alloc: Global,
+        head: &[Component],
+        tail: &[Component],
+    ) -> Result<Path, AllocError>
+        requires { 0 < length head.now + length tail.now }
+        ensures { IfOk result (λ path. path ≡ head.now ++ tail.now) }
+    {
+        let mut components = Vec::with_capacity(alloc, head.len() + tail.len())?;
+        add_copies(&mut components, alloc, head)?;
+        add_copies(&mut components, alloc, tail)?;
+        Ok(Path { components })
+    }
+
+    pub fn components(&self) -> &[Component]
+        ensures components { result.now ≡ self.now }
+        ensures path { is_path self.now ≡ true }
+    {
+        &self.components
+    }
+
+    /// The components joined with slashes.
+    pub fn text(&self, alloc: Global) -> Result<Vec<u8>, AllocError>
+        ensures { IfOk result (λ bytes. bytes.items ≡ text self.now) }
+    {
+        joined_text(alloc, &self.components)
+    }
+
+    /// This path and then the tail.
+    pub fn joined(&self, alloc: Global, tail: &Path) -> Result<Path, AllocError>
+        ensures { IfOk result (λ path. path ≡ self.now ++ tail.now) }
+    {
+        Path::of_parts(alloc, &self.components, &tail.components)
+    }
+
+    pub fn copy(&self, alloc: Global) -> Result<Path, AllocError>
+        ensures { IfOk result (λ copy. copy ≡ self.now) }
+    {
+        Path::of_parts(alloc, &self.components, &[])
+    }
+}
+
+// Adds copies of the components.
+fn add_copies(
+    onto: &mut Vec<Component>,
+    alloc: Global,
+    from: &[Component],
+) -> Result<(), AllocError>
+    ensures added { OnOk result (onto.new.items ≡ onto.old.items ++ from.now) }
+    ensures components { OnOk result (list_all is_component from.now ≡ true) }
+{
+    for component in from {
+        onto.push(Component::of(component.bytes().to_vec(alloc)?))?;
+    }
+    Ok(())
+}
+
+// The components joined with slashes.
+fn joined_text(alloc: Global, components: &[Component]) -> Result<Vec<u8>, AllocError>
+    ensures { IfOk result (λ bytes. bytes.items ≡ text components.now) }
+{
+    let mut text = Vec::with_capacity(alloc, room_for(components))?;
+    for (i, component) in components.iter().enumerate() {
+        if i > 0 {
+            text.push(b'/')?;
+        }
+        text.extend_from_slice(component.bytes())?;
+    }
+    Ok(text)
+}
+
+// Room for each component and a slash, so that the text takes memory once.
+fn room_for(components: &[Component]) -> usize {
+    let mut room = 0usize;
+    for component in components {
+        room = room
+            .saturating_add(component.bytes().len())
+            .saturating_add(1);
+    }
+    room
+}

@@ -1,0 +1,136 @@
+// Ref names.
+ghost use Rattle.std.specs.Prelude.{◌≡◌, ℕ, List, true, false, IfOk, IsErrOf};
+ghost use Rattle.std.specs.List.{list_all};
+ghost use Rattle.path_names.specs.PathTexts.{parts};
+ghost use Rattle.path_names.specs.RefNames.{is_ref_name, is_ref_byte, has_pair, is_ref_part};
+
+use std::alloc::{AllocError, Global};
+use std::marker::Model;
+
+/// Why a text is not read as a ref name.
+#[derive(Clone, Copy, Debug, PartialEq, Eq)]
+pub enum RefFault {
+    Bad,
+    OutOfMemory,
+}
+
+/// The full name of a ref, as `refs/heads/main`, by the rules of git-check-ref-format(1).
+#[derive(Debug, Drop)]
+pub struct RefName {
+    inner: Vec<u8>,
+}
+
+impl Model for RefName {
+    ghost Value = { List ℕ };
+
+    ghost view = { λ r. r.inner.items };
+
+    ghost invariant = { λ r. is_ref_name r.inner.items ≡ true };
+}
+
+impl RefName {
+    /// Bad where the text is no ref name.
+    pub fn parse(alloc: Global, text: &[u8]) -> Result<RefName, RefFault>
+        ensures ok { IfOk result (λ name. (name ≡ text.now) × (is_ref_name text.now ≡ true)) }
+        ensures bad { IsErrOf result RefFault.Bad → is_ref_name text.now ≡ false }
+        ensures refused { is_ref_name text.now ≡ false → IsErrOf result RefFault.Bad }
+    {
+        if !is_ref_name(text) {
+            return Err(RefFault::Bad);
+        }
+        match text.to_vec(alloc) {
+            Ok(inner) => Ok(RefName { inner }),
+            Err(_) => Err(RefFault::OutOfMemory),
+        }
+    }
+
+    pub fn text(&self) -> &[u8]
+        ensures text { result.now ≡ self.now }
+        ensures valid { is_ref_name self.now ≡ true }
+    {
+        &self.inner
+    }
+
+    pub fn copy(&self, alloc: Global) -> Result<RefName, AllocError>
+        ensures { IfOk result (λ copy. copy ≡ self.now) }
+    {
+        Ok(RefName {
+            inner: self.inner.to_vec(alloc)?,
+        })
+    }
+}
+
+/// Whether the bytes are a ref name. It takes no memory.
+#[tactic(auto, unfolding(crate::specs::RefNames::is_ref_name))]
+pub fn is_ref_name(t: &[u8]) -> bool
+    ensures { result ≡ is_ref_name t.now }
+{
+    if t.len() < 6 {
+        return false;
+    }
+    if t.len() > 1024 {
+        return false;
+    }
+    if !t.starts_with(b"refs/") {
+        return false;
+    }
+    if !has_ref_bytes(t) {
+        return false;
+    }
+    if has_pair(b'.', b'.', t) {
+        return false;
+    }
+    if has_pair(b'@', b'{', t) {
+        return false;
+    }
+    if has_pair(b'/', b'/', t) {
+        return false;
+    }
+    if t.ends_with(b"/") {
+        return false;
+    }
+    if t.ends_with(b".") {
+        return false;
+    }
+    has_ref_parts(t)
+}
+
+// Whether a ref name may hold the byte.
+fn is_ref_byte(x: u8) -> bool
+    ensures { result ≡ is_ref_byte x }
+{
+    x >= 33 && !matches!(x, 127 | b'~' | b'^' | b':' | b'?' | b'*' | b'[' | b'\\')
+}
+
+// Whether a ref name may hold each byte.
+fn has_ref_bytes(t: &[u8]) -> bool
+    ensures { result ≡ list_all is_ref_byte t.now }
+{
+    t.iter().all(|x| is_ref_byte(*x))
+}
+
+// Whether a stands somewhere directly before b.
+fn has_pair(a: u8, b: u8, t: &[u8]) -> bool
+    ensures { result ≡ has_pair a b t.now }
+{
+    for i in 1..t.len() {
+        if t[i - 1] == a && t[i] == b {
+            return true;
+        }
+    }
+    false
+}
+
+// Whether a ref name may hold the part between slashes.
+fn is_ref_part(t: &[u8]) -> bool
+    ensures { result ≡ is_ref_part t.now }
+{
+    !t.starts_with(b".") && !t.ends_with(b".lock")
+}
+
+// Whether a ref name may hold each part between slashes.
+fn has_ref_parts(t: &[u8]) -> bool
+    ensures { result ≡ list_all is_ref_part (parts t.now) }
+{
+    t.split(|x| *x == b'/').all(|part| is_ref_part(part))
+}
