@@ -1,10 +1,9 @@
 -- A tree's body, entry by entry in path order.
-use Rattle.std.proofs.Common.{◌≡◌, ℕ, zero, suc, ◌≤◌, ◌<◌, ◌+◌, Bool, true, false, cond, not, ◌&&◌, ◌||◌, T, List, [], ◌∷◌, ◌++◌, map, take, drop, length, refl, sym, ap, subst, ◌∙◌, Option, Some, None, arith, append-nil}
+use Rattle.std.proofs.Common.{◌≡◌, ℕ, zero, suc, ◌≤◌, ◌<◌, true, false, cond, not, ◌&&◌, T, [], ◌∷◌, ◌++◌, map, take, drop, length, refl, sym, ap, subst, ◌∙◌, Some, None, arith, append-nil}
 use Rattle.std.specs.Prelude.{max}
 use Rattle.std.specs.List.{list_all, cons_option, flat_map}
 use Rattle.std.proofs.lemmas.List.{take-append-drop}
-use Rattle.std.specs.Cmp.Lexicographic.{bytes_decides}
-use Rattle.git_objects.specs.Paths.{Bytes, Path, same_bytes, same_path, is_path, is_prefix, comparable}
+use Rattle.git_objects.specs.Paths.{Bytes, Path, same_bytes, same_path, is_path, comparable}
 use Rattle.git_objects.specs.Trees.{Leaf, Flat, at, IsTree, rest_below, moved, under}
 use Rattle.git_objects.specs.Names.{tops, name, line, line_of, leaf_mode, leaf_name, body_within, depth, body}
 use Rattle.git_objects.specs.declared.kind.Kind.TheVariants.{Tree}
@@ -181,9 +180,9 @@ module _ (c f : Bytes) (q : Path) (x : Leaf) (t : Flat) (h : IsTree ((c ∷ f �
       subst (λ (a : Flat). body_within (suc n) a ≡ entry_at n a c ++ body_within (suc n) outside) (ap (λ (a : Flat). (c ∷ f ∷ q, x) ∷ a) (take-append-drop (run c t) t))
       (subst (λ (s : Flat). body_within (suc n) (((c ∷ f ∷ q, x) ∷ take (run c t) t) ++ drop (run c t) t) ≡ entry_at n (((c ∷ f ∷ q, x) ∷ take (run c t) t) ++ drop (run c t) t) c ++ body_within (suc n) s) outside_is
       (body_run n c (c ∷ f ∷ q, x) (take (run c t) t) (drop (run c t) t)
-        (both (same_bytes c c) _ (subst T (sym (same_bytes-self c)) tt) (all_run (λ e. begins c e.0) t))
-        (subst (NoneBegins c) (sym outside_is) is_run)
-        (list_all-drop (λ e. is_path e.0) (run c t) t (second (is_path (c ∷ f ∷ q)) _ h.paths))))
+      (both (same_bytes c c) _ (subst T (sym (same_bytes-self c)) tt) (all_run (λ e. begins c e.0) t))
+      (subst (NoneBegins c) (sym outside_is) is_run)
+      (list_all-drop (λ e. is_path e.0) (run c t) t (second (is_path (c ∷ f ∷ q)) _ h.paths))))
 
   pub dir_level : body all ≡ line Dir c (name Tree (body (tails inside))) ++ body outside
   dir_level =

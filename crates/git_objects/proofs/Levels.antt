@@ -1,6 +1,5 @@
 -- One level of a tree in path order: the run of paths with one first component, and what comes after it.
-use Rattle.std.proofs.Common.{◌≡◌, ℕ, zero, suc, ◌≤◌, ◌+◌, Bool, true, false, cond, not, ◌&&◌, ◌||◌, T, List, [], ◌∷◌, ◌++◌, take, drop, length, refl, sym, ap, subst, ◌∙◌, Option, Some, None, arith, true≢false, append-nil}
-use Rattle.std.specs.Prelude.{max}
+use Rattle.std.proofs.Common.{◌≡◌, ℕ, zero, suc, ◌+◌, Bool, true, false, cond, not, ◌&&◌, ◌||◌, T, List, [], ◌∷◌, ◌++◌, take, drop, refl, sym, ap, subst, ◌∙◌, Some, None, arith, true≢false}
 use Rattle.std.specs.List.{list_all, cons_option, flat_map, prefix_len}
 use Rattle.std.specs.declared.cmp.Ordering.{Ordering}
 use Rattle.std.specs.declared.cmp.Ordering.TheVariants.{Less, Equal, Greater}
@@ -9,10 +8,9 @@ use Rattle.std.specs.Cmp.Lexicographic.{slice_cmp, nat_list_cmp_total, bytes_dec
 use Rattle.std.specs.FinMap.{is_sorted, slice_cmp-IsAntisymmetric, nat_cmp-IsAntisymmetric}
 use Rattle.std.specs.FinMap.Entries.{below_all}
 use Rattle.git_objects.specs.Paths.{Bytes, Path, same_bytes, same_path, is_component, is_path, is_prefix, comparable, key, path_cmp}
-use Rattle.git_objects.specs.Trees.{Leaf, Flat, at, IsTree, no_comparable, rest_below, moved, under}
-use Rattle.git_objects.specs.Names.{tops, add_top, with_top, name, line, line_of, leaf_mode, leaf_name, body_within, depth, body}
+use Rattle.git_objects.specs.Trees.{Leaf, Flat, at, IsTree, rest_below, moved, under}
+use Rattle.git_objects.specs.Names.{tops, add_top, name, line_of, body_within}
 use Rattle.git_objects.specs.declared.kind.Kind.TheVariants.{Tree}
-use Rattle.git_objects.specs.declared.mode.Mode.TheVariants.{Dir}
 use Rattle.git_objects.proofs.Basics.{Each, both, first, second, same_bytes-self, same_bytes-back, no_slash}
 use Rattle.git_objects.proofs.Order.{front}
 use Rattle.git_objects.proofs.Under.{under-append}

@@ -1,5 +1,8 @@
 -- The order of paths, a component at a time.
-use Rattle.std.proofs.Common.{◌≡◌, ◌≢◌, ◌⊎◌, ℕ, zero, suc, ◌≤◌, ◌<◌, Bool, true, false, cond, [], ◌∷◌, ◌++◌, length, take, Option, Some, None, nat_eq, refl, sym, ap, ◌∙◌, true≢false, eq-eqb, inl, inr, arith, ◌+◌, ltb, drop, get_or, drop-cons, add-one, T, subst}
+use Rattle.std.proofs.Common.{◌≡◌, ◌≢◌, ◌⊎◌, inl, inr, refl, sym, ap, ◌∙◌, subst}
+use Rattle.std.proofs.Common.{ℕ, zero, suc, ◌+◌, ◌≤◌, ◌<◌, nat_eq, ltb, add-one, arith, eq-eqb}
+use Rattle.std.proofs.Common.{Bool, true, false, cond, T, true≢false, Option, Some, None}
+use Rattle.std.proofs.Common.{[], ◌∷◌, ◌++◌, length, take, drop, get_or, drop-cons}
 use Rattle.std.specs.declared.cmp.Ordering.{Ordering}
 use Rattle.std.specs.declared.cmp.Ordering.TheVariants.{Less, Equal, Greater}
 use Rattle.std.specs.List.{slice_get}
@@ -44,30 +47,39 @@ Level c m d k n =
     slice_cmp nat_cmp (with_slash c m) (with_slash d k)
     ≡ ordering_then (slice_cmp nat_cmp (take n c) (take n d)) (option_cmp nat_cmp (byte c m n) (byte d k n))
 
-ended : (c : Bytes) (m : Bool) (d : Bytes) (k : Bool) → (length c ≤ 0) ⊎ (length d ≤ 0) → plain c ≡ true → plain d ≡ true → Level c m d k 0
+before_byte : (y : ℕ) (d : Bytes) (o : Ordering) → plain (y ∷ d) ≡ true → ordering_then (nat_cmp 47 y) o ≡ nat_cmp 47 y
+before_byte y d o q = decided (nat_cmp 47 y) o (λ e. not_slash y d q (sym (nat_cmp-IsAntisymmetric 47 y e)))
+
+behind_byte : (x : ℕ) (c : Bytes) (o : Ordering) → plain (x ∷ c) ≡ true → ordering_then (nat_cmp x 47) o ≡ nat_cmp x 47
+behind_byte x c o p = decided (nat_cmp x 47) o (λ e. not_slash x c p (nat_cmp-IsAntisymmetric x 47 e))
+
+ended : (c : Bytes) (m : Bool) (d : Bytes) (k : Bool) → (length c ≤ 0) ⊎ (length d ≤ 0) →
+    plain c ≡ true → plain d ≡ true → Level c m d k 0
 ended [] true [] true h p q = refl
 ended [] true [] false h p q = refl
 ended [] false [] true h p q = refl
 ended [] false [] false h p q = refl
 ended [] false (y ∷ d) true h p q = refl
 ended [] false (y ∷ d) false h p q = refl
-ended [] true (y ∷ d) true h p q = decided (nat_cmp 47 y) _ (λ e. not_slash y d q (sym (nat_cmp-IsAntisymmetric 47 y e)))
-ended [] true (y ∷ d) false h p q = decided (nat_cmp 47 y) _ (λ e. not_slash y d q (sym (nat_cmp-IsAntisymmetric 47 y e)))
+ended [] true (y ∷ d) true h p q = before_byte y d _ q
+ended [] true (y ∷ d) false h p q = before_byte y d _ q
 ended (x ∷ c) true [] false h p q = refl
 ended (x ∷ c) false [] false h p q = refl
-ended (x ∷ c) true [] true h p q = decided (nat_cmp x 47) _ (λ e. not_slash x c p (nat_cmp-IsAntisymmetric x 47 e))
-ended (x ∷ c) false [] true h p q = decided (nat_cmp x 47) _ (λ e. not_slash x c p (nat_cmp-IsAntisymmetric x 47 e))
+ended (x ∷ c) true [] true h p q = behind_byte x c _ p
+ended (x ∷ c) false [] true h p q = behind_byte x c _ p
 ended (x ∷ c) m (y ∷ d) k h p q = absurd (elim h [ inl l ↦ omega arith | inr r ↦ omega arith ])
 
 -- bytes that both have are compared first, then the byte behind them
-pub level_is : (c : Bytes) (m : Bool) (d : Bytes) (k : Bool) (n : ℕ) → n ≤ length c → n ≤ length d → (length c ≤ n) ⊎ (length d ≤ n) → plain c ≡ true → plain d ≡ true → Level c m d k n
+pub level_is : (c : Bytes) (m : Bool) (d : Bytes) (k : Bool) (n : ℕ) → n ≤ length c → n ≤ length d →
+    (length c ≤ n) ⊎ (length d ≤ n) → plain c ≡ true → plain d ≡ true → Level c m d k n
 level_is c m d k zero h g e p q = ended c m d k e p q
 level_is [] m d k (suc n) h g e p q = absurd (omega arith)
 level_is (x ∷ c) m [] k (suc n) h g e p q = absurd (omega arith)
 level_is (x ∷ c) m (y ∷ d) k (suc n) h g e p q =
+    let f : (length c ≤ n) ⊎ (length d ≤ n) = elim e [ inl l ↦ inl (omega arith) | inr r ↦ inr (omega arith) ] in
+    let rest = level_is c m d k n (omega arith) (omega arith) f (second_so _ _ p) (second_so _ _ q) in
     (λ i. slice_cmp nat_cmp (behind x c m i) (behind y d k i))
-    ∙ ap (ordering_then (nat_cmp x y))
-    (level_is c m d k n (omega arith) (omega arith) (elim e [ inl l ↦ inl (omega arith) | inr r ↦ inr (omega arith) ]) (second_so _ _ p) (second_so _ _ q))
+    ∙ ap (ordering_then (nat_cmp x y)) rest
     ∙ then_assoc (nat_cmp x y) (slice_cmp nat_cmp (take n c) (take n d)) (option_cmp nat_cmp (byte c m n) (byte d k n))
 
 -- the component at a place of a path, as the text has it
@@ -79,18 +91,34 @@ key_at c a j =
     ]
     refl
 
--- one turn of the loop
-pub level_more : (a b : Path) (i : ℕ) (x y : Bytes) → i < length a → i < length b → x ≡ get_or a i x → y ≡ get_or b i y →
-    path_cmp (drop i a) (drop i b)
-    ≡ ordering_then (slice_cmp nat_cmp (with_slash x (ltb (i + 1) (length a))) (with_slash y (ltb (i + 1) (length b)))) (path_cmp (drop (i + 1) a) (drop (i + 1) b))
+-- the order of two components at a place of two paths, and of what is left of the paths there
+abbrev level : Path → Path → ℕ → Bytes → Bytes → Ordering
+level a b i c d = slice_cmp nat_cmp (with_slash c (ltb (i + 1) (length a))) (with_slash d (ltb (i + 1) (length b)))
+
+abbrev left : Path → Path → ℕ → Ordering
+left a b i = path_cmp (drop i a) (drop i b)
+
+level_more : (a b : Path) (i : ℕ) (x y : Bytes) → i < length a → i < length b → x ≡ get_or a i x → y ≡ get_or b i y →
+    left a b i ≡ ordering_then (level a b i x y) (left a b (i + 1))
 level_more a b i x y h g e f =
     (λ k. path_cmp (drop-cons a i x h k) (drop-cons b i y g k))
     ∙ (λ k. path_cmp (sym e k ∷ drop (suc i) a) (sym f k ∷ drop (suc i) b))
-    ∙ (λ k. ordering_then (slice_cmp nat_cmp (key_at x a (suc i) k) (key_at y b (suc i) k)) (path_cmp (drop (suc i) a) (drop (suc i) b)))
-    ∙ (λ k. let j = sym (add-one i) k in ordering_then (slice_cmp nat_cmp (with_slash x (ltb j (length a))) (with_slash y (ltb j (length b)))) (path_cmp (drop j a) (drop j b)))
+    ∙ (λ k. ordering_then (slice_cmp nat_cmp (key_at x a (suc i) k) (key_at y b (suc i) k)) (left a b (suc i)))
+    ∙ (λ k.
+    let j = sym (add-one i) k in
+    ordering_then (slice_cmp nat_cmp (with_slash x (ltb j (length a))) (with_slash y (ltb j (length b)))) (left a b j))
+
+-- one turn of the loop
+pub level_turn : (a b : Path) (i : ℕ) (x y c d : Bytes) (o : Ordering) → i < length a → i < length b →
+    x ≡ get_or a i x → y ≡ get_or b i y → c ≡ x → d ≡ y → o ≡ level a b i c d → left a b i ≡ path_cmp a b →
+    path_cmp a b ≡ ordering_then o (left a b (i + 1))
+level_turn a b i x y c d o h g e f u v w before_now =
+    sym before_now ∙ level_more a b i x y h g e f
+    ∙ (λ k. ordering_then (sym (w ∙ (λ j. level a b i (u j) (v j))) k) (left a b (i + 1)))
 
 -- where one path has ended
-pub level_end : (p q : Path) (k m n : ℕ) → (length p ≡ 0) ⊎ (length q ≡ 0) → length p + k ≡ m → length q + k ≡ n → ltb m n ≡ is_lt (path_cmp p q)
+pub level_end : (p q : Path) (k m n : ℕ) → (length p ≡ 0) ⊎ (length q ≡ 0) → length p + k ≡ m → length q + k ≡ n →
+    ltb m n ≡ is_lt (path_cmp p q)
 level_end [] [] k m n h e f = le-ltb m n (omega arith)
 level_end [] (d ∷ q) k m n h e f = lt-ltb m n (omega arith)
 level_end (c ∷ p) [] k m n h e f = le-ltb m n (omega arith)
@@ -107,12 +135,6 @@ untold Less rest h = absurd (true≢false h)
 untold Equal rest h = refl
 untold Greater rest h = absurd (true≢false h)
 
-pub level_turn : (a b : Path) (i : ℕ) (x y c d : Bytes) (o : Ordering) → i < length a → i < length b → x ≡ get_or a i x → y ≡ get_or b i y → c ≡ x → d ≡ y →
-    o ≡ slice_cmp nat_cmp (with_slash c (ltb (i + 1) (length a))) (with_slash d (ltb (i + 1) (length b))) →
-    path_cmp (drop i a) (drop i b) ≡ path_cmp a b → path_cmp a b ≡ ordering_then o (path_cmp (drop (i + 1) a) (drop (i + 1) b))
-level_turn a b i x y c d o h g e f u v w before_now =
-    sym before_now ∙ level_more a b i x y h g e f
-    ∙ (λ k. ordering_then ((sym (w ∙ (λ j. slice_cmp nat_cmp (with_slash (u j) (ltb (i + 1) (length a))) (with_slash (v j) (ltb (i + 1) (length b)))))) k) (path_cmp (drop (i + 1) a) (drop (i + 1) b)))
-
+-- on paths
 pub before-paths : (p q : Path) → is_path p ≡ true → is_path q ≡ true → before p q ≡ is_lt (path_cmp p q)
 before-paths p q h g = ap is_lt (text_order p q (subst T (sym h) tt) (subst T (sym g) tt))

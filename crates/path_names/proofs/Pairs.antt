@@ -1,5 +1,6 @@
 -- Two bytes that stand next to each other, at a turn of a loop.
-use Rattle.std.proofs.Common.{◌≡◌, ℕ, suc, ◌+◌, ◌-◌, ◌<◌, ◌≤◌, Bool, true, false, ◌&&◌, ◌||◌, eqb, [], ◌∷◌, length, get_or, drop, refl, sym, ap, ◌∙◌, drop-cons, arith, inl, inr}
+use Rattle.std.proofs.Common.{◌≡◌, refl, sym, ap, ◌∙◌, inl, inr, ℕ, suc, ◌+◌, ◌-◌, ◌<◌, ◌≤◌, arith}
+use Rattle.std.proofs.Common.{Bool, true, false, ◌&&◌, ◌||◌, eqb, [], ◌∷◌, length, get_or, drop, drop-cons}
 use Rattle.std.proofs.lemmas.Bool.Decides.{eqb_tells}
 use Rattle.git_objects.specs.Paths.{Bytes}
 use Rattle.path_names.specs.RefNames.{has_pair}
@@ -12,7 +13,8 @@ pair_at a b t i h =
 
 -- the byte before i and the byte at i
 pub pair_more : (a b : ℕ) (t : Bytes) (i : ℕ) → 1 ≤ i → i < length t →
-    has_pair a b (drop (i - 1) t) ≡ ((eqb (get_or t (i - 1) 0) a && eqb (get_or t i 0) b) || has_pair a b (drop (i + 1 - 1) t))
+    has_pair a b (drop (i - 1) t)
+    ≡ ((eqb (get_or t (i - 1) 0) a && eqb (get_or t i 0) b) || has_pair a b (drop (i + 1 - 1) t))
 pair_more a b t i h g =
     let e : suc (i - 1) ≡ i = omega arith in
     let f : i ≡ i + 1 - 1 = omega arith in

@@ -1,5 +1,6 @@
 -- Reading a path and writing it undo each other.
-use Rattle.std.proofs.Common.{◌≡◌, ℕ, Bool, true, false, cond, T, [], ◌∷◌, ◌++◌, Result, Ok, Err, eqb, nat_le, length, refl, sym, ap, ◌∙◌, subst}
+use Rattle.std.proofs.Common.{◌≡◌, refl, sym, ap, ◌∙◌, subst, ℕ, eqb, nat_le}
+use Rattle.std.proofs.Common.{Bool, true, false, cond, T, [], ◌∷◌, ◌++◌, length, Result, Ok, Err}
 use Rattle.std.specs.List.{list_all, onto_first}
 use Rattle.std.specs.Cmp.{first_so, second_so}
 use Rattle.std.proofs.lemmas.Bool.{not-true}
@@ -16,8 +17,10 @@ record IsReading (t : Bytes) (p : Path) : Type 0 where
   same : p ≡ parts t
   components : list_all is_component (parts t) ≡ true
 
+-- the last four faults, by their tests
 abbrev answer : Bool → Bool → Bool → Bool → Path → Result Path PathFault
-answer a b c d p = cond a (cond b (cond c (cond d (Ok p) (Err TooLong)) (Err TooDeep)) (Err LongComponent)) (Err BadComponent)
+answer a b c d p =
+    cond a (cond b (cond c (cond d (Ok p) (Err TooLong)) (Err TooDeep)) (Err LongComponent)) (Err BadComponent)
 
 answered : (a b c d : Bool) (p q : Path) → answer a b c d p ≡ Ok q → (a ≡ true) × (q ≡ p)
 answered true true true true p q e = let h : q ≡ p = cc in (refl, h)
@@ -41,12 +44,14 @@ no_slash_first x c h = not-true (eqb x 47) (second_so _ _ (first_so _ _ h))
 
 whole : (c : Bytes) → plain c ≡ true → parts c ≡ c ∷ []
 whole [] h = refl
-whole (x ∷ c) h = slice_split-cons_no (λ y. eqb y 47) x c (no_slash_first x c h) ∙ ap (onto_first x) (whole c (second_so _ _ h))
+whole (x ∷ c) h =
+    slice_split-cons_no (λ y. eqb y 47) x c (no_slash_first x c h) ∙ ap (onto_first x) (whole c (second_so _ _ h))
 
 front : (c t : Bytes) → plain c ≡ true → parts (c ++ 47 ∷ t) ≡ c ∷ parts t
 front [] t h = refl
 front (x ∷ c) t h =
-    slice_split-cons_no (λ y. eqb y 47) x (c ++ 47 ∷ t) (no_slash_first x c h) ∙ ap (onto_first x) (front c t (second_so _ _ h))
+    slice_split-cons_no (λ y. eqb y 47) x (c ++ 47 ∷ t) (no_slash_first x c h)
+    ∙ ap (onto_first x) (front c t (second_so _ _ h))
 
 true-from : (b : Bool) → T b → b ≡ true
 true-from true h = refl

@@ -7,7 +7,8 @@ use Rattle.std.specs.FinMap.{IsAntisymmetric}
 use Rattle.git_objects.specs.Paths.{Bytes, Path, text, comparable, is_path, path_cmp}
 use Rattle.path_names.specs.PathTexts.{parts, path_of}
 
--- The order component by component is total and ties only equal paths, and on paths it is the order of the texts' bytes.
+-- The order component by component is total and ties only equal paths, and on paths it is the order of the texts'
+-- bytes.
 pub record PathOrderLaw : Type 0 where
   pub total : IsTotalOrder path_cmp
   pub antisymmetric : IsAntisymmetric path_cmp

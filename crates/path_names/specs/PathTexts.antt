@@ -14,8 +14,8 @@ abbrev pub parts_left : Option Bytes → Path
 parts_left None = []
 parts_left (Some t) = parts t
 
--- A component has at most 255 bytes, a path at most 128 components and its text at most 4,096 bytes. Of several faults the
--- first in this order is told.
+-- A component has at most 255 bytes, a path at most 128 components and its text at most 4,096 bytes. Of several faults
+-- the first in this order is told.
 unfoldable pub path_of : Bytes → Result Path PathFault
 path_of t =
     cond (is_nil t) (Err Empty)

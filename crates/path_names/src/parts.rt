@@ -1,5 +1,6 @@
 // The parts of a text between slashes.
-ghost use Rattle.std.specs.Prelude.{◌≡◌, ◌==◌, [], ◌∷◌, length, true, IfOk, OnOk, MatchResult, MatchOption, Ok, Err, List, ℕ, position};
+ghost use Rattle.std.specs.Prelude.{◌≡◌, ◌==◌, [], ◌∷◌, List, ℕ, length, position, true};
+ghost use Rattle.std.specs.Prelude.{IfOk, OnOk, MatchResult, MatchOption, Ok, Err};
 ghost use Rattle.std.specs.List.{list_all};
 ghost use Rattle.std.specs.Option.{option_copied};
 ghost use Rattle.git_objects.specs.Paths.{is_component};
@@ -9,6 +10,13 @@ use crate::PathFault;
 use git_objects::{Component, is_component};
 use std::alloc::{AllocError, Global};
 use std::marker::Model;
+
+// The limits of what is read: bytes of a component, components of a path, and bytes of its text.
+const LONGEST_COMPONENT: usize = 255;
+
+const DEEPEST: usize = 128;
+
+const LONGEST_TEXT: usize = 4096;
 
 // The parts of a text that are still to come.
 #[derive(Drop)]
@@ -72,16 +80,16 @@ pub fn count_parts(text: &[u8]) -> Result<usize, PathFault>
         if !is_component(part) {
             return Err(PathFault::BadComponent);
         }
-        short &= part.len() <= 255;
+        short &= part.len() <= LONGEST_COMPONENT;
         count += 1;
     }
     if !short {
         return Err(PathFault::LongComponent);
     }
-    if count > 128 {
+    if count > DEEPEST {
         return Err(PathFault::TooDeep);
     }
-    if text.len() > 4096 {
+    if text.len() > LONGEST_TEXT {
         return Err(PathFault::TooLong);
     }
     Ok(count)

@@ -7,6 +7,11 @@ ghost use Rattle.path_names.specs.RefNames.{is_ref_name, is_ref_byte, has_pair, 
 use std::alloc::{AllocError, Global};
 use std::marker::Model;
 
+// The bytes of the shortest ref name, and of the longest.
+const SHORTEST: usize = 6;
+
+const LONGEST: usize = 1024;
+
 /// Why a text is not read as a ref name.
 #[derive(Clone, Copy, Debug, PartialEq, Eq)]
 pub enum RefFault {
@@ -65,10 +70,10 @@ impl RefName {
 pub fn is_ref_name(t: &[u8]) -> bool
     ensures { result ≡ is_ref_name t.now }
 {
-    if t.len() < 6 {
+    if t.len() < SHORTEST {
         return false;
     }
-    if t.len() > 1024 {
+    if t.len() > LONGEST {
         return false;
     }
     if !t.starts_with(b"refs/") {

@@ -7,8 +7,12 @@ use Rattle.path_names.proofs.order.level_order.Goals as goal
 
 pub returns : goal.returns
 returns c =
-    let shorter : (length c.args.c.now ≤ c.min-n.result) ⊎ (length c.args.d.now ≤ c.min-n.result) = grind arith in
+    let x = c.args.c.now in
+    let y = c.args.d.now in
+    let n = c.min-n.result in
+    let shorter : (length x ≤ n) ⊎ (length y ≤ n) = grind arith in
+    let next = c.cmp-2.ensures ∙ (λ j. option_cmp nat_cmp (c.byte_at.ensures j) (c.byte_at-2.ensures j)) in
     c.then.ensures
-    ∙ (λ i. ordering_then (c.cmp.ensures i) ((c.cmp-2.ensures ∙ (λ j. option_cmp nat_cmp (c.byte_at.ensures j) (c.byte_at-2.ensures j))) i))
-    ∙ sym (level_is c.args.c.now c.args.c_more c.args.d.now c.args.d_more c.min-n.result (omega arith) (omega arith) shorter
-    (plain-component c.args.c.now c.requires.c) (plain-component c.args.d.now c.requires.d))
+    ∙ (λ i. ordering_then (c.cmp.ensures i) (next i))
+    ∙ sym (level_is x c.args.c_more y c.args.d_more n (omega arith) (omega arith) shorter
+    (plain-component x c.requires.c) (plain-component y c.requires.d))

@@ -7,5 +7,6 @@ use Rattle.path_names.proofs.ref_name.has_ref_parts.Goals as goal
 pub returns : goal.returns
 returns c =
     all_from_yields_List is_ref_part _ _ _ c.all.ensures.ran
-    (YieldsList-from_slice_split _ _ c.args.t.now c.split.ensures.rest c.split.ensures.done c.split.ensures.closure (λ x r q k. search (rules, tests)))
+    (YieldsList-from_slice_split _ _ c.args.t.now c.split.ensures.rest c.split.ensures.done
+    c.split.ensures.closure (λ x r q k. search (rules, tests)))
     (λ x b q k. search (rules, tests))

@@ -10,8 +10,8 @@ unfolding is_ref_name
 returns c =
     c.has_ref_parts.ensures
     ∙ sym (λ i.
-    le-leb _ _ c.if-t-lt6.false i
-    && le-leb _ _ c.if-t-gt1024.false i
+    le-leb _ _ c.if-t-lt-SHORTEST.false i
+    && le-leb _ _ c.if-t-gt-LONGEST.false i
     && (sym c.starts_with.ensures.value ∙ c.if-not-starts_with.false) i
     && (sym c.has_ref_bytes.ensures ∙ c.if-not-has_ref_bytes.false) i
     && not ((sym c.has_pair.ensures ∙ c.if-has_pair.false) i)
