@@ -1,0 +1,11 @@
+pub mod Texts
+pub mod Words
+pub mod Streams
+pub mod Projection
+pub mod Step
+pub mod Answer
+pub mod Asked
+pub mod Rows
+pub mod Levels
+pub mod Views
+pub mod Examples

@@ -1,0 +1,409 @@
+// What no clause says: names that real Git gives, the printed texts, and that calls succeed with ample memory.
+use crate::{Outcome, outcome_code, outcome_text, run};
+use proj_io::{MemKeeper, MemSink, MemSource};
+use std::alloc::{AllocError, Global};
+use std::process::Abort;
+use std::test::Fail;
+
+const MAIN: &str = "refs/heads/main";
+
+// One commit with the file `a/f`.
+const HELLO: &[u8] =
+    b"commit refs/heads/main\ncommitter A <a@x> 1700000000 +0000\ndata 5\ninit\nM 100644 inline a/f\ndata 6\nhello\n";
+
+// The name of the commit that `git commit-tree` makes of a tree with `f` alone, and the ident and message of `HELLO`.
+const SHOWN: &[u8] = b"6a27ff6de5d45a65cc66723c6ae6227ea6004aa6\n";
+
+const USAGE: &[u8] =
+    b"usage: proj STORE (import [--force] | project REF FILTER | push REF FILTER | export REF FILTER | batch), proj name REF FILTER, proj trial N\n";
+
+// What goes in, how many bytes each device moves in a call, which call of the input, the output and the error stream
+// fails, and what comes of it.
+#[derive(Drop)]
+struct Row<'a> {
+    words: &'a [&'a str],
+    input: &'a [u8],
+    most: usize,
+    failing: [Option<u64>; 3],
+    outcome: Outcome,
+    output: &'a [u8],
+    text: &'a [u8],
+}
+
+fn strings(alloc: Global, words: &[&str]) -> Result<Vec<String>, AllocError> {
+    let mut all = Vec::new(alloc);
+    for word in words {
+        all.push(String::from_str(alloc, word)?)?;
+    }
+    Ok(all)
+}
+
+fn calls(alloc: Global, call: Option<u64>) -> Result<Vec<u64>, AllocError> {
+    let mut all = Vec::new(alloc);
+    if let Some(call) = call {
+        all.push(call)?;
+    }
+    Ok(all)
+}
+
+fn check_row(rt: &impl Abort, alloc: Global, row: &Row<'_>) -> Result<(), Fail> {
+    assert!(rt; row.most > 0);
+    let words = strings(alloc, row.words)?;
+    let mut input = MemSource::new(
+        row.input.to_vec(alloc)?,
+        row.most,
+        calls(alloc, row.failing[0])?,
+    );
+    let mut out = MemSink::new(alloc, row.most, calls(alloc, row.failing[1])?);
+    let mut err = MemSink::new(alloc, row.most, calls(alloc, row.failing[2])?);
+    let mut store = MemKeeper::new(alloc, Vec::new(alloc));
+    let outcome = run(alloc, &words, &mut input, &mut out, &mut err, &mut store);
+    assert_eq!(rt; outcome, row.outcome);
+    assert_eq!(rt; out.bytes(), row.output);
+    assert_eq!(rt; err.bytes(), row.text);
+    assert_eq!(rt; store.items().len(), 0);
+    Ok(())
+}
+
+#[test]
+fn faults_of_the_devices_are_answered_where_they_come(rt: HostRuntime) -> Result<(), Fail> {
+    let alloc = rt.alloc();
+    let name: &[&str] = &["name", MAIN, ":/a"];
+    let other: &[&str] = &["name", "refs/heads/other", ":/a"];
+    let rows = [
+        Row {
+            words: name,
+            input: b"",
+            most: 64,
+            failing: [None, None, None],
+            outcome: Outcome::UnknownRef,
+            output: b"",
+            text: b"unknown ref\n",
+        },
+        Row {
+            words: name,
+            input: HELLO,
+            most: 64,
+            failing: [None, None, None],
+            outcome: Outcome::Done,
+            output: SHOWN,
+            text: b"",
+        },
+        Row {
+            words: name,
+            input: HELLO,
+            most: 1,
+            failing: [None, None, None],
+            outcome: Outcome::Done,
+            output: SHOWN,
+            text: b"",
+        },
+        Row {
+            words: other,
+            input: HELLO,
+            most: 64,
+            failing: [None, None, None],
+            outcome: Outcome::UnknownRef,
+            output: b"",
+            text: b"unknown ref\n",
+        },
+        // the first and the second read
+        Row {
+            words: name,
+            input: HELLO,
+            most: 64,
+            failing: [Some(0), None, None],
+            outcome: Outcome::ReadFault,
+            output: b"",
+            text: b"read fault\n",
+        },
+        Row {
+            words: name,
+            input: HELLO,
+            most: 64,
+            failing: [Some(1), None, None],
+            outcome: Outcome::ReadFault,
+            output: b"",
+            text: b"read fault\n",
+        },
+        // the first and the third write
+        Row {
+            words: name,
+            input: HELLO,
+            most: 64,
+            failing: [None, Some(0), None],
+            outcome: Outcome::WriteFault,
+            output: b"",
+            text: b"write fault\n",
+        },
+        Row {
+            words: name,
+            input: HELLO,
+            most: 4,
+            failing: [None, Some(2), None],
+            outcome: Outcome::WriteFault,
+            output: b"6a27ff6d",
+            text: b"write fault\n",
+        },
+        // a failing error stream changes no outcome
+        Row {
+            words: other,
+            input: HELLO,
+            most: 1,
+            failing: [None, None, Some(2)],
+            outcome: Outcome::UnknownRef,
+            output: b"",
+            text: b"un",
+        },
+        Row {
+            words: name,
+            input: HELLO,
+            most: 64,
+            failing: [None, Some(0), Some(0)],
+            outcome: Outcome::WriteFault,
+            output: b"",
+            text: b"",
+        },
+        // words that read nothing don't touch a failing input
+        Row {
+            words: &["name", MAIN, ":nop"],
+            input: HELLO,
+            most: 64,
+            failing: [Some(0), None, None],
+            outcome: Outcome::NotBuilt,
+            output: b"",
+            text: b"not built\n",
+        },
+        Row {
+            words: &[],
+            input: HELLO,
+            most: 64,
+            failing: [Some(0), Some(0), None],
+            outcome: Outcome::Usage,
+            output: b"",
+            text: USAGE,
+        },
+    ];
+    for row in &rows {
+        check_row(&rt, alloc, row)?;
+    }
+    Ok(())
+}
+
+// The outcome of words, with no input.
+fn outcome_of(alloc: Global, words: &[&str], input: &[u8]) -> Result<Outcome, AllocError> {
+    let words = strings(alloc, words)?;
+    let mut input = MemSource::new(input.to_vec(alloc)?, 4096, Vec::new(alloc));
+    let mut out = MemSink::new(alloc, 4096, Vec::new(alloc));
+    let mut err = MemSink::new(alloc, 4096, Vec::new(alloc));
+    let mut store = MemKeeper::new(alloc, Vec::new(alloc));
+    Ok(run(alloc, &words, &mut input, &mut out, &mut err, &mut store))
+}
+
+#[test]
+fn each_form_of_the_words(rt: HostRuntime) -> Result<(), Fail> {
+    let alloc = rt.alloc();
+    let usage: [&[&str]; 14] = [
+        &[],
+        &["names", MAIN, ":/a"],
+        &["name", MAIN],
+        &["name", MAIN, ":/a", "more"],
+        &["name", "main", ":/a"],
+        &["push", "refs/heads/a..b", ":/a"],
+        &["import", "force"],
+        &["import", "--force", "more"],
+        &["batch", "more"],
+        &["trial"],
+        &["trial", "0"],
+        &["trial", "01"],
+        &["trial", "100001"],
+        &["trial", "+1"],
+    ];
+    for words in usage {
+        assert_eq!(rt; outcome_of(alloc, words, HELLO)?, Outcome::Usage);
+    }
+    let built_later: [&[&str]; 15] = [
+        &["import"],
+        &["import", "--force"],
+        &["batch"],
+        &["trial", "1"],
+        &["trial", "100000"],
+        &["project", MAIN, ":/a"],
+        &["push", MAIN, ":/a"],
+        &["export", MAIN, ":/a"],
+        &["name", MAIN, ":/"],
+        &["name", MAIN, ":/a/"],
+        &["name", MAIN, ":/.git"],
+        &["name", MAIN, ":/a:/b"],
+        &["name", MAIN, ":/\"a\""],
+        &["name", MAIN, "::a/"],
+        &["name", MAIN, ""],
+    ];
+    for words in built_later {
+        assert_eq!(rt; outcome_of(alloc, words, HELLO)?, Outcome::NotBuilt);
+    }
+    Ok(())
+}
+
+// What the name of the projection by `:/a` is printed as; the outcome's text where there is none.
+fn shown(alloc: Global, filter: &str, input: &[u8]) -> Result<Vec<u8>, AllocError> {
+    let words = strings(alloc, &["name", MAIN, filter])?;
+    let mut input = MemSource::new(input.to_vec(alloc)?, 4096, Vec::new(alloc));
+    let mut out = MemSink::new(alloc, 4096, Vec::new(alloc));
+    let mut err = MemSink::new(alloc, 4096, Vec::new(alloc));
+    let mut store = MemKeeper::new(alloc, Vec::new(alloc));
+    let _ = run(alloc, &words, &mut input, &mut out, &mut err, &mut store);
+    let mut all = out.bytes().to_vec(alloc)?;
+    all.extend_from_slice(err.bytes())?;
+    Ok(all)
+}
+
+// The names are those that `git fast-import`, `git rev-parse main:a` and `git hash-object -t commit` gave.
+#[test]
+fn each_input(rt: HostRuntime) -> Result<(), Fail> {
+    let alloc = rt.alloc();
+    let rows: [(&str, &[u8], &[u8]); 22] = [
+        (":/a", HELLO, SHOWN),
+        (":/b", HELLO, b"none\n"),
+        (":/a/f", HELLO, b"none\n"),
+        // no change, and any number of LF
+        (
+            ":/a",
+            b"commit refs/heads/main\ncommitter A <a@x> 1700000000 +0000\ndata 5\ninit\n",
+            b"none\n",
+        ),
+        (
+            ":/a",
+            b"commit refs/heads/main\ncommitter A <a@x> 1700000000 +0000\ndata 5\ninit\n\n\n",
+            b"none\n",
+        ),
+        // neighbours of a slash in Git's order
+        (
+            ":/a",
+            b"commit refs/heads/main\ncommitter A <a@x> 1700000000 +0000\ndata 5\ninit\nM 100644 inline a/a0\ndata 2\n0\nM 100644 inline a/a/x\ndata 2\nx\nM 100644 inline a/a.txt\ndata 2\nt\nM 100644 inline b/z\ndata 0\n",
+            b"999e2879aae31f4050a789b3712a2a4c3e836a7f\n",
+        ),
+        // a file in a directory's place, and the other way round; a message without LF
+        (
+            ":/a",
+            b"commit refs/heads/main\ncommitter A <a@x> 1700000000 +0000\ndata 4\ninitM 100644 inline a/d/x\ndata 2\n1\nM 100644 inline a/d\ndata 2\n2\n\nM 100644 inline a/e\ndata 2\n3\nM 100644 inline a/e/y/z\ndata 2\n4\n\n\n",
+            b"aaa001d9bb9037d6fcff709c3093ecfd3e4c8c91\n",
+        ),
+        // the last one stands; an empty message; a content without LF; leading zeros
+        (
+            ":/a",
+            b"commit refs/heads/main\ncommitter A <a@x> 1700000000 +0000\ndata 0\nM 100644 inline a/f\ndata 4\none\nM 100644 inline a/f\ndata 003\ntwo\n\n\n",
+            b"c31366a9c79f9f36e469e9e95add073ddf652fdb\n",
+        ),
+        // bytes above 127, and an odd zone
+        (
+            ":/\u{e9}",
+            b"commit refs/heads/main\ncommitter \xc3\xa9 <> 1 -0330\ndata 3\n\xff\n\nM 100644 inline \xc3\xa9/\xff\xfe\ndata 0\n",
+            b"d565da923832fbf1f6d1db0cadffb6e03e4f5d68\n",
+        ),
+        // inputs that aren't built
+        (":/a", b"\n", b"not built\n"),
+        (
+            ":/a",
+            b"commit refs/heads/main\ncommitter A <a@x> 1700000000 +0000\ndata 5\ninit\nM 100644 inline a/f\ndata 7\nhello\n",
+            b"not built\n",
+        ),
+        (
+            ":/a",
+            b"commit refs/heads/main\ncommitter A <a@x> 1700000000 +0000\ndata 5\ninit\nM 100644 inline a/f\ndata 6\nhello\n\n\nM 100644 inline a/g\ndata 0\n",
+            b"not built\n",
+        ),
+        (
+            ":/a",
+            b"commit refs/heads/main\ncommitter A <a@x> 1700000000 +0000\ndata 5\ninit\nM 100755 inline a/f\ndata 0\n",
+            b"not built\n",
+        ),
+        (
+            ":/a",
+            b"commit refs/heads/main\ncommitter A <a@x> 1700000000 +0000\ndata 5\ninit\nM 100644 inline \"a/f\"\ndata 0\n",
+            b"not built\n",
+        ),
+        (
+            ":/a",
+            b"commit refs/heads/main\ncommitter A <a@x> 1700000000 +0000\ndata 5\ninit\nM 100644 inline a//f\ndata 0\n",
+            b"not built\n",
+        ),
+        (
+            ":/a",
+            b"commit refs/heads/main\ncommitter A <a@x> 1700000000 +0000\ndata 5\ninit\nD a/f\n",
+            b"not built\n",
+        ),
+        (
+            ":/a",
+            b"commit refs/heads/main\ncommitter A a@x 1700000000 +0000\ndata 5\ninit\n",
+            b"not built\n",
+        ),
+        (
+            ":/a",
+            b"commit main\ncommitter A <a@x> 1700000000 +0000\ndata 5\ninit\n",
+            b"not built\n",
+        ),
+        (
+            ":/a",
+            b"commit refs/heads/main\nauthor A <a@x> 1700000000 +0000\ncommitter A <a@x> 1700000000 +0000\ndata 5\ninit\n",
+            b"not built\n",
+        ),
+        (
+            ":/a",
+            b"commit refs/heads/main\ncommitter A <a@x> 1700000000 +0000\ndata 6\ninit\n",
+            b"not built\n",
+        ),
+        (
+            ":/a",
+            b"commit refs/heads/main\ncommitter A <a@x> 1700000000 +0000\ndata 0000000000000000005\ninit\n",
+            b"not built\n",
+        ),
+        (
+            ":/a",
+            b"commit refs/heads/main\ncommitter A <a@x> 1700000000 +0000\ndata +5\ninit\n",
+            b"not built\n",
+        ),
+    ];
+    for (filter, input, want) in rows {
+        assert_eq!(rt; shown(alloc, filter, input)?.as_slice(), want);
+    }
+    Ok(())
+}
+
+// An input has at most 65,536 bytes, and a filter at most 4,096.
+#[test]
+fn limits_reached_exactly(rt: HostRuntime) -> Result<(), Fail> {
+    let alloc = rt.alloc();
+    for (size, want) in [(65536usize, SHOWN), (65537usize, &b"not built\n"[..])] {
+        let mut input = HELLO.to_vec(alloc)?;
+        input.resize(size, b'\n')?;
+        assert_eq!(rt; shown(alloc, ":/a", &input)?.as_slice(), want);
+    }
+    for (last, want) in [(254usize, &b"none\n"[..]), (255usize, &b"not built\n"[..])] {
+        let mut filter = String::from_str(alloc, ":/")?;
+        for i in 0..4080usize + last - 240 {
+            filter.push(if i % 256 == 255 { '/' } else { 'a' })?;
+        }
+        assert_eq!(rt; shown(alloc, filter.as_str(), HELLO)?.as_slice(), want);
+    }
+    Ok(())
+}
+
+#[test]
+fn each_outcome_has_its_number_and_its_text(rt: HostRuntime) -> Result<(), Fail> {
+    let alloc = rt.alloc();
+    let rows: [(Outcome, u8, &[u8]); 7] = [
+        (Outcome::Done, 0, b""),
+        (Outcome::OutOfMemory, 1, b"out of memory\n"),
+        (Outcome::Usage, 2, USAGE),
+        (Outcome::UnknownRef, 8, b"unknown ref\n"),
+        (Outcome::ReadFault, 22, b"read fault\n"),
+        (Outcome::WriteFault, 23, b"write fault\n"),
+        (Outcome::NotBuilt, 90, b"not built\n"),
+    ];
+    for (outcome, code, text) in &rows {
+        assert_eq!(rt; outcome_code(outcome), *code);
+        assert_eq!(rt; outcome_text(alloc, outcome)?.as_slice(), *text);
+    }
+    Ok(())
+}
