@@ -11,10 +11,10 @@ use Rattle.git_objects.proofs.Basics.{and_both}
 
 -- ---- a cut is spelled
 
-same_test : (x y : ℕ) → nat_eq x y ≡ true → x ≡ y
+pub same_test : (x y : ℕ) → nat_eq x y ≡ true → x ≡ y
 same_test x y e = grind (arith, nat_tests)
 
-some_same : {A : Type 0} (x y : A) → Some x ≡ Some y → x ≡ y
+pub some_same : {A : Type 0} (x y : A) → Some x ≡ Some y → x ≡ y
 some_same x y e = cc
 
 first_of : (r s : Bytes × Bytes) → Some r ≡ Some s → r.0 ≡ s.0
@@ -33,7 +33,7 @@ joined_cut b x xs u v (Some r) h e =
     let q : r.1 ≡ v = second_of (x ∷ r.0, r.1) (u, v) e in
     ap (λ (s : Bytes). x ∷ s) (h r.0 r.1 refl) ∙ (λ i. p i ++ b ∷ q i)
 
-cut-spelled : (b : ℕ) (t u v : Bytes) → cut_at b t ≡ Some (u, v) → t ≡ u ++ b ∷ v
+pub cut-spelled : (b : ℕ) (t u v : Bytes) → cut_at b t ≡ Some (u, v) → t ≡ u ++ b ∷ v
 cut-spelled b [] u v e = cc
 cut-spelled b (x ∷ xs) u v e =
     elim (nat_eq x b) as (λ w. nat_eq x b ≡ w → cond w (Some ([], xs)) (in_front x (cut_at b xs)) ≡ Some (u, v) → x ∷ xs ≡ u ++ b ∷ v) [
@@ -47,27 +47,27 @@ cut-spelled b (x ∷ xs) u v e =
 
 -- ---- what has no such byte is cut where it ends
 
-abbrev avoids : ℕ → Bytes → Bool
+abbrev pub avoids : ℕ → Bytes → Bool
 avoids b u = list_all (λ x. not (nat_eq x b)) u
 
-not-false : (c : Bool) → not c ≡ true → c ≡ false
+pub not-false : (c : Bool) → not c ≡ true → c ≡ false
 not-false true e = absurd (true≢false (sym e))
 not-false false e = refl
 
-cut-front : (b : ℕ) (u v : Bytes) → avoids b u ≡ true → cut_at b (u ++ b ∷ v) ≡ Some (u, v)
+pub cut-front : (b : ℕ) (u v : Bytes) → avoids b u ≡ true → cut_at b (u ++ b ∷ v) ≡ Some (u, v)
 cut-front b [] v h = let e : nat_eq b b ≡ true = grind (arith, nat_tests) in ap (λ w. cond w (Some ([], v)) (in_front b (cut_at b v))) e
 cut-front b (x ∷ u) v h =
     ap (λ w. cond w (Some ([], u ++ b ∷ v)) (in_front x (cut_at b (u ++ b ∷ v)))) (not-false (nat_eq x b) (first_so _ _ h))
     ∙ ap (in_front x) (cut-front b u v (second_so _ _ h))
 
-avoids-from : (b : ℕ) (p : ℕ → Bool) → ((x : ℕ) → p x ≡ true → not (nat_eq x b) ≡ true) → (u : Bytes) → list_all p u ≡ true → avoids b u ≡ true
+pub avoids-from : (b : ℕ) (p : ℕ → Bool) → ((x : ℕ) → p x ≡ true → not (nat_eq x b) ≡ true) → (u : Bytes) → list_all p u ≡ true → avoids b u ≡ true
 avoids-from b p h [] e = refl
 avoids-from b p h (x ∷ u) e = and_both (h x (first_so _ _ e)) (avoids-from b p h u (second_so _ _ e))
 
-abbrev quiet_byte : ℕ → Bool
+abbrev pub quiet_byte : ℕ → Bool
 quiet_byte x = not (nat_eq x 60) && not (nat_eq x 62) && not (nat_eq x 10) && not (nat_eq x 0)
 
-quiet-60 : (u : Bytes) → is_quiet u ≡ true → avoids 60 u ≡ true
+pub quiet-60 : (u : Bytes) → is_quiet u ≡ true → avoids 60 u ≡ true
 quiet-60 u e = avoids-from 60 quiet_byte (λ x h. first_so _ _ (first_so _ _ (first_so _ _ h))) u e
 
 quiet-62 : (u : Bytes) → is_quiet u ≡ true → avoids 62 u ≡ true
@@ -76,7 +76,7 @@ quiet-62 u e = avoids-from 62 quiet_byte (λ x h. second_so _ _ (first_so _ _ (f
 digit-32 : (x : ℕ) → is_digit x ≡ true → not (nat_eq x 32) ≡ true
 digit-32 x h = grind (arith, nat_tests)
 
-digits-32 : (most : ℕ) (u : Bytes) → is_number most u ≡ true → avoids 32 u ≡ true
+pub digits-32 : (most : ℕ) (u : Bytes) → is_number most u ≡ true → avoids 32 u ≡ true
 digits-32 most u e = avoids-from 32 is_digit digit-32 u (second_so _ _ e)
 
 -- ---- from the test

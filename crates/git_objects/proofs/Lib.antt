@@ -3,9 +3,16 @@ pub mod Order
 pub mod Texts
 pub mod Spellings
 pub mod IdentSpelling
+pub mod Neighbours
+pub mod TreeReading
+pub mod TreeViews
+pub mod CommitReading
+pub mod CommitViews
 pub mod Maps
 pub mod Pointwise
 pub mod Under
 pub mod Levels
 pub mod Bodies
 pub mod Inserts
+pub mod Digests
+pub mod Tops

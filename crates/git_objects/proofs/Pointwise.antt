@@ -16,7 +16,7 @@ T-from : (b : Bool) → b ≡ true → T b
 T-from true h = tt
 T-from false h = absurd (true≢false (sym h))
 
-from-T : (b : Bool) → T b → b ≡ true
+pub from-T : (b : Bool) → T b → b ≡ true
 from-T true h = refl
 from-T false h = absurd h
 

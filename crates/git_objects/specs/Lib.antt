@@ -5,5 +5,11 @@ pub mod Idents
 pub mod Commits
 pub mod Entries
 pub mod Parts
+pub mod Bodies
+pub mod CommitBodies
+pub mod Neighbours
+pub mod ParentLines
+pub mod Views
 pub mod Laws
+pub mod TreeLaws
 pub mod Rows

@@ -1,5 +1,5 @@
 -- Worked examples.
-use Rattle.std.specs.Prelude.{◌≡◌, refl, [], ◌∷◌, ◌++◌, codes, true, false, length}
+use Rattle.std.specs.Prelude.{◌≡◌, refl, [], ◌∷◌, ◌++◌, codes, true, false, length, replicate, Some, None}
 use Rattle.std.specs.Fmt.{digits}
 use Rattle.git_objects.specs.Paths.{Bytes, Path, is_component, is_path, comparable, before, text}
 use Rattle.git_objects.specs.Trees.{Flat, FileLeaf, LeafNode, put, remove, under}
@@ -7,7 +7,10 @@ use Rattle.git_objects.specs.Names.{name, body, tree_name, tops, line}
 use Rattle.git_objects.specs.Idents.{is_ident}
 use Rattle.git_objects.specs.Commits.{Commit, commit_body, commit_name, hex}
 use Rattle.git_objects.specs.declared.kind.Kind.TheVariants.{Blob}
-use Rattle.hex.specs.Hex.{encode_with}
+use Rattle.git_objects.specs.Bodies.{tree_entries}
+use Rattle.git_objects.specs.CommitBodies.{commit_from}
+use Rattle.git_objects.specs.declared.mode.Mode.TheVariants.{File}
+use Rattle.hex.specs.Hex.{encode_with, decode_pairs}
 use Rattle.sha1.specs.Sha1.{sha1, first_words, schedule, rounds, compress, hash_after, digest_bytes}
 
 -- ---- components and paths
@@ -201,3 +204,49 @@ merge_body = refl
 pub root_name : hex (commit_name root) ≡ codes "6a27ff6de5d45a65cc66723c6ae6227ea6004aa6"
 unfolding commit_name commit_body encode_with body line name digits first_words schedule rounds compress hash_after digest_bytes sha1 put
 root_name = refl
+
+-- ---- bodies that are read
+
+abbrev zeros : Bytes
+zeros = replicate 20 0
+
+pub one_entry_read : tree_entries (codes "100644 f" ++ 0 ∷ [] ++ zeros) ≡ Some (record { mode = File; component = codes "f"; name = record { 0 = zeros } } ∷ [])
+unfolding tree_entries
+one_entry_read = refl
+
+pub nothing_read : tree_entries [] ≡ Some []
+unfolding tree_entries
+nothing_read = refl
+
+pub cut_short : tree_entries (codes "100644 f" ++ 0 ∷ [] ++ replicate 19 0) ≡ None
+unfolding tree_entries
+cut_short = refl
+
+pub six_digits_of_a_directory : tree_entries (codes "040000 f" ++ 0 ∷ [] ++ zeros) ≡ None
+unfolding tree_entries
+six_digits_of_a_directory = refl
+
+pub wrong_order : tree_entries (codes "100644 b" ++ 0 ∷ [] ++ zeros ++ codes "100644 a" ++ 0 ∷ [] ++ zeros) ≡ None
+unfolding tree_entries
+wrong_order = refl
+
+-- the same component as a file and as a directory, with another between them
+pub one_component_twice : tree_entries (codes "100644 a" ++ 0 ∷ [] ++ zeros ++ codes "100644 a.b" ++ 0 ∷ [] ++ zeros ++ codes "40000 a" ++ 0 ∷ [] ++ zeros) ≡ None
+unfolding tree_entries
+one_component_twice = refl
+
+pub root_read : commit_from (commit_body root) ≡ Some root
+unfolding commit_from decode_pairs is_ident commit_body encode_with body line name digits first_words schedule rounds compress hash_after digest_bytes sha1 put
+root_read = refl
+
+pub upper_case_digits : commit_from (codes "tree AB00000000000000000000000000000000000000\nauthor <> 1 +0\ncommitter <> 1 +0\n\n") ≡ None
+unfolding commit_from decode_pairs is_ident encode_with
+upper_case_digits = refl
+
+pub no_message : commit_from (codes "tree ab00000000000000000000000000000000000000\nauthor <> 1 +0\ncommitter <> 1 +0\n\n") ≡ Some (record { tree = 171 ∷ replicate 19 0; parents = []; letter = record { author = codes "<> 1 +0"; committer = codes "<> 1 +0"; message = [] } })
+unfolding commit_from decode_pairs is_ident encode_with
+no_message = refl
+
+pub no_empty_line : commit_from (codes "tree ab00000000000000000000000000000000000000\nauthor <> 1 +0\ncommitter <> 1 +0\n") ≡ None
+unfolding commit_from decode_pairs is_ident encode_with
+no_empty_line = refl

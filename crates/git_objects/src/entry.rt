@@ -1,6 +1,10 @@
 // The entries of trees.
-ghost use Rattle.std.specs.Prelude.{◌≡◌, ◌++◌, IfOk, OnOk};
-ghost use Rattle.git_objects.specs.Entries.{AreEntries, body_text, entry_line};
+ghost use Rattle.std.specs.Prelude.{◌≡◌, ◌++◌, true, IfOk, OnOk};
+ghost use Rattle.git_objects.specs.Entries.{AreEntries, body_text};
+ghost use Rattle.git_objects.specs.Names.{line};
+ghost use Rattle.git_objects.specs.Bodies.{is_name, tree_entries};
+ghost use Rattle.git_objects.specs.Paths.{is_component};
+ghost use Rattle.std.specs.List.{list_all};
 
 use crate::mode::digits;
 use crate::{Component, Mode, Name};
@@ -14,28 +18,56 @@ pub struct Entry {
     pub name: Name,
 }
 
-// Adds one entry.
+// Adds one entry, with the bytes of its name.
 #[tactic(auto, unfolding(crate::specs::Names::line))]
-fn add_line(body: &mut Vec<u8>, entry: &Entry) -> Result<(), AllocError>
-    ensures { OnOk result (body.new.items ≡ body.old.items ++ entry_line entry.now) }
+fn add_line(body: &mut Vec<u8>, mode: Mode, component: &[u8], name: &[u8]) -> Result<(), AllocError>
+    ensures { OnOk result (body.new.items ≡ body.old.items ++ line mode component.now name.now) }
 {
-    body.extend_from_slice(digits(entry.mode))?;
+    body.extend_from_slice(digits(mode))?;
     body.push(b' ')?;
-    body.extend_from_slice(entry.component.bytes())?;
+    body.extend_from_slice(component)?;
     body.push(0)?;
-    body.extend_from_slice(&entry.name.0)?;
+    body.extend_from_slice(name)?;
     Ok(())
+}
+
+/// Adds one entry to a body: the mode's digits, a space, the component, a zero byte and the 20 bytes of a name.
+pub fn add_entry(
+    body: &mut Vec<u8>,
+    mode: Mode,
+    component: &[u8],
+    name: &Name,
+) -> Result<(), AllocError>
+    ensures { OnOk result (body.new.items ≡ body.old.items ++ line mode component.now name.now.0) }
+{
+    add_line(body, mode, component, name.bytes())
+}
+
+// What entries spell, in whatever order.
+pub fn spell(alloc: Global, entries: &[Entry]) -> Result<Vec<u8>, AllocError>
+    ensures body { IfOk result (λ body. body.items ≡ body_text entries.now) }
+    ensures names { OnOk result (list_all (λ e. is_name e.name.0) entries.now ≡ true) }
+    ensures components { OnOk result (list_all (λ e. is_component e.component) entries.now ≡ true) }
+{
+    let mut body = Vec::new(alloc);
+    for entry in entries {
+        add_line(
+            &mut body,
+            entry.mode,
+            entry.component.bytes(),
+            entry.name.bytes(),
+        )?;
+    }
+    Ok(body)
 }
 
 /// The body of a tree with these entries, which stand in Git's order: by their components' bytes, a directory's
 /// component being compared as if it ended in `/`.
 pub fn encode_tree(alloc: Global, entries: &[Entry]) -> Result<Vec<u8>, AllocError>
     requires { AreEntries entries.now }
-    ensures { IfOk result (λ body. body.items ≡ body_text entries.now) }
+    ensures body { IfOk result (λ body. body.items ≡ body_text entries.now) }
+    ensures read_back { IfOk result (λ body. tree_entries body.items ≡ Some entries.now) }
 {
-    let mut body = Vec::new(alloc);
-    for entry in entries {
-        add_line(&mut body, entry)?;
-    }
+    let body = spell(alloc, entries)?;
     Ok(body)
 }

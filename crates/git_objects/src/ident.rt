@@ -71,7 +71,7 @@ fn first_of(byte: u8, text: &[u8]) -> Option<usize>
 }
 
 // What stands before the first such byte, and what after it.
-fn cut(byte: u8, text: &[u8]) -> Option<(&[u8], &[u8])>
+pub fn cut(byte: u8, text: &[u8]) -> Option<(&[u8], &[u8])>
     ensures { option_map (λ r. (r.0.now, r.1.now)) result ≡ cut_at byte text.now }
 {
     match first_of(byte, text) {
@@ -157,7 +157,7 @@ fn is_ident_rest(text: &[u8]) -> bool
 }
 
 #[tactic(auto, unfolding(crate::specs::Idents::is_ident))]
-fn is_ident(text: &[u8]) -> bool
+pub fn is_ident(text: &[u8]) -> bool
     ensures { result ≡ is_ident text.now }
 {
     match cut(b'<', text) {

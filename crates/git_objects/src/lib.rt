@@ -3,6 +3,7 @@
 
 mod bytes;
 mod commit;
+mod commit_view;
 mod component;
 mod entry;
 mod ident;
@@ -11,14 +12,23 @@ mod laws;
 mod mode;
 mod name;
 mod quantity;
+mod steps;
+#[cfg(test)]
+mod tests;
+mod tree_laws;
+mod tree_view;
 
 pub use bytes::Bytes;
 pub use commit::{CommitParts, encode_commit};
+pub use commit_view::CommitView;
 pub use component::{Component, is_component};
-pub use entry::{Entry, encode_tree};
+pub use entry::{Entry, add_entry, encode_tree};
 pub use ident::{Ident, IdentFault};
 pub use kind::Kind;
-pub use laws::ident_law;
+pub use laws::{commit_body_law, ident_law, tree_body_law};
 pub use mode::Mode;
 pub use name::{Name, name_of};
 pub use quantity::Quantity;
+pub use steps::Steps;
+pub use tree_laws::{edit_law, listing_law, name_law};
+pub use tree_view::{EntryView, TreeView};

@@ -1,9 +1,16 @@
 // Names of objects.
-ghost use Rattle.std.specs.Prelude.{◌≡◌, ◌∷◌, []};
+ghost use Rattle.std.specs.Prelude.{true, ◌≡◌, ◌↔◌, ◌∷◌, [], IsSome, IsTrue, length, replicate};
 ghost use Rattle.std.proofs.Common.{rules};
 ghost use Rattle.std.specs.Cmp.Rules.{hashing};
+ghost use Rattle.std.specs.List.{AllPass};
+ghost use Rattle.std.specs.Option.{option_map};
+ghost use Rattle.hex.specs.Hex.{is_hex_digit};
+ghost use Rattle.git_objects.specs.Paths.{is_bytes};
 ghost use Rattle.git_objects.specs.Names.{name};
 ghost use Rattle.git_objects.specs.Commits.{hex};
+ghost use Rattle.git_objects.specs.Bodies.{is_name};
+ghost use Rattle.git_objects.specs.CommitBodies.{digits_name};
+ghost use Rattle.git_objects.specs.Parts.{name_bytes};
 
 use crate::Kind;
 use crate::kind::word;
@@ -27,15 +34,49 @@ impl Hash for Name {
 }
 
 impl Name {
+    pub fn bytes(&self) -> &[u8]
+        ensures bytes { result.now ≡ self.now.0 }
+        ensures name { is_name self.now.0 ≡ true }
+    {
+        in_range(&self.0)
+    }
+
     /// The 40 lower-case digits.
     pub fn hex(&self) -> [u8; 40]
         ensures { result ≡ hex self.now.0 }
     {
-        let mut digits = [0u8; 40];
-        let written = hex::encode_to_slice(&self.0, &mut digits);
-        prove!(written.is_ok());
-        digits
+        digits(self.bytes())
     }
+
+    /// The name that 40 digits of either case write.
+    pub fn from_hex(text: &[u8]) -> Option<Name>
+        ensures value { option_map name_bytes result ≡ digits_name text.now }
+        ensures digits { IsSome result ↔ ((length text.now ≡ 40) × AllPass is_hex_digit text.now) }
+    {
+        let mut bytes = [0u8; 20];
+        match hex::decode_to_slice(text, &mut bytes) {
+            Ok(()) => Some(Name(bytes)),
+            Err(_) => None,
+        }
+    }
+
+    /// Whether all 20 bytes are zero: Git's name of no object.
+    pub fn is_zero(&self) -> bool
+        ensures { IsTrue result ↔ (self.now.0 ≡ replicate 20 0) }
+    {
+        self.0 == [0u8; 20]
+    }
+}
+
+// The digits of 20 bytes.
+pub fn digits(bytes: &[u8]) -> [u8; 40]
+    requires { length bytes.now ≡ 20 }
+    ensures { result ≡ hex bytes.now }
+{
+    let mut digits = [0u8; 40];
+    let written = hex::encode_to_slice(bytes, &mut digits);
+    prove!(written.is_ok());
+    digits
 }
 
 /// The name of an object of that kind with that body: the SHA-1 of the kind, a space, the body's length in decimal, a zero
@@ -51,4 +92,12 @@ pub fn name_of(kind: Kind, body: &[u8]) -> Name
     hasher.update(b"\0");
     hasher.update(body);
     Name(hasher.finalize())
+}
+
+// The same bytes, which are below 256.
+fn in_range(bytes: &[u8]) -> &[u8]
+    ensures same { result.now ≡ bytes.now }
+    ensures bytes { is_bytes bytes.now ≡ true }
+{
+    bytes
 }

@@ -1,0 +1,200 @@
+// What a tree's body lists, seen in place.
+ghost use Rattle.std.specs.Prelude.{◌≡◌, List, Some, ◌∷◌, [], drop, slice_get};
+ghost use Rattle.std.specs.Option.{ForSome};
+ghost use Rattle.std.specs.Option.{option_map};
+ghost use Rattle.std.specs.Ordering.{is_lt, nat_cmp};
+ghost use Rattle.std.specs.Cmp.Lexicographic.{slice_cmp};
+ghost use Rattle.git_objects.specs.Entries.{dir_key, entry_component, entry_dir, git_cmp, is_dir};
+ghost use Rattle.git_objects.specs.Bodies.{entry_from, mode_from, target_from, tree_entries};
+ghost use Rattle.git_objects.specs.Neighbours.{before_dir, fits_before, is_alone, spelled_entries, stands};
+ghost use Rattle.git_objects.specs.Views.{entry_value};
+ghost use Rattle.git_objects.specs.declared.entry.Entry.{Entry};
+
+use crate::ident::cut;
+use crate::{Mode, Name, is_component};
+use std::cmp::Ordering;
+use std::marker::Model;
+
+/// One entry of a tree's body.
+#[derive(Clone, Copy, Debug)]
+pub struct EntryView<'a> {
+    pub mode: Mode,
+    pub component: &'a [u8],
+    pub name: Name,
+}
+
+/// The entries of a tree's body that are left.
+#[derive(Debug, Drop)]
+pub struct TreeView<'a> {
+    rest: &'a [u8],
+}
+
+impl<'a> Model for TreeView<'a> {
+    ghost use Rattle.std.specs.Prelude.{List, IsSome, [], unwrap_or};
+    ghost use Rattle.git_objects.specs.declared.entry.Entry.{Entry};
+    ghost use Rattle.git_objects.specs.Bodies.{tree_entries};
+
+    ghost Value = { List Entry };
+
+    ghost view = { λ t. unwrap_or (tree_entries t.rest.now) [] };
+
+    ghost invariant = { λ t. IsSome (tree_entries t.rest.now) };
+}
+
+impl<'a> TreeView<'a> {
+    /// The entries of a body in Git's canonical form; None where the bytes are none. Needs no memory.
+    pub fn of(body: &'a [u8]) -> Option<TreeView<'a>>
+        ensures { result ≡ tree_entries body.now }
+    {
+        let mut rest = body;
+        'entries: while !rest.is_empty() {
+            let Some((entry, after)) = first_entry(rest) else {
+                return None;
+            };
+            if !stands(&entry, after) {
+                return None;
+            }
+            rest = after;
+        }
+        Some(TreeView { rest: body })
+    }
+
+    /// The same entries again.
+    pub fn copy(&self) -> TreeView<'a>
+        ensures { result ≡ self.now }
+    {
+        TreeView { rest: self.rest }
+    }
+
+    /// The next entry.
+    pub fn next(&mut self) -> Option<EntryView<'a>>
+        ensures entry { option_map entry_value result ≡ slice_get self.old 0 }
+        ensures rest { self.new ≡ drop 1 self.old }
+    {
+        match first_entry(self.rest) {
+            None => None,
+            Some((entry, after)) => {
+                self.rest = after;
+                Some(entry)
+            }
+        }
+    }
+}
+
+fn mode_from(text: &[u8]) -> Option<Mode>
+    ensures { result ≡ mode_from text.now }
+{
+    if text == b"100644".as_slice() {
+        return Some(Mode::File);
+    }
+    if text == b"100755".as_slice() {
+        return Some(Mode::Exec);
+    }
+    if text == b"120000".as_slice() {
+        return Some(Mode::Link);
+    }
+    if text == b"160000".as_slice() {
+        return Some(Mode::Module);
+    }
+    if text == b"40000".as_slice() {
+        return Some(Mode::Dir);
+    }
+    None
+}
+
+// An entry of that mode and component, from what follows the zero byte.
+fn target<'a>(mode: Mode, component: &'a [u8], text: &'a [u8]) -> Option<(EntryView<'a>, &'a [u8])>
+    ensures { option_map (λ r. (entry_value r.0, r.1.now)) result
+        ≡ target_from mode (component.now, text.now) }
+{
+    let (name, after) = text.split_first_chunk::<20>()?;
+    Some((
+        EntryView {
+            mode,
+            component,
+            name: Name(*name),
+        },
+        after,
+    ))
+}
+
+// The first entry, and what follows it.
+fn first_entry<'a>(body: &'a [u8]) -> Option<(EntryView<'a>, &'a [u8])>
+    ensures { option_map (λ r. (entry_value r.0, r.1.now)) result ≡ entry_from body.now }
+{
+    let (digits, rest) = cut(b' ', body)?;
+    let mode = mode_from(digits)?;
+    let (component, rest) = cut(0, rest)?;
+    target(mode, component, rest)
+}
+
+fn slash(is_dir: bool) -> &'static [u8]
+    ensures { result.now ≡ dir_key [] is_dir }
+{
+    if is_dir { b"/" } else { b"" }
+}
+
+// Git's order of entries' components.
+fn compare(a: &[u8], a_dir: bool, b: &[u8], b_dir: bool) -> Ordering
+    ensures { result ≡ slice_cmp nat_cmp (dir_key a.now a_dir) (dir_key b.now b_dir) }
+{
+    a.iter()
+        .chain(slash(a_dir).iter())
+        .cmp(b.iter().chain(slash(b_dir).iter()))
+}
+
+fn is_dir(mode: Mode) -> bool
+    ensures { result ≡ is_dir mode }
+{
+    mode == Mode::Dir
+}
+
+// Whether an entry stands before another.
+fn is_before(a: &EntryView<'_>, b: &EntryView<'_>) -> bool
+    ensures { result
+        ≡ is_lt (git_cmp entry_component entry_dir (entry_value a.now) (entry_value b.now)) }
+{
+    compare(a.component, is_dir(a.mode), b.component, is_dir(b.mode)).is_lt()
+}
+
+// Whether an entry stands before a directory of that component.
+fn is_before_dir(entry: &EntryView<'_>, component: &[u8]) -> bool
+    ensures { result ≡ before_dir component.now (entry_value entry.now) }
+{
+    compare(entry.component, is_dir(entry.mode), component, true).is_lt()
+}
+
+// Whether no entry, up to the place of a directory of that component, has the component.
+fn is_alone(component: &[u8], entries: &[u8]) -> bool
+    ensures { ForSome (spelled_entries entries.now) (λ es. result ≡ is_alone component.now es) }
+{
+    let mut rest = entries;
+    'entries: while let Some((entry, after)) = first_entry(rest) {
+        if component == entry.component {
+            return false;
+        }
+        if !is_before_dir(&entry, component) {
+            return true;
+        }
+        rest = after;
+    }
+    true
+}
+
+// Whether an entry stands before the next, and as a file before no directory of its component.
+fn fits_before(entry: &EntryView<'_>, after: &[u8]) -> bool
+    ensures { ForSome (spelled_entries after.now) (λ es. result ≡ fits_before (entry_value entry.now) es) }
+{
+    match first_entry(after) {
+        None => true,
+        Some((next, _)) => {
+            is_before(entry, &next) && (is_dir(entry.mode) || is_alone(entry.component, after))
+        }
+    }
+}
+
+fn stands(entry: &EntryView<'_>, after: &[u8]) -> bool
+    ensures { ForSome (spelled_entries after.now) (λ es. result ≡ stands (entry_value entry.now) es) }
+{
+    is_component(entry.component) && fits_before(entry, after)
+}
