@@ -18,17 +18,15 @@ pub struct Entry {
     pub name: Name,
 }
 
-// Adds one entry, with the bytes of its name.
-#[tactic(auto, unfolding(crate::specs::Names::line))]
-fn add_line(body: &mut Vec<u8>, mode: Mode, component: &[u8], name: &[u8]) -> Result<(), AllocError>
-    ensures { OnOk result (body.new.items ≡ body.old.items ++ line mode component.now name.now) }
+/// The body of a tree with these entries, which stand in Git's order: by their components' bytes, a directory's
+/// component being compared as if it ended in `/`.
+pub fn encode_tree(alloc: Global, entries: &[Entry]) -> Result<Vec<u8>, AllocError>
+    requires { AreEntries entries.now }
+    ensures body { IfOk result (λ body. body.items ≡ body_text entries.now) }
+    ensures read_back { IfOk result (λ body. tree_entries body.items ≡ Some entries.now) }
 {
-    body.extend_from_slice(digits(mode))?;
-    body.push(b' ')?;
-    body.extend_from_slice(component)?;
-    body.push(0)?;
-    body.extend_from_slice(name)?;
-    Ok(())
+    let body = spell(alloc, entries)?;
+    Ok(body)
 }
 
 /// Adds one entry to a body: the mode's digits, a space, the component, a zero byte and the 20 bytes of a name.
@@ -61,13 +59,15 @@ pub fn spell(alloc: Global, entries: &[Entry]) -> Result<Vec<u8>, AllocError>
     Ok(body)
 }
 
-/// The body of a tree with these entries, which stand in Git's order: by their components' bytes, a directory's
-/// component being compared as if it ended in `/`.
-pub fn encode_tree(alloc: Global, entries: &[Entry]) -> Result<Vec<u8>, AllocError>
-    requires { AreEntries entries.now }
-    ensures body { IfOk result (λ body. body.items ≡ body_text entries.now) }
-    ensures read_back { IfOk result (λ body. tree_entries body.items ≡ Some entries.now) }
+// Adds one entry, with the bytes of its name.
+#[tactic(auto, unfolding(crate::specs::Names::line))]
+fn add_line(body: &mut Vec<u8>, mode: Mode, component: &[u8], name: &[u8]) -> Result<(), AllocError>
+    ensures { OnOk result (body.new.items ≡ body.old.items ++ line mode component.now name.now) }
 {
-    let body = spell(alloc, entries)?;
-    Ok(body)
+    body.extend_from_slice(digits(mode))?;
+    body.push(b' ')?;
+    body.extend_from_slice(component)?;
+    body.push(0)?;
+    body.extend_from_slice(name)?;
+    Ok(())
 }

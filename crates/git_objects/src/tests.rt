@@ -8,8 +8,8 @@ use std::alloc::{AllocError, Global};
 use std::process::Abort;
 use std::test::Fail;
 
-// A tree a line, with the name that `git mktree --missing -z` gives. An entry has a letter for its mode, the byte that its
-// name repeats, and its component.
+// A tree a line, with the name that `git mktree --missing -z` gives. An entry has a letter for its mode, the byte that
+// its name repeats, and its component.
 const TREES: &[u8] = b"=4b825dc642cb6eb9a060e54bf8d69288fbee4904\n\
 F1f|=b4634711ca3daa9f180dc5b90dca02efcb9a5eb2\n\
 E1f|=8f6efd99b80bfba8fb2ce0d311a30cc3022e0c56\n\
@@ -31,28 +31,36 @@ F1\x01|F2\x09|F3\x7f|=9f5f0cea138344bbf1d2fd443f95c3287b160c98\n\
 F\xffx|F\x01y|=088af9531cff904bdd011c58f62d0f3a4cd485f9\n\
 F1foo|F2foo-bar|D3foo.d|D4foo0|=23bfc2736a48d65b952c13e5e62d7ca8ac5b515b";
 
-// The tree, the parents, the author, the committer, the message, and the name: of `git commit-tree` for the first six, and
-// of `git hash-object -t commit --literally` for the others.
+// The tree, the parents, the author, the committer, the message, and the name: of `git commit-tree` for the first six,
+// and of `git hash-object -t commit --literally` for the others.
 const COMMITS: &[u8] =
     b"10731d0b170b98481a00bdca161e874e0ab93377||A <a@x> 1700000000 +0000|A <a@x> 1700000000 +0000|\
     init\n|6a27ff6de5d45a65cc66723c6ae6227ea6004aa6~\
 4b825dc642cb6eb9a060e54bf8d69288fbee4904||A <a@x> 1700000000 +0000|B C <b@y.z> 1600000001 -0330|\
     |c56c4da1cd9f5a5faae72179aab7948f80890c2a~\
-10731d0b170b98481a00bdca161e874e0ab93377|6a27ff6de5d45a65cc66723c6ae6227ea6004aa6|\xc3\x9cn\xc3\xaf <\xc3\xa9@x> 1500000000 +0530|A <a@x> 1700000000 +0000|\
+10731d0b170b98481a00bdca161e874e0ab93377|6a27ff6de5d45a65cc66723c6ae6227ea6004aa6|\
+    \xc3\x9cn\xc3\xaf <\xc3\xa9@x> 1500000000 +0530|A <a@x> 1700000000 +0000|\
     no line end|940239d38db2411ffbc82af5255b7ce3c5b0d011~\
-10731d0b170b98481a00bdca161e874e0ab93377|6a27ff6de5d45a65cc66723c6ae6227ea6004aa6 940239d38db2411ffbc82af5255b7ce3c5b0d011|B C <b@y.z> 1600000001 -0330|\xc3\x9cn\xc3\xaf <\xc3\xa9@x> 1500000000 +0530|\
+10731d0b170b98481a00bdca161e874e0ab93377|6a27ff6de5d45a65cc66723c6ae6227ea6004aa6 \
+    940239d38db2411ffbc82af5255b7ce3c5b0d011|B C <b@y.z> 1600000001 -0330|\
+    \xc3\x9cn\xc3\xaf <\xc3\xa9@x> 1500000000 +0530|\
     gr\xc3\xb6\xc3\x9fer\n\nbody\n|fe646c2b3a91511e04ce59f150b59fc205a60486~\
-4b825dc642cb6eb9a060e54bf8d69288fbee4904|fe646c2b3a91511e04ce59f150b59fc205a60486|\xc3\x9cn\xc3\xaf <\xc3\xa9@x> 1500000000 +0530|\xc3\x9cn\xc3\xaf <\xc3\xa9@x> 1500000000 +0530|\
+4b825dc642cb6eb9a060e54bf8d69288fbee4904|fe646c2b3a91511e04ce59f150b59fc205a60486|\
+    \xc3\x9cn\xc3\xaf <\xc3\xa9@x> 1500000000 +0530|\xc3\x9cn\xc3\xaf <\xc3\xa9@x> 1500000000 +0530|\
     \n\nlines first\n|ec115c37ec84dd1ede0430ad43398290bc6f040a~\
-4b825dc642cb6eb9a060e54bf8d69288fbee4904|fe646c2b3a91511e04ce59f150b59fc205a60486 ec115c37ec84dd1ede0430ad43398290bc6f040a 6a27ff6de5d45a65cc66723c6ae6227ea6004aa6|A <a@x> 1700000000 +0000|B C <b@y.z> 1600000001 -0330|\
+4b825dc642cb6eb9a060e54bf8d69288fbee4904|fe646c2b3a91511e04ce59f150b59fc205a60486 \
+    ec115c37ec84dd1ede0430ad43398290bc6f040a 6a27ff6de5d45a65cc66723c6ae6227ea6004aa6|A <a@x> 1700000000 +0000|\
+    B C <b@y.z> 1600000001 -0330|\
     three parents\n|a6c6b94ef96718f6d2d5d49bbcb164b46f897929~\
 4b825dc642cb6eb9a060e54bf8d69288fbee4904||<> 0 +0|<> 0 -0|\
     |f58927894a380b158884e7769045f01e38139e1e~\
 4b825dc642cb6eb9a060e54bf8d69288fbee4904||A <a@x> 123456789012345678 +12345678|A <a@x> 1 -9|\
     zones\n|589495fb4e8f2cca843aa1630714f8d0c34f679e~\
-4b825dc642cb6eb9a060e54bf8d69288fbee4904|940239d38db2411ffbc82af5255b7ce3c5b0d011|\xff\xfe <\x80> 1 +0000| <a b> 1 +0000|\
+4b825dc642cb6eb9a060e54bf8d69288fbee4904|940239d38db2411ffbc82af5255b7ce3c5b0d011|\
+    \xff\xfe <\x80> 1 +0000| <a b> 1 +0000|\
     \x00\xff\n|51c96a22f931708cc5e8051721cb7575596199b4~\
-4b825dc642cb6eb9a060e54bf8d69288fbee4904|6a27ff6de5d45a65cc66723c6ae6227ea6004aa6 6a27ff6de5d45a65cc66723c6ae6227ea6004aa6|A <a@x> 1 +0000|A <a@x> 1 +0000|\
+4b825dc642cb6eb9a060e54bf8d69288fbee4904|6a27ff6de5d45a65cc66723c6ae6227ea6004aa6 \
+    6a27ff6de5d45a65cc66723c6ae6227ea6004aa6|A <a@x> 1 +0000|A <a@x> 1 +0000|\
     twice the same\nauthor x\n|de65db3aea7919087171c31dab07ed4027ef8b43";
 
 // What is wrong, and the body.
@@ -61,7 +69,8 @@ const NO_TREES: &[u8] =
 a wrong order of a directory|40000 a\0aaaaaaaaaaaaaaaaaaaa100644 a.b\0aaaaaaaaaaaaaaaaaaaa~\
 two files|100644 a\0aaaaaaaaaaaaaaaaaaaa100755 a\0aaaaaaaaaaaaaaaaaaaa~\
 a file and a directory|100644 a\0aaaaaaaaaaaaaaaaaaaa40000 a\0aaaaaaaaaaaaaaaaaaaa~\
-the same apart|100644 a\0aaaaaaaaaaaaaaaaaaaa100644 a-\0aaaaaaaaaaaaaaaaaaaa100644 a.b\0aaaaaaaaaaaaaaaaaaaa40000 a\0aaaaaaaaaaaaaaaaaaaa~\
+the same apart|100644 a\0aaaaaaaaaaaaaaaaaaaa100644 a-\0aaaaaaaaaaaaaaaaaaaa100644 a.b\0aaaaaaaaaaaaaaaaaaaa\
+    40000 a\0aaaaaaaaaaaaaaaaaaaa~\
 six digits of a directory|040000 a\0aaaaaaaaaaaaaaaaaaaa~\
 a file that its group may write|100664 a\0aaaaaaaaaaaaaaaaaaaa~\
 no mode| a\0aaaaaaaaaaaaaaaaaaaa~\
@@ -74,8 +83,8 @@ one byte more|100644 a\0aaaaaaaaaaaaaaaaaaaa1~\
 an empty component|100644 \0aaaaaaaaaaaaaaaaaaaa~\
 a slash|100644 a/b\0aaaaaaaaaaaaaaaaaaaa";
 
-// Whether the lines are a body. T, P, A, C and E are right lines of a tree, of a parent, of an author and of a committer, and
-// the empty one.
+// Whether the lines are a body. T, P, A, C and E are right lines of a tree, of a parent, of an author and of a
+// committer, and the empty one.
 const COMMIT_LINES: &[u8] = b"+|T|A|C|E~\
 +|T|P|A|C|E~\
 +|T|P|P|P|P|P|P|P|P|P|P|P|P|P|P|P|P|A|C|E~\
