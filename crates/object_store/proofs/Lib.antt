@@ -1,0 +1,9 @@
+pub mod Listings
+pub mod Bodies
+pub mod Held
+pub mod Unfolding
+pub mod Finding
+pub mod Sizes
+pub mod Adding
+pub mod Putting
+pub mod Parents

@@ -1,0 +1,13 @@
+//! Objects by their names, children first.
+#![tactic(auto)]
+
+mod laws;
+#[cfg(test)]
+mod sizes_tests;
+mod store;
+#[cfg(test)]
+mod tests;
+mod tree_stats;
+
+pub use laws::{growing_law, unfolding_law};
+pub use store::{ObjectRef, PutError, Store, TreeStats};
