@@ -1,4 +1,4 @@
-// Sizes of trees, as `git ls-tree -r` of the same trees has them.
+// Sizes of trees, counted by hand.
 use crate::{Store, TreeStats};
 use git_objects::{Kind, Mode, Name, add_entry, name_of};
 use std::alloc::{AllocError, Global};

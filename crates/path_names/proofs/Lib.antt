@@ -4,3 +4,5 @@ pub mod Pairs
 pub mod Comparables
 pub mod Levels
 pub mod Readings
+pub mod Quotes
+pub mod Again

@@ -1,4 +1,5 @@
 pub mod PathTexts
 pub mod RefNames
+pub mod Quoting
 pub mod Laws
 pub mod Rows

@@ -1,8 +1,9 @@
 -- Worked examples.
-use Rattle.std.specs.Prelude.{◌≡◌, refl, [], ◌∷◌, ◌++◌, replicate, codes, true, false, Ok, Err}
+use Rattle.std.specs.Prelude.{◌≡◌, refl, [], ◌∷◌, ◌++◌, replicate, codes, true, false, Ok, Err, Some, None}
 use Rattle.git_objects.specs.Paths.{text, comparable, before}
 use Rattle.path_names.specs.PathTexts.{path_of}
 use Rattle.path_names.specs.RefNames.{is_ref_name}
+use Rattle.path_names.specs.Quoting.{quote, quoted_byte, unquote}
 use Rattle.path_names.specs.declared.path.PathFault.TheVariants.{Empty, BadComponent, LongComponent, TooDeep, TooLong}
 
 pub two_components : path_of (codes "a/b") ≡ Ok (codes "a" ∷ codes "b" ∷ [])
@@ -140,3 +141,71 @@ longest_ref = refl
 pub too_long_ref : is_ref_name (codes "refs/" ++ replicate 1020 97) ≡ false
 unfolding is_ref_name
 too_long_ref = refl
+
+-- ---- texts between quotes
+
+pub a_space_needs_no_quotes : quote (codes "a b") ≡ codes "a b"
+unfolding quote
+a_space_needs_no_quotes = refl
+
+pub a_tab_is_a_letter : quote (97 ∷ 9 ∷ 98 ∷ []) ≡ 34 ∷ 97 ∷ 92 ∷ 116 ∷ 98 ∷ 34 ∷ []
+unfolding quote quoted_byte
+a_tab_is_a_letter = refl
+
+pub other_bytes_are_octal : quote (127 ∷ 1 ∷ 195 ∷ []) ≡ 34 ∷ 92 ∷ 49 ∷ 55 ∷ 55 ∷ 92 ∷ 48 ∷ 48 ∷ 49 ∷ 195 ∷ 34 ∷ []
+unfolding quote quoted_byte
+other_bytes_are_octal = refl
+
+pub quotes_are_quoted : quote (34 ∷ 92 ∷ []) ≡ 34 ∷ 92 ∷ 34 ∷ 92 ∷ 92 ∷ 34 ∷ []
+unfolding quote quoted_byte
+quotes_are_quoted = refl
+
+-- `"\303\251" x`
+pub two_octal_bytes : unquote (34 ∷ 92 ∷ 51 ∷ 48 ∷ 51 ∷ 92 ∷ 50 ∷ 53 ∷ 49 ∷ 34 ∷ 32 ∷ 120 ∷ []) ≡ Some (195 ∷ 169 ∷ [], 10)
+unfolding unquote
+two_octal_bytes = refl
+
+pub greatest_octal : unquote (34 ∷ 92 ∷ 51 ∷ 55 ∷ 55 ∷ 34 ∷ []) ≡ Some (255 ∷ [], 6)
+unfolding unquote
+greatest_octal = refl
+
+-- `"\a\b\t\n\v\f\r\"\\"`
+pub nine_letters : unquote (34 ∷ 92 ∷ 97 ∷ 92 ∷ 98 ∷ 92 ∷ 116 ∷ 92 ∷ 110 ∷ 92 ∷ 118 ∷ 92 ∷ 102 ∷ 92 ∷ 114 ∷ 92 ∷ 34 ∷ 92 ∷ 92 ∷ 34 ∷ [])
+    ≡ Some (7 ∷ 8 ∷ 9 ∷ 10 ∷ 11 ∷ 12 ∷ 13 ∷ 34 ∷ 92 ∷ [], 20)
+unfolding unquote
+nine_letters = refl
+
+pub nothing_between_quotes : unquote (34 ∷ 34 ∷ 97 ∷ []) ≡ Some ([], 2)
+unfolding unquote
+nothing_between_quotes = refl
+
+-- `"\q"`
+pub no_such_letter : unquote (34 ∷ 92 ∷ 113 ∷ 34 ∷ []) ≡ None
+unfolding unquote
+no_such_letter = refl
+
+-- `"\400"`
+pub past_the_greatest_octal : unquote (34 ∷ 92 ∷ 52 ∷ 48 ∷ 48 ∷ 34 ∷ []) ≡ None
+unfolding unquote
+past_the_greatest_octal = refl
+
+-- `"\7"` and `"\18a"`
+pub one_octal_digit : unquote (34 ∷ 92 ∷ 55 ∷ 34 ∷ []) ≡ None
+unfolding unquote
+one_octal_digit = refl
+
+pub no_octal_digit : unquote (34 ∷ 92 ∷ 49 ∷ 56 ∷ 97 ∷ 34 ∷ []) ≡ None
+unfolding unquote
+no_octal_digit = refl
+
+pub no_closing_quote : unquote (34 ∷ 97 ∷ []) ≡ None
+unfolding unquote
+no_closing_quote = refl
+
+pub a_line_end_inside : unquote (34 ∷ 97 ∷ 10 ∷ 34 ∷ []) ≡ None
+unfolding unquote
+a_line_end_inside = refl
+
+pub no_opening_quote : unquote (97 ∷ 34 ∷ 34 ∷ []) ≡ None
+unfolding unquote
+no_opening_quote = refl

@@ -1,5 +1,5 @@
-// Laws of paths.
-ghost use Rattle.path_names.specs.Laws.{ComparableLaw, PathOrderLaw, PathTextLaw};
+// Laws of paths, and of texts between quotes.
+ghost use Rattle.path_names.specs.Laws.{ComparableLaw, PathOrderLaw, PathTextLaw, QuotingLaw};
 
 /// Any two paths stand in one of the orders less, equal and greater, and equal ones alone are tied. This order compares
 /// the components from the first on, each with the slash that follows it, and gives the same answer as comparing the
@@ -17,4 +17,9 @@ pub fn comparable_law()
 /// between slashes.
 pub fn path_text_law()
     ensures { PathTextLaw }
+{}
+
+/// What was quoted is unquoted again, whatever follows it.
+pub fn quoting_law()
+    ensures { QuotingLaw }
 {}

@@ -1,10 +1,15 @@
 // Ref names.
-ghost use Rattle.std.specs.Prelude.{◌≡◌, ℕ, List, true, false, IfOk, IsErrOf};
+ghost use Rattle.std.specs.Prelude.{◌≡◌, ◌∷◌, [], ℕ, List, nat_eq, true, false, IfOk, IsErrOf};
+ghost use Rattle.std.proofs.Common.{rules};
+ghost use Rattle.std.specs.Cmp.{partial_equiv_from_equiv};
+ghost use Rattle.std.specs.Cmp.Lexicographic.{pointwise, nat_list_eq_equiv};
+ghost use Rattle.std.specs.Cmp.Rules.{hashing};
 ghost use Rattle.std.specs.List.{list_all};
 ghost use Rattle.path_names.specs.PathTexts.{parts};
 ghost use Rattle.path_names.specs.RefNames.{is_ref_name, is_ref_byte, has_pair, is_ref_part};
 
 use std::alloc::{AllocError, Global};
+use std::hash::{Hash, Hasher};
 use std::marker::Model;
 
 // The bytes of the shortest ref name, and of the longest.
@@ -62,6 +67,31 @@ impl RefName {
         Ok(RefName {
             inner: self.inner.to_vec(alloc)?,
         })
+    }
+}
+
+impl PartialEq for RefName {
+    ghost eq = { pointwise nat_eq };
+
+    ghost laws = { partial_equiv_from_equiv nat_list_eq_equiv };
+
+    fn eq(&self, other: &RefName) -> bool {
+        self.text() == other.text()
+    }
+}
+
+impl Eq for RefName {
+    ghost laws = { nat_list_eq_equiv };
+}
+
+// One write of all bytes: a map keyed by ref names hashes each of them once.
+impl Hash for RefName {
+    ghost hash_input = { λ r. r ∷ [] };
+
+    ghost respects_eq = { Prim.search (hashing, rules) };
+
+    fn hash<H: Hasher>(&self, state: &mut H) {
+        state.write(self.text());
     }
 }
 

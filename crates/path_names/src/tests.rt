@@ -1,4 +1,6 @@
-use crate::{Path, PathFault, RefFault, RefName, before, comparable};
+use crate::{
+    Path, PathFault, QuoteFault, RefFault, RefName, before, comparable, quote, quoted, unquote,
+};
 use std::alloc::{AllocError, Global};
 use std::test::Fail;
 
@@ -136,5 +138,56 @@ fn reads_ref_names(rt: HostRuntime) -> Result<(), Fail> {
     assert_eq!(rt; name.text().len(), 1024);
     longest.push(b'a')?;
     assert_eq!(rt; RefName::parse(alloc, &longest).err(), Some(RefFault::Bad));
+    Ok(())
+}
+
+#[test]
+fn quotes_and_reads_again(rt: HostRuntime) -> Result<(), Fail> {
+    let alloc = rt.alloc();
+    for (bytes, text) in [
+        (b"a b".as_slice(), b"a b".as_slice()),
+        (b"", b""),
+        (b"a\tb", b"\"a\\tb\""),
+        (b"\xc3\xa9", b"\xc3\xa9"),
+        (b"a\"b\\c", b"\"a\\\"b\\\\c\""),
+        (
+            b"\x00\x07\x08\n\x0b\x0c\r\x1f\x7f",
+            b"\"\\000\\a\\b\\n\\v\\f\\r\\037\\177\"",
+        ),
+    ] {
+        let written = quote(alloc, bytes)?;
+        assert_eq!(rt; written.as_slice(), text, "quoting {bytes:?}");
+        let always = quoted(alloc, bytes)?;
+        let read = unquote(alloc, &always)?;
+        assert_eq!(rt; read.bytes.bytes(), bytes, "unquoting {always:?}");
+        assert_eq!(rt; read.used, always.len(), "unquoting {always:?}");
+    }
+    Ok(())
+}
+
+#[test]
+fn unquotes_up_to_the_closing_quote(rt: HostRuntime) -> Result<(), Fail> {
+    let alloc = rt.alloc();
+    let read = unquote(alloc, b"\"\\303\\251\" x")?;
+    assert_eq!(rt; read.bytes.bytes(), b"\xc3\xa9".as_slice());
+    assert_eq!(rt; read.used, 10);
+    for text in [
+        b"".as_slice(),
+        b"a\"\"",
+        b"\"a",
+        b"\"\\",
+        b"\"\\q\"",
+        b"\"\\400\"",
+        b"\"\\7\"",
+        b"\"\\08a\"",
+        b"\"a\nb\"",
+        b"\"\\\n\"",
+    ] {
+        assert_eq!(rt;
+            unquote(alloc, text).err(),
+            Some(QuoteFault::Bad),
+            "at {text:?}"
+        );
+    }
     Ok(())
 }

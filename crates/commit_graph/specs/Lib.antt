@@ -1,0 +1,4 @@
+pub mod Graphs
+pub mod Nodes
+pub mod Marks
+pub mod Rows

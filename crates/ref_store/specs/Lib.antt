@@ -1,0 +1,4 @@
+pub mod Refs
+pub mod Laws
+pub mod Pairs
+pub mod Rows

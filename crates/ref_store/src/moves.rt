@@ -1,0 +1,18 @@
+// Moves of refs.
+ghost use Rattle.std.specs.Prelude.{◌≡◌, ◌↔◌, ℕ, Some, IsSome, IsTrue, IfOk};
+ghost use Rattle.commit_graph.specs.Graphs.{place_of, Reaches};
+
+use commit_graph::Graph;
+use git_objects::Name;
+use std::alloc::AllocError;
+
+/// Whether the old commit is the new one or an ancestor of it.
+pub fn forward(graph: &Graph, old: &Name, new: &Name) -> Result<bool, AllocError>
+    requires old_is_there { IsSome (place_of old.now.0 graph.now) }
+    requires new_is_there { IsSome (place_of new.now.0 graph.now) }
+    ensures { IfOk result (λ b. (i j : ℕ) → place_of old.now.0 graph.now ≡ Some i → place_of new.now.0 graph.now ≡ Some j → IsTrue b ↔ Reaches graph.now j i) }
+{
+    let old = graph.index_of(old).unwrap();
+    let new = graph.index_of(new).unwrap();
+    graph.is_ancestor(old, new)
+}

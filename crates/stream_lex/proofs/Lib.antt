@@ -1,0 +1,10 @@
+pub mod Scan
+pub mod Settling
+pub mod Fuel
+pub mod BlockCases
+pub mod Advance
+pub mod Spelled
+pub mod BlockSpelled
+pub mod Whole
+pub mod Passing
+pub mod Pieces

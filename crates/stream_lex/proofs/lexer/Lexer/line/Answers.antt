@@ -1,0 +1,56 @@
+use Rattle.std.proofs.Common.{◌∙◌, ◌+◌, ◌-◌, Ok, Err, Some, None, ap, sym, refl, arith}
+use Rattle.git_objects.specs.Paths.{Bytes}
+use Rattle.stream_lex.specs.Views.{input, line, maybe_line}
+use Rattle.stream_lex.specs.Lexing.{Lexed}
+use Rattle.stream_lex.proofs.Passing.{at_offset, told_here, told_left, left_within}
+use Rattle.stream_lex.proofs.lexer.Lexer.line.Goals as goal
+
+pub returns-in-Err-More : goal.returns-in-Err-More
+returns-in-Err-More c = (
+  told_here c.self.inside.base c.self.inside.bytes.items c.deref.result.now c.self.inside.used c.self.inside.from c.self.inside.ended
+      c.deref.ensures.value c.self.invariant.past c.args.self.now c.self.view_is _ (rw c.in-Err-More.is at c.look.ensures.told ∙ ap Err (rw c.in-Err-More.is at c.in-Err-More.field-0-is)),
+  c.self.view_is,
+)
+
+pub returns-in-Err-LongLine : goal.returns-in-Err-LongLine
+returns-in-Err-LongLine c = (
+  told_here c.self.inside.base c.self.inside.bytes.items c.deref.result.now c.self.inside.used c.self.inside.from c.self.inside.ended
+      c.deref.ensures.value c.self.invariant.past c.args.self.now c.self.view_is _ (rw c.in-Err-LongLine.is at c.look.ensures.told ∙ ap Err (rw c.in-Err-LongLine.is at c.in-Err-LongLine.field-0-is)),
+  refl,
+)
+
+pub returns-in-Err-StreamTooLong : goal.returns-in-Err-StreamTooLong
+returns-in-Err-StreamTooLong c = (
+  told_here c.self.inside.base c.self.inside.bytes.items c.deref.result.now c.self.inside.used c.self.inside.from c.self.inside.ended
+      c.deref.ensures.value c.self.invariant.past c.args.self.now c.self.view_is _ (rw c.in-Err-StreamTooLong.is at c.look.ensures.told ∙ ap Err (rw c.in-Err-StreamTooLong.is at c.in-Err-StreamTooLong.field-0-is)),
+  refl,
+)
+
+pub returns-in-Ok-None-default : goal.returns-in-Ok-None-default
+returns-in-Ok-None-default c =
+    let f = c.in-Ok-None-default in
+    let none = rw f.is at f.field-0-0-is in
+    let told = rw f.is at c.look.ensures.told ∙ ap (λ o. Ok (maybe_line o, input f.after)) none in
+    let steps = rw f.is at c.look.ensures.steps in (
+      told_left c.self.inside.base c.self.inside.bytes.items c.deref.result.now c.self.inside.used c.self.inside.from c.self.inside.ended
+          c.deref.ensures.value c.self.invariant.past c.args.self.now c.self.view_is c.self.invariant.order None (input f.after) steps told,
+      (left_within c.self.inside.base c.self.inside.bytes.items c.deref.result.now c.self.inside.used c.self.inside.from c.self.inside.ended
+          c.deref.ensures.value c.self.invariant.past c.args.self.now c.self.view_is c.self.invariant.order None (input f.after) steps (omega (arith, c.self.invariant.room))).1,
+      ap (λ (l : Lexed). l.ended) c.self.view_is,
+    )
+
+pub returns-in-Ok : goal.returns-in-Ok
+returns-in-Ok c =
+    let f = c.in-Ok-Some-default in
+    let some = rw f.is at f.field-0-0-is in
+    let told = rw f.is at c.look.ensures.told ∙ ap (λ o. Ok (maybe_line o, input f.after)) some in
+    let steps = rw f.is at c.look.ensures.steps in
+    let bytes = sym c.in-Ok.ensures.items ∙ sym c.of.ensures in (
+      told_left c.self.inside.base c.self.inside.bytes.items c.deref.result.now c.self.inside.used c.self.inside.from c.self.inside.ended
+          c.deref.ensures.value c.self.invariant.past c.args.self.now c.self.view_is c.self.invariant.order (Some (line f.line)) (input f.after) steps told
+          ∙ ap (λ (b : Bytes). Ok (
+            Some (record { place = f.line.at; bytes = b }),
+            at_offset c.self.inside.base c.self.inside.bytes.items (c.self.inside.used + (f.after.at - (c.self.inside.base + c.self.inside.used))),
+          )) bytes,
+      ap (λ (l : Lexed). l.ended) c.self.view_is,
+    )

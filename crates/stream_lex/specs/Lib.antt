@@ -1,0 +1,10 @@
+pub mod Lines
+pub mod Views
+pub mod Cutting
+pub mod Passed
+pub mod Lexing
+pub mod Held
+pub mod Spelling
+pub mod Pieces
+pub mod Laws
+pub mod Rows

@@ -1,0 +1,228 @@
+// A lexer of a stream that is fed in pieces.
+ghost use Rattle.std.specs.Prelude.{◌≡◌, ◌+◌, ◌-◌, ◌≤◌, [], false, true, OnOk, OnErr, length, drop, vec_len};
+ghost use Rattle.stream_lex.specs.Lines.{line_at, block_at, stream_max};
+ghost use Rattle.stream_lex.specs.Views.{input};
+ghost use Rattle.stream_lex.specs.Cutting.{grown};
+ghost use Rattle.stream_lex.specs.Lexing.{TellsLine, TellsBlock};
+
+use crate::lines::look;
+use crate::{Cursor, Stop, block};
+use git_objects::Bytes;
+use std::alloc::{AllocError, Global};
+use std::marker::Model;
+
+/// What `Lexer::line` tells.
+#[derive(Debug, Drop)]
+pub enum LineAnswer {
+    /// A line without its LF, and the place of its first byte in the stream.
+    Line { at: u64, bytes: Bytes },
+    /// It can't be told before more has come.
+    More,
+    /// No line is left, and the stream has so many bytes.
+    Ended { at: u64 },
+}
+
+/// What `Lexer::block` tells.
+#[derive(Debug, Drop)]
+pub enum BlockAnswer {
+    /// So many bytes as were asked for.
+    Block(Bytes),
+    /// It can't be told before more has come.
+    More,
+    /// The stream ends before.
+    Short,
+}
+
+/// Why a line or a block is refused.
+#[derive(Clone, Copy, Debug, PartialEq, Eq)]
+pub enum LexFault {
+    /// A line of more than 65,536 bytes begins there.
+    LongLine { at: u64 },
+    /// The stream has more than 2^28 bytes.
+    StreamTooLong,
+    OutOfMemory,
+}
+
+/// Keeps what was fed and isn't handed out.
+#[derive(Debug, Drop)]
+pub struct Lexer {
+    // the bytes from the place `base` on, of which `used` are handed out
+    bytes: Vec<u8>,
+    base: u64,
+    used: usize,
+    // behind the comments that were looked at, and how many bytes from there on are known to have no LF
+    from: usize,
+    clear: usize,
+    ended: bool,
+    alloc: Global,
+}
+
+impl Model for Lexer {
+    ghost use Rattle.stream_lex.specs.Lexing.{Lexed};
+
+    ghost Value = { Lexed };
+
+    ghost use Rattle.stream_lex.specs.Held.{held, IsHeld};
+
+    ghost view = { held };
+
+    ghost invariant = { IsHeld };
+}
+
+impl Lexer {
+    /// A lexer of a stream of which nothing has come.
+    pub fn new(alloc: Global) -> Lexer
+        ensures { result ≡ record { input = record { at = 0; rest = [] }; ended = false } }
+    {
+        Lexer {
+            bytes: Vec::new(alloc),
+            base: 0,
+            used: 0,
+            from: 0,
+            clear: 0,
+            ended: false,
+            alloc,
+        }
+    }
+
+    /// Takes the next piece of the stream. Bytes that were handed out are given up.
+    pub fn feed(&mut self, piece: &[u8]) -> Result<(), AllocError>
+        requires { self.old.ended ≡ false }
+        ensures ok { OnOk result
+            (self.new ≡ record { input = grown piece.now self.old.input; ended = false }) }
+        ensures err { OnErr result (self.new ≡ self.old) }
+    {
+        self.give_up();
+        self.bytes.extend_from_slice(piece)?;
+        Ok(())
+    }
+
+    /// Nothing more comes.
+    pub fn end(&mut self)
+        ensures { self.new ≡ record { input = self.old.input; ended = true } }
+    {
+        self.ended = true;
+    }
+
+    /// The next line behind comments, without its LF.
+    pub fn line(&mut self) -> Result<LineAnswer, LexFault>
+        ensures { TellsLine result self.old self.new (line_at self.old.ended self.old.input) }
+    {
+        let start = self.base + self.used as u64;
+        let at = self.base + self.from as u64;
+        let rest = &self.bytes[self.from..];
+        let (from, found) = look(self.ended, Cursor { at, rest }, self.clear);
+        match found {
+            Err(Stop::More) => {
+                let passed = (from.at - at) as usize;
+                let clear = from.rest.len();
+                self.from += passed;
+                self.clear = clear;
+                Ok(LineAnswer::More)
+            }
+            Err(Stop::LongLine { at }) => Err(LexFault::LongLine { at }),
+            Err(Stop::StreamTooLong) => Err(LexFault::StreamTooLong),
+            Ok((None, after)) => {
+                let by = (after.at - start) as usize;
+                self.used += by;
+                self.from = self.used;
+                self.clear = 0;
+                Ok(LineAnswer::Ended { at: after.at })
+            }
+            Ok((Some(line), after)) => {
+                let Ok(bytes) = Vec::from_slice(self.alloc, line.bytes) else {
+                    return Err(LexFault::OutOfMemory);
+                };
+                let by = (after.at - start) as usize;
+                self.used += by;
+                self.from = self.used;
+                self.clear = 0;
+                Ok(LineAnswer::Line {
+                    at: line.at,
+                    bytes: Bytes::of(bytes),
+                })
+            }
+        }
+    }
+
+    /// The next `size` bytes, with one LF behind them passed over where it is there.
+    pub fn block(&mut self, size: u32) -> Result<BlockAnswer, LexFault>
+        ensures { TellsBlock result self.old self.new (block_at size self.old.ended self.old.input) }
+    {
+        let rest = &self.bytes[self.used..];
+        let at = self.base + self.used as u64;
+        match block(size as usize, self.ended, Cursor { at, rest }) {
+            Err(Stop::More) => Ok(BlockAnswer::More),
+            Err(Stop::LongLine { at }) => Err(LexFault::LongLine { at }),
+            Err(Stop::StreamTooLong) => Err(LexFault::StreamTooLong),
+            Ok((None, _)) => Ok(BlockAnswer::Short),
+            Ok((Some(found), after)) => {
+                let Ok(bytes) = Vec::from_slice(self.alloc, found) else {
+                    return Err(LexFault::OutOfMemory);
+                };
+                let by = (after.at - at) as usize;
+                self.used += by;
+                self.from = self.used;
+                self.clear = 0;
+                Ok(BlockAnswer::Block(Bytes::of(bytes)))
+            }
+        }
+    }
+
+    /// What isn't handed out, lent: `line` and `block` of this crate read it without copies, and `pass` then hands it out.
+    pub fn cursor(&self) -> Cursor<'_>
+        ensures value { input result ≡ self.now.input }
+        ensures within { result.at ≤ stream_max }
+    {
+        Cursor {
+            at: self.base + self.used as u64,
+            rest: &self.bytes[self.used..],
+        }
+    }
+
+    /// Whether nothing more comes.
+    pub fn has_ended(&self) -> bool
+        ensures { result ≡ self.now.ended }
+    {
+        self.ended
+    }
+
+    /// Hands out what stands before a place.
+    pub fn pass(&mut self, to: u64)
+        requires within { to ≤ stream_max }
+        requires from { self.old.input.at ≤ to }
+        requires room { to ≤ self.old.input.at + length self.old.input.rest }
+        ensures { self.new ≡ record {
+          input = record { at = to; rest = drop (to - self.old.input.at) self.old.input.rest };
+          ended = self.old.ended;
+        } }
+    {
+        let by = (to - (self.base + self.used as u64)) as usize;
+        self.used += by;
+        self.from = self.used;
+        self.clear = 0;
+    }
+
+    // Gives up the bytes that are handed out.
+    fn give_up(&mut self)
+        ensures { self.new ≡ self.old }
+    {
+        if self.used > 0 {
+            let used = self.used;
+            drop_front(&mut self.bytes, used);
+            self.base += used as u64;
+            self.from -= used;
+            self.used = 0;
+        }
+    }
+}
+
+// Takes out the first n bytes and keeps the memory.
+fn drop_front(bytes: &mut Vec<u8>, n: usize)
+    requires { n ≤ vec_len bytes.old }
+    ensures { bytes.new.items ≡ drop n bytes.old.items }
+{
+    let left = bytes.len() - n;
+    bytes.as_mut_slice().copy_within(n.., 0);
+    bytes.truncate(left);
+}

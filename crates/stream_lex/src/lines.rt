@@ -1,0 +1,155 @@
+// Lines.
+ghost use Rattle.std.specs.Prelude.{◌≡◌, ◌≤◌, ◌<◌, ◌+◌, Some, false, length, take, drop, IfOk, IfNone, IfSome};
+ghost use Rattle.stream_lex.specs.Lines.{line_max, stream_max, split_line, any_line, line_at, is_comment, HasNone};
+ghost use Rattle.stream_lex.specs.Cutting.{Advances};
+ghost use Rattle.stream_lex.specs.Passed.{IsPast};
+ghost use Rattle.stream_lex.specs.Views.{Tells, WaitsClear, input, read_line};
+
+use crate::cursor::{LINE_MAX, STREAM_MAX};
+use crate::{Cursor, LineView, Stop};
+use memchr::memchr;
+
+// A line with what is behind it, or none at the end.
+type Found<'a> = Result<(Option<LineView<'a>>, Cursor<'a>), Stop>;
+
+/// Whether a line begins with `#`.
+pub fn is_comment(line: &[u8]) -> bool
+    ensures { result ≡ is_comment line.now }
+{
+    match line {
+        [] => false,
+        [x, ..] => *x == b'#',
+    }
+}
+
+/// The next line, a comment or not, or none at the end.
+pub fn any_line<'a>(ended: bool, i: Cursor<'a>) -> Result<(Option<LineView<'a>>, Cursor<'a>), Stop>
+    requires { i.at ≤ stream_max }
+    ensures { Tells read_line result (any_line ended (input i.entry)) }
+{
+    next_line(ended, i, 0)
+}
+
+/// The next line behind comments, or none at the end.
+pub fn line<'a>(ended: bool, i: Cursor<'a>) -> Result<(Option<LineView<'a>>, Cursor<'a>), Stop>
+    requires { i.at ≤ stream_max }
+    ensures told { Tells read_line result (line_at ended (input i.entry)) }
+    ensures within { IfOk result (λ x. x.1.at ≤ stream_max) }
+    ensures steps { IfOk result (λ x. Advances (input i.entry) (input x.1)) }
+{
+    let (_, found) = look(ended, i, 0);
+    found
+}
+
+// Where the next line begins that is no comment, and what is read there. The first `clear` bytes have no LF.
+pub fn look<'a>(
+    ended: bool,
+    i: Cursor<'a>,
+    clear: usize,
+) -> (Cursor<'a>, Result<(Option<LineView<'a>>, Cursor<'a>), Stop>)
+    requires at { i.at ≤ stream_max }
+    requires room { clear ≤ length i.rest.now }
+    requires clear { HasNone i.rest.now clear }
+    ensures told { Tells read_line result.1 (line_at ended (input i.entry)) }
+    ensures within { IfOk result.1 (λ x. x.1.at ≤ stream_max) }
+    ensures steps { IfOk result.1 (λ x. Advances (input i.entry) (input x.1)) }
+    ensures from_within { result.0.at ≤ stream_max }
+    ensures from_steps { Advances (input i.entry) (input result.0) }
+    ensures past { ended ≡ false → IsPast (input i.entry) (input result.0) }
+    ensures waits { WaitsClear result.1 ended result.0.rest.now }
+{
+    let mut i = i;
+    let mut clear = clear;
+    'lines: loop {
+        match next_line(ended, i, clear) {
+            Err(stop) => return (i, Err(stop)),
+            Ok((None, after)) => return (i, Ok((None, after))),
+            Ok((Some(line), after)) => {
+                if !is_comment(line.bytes) {
+                    return (i, Ok((Some(line), after)));
+                }
+                i = after;
+                clear = 0;
+            }
+        }
+    }
+}
+
+// The next line, a comment or not, where the first `clear` bytes have no LF.
+fn next_line<'a>(
+    ended: bool,
+    i: Cursor<'a>,
+    clear: usize,
+) -> Result<(Option<LineView<'a>>, Cursor<'a>), Stop>
+    requires at { i.at ≤ stream_max }
+    requires room { clear ≤ length i.rest.now }
+    requires clear { HasNone i.rest.now clear }
+    ensures told { Tells read_line result (any_line ended (input i.entry)) }
+    ensures waits { WaitsClear result ended i.entry.rest.now }
+{
+    let at = i.at;
+    let rest = i.rest;
+    let Some(n) = line_end(rest, clear) else {
+        return unended(ended, i);
+    };
+    if n as u64 + 1 > STREAM_MAX - at {
+        return Err(Stop::StreamTooLong);
+    }
+    let line = LineView {
+        at,
+        bytes: &rest[..n],
+    };
+    let after = Cursor {
+        at: at + (n as u64 + 1),
+        rest: &rest[n + 1..],
+    };
+    Ok((Some(line), after))
+}
+
+// The next line where no LF ends it.
+fn unended<'a>(ended: bool, i: Cursor<'a>) -> Result<(Option<LineView<'a>>, Cursor<'a>), Stop>
+    requires at { i.at ≤ stream_max }
+    requires none { HasNone i.rest.now (line_max + 1) }
+    ensures told { Tells read_line result (any_line ended (input i.entry)) }
+    ensures waits { WaitsClear result ended i.entry.rest.now }
+{
+    let at = i.at;
+    let rest = i.rest;
+    if rest.len() > LINE_MAX {
+        if at + LINE_MAX as u64 + 1 > STREAM_MAX {
+            return Err(Stop::StreamTooLong);
+        }
+        return Err(Stop::LongLine { at });
+    }
+    if rest.len() as u64 > STREAM_MAX - at {
+        return Err(Stop::StreamTooLong);
+    }
+    if !ended {
+        return Err(Stop::More);
+    }
+    if rest.is_empty() {
+        return Ok((None, i));
+    }
+    let line = LineView { at, bytes: rest };
+    let after = Cursor {
+        at: at + rest.len() as u64,
+        rest: &rest[rest.len()..],
+    };
+    Ok((Some(line), after))
+}
+
+// Where the first LF stands, among the bytes that a line may have and one more. The first `clear` bytes have none.
+fn line_end(rest: &[u8], clear: usize) -> Option<usize>
+    requires room { clear ≤ length rest.now }
+    requires clear { HasNone rest.now clear }
+    ensures found { IfSome result (λ n. split_line rest.now ≡ Some (take n rest.now, drop (n + 1) rest.now)) }
+    ensures within { IfSome result (λ n. (n < length rest.now) × (n ≤ line_max)) }
+    ensures none { IfNone result (HasNone rest.now (line_max + 1)) }
+{
+    let end = rest.len().min(LINE_MAX + 1);
+    let from = clear.min(end);
+    match memchr(b'\n', &rest[from..end]) {
+        Some(n) => Some(from + n),
+        None => None,
+    }
+}
