@@ -1,6 +1,7 @@
 // Objects as Git names them.
 use crate::{PutError, Store};
 use git_objects::{Kind, Name, name_of};
+use std::alloc::Global;
 use std::test::Fail;
 
 const HELLO: &[u8] = b"hello\n";
@@ -37,6 +38,14 @@ const FIRST_NAME: &[u8; 40] = b"8a8d2e8d9c06d2de1f7e1998c51e0f6cfd0a9540";
 const SECOND_NAME: &[u8; 40] = b"aac26ee5964e588841e617de1314b39aff7006bc";
 
 const NO_NAME: &[u8; 40] = b"0000000000000000000000000000000000000000";
+
+// Which bodies stay bodies (`+`) when the lowest bit of their byte at that place is changed.
+const NESTED_CHANGED: &[u8] = b"------+-++++++++++++++++++++-------+-++++++++++++++++++++";
+
+const FIRST_CHANGED: &[u8] = b"-----+++++++++++++++++-+++++-+++++++++-++++++-\
+    -------+--+++--+--++++-\
+    ----------+--+++--+--++++-\
+    -+++++";
 
 fn told(answer: Result<Name, PutError>) -> (&'static str, [u8; 40]) {
     match answer {
@@ -85,6 +94,53 @@ fn children_first(rt: HostRuntime) -> Result<(), Fail> {
         assert_eq!(rt; answer.1, *digits);
         is_held = is_held || kind == Kind::Blob;
         assert_eq!(rt; holds_hello(&store, &hello), is_held);
+    }
+    Ok(())
+}
+
+fn is_body(alloc: Global, kind: Kind, body: &[u8]) -> bool {
+    let mut store = Store::new(alloc);
+    told(store.put_slice(kind, body)).0 != "no body"
+}
+
+// Each front of a body that Git made, and each body with one bit changed. No child is held, so none but the empty tree is taken.
+#[test]
+fn cuts_and_changes(rt: HostRuntime) -> Result<(), Fail> {
+    let alloc = rt.alloc();
+    for (kind, body, whole, changed) in [
+        (
+            Kind::Tree,
+            NESTED,
+            [0usize, 28, 57].as_slice(),
+            NESTED_CHANGED,
+        ),
+        (
+            Kind::Commit,
+            FIRST,
+            [96usize, 97, 98, 99, 100, 101].as_slice(),
+            FIRST_CHANGED,
+        ),
+    ] {
+        assert_eq!(rt; body.len(), changed.len());
+        for (at, sign) in changed.iter().enumerate() {
+            if let Some((front, _)) = body.split_at_checked(at) {
+                assert_eq!(rt;
+                    is_body(alloc, kind, front),
+                    whole.contains(&at),
+                    "{kind:?} cut at {at}"
+                );
+            }
+            let mut other = body.to_vec(alloc)?;
+            if let Some(byte) = other.get_mut(at) {
+                *byte ^= 1;
+            }
+            assert_eq!(rt;
+                is_body(alloc, kind, &other),
+                *sign == b'+',
+                "{kind:?} changed at {at}"
+            );
+        }
+        assert!(rt; is_body(alloc, kind, body));
     }
     Ok(())
 }
