@@ -1,0 +1,14 @@
+//! A state that a keeper's items spell.
+#![tactic(auto)]
+
+mod cursor;
+mod item;
+mod loading;
+mod objects;
+mod ref_fields;
+mod ref_table;
+mod state;
+#[cfg(test)]
+mod tests;
+
+pub use state::{LoadError, State};

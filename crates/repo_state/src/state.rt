@@ -1,0 +1,130 @@
+// What a keeper's items spell.
+ghost use Rattle.std.specs.Prelude.{◌≡◌, ◌↔◌, [], Err, IfOk, IfSome, MatchResult, true};
+ghost use Rattle.std.specs.FinMap.{find};
+ghost use Rattle.std.specs.Option.{option_map};
+ghost use Rattle.git_objects.specs.Parts.{name_bytes};
+ghost use Rattle.proj_io.specs.Counts.{Counts};
+ghost use Rattle.proj_io.specs.Items.{Stays};
+ghost use Rattle.object_store.specs.Errors.{newest};
+ghost use Rattle.repo_state.specs.Items.{bytes_cmp, held_with, read_items};
+ghost use Rattle.repo_state.specs.Loads.{IsLoaded, IsLoadFault};
+ghost use Rattle.repo_state.specs.Stops.{are_heads};
+
+use crate::loading::{Loaded, load_items};
+use crate::objects::Objects;
+use crate::ref_table::RefTable;
+use git_objects::Name;
+use indexmap::IndexSet;
+use object_store::Store;
+use path_names::RefName;
+use proj_io::Keeper;
+use std::alloc::{AllocError, Global};
+use std::marker::Model;
+
+/// Why items are not loaded.
+#[derive(Clone, Copy, Debug, PartialEq, Eq)]
+pub enum LoadError {
+    /// The keeper failed.
+    StoreFault,
+    /// The first item, numbered from 0, that breaks a rule, and the first byte of the field that breaks it.
+    Damaged { item: u32, at: u64 },
+    /// An item's object has the name of another object.
+    Collision { name: Name },
+    OutOfMemory,
+}
+
+/// A store of objects, and what a keeper's items hold: objects of it, and refs.
+#[derive(Drop)]
+pub struct State {
+    /// All objects, those that no item holds too.
+    pub store: Store,
+    refs: RefTable,
+    // The names of the objects that items hold, in order of arrival.
+    held: IndexSet<Name>,
+    // How many items there are, and their bytes together.
+    number: u32,
+    size: u64,
+}
+
+impl Model for State {
+    ghost use Rattle.repo_state.specs.Loads.{Stored, IsStored};
+    ghost use Rattle.repo_state.specs.Views.{stored};
+
+    ghost Value = { Stored };
+
+    ghost view = { λ s. stored s.store s.held.keys s.refs s.number s.size };
+
+    ghost invariant = { λ s. IsStored (stored s.store s.held.keys s.refs s.number s.size) };
+}
+
+impl State {
+    // The state of what was read of so many items.
+    fn of(loaded: Loaded, number: u32) -> State
+        requires { are_heads loaded.objects loaded.refs ≡ true }
+        ensures held { result.held ≡ held_with loaded.objects loaded.refs }
+        ensures objects { newest result.objects ≡ loaded.objects }
+        ensures number { result.number ≡ number }
+        ensures size { result.size ≡ loaded.size }
+    {
+        let Loaded {
+            objects,
+            refs,
+            size,
+        } = loaded;
+        let Objects {
+            store,
+            names,
+            commits: _,
+        } = objects;
+        State {
+            store,
+            refs,
+            held: names,
+            number,
+            size,
+        }
+    }
+
+    /// No objects, no refs, and no items.
+    #[tactic(auto, unfolding(crate::specs::Items::read_items))]
+    pub fn empty(alloc: Global) -> Result<State, AllocError>
+        ensures { IfOk result (λ state. IsLoaded [] state) }
+    {
+        let loaded = Loaded {
+            objects: Objects::new(alloc),
+            refs: RefTable::new(alloc),
+            size: 0,
+        };
+        Ok(State::of(loaded, 0))
+    }
+
+    /// Reads all items of the keeper.
+    pub fn load<K: Keeper>(alloc: Global, keeper: &mut K) -> Result<State, LoadError>
+        requires { K.is_open keeper.old }
+        ensures read { IfSome (K.items keeper.old) (λ items. MatchResult result
+            (λ state. IsLoaded items state)
+            (λ e. IsLoadFault e (read_items items))) }
+        ensures number { IfOk result (λ state. state.number ≡ K.number keeper.old) }
+        ensures same { K.number keeper.new ≡ K.number keeper.old }
+        ensures items { Stays (K.items keeper.old) (K.items keeper.new) }
+        ensures is_open { K.is_open keeper.new }
+        ensures told { K.tells keeper.new ↔ K.tells keeper.old }
+        ensures cause { Counts (K.faults keeper.old) (K.faults keeper.new) (result ≡ Err LoadError.StoreFault) }
+    {
+        let count = match keeper.count() {
+            Err(_) => return Err(LoadError::StoreFault),
+            Ok(count) => count,
+        };
+        match load_items(alloc, keeper, count) {
+            Err(e) => return Err(e),
+            Ok(loaded) => return Ok(State::of(loaded, count)),
+        }
+    }
+
+    /// The commit that a ref names.
+    pub fn head(&self, refname: &RefName) -> Option<Name>
+        ensures { option_map name_bytes result ≡ find bytes_cmp refname.now self.now.held.refs }
+    {
+        self.refs.find(refname.text())
+    }
+}
