@@ -31,6 +31,10 @@ F1\x01|F2\x09|F3\x7f|=9f5f0cea138344bbf1d2fd443f95c3287b160c98\n\
 F\xffx|F\x01y|=088af9531cff904bdd011c58f62d0f3a4cd485f9\n\
 F1foo|F2foo-bar|D3foo.d|D4foo0|=23bfc2736a48d65b952c13e5e62d7ca8ac5b515b";
 
+// The body that `git cat-file tree` gives of a tree of the file `f`, which holds `hello` and LF.
+const ONE_FILE: &[u8] =
+    b"100644 f\x00\xce\x01\x36\x25\x03\x0b\xa8\xdb\xa9\x06\xf7\x56\x96\x7f\x9e\x9c\xa3\x94\x46\x4a";
+
 // The tree, the parents, the author, the committer, the message, and the name: of `git commit-tree` for the first six,
 // and of `git hash-object -t commit --literally` for the others.
 const COMMITS: &[u8] =
@@ -190,7 +194,10 @@ fn trees(rt: HostRuntime) -> Result<(), Fail> {
     let hello = name_of(Kind::Blob, b"hello\n");
     is_named(&rt, &hello, b"ce013625030ba8dba906f756967f9e9ca394464a");
     add_entry(&mut body, Mode::File, b"f", &hello)?;
-    assert_eq!(rt; body.len(), 29);
+    assert_eq!(rt; body.as_slice(), ONE_FILE);
+    let mut file = entry(&rt, alloc, b'F', 0, b"f")?;
+    file.name = hello;
+    assert_eq!(rt; encoded(&rt, alloc, &[file])?.as_slice(), ONE_FILE);
     is_named(
         &rt,
         &name_of(Kind::Tree, &body),
@@ -288,6 +295,7 @@ fn commits(rt: HostRuntime) -> Result<(), Fail> {
 fn idents_names_and_copies(rt: HostRuntime) -> Result<(), Fail> {
     let alloc = rt.alloc();
     let ident = Ident::parse(alloc, PERSON)?;
+    assert_eq!(rt; ident.bytes(), PERSON);
     assert_eq!(rt; ident.copy(alloc)?.bytes(), PERSON);
     for text in NO_IDENTS.split(|b| *b == b'|') {
         assert_eq!(rt; Ident::parse(alloc, text).err(), Some(IdentFault::Bad));

@@ -69,6 +69,7 @@ fn holds_hello(store: &Store, name: &Name) -> bool {
 fn children_first(rt: HostRuntime) -> Result<(), Fail> {
     let alloc = rt.alloc();
     let mut store = Store::new(alloc);
+    let mut lent = Store::new(alloc);
     let hello = name_of(Kind::Blob, HELLO);
     let mut is_held = false;
     for (kind, body, word, digits) in [
@@ -89,9 +90,13 @@ fn children_first(rt: HostRuntime) -> Result<(), Fail> {
         (Kind::Commit, SECOND, "taken", SECOND_NAME),
         (Kind::Blob, HELLO, "taken", HELLO_NAME),
     ] {
-        let answer = told(store.put(kind, body.to_vec(alloc)?));
-        assert_eq!(rt; answer.0, word, "at {digits:?}");
-        assert_eq!(rt; answer.1, *digits);
+        for answer in [
+            told(store.put(kind, body.to_vec(alloc)?)),
+            told(lent.put_slice(kind, body)),
+        ] {
+            assert_eq!(rt; answer.0, word, "at {digits:?}");
+            assert_eq!(rt; answer.1, *digits);
+        }
         is_held = is_held || kind == Kind::Blob;
         assert_eq!(rt; holds_hello(&store, &hello), is_held);
     }

@@ -144,20 +144,23 @@ fn reads_ref_names(rt: HostRuntime) -> Result<(), Fail> {
 #[test]
 fn quotes_and_reads_again(rt: HostRuntime) -> Result<(), Fail> {
     let alloc = rt.alloc();
-    for (bytes, text) in [
-        (b"a b".as_slice(), b"a b".as_slice()),
-        (b"", b""),
-        (b"a\tb", b"\"a\\tb\""),
-        (b"\xc3\xa9", b"\xc3\xa9"),
-        (b"a\"b\\c", b"\"a\\\"b\\\\c\""),
+    for (bytes, between, wants_quotes) in [
+        (b"a b".as_slice(), b"\"a b\"".as_slice(), false),
+        (b"", b"\"\"", false),
+        (b"a\tb", b"\"a\\tb\"", true),
+        (b"\xc3\xa9", b"\"\xc3\xa9\"", false),
+        (b"a\"b\\c", b"\"a\\\"b\\\\c\"", true),
         (
             b"\x00\x07\x08\n\x0b\x0c\r\x1f\x7f",
             b"\"\\000\\a\\b\\n\\v\\f\\r\\037\\177\"",
+            true,
         ),
     ] {
         let written = quote(alloc, bytes)?;
+        let text = if wants_quotes { between } else { bytes };
         assert_eq!(rt; written.as_slice(), text, "quoting {bytes:?}");
         let always = quoted(alloc, bytes)?;
+        assert_eq!(rt; always.as_slice(), between, "quoting {bytes:?}");
         let read = unquote(alloc, &always)?;
         assert_eq!(rt; read.bytes.bytes(), bytes, "unquoting {always:?}");
         assert_eq!(rt; read.used, always.len(), "unquoting {always:?}");

@@ -123,6 +123,7 @@ fn lines_and_blocks_are_lent(rt: HostRuntime) -> Result<(), Fail> {
     let alloc = rt.alloc();
     let mut lexer = Lexer::new(alloc);
     lexer.feed(b"#c\nab\nxyz\nrest")?;
+    assert_eq!(rt; lexer.cursor().rest, b"#c\nab\nxyz\nrest".as_slice());
     let ended = lexer.has_ended();
     let (first, after) = any_line(ended, lexer.cursor()).ok().ok_or("a comment")?;
     let comment = first.ok_or("a comment")?;
@@ -144,5 +145,24 @@ fn lines_and_blocks_are_lent(rt: HostRuntime) -> Result<(), Fail> {
         .ok_or("a line")?;
     assert_eq!(rt; last.ok_or("a line")?.bytes, b"rest".as_slice());
     assert_eq!(rt; after.at, 14);
+    Ok(())
+}
+
+#[test]
+fn places_of_lines_and_of_the_end(rt: HostRuntime) -> Result<(), Fail> {
+    let mut lexer = Lexer::new(rt.alloc());
+    lexer.feed(b"#c\nab\nrest")?;
+    lexer.end();
+    for (place, text) in [(3, b"ab".as_slice()), (6, b"rest")] {
+        match lexer.line() {
+            Ok(LineAnswer::Line { at, bytes }) => {
+                assert_eq!(rt; at, place);
+                assert_eq!(rt; bytes.bytes(), text);
+            }
+            _ => return Err("a line".into()),
+        }
+    }
+    assert!(rt; matches!(lexer.line(), Ok(LineAnswer::Ended { at: 10 })));
+    assert!(rt; matches!(lexer.block(1), Ok(BlockAnswer::Short)));
     Ok(())
 }
