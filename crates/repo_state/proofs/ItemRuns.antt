@@ -124,9 +124,3 @@ load-ok (Some all) (Some other) count n size h s st l e r z eh en es eo =
       size = es ∙ z many ∙ ap (λ (items : List Bytes). sum_by length items) st;
       objects = eo ∙ ap (λ (g : Held). g.objects) (sym eh);
     }
-
-pub load-fault : (o p : Option (List Bytes)) (count n : ℕ) (e : LoadError) → Stays o p → IfSome o (λ all. length all ≡ n) → count ≡ n → IfSome p (λ all. count ≡ length all → IsLoadFault e (read_items all)) →
-    IfSome o (λ all. IsLoadFault e (read_items all))
-load-fault None p count n e st l c r = tt
-load-fault (Some all) None count n e st l c r = absurd st
-load-fault (Some all) (Some other) count n e st l c r = subst (λ (items : List Bytes). IsLoadFault e (read_items items)) st (r (c ∙ sym l ∙ ap length (sym st)))
