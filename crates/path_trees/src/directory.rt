@@ -1,0 +1,68 @@
+// Reading one directory.
+ghost use Rattle.std.specs.Prelude.{◌≡◌};
+ghost use Rattle.std.specs.Option.{option_and_then};
+ghost use Rattle.object_store.specs.Errors.{newest, object_value};
+ghost use Rattle.path_trees.specs.Listed.{directory_of, entries_of, found_at, listed};
+
+use crate::Found;
+use git_objects::{Kind, Mode, Name, TreeView};
+use object_store::{ObjectRef, Store};
+
+// The entries of an object, unless it is no tree.
+fn entries_in<'a>(object: ObjectRef<'a>) -> Option<TreeView<'a>>
+    ensures { result ≡ entries_of (object_value object.entry) }
+{
+    if object.kind == Kind::Tree {
+        TreeView::of(object.body)
+    } else {
+        None
+    }
+}
+
+// What the tree of that name lists. None: no tree has the name.
+pub fn entries_of<'a>(store: &'a Store, name: &Name) -> Option<TreeView<'a>>
+    ensures { result ≡ listed (newest store.now) name.now.0 }
+{
+    match store.get(name) {
+        None => None,
+        Some(object) => entries_in(object),
+    }
+}
+
+// What a component has.
+fn find<'a>(mut entries: TreeView<'a>, component: &[u8]) -> Option<Found>
+    ensures { result ≡ found_at component.now entries.entry }
+{
+    'entries: while let Some(entry) = entries.next() {
+        if component == entry.component {
+            return Some(Found {
+                mode: entry.mode,
+                name: entry.name,
+            });
+        }
+    }
+    None
+}
+
+// What a component has in the directory of that name.
+pub fn found_in(store: &Store, directory: &Name, component: &[u8]) -> Option<Found>
+    ensures { result ≡ option_and_then (found_at component.now) (listed (newest store.now) directory.now.0) }
+{
+    match entries_of(store, directory) {
+        None => None,
+        Some(entries) => find(entries, component),
+    }
+}
+
+// The directory that a component has in the directory of that name.
+pub fn directory_in(store: &Store, directory: &Name, component: &[u8]) -> Option<Name>
+    ensures { result ≡ option_and_then directory_of
+        (option_and_then (found_at component.now) (listed (newest store.now) directory.now.0)) }
+{
+    let found = found_in(store, directory, component)?;
+    if found.mode == Mode::Dir {
+        Some(found.name)
+    } else {
+        None
+    }
+}
