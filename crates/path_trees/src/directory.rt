@@ -2,6 +2,7 @@
 ghost use Rattle.std.specs.Prelude.{◌≡◌};
 ghost use Rattle.std.specs.Option.{option_and_then};
 ghost use Rattle.object_store.specs.Errors.{newest, object_value};
+ghost use Rattle.object_store.specs.Objects.{IsStore};
 ghost use Rattle.path_trees.specs.Listed.{directory_of, entries_of, found_at, listed};
 
 use crate::Found;
@@ -21,7 +22,8 @@ fn entries_in<'a>(object: ObjectRef<'a>) -> Option<TreeView<'a>>
 
 // What the tree of that name lists. None: no tree has the name.
 pub fn entries_of<'a>(store: &'a Store, name: &Name) -> Option<TreeView<'a>>
-    ensures { result ≡ listed (newest store.now) name.now.0 }
+    ensures entries { result ≡ listed (newest store.now) name.now.0 }
+    ensures store { IsStore (newest store.now) }
 {
     match store.get(name) {
         None => None,
@@ -46,7 +48,8 @@ fn find<'a>(mut entries: TreeView<'a>, component: &[u8]) -> Option<Found>
 
 // What a component has in the directory of that name.
 pub fn found_in(store: &Store, directory: &Name, component: &[u8]) -> Option<Found>
-    ensures { result ≡ option_and_then (found_at component.now) (listed (newest store.now) directory.now.0) }
+    ensures found { result ≡ option_and_then (found_at component.now) (listed (newest store.now) directory.now.0) }
+    ensures store { IsStore (newest store.now) }
 {
     match entries_of(store, directory) {
         None => None,
@@ -56,8 +59,9 @@ pub fn found_in(store: &Store, directory: &Name, component: &[u8]) -> Option<Fou
 
 // The directory that a component has in the directory of that name.
 pub fn directory_in(store: &Store, directory: &Name, component: &[u8]) -> Option<Name>
-    ensures { result ≡ option_and_then directory_of
+    ensures name { result ≡ option_and_then directory_of
         (option_and_then (found_at component.now) (listed (newest store.now) directory.now.0)) }
+    ensures store { IsStore (newest store.now) }
 {
     let found = found_in(store, directory, component)?;
     if found.mode == Mode::Dir {
