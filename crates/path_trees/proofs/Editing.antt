@@ -1,10 +1,9 @@
 -- An edit at a path, directory by directory.
-use Rattle.std.proofs.Common.{◌≡◌, Bool, true, false, cond, not, ◌&&◌, ◌||◌, T, List, [], ◌∷◌, ◌++◌, Option, Some, None, refl, sym, ap, subst, ◌∙◌, true≢false, le_refl, append_assoc, append-nil}
-use Rattle.std.specs.Option.{option_map}
+use Rattle.std.proofs.Common.{◌≡◌, Bool, true, false, cond, ◌&&◌, ◌||◌, T, List, [], ◌∷◌, ◌++◌, Option, Some, None, refl, sym, ap, ◌∙◌, true≢false, le_refl, append_assoc, append-nil}
 use Rattle.std.specs.Cmp.Lexicographic.{bytes_decides}
-use Rattle.git_objects.specs.Paths.{Bytes, Path, same_bytes, is_path, is_nil, is_component, is_prefix, comparable}
+use Rattle.git_objects.specs.Paths.{Bytes, Path, same_bytes, is_path, is_component, is_prefix, comparable}
 use Rattle.git_objects.specs.Trees.{Flat, IsTree, at, Node, rests, under, put, remove}
-use Rattle.git_objects.specs.Names.{name, body, depth}
+use Rattle.git_objects.specs.Names.{body, depth}
 use Rattle.git_objects.specs.Entries.{body_text}
 use Rattle.git_objects.specs.declared.entry.Entry.{Entry}
 use Rattle.git_objects.proofs.Basics.{same_bytes-self, same_bytes-back}
@@ -14,7 +13,7 @@ use Rattle.git_objects.proofs.Under.{at-under, at-under_nil, under-tree}
 use Rattle.object_store.specs.Objects.{Object, IsStore}
 use Rattle.object_store.proofs.Unfolding.{IsHeld, IsFlat}
 use Rattle.path_trees.specs.Standing.{IsClear}
-use Rattle.path_trees.specs.Listed.{changed, edited}
+use Rattle.path_trees.specs.Listed.{changed}
 use Rattle.path_trees.specs.declared.found.Found.{Found}
 use Rattle.path_trees.proofs.Grown.{joined_in}
 use Rattle.path_trees.proofs.Listings.{OnFound}

@@ -1,5 +1,5 @@
 -- What is held stays as it is when objects are put in front.
-use Rattle.std.proofs.Common.{◌≡◌, Bool, true, false, cond, not, ◌&&◌, List, [], ◌∷◌, ◌++◌, refl, sym, ap, ◌∙◌, append_assoc}
+use Rattle.std.proofs.Common.{◌≡◌, true, cond, not, List, [], ◌∷◌, ◌++◌, refl, ap, ◌∙◌}
 use Rattle.std.specs.Cmp.{first_so, second_so}
 use Rattle.git_objects.specs.Paths.{Bytes, is_nil}
 use Rattle.git_objects.specs.Trees.{Flat, FileLeaf, ExecLeaf, LinkLeaf, LeafNode, TreeNode, rests}
@@ -12,7 +12,7 @@ use Rattle.git_objects.proofs.Basics.{and_both}
 use Rattle.object_store.specs.Objects.{Object, body_of, has, has_child, IsStore}
 use Rattle.object_store.specs.Unfolding.{flat, joined, below}
 use Rattle.object_store.proofs.Held.{not_named, has-above}
-use Rattle.object_store.proofs.Unfolding.{growing_law, node, IsHeld, AreHeld}
+use Rattle.object_store.proofs.Unfolding.{growing_law, node, AreHeld}
 
 -- the map of these entries in a store
 abbrev pub joined_in : List Object → List Entry → Flat

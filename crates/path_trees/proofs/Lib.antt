@@ -4,4 +4,6 @@ pub mod Levels
 pub mod Trees
 pub mod Taken
 pub mod Lookups
+pub mod Directories
 pub mod Editing
+pub mod Climbs

@@ -1,5 +1,5 @@
 -- One entry of a listing changed.
-use Rattle.std.proofs.Common.{◌≡◌, Bool, true, false, cond, List, [], ◌∷◌, ◌++◌, Option, Some, None, refl, sym, ap, ◌∙◌, true≢false}
+use Rattle.std.proofs.Common.{◌≡◌, Bool, true, false, cond, List, [], ◌∷◌, Option, Some, None, refl, sym, ap, ◌∙◌, true≢false}
 use Rattle.std.specs.declared.cmp.Ordering.{Ordering}
 use Rattle.std.specs.declared.cmp.Ordering.TheVariants.{Less, Equal, Greater}
 use Rattle.std.specs.Option.{option_map}
@@ -11,7 +11,7 @@ use Rattle.git_objects.specs.Entries.{dir_key, git_cmp, Before, entry_component,
 use Rattle.git_objects.specs.declared.entry.Entry.{Entry}
 use Rattle.git_objects.proofs.Basics.{Each, same_bytes-back, no_slash}
 use Rattle.git_objects.proofs.Order.{front}
-use Rattle.path_trees.specs.Listed.{entry_at, found, found_at, named, is_before, dropped, inserted, with_found, changed}
+use Rattle.path_trees.specs.Listed.{entry_at, found, found_at, named, is_before, dropped, inserted, changed}
 use Rattle.path_trees.specs.declared.found.Found.{Found}
 
 abbrev cmp : Entry → Entry → Ordering

@@ -1,32 +1,33 @@
 -- What stands at a path is what its entry stands for, and the way down to it.
-use Rattle.std.proofs.Common.{◌≡◌, ℕ, zero, suc, ◌+◌, ◌<◌, ◌≤◌, Bool, true, false, cond, not, ◌&&◌, T, List, [], ◌∷◌, ◌++◌, length, get_or, drop, IfSome, Option, Some, None, refl, sym, ap, subst, ◌∙◌, true≢false, arith, append_assoc, append-nil, add-one}
-use Rattle.std.specs.Option.{option_map, option_or, option_and_then}
+use Rattle.std.proofs.Common.{◌≡◌, ℕ, zero, suc, ◌+◌, ◌<◌, ◌≤◌, Bool, true, false, cond, not, ◌&&◌, ◌||◌, List, [], ◌∷◌, ◌++◌, length, get_or, drop, IfSome, Option, Some, None, refl, sym, ap, subst, ◌∙◌, true≢false, arith, length-append, append-nil, add-one}
+use Rattle.std.specs.Option.{option_map, option_or, option_and_then, is_none}
+use Rattle.std.specs.Cmp.Lexicographic.{bytes_decides}
 use Rattle.std.specs.Cmp.{first_so, second_so}
 use Rattle.std.proofs.lemmas.Bool.{not-true}
 use Rattle.std.proofs.Math.Seq.{drop-cons}
-use Rattle.std.specs.FinMap.{is_sorted}
-use Rattle.git_objects.specs.Paths.{Bytes, Path, same_bytes, is_path, is_nil, path_cmp}
-use Rattle.git_objects.specs.Trees.{Leaf, Flat, IsTree, Node, LeafNode, TreeNode, at, under, rests}
+use Rattle.git_objects.specs.Paths.{Bytes, Path, same_bytes, is_path, is_nil, is_prefix, comparable}
+use Rattle.git_objects.specs.Trees.{Leaf, Flat, IsTree, LeafNode, TreeNode, at, under, remove}
 use Rattle.git_objects.specs.declared.entry.Entry.{Entry}
 use Rattle.git_objects.specs.declared.name.Name.{Name}
-use Rattle.git_objects.specs.declared.kind.Kind.TheVariants.{Blob, Tree}
+use Rattle.git_objects.specs.declared.kind.Kind.TheVariants.{Tree}
 use Rattle.git_objects.specs.declared.mode.Mode.{Mode}
 use Rattle.git_objects.specs.declared.mode.Mode.TheVariants.{File, Exec, Link, Module, Dir}
 use Rattle.git_objects.specs.Bodies.{is_name}
-use Rattle.git_objects.proofs.Maps.{same_flat}
-use Rattle.git_objects.proofs.Pointwise.{all_at}
+use Rattle.git_objects.proofs.Maps.{same_flat, at-remove, sorted-remove}
+use Rattle.git_objects.proofs.Basics.{same_bytes-self}
+use Rattle.git_objects.proofs.Pointwise.{all_at, at_apart}
 use Rattle.git_objects.proofs.Under.{at-under, at-under_nil, under_cons, under-tree}
 use Rattle.object_store.specs.Objects.{Object, has, has_child, body_of, IsStore}
 use Rattle.object_store.specs.Unfolding.{flat}
-use Rattle.object_store.proofs.Unfolding.{IsHeld, AreHeld, IsFull, flat_good}
+use Rattle.object_store.proofs.Unfolding.{AreHeld, IsFull, flat_good}
 use Rattle.path_trees.specs.Standing.{node, standing, if_full, IsClear}
 use Rattle.path_trees.specs.Made.{StandsFor}
-use Rattle.path_trees.specs.Listed.{entry_at, found, found_at, listed, named, directory_of}
+use Rattle.path_trees.specs.Listed.{entry_at, found, found_at, listed, directory_of}
 use Rattle.path_trees.specs.Levels.{IsDirectory}
 use Rattle.path_trees.specs.declared.found.Found.{Found}
 use Rattle.path_trees.proofs.Grown.{joined_in}
 use Rattle.path_trees.proofs.Levels.{rests_of, at-joined, at-joined_nil}
-use Rattle.path_trees.proofs.Trees.{AreGood, tree_listed}
+use Rattle.path_trees.proofs.Trees.{tree_listed}
 
 -- ---- below one path and then another
 
@@ -95,10 +96,11 @@ module _ (S : List Object) (s : IsStore S) where
       directory : (n : Bytes) → has_child S Dir n ≡ true → ((r : Path) → at u (c ∷ r) ≡ at (flat S n) r) → (standing u (c ∷ []) ≡ Some (TreeNode (flat S n))) × StandsFor S n (under u (c ∷ []))
       directory n i g =
           let held = first_so (has Tree S n) (not (is_nil (body_of Tree S n))) i in
-          let same = dir_map u c n h held (λ x r. g (x ∷ r)) in
-          ((λ j. option_or (option_map LeafNode ((g [] ∙ flat_nil n held) j)) (if_full (sym same j)))
-          ∙ full (flat S n) ((flat_good S s n held).full (not-true (is_nil (body_of Tree S n)) (second_so (has Tree S n) (not (is_nil (body_of Tree S n))) i))),
-          record { held = held; map = same })
+          let same = dir_map u c n h held (λ x r. g (x ∷ r)) in (
+            (λ j. option_or (option_map LeafNode ((g [] ∙ flat_nil n held) j)) (if_full (sym same j)))
+                ∙ full (flat S n) ((flat_good S s n held).full (not-true (is_nil (body_of Tree S n)) (second_so (has Tree S n) (not (is_nil (body_of Tree S n))) i))),
+            record { held = held; map = same },
+          )
 
       by : (m : Mode) (n : Name) → has_child S m n.0 ≡ true → ((r : Path) → at u (c ∷ r) ≡ at (rests_of S (Some (record { mode = m; name = n }))) r) →
           (standing u (c ∷ []) ≡ Some (node S (record { mode = m; name = n }))) × IsDirectory S (under u (c ∷ [])) (directory_of (record { mode = m; name = n }))
@@ -192,3 +194,62 @@ read_at q p i x b e f g = f ∙ g ∙ (λ j. get_or (e j) i (sym f j))
 pub path_long : (p : Path) → is_path p ≡ true → 1 ≤ length p
 path_long [] h = absurd (true≢false (sym h))
 path_long (c ∷ p) h = omega arith
+
+-- ---- nothing stands at a path, or no leaf on the way to it
+
+longer_not : (q : Path) (d : Bytes) (s : Path) → q ≡ q ++ d ∷ s → ⊥
+longer_not q d s e = let n = ap length e in let m = length-append q (d ∷ s) in omega arith
+
+front_prefix : (q r : Path) → comparable q (q ++ r) ≡ true
+front_prefix [] r = refl
+front_prefix (c ∷ q) r = ap (λ b. (b && is_prefix q (q ++ r)) || (b && is_prefix (q ++ r) q)) (same_bytes-self c) ∙ front_prefix q r
+
+-- nothing is below a leaf
+leaf_under : (t : Flat) (q : Path) (x : Leaf) → IsTree t → at t q ≡ Some x → under t q ≡ []
+leaf_under t q x h e = same_flat (under t q) [] (under-tree t q h).sorted tt by
+  where
+    nowhere : (d : Bytes) (s : Path) (o : Option Leaf) → at t (q ++ d ∷ s) ≡ o → o ≡ None
+    nowhere d s None g = refl
+    nowhere d s (Some y) g = absurd (longer_not q d s (at_apart t h.apart q (q ++ d ∷ s) x y e g (front_prefix q (d ∷ s))))
+
+    by : (r : Path) → at (under t q) r ≡ None
+    by [] = at-under_nil t q
+    by (d ∷ s) = at-under t q d s ∙ nowhere d s (at t (q ++ d ∷ s)) refl
+
+standing_none : (t : Flat) (q : Path) (c : Bytes) (r : Path) → IsTree t → under t q ≡ [] → standing t (q ++ c ∷ r) ≡ None
+standing_none t q c r h e =
+    (λ i. option_or (option_map LeafNode (sym (at-under t q c r) i)) (if_full (under_front t q (c ∷ r) h i)))
+    ∙ ap (λ u. standing u (c ∷ r)) e
+
+pub clear_way : (t : Flat) (p : Path) → IsTree t → is_none (standing t p) ≡ false → IsClear t p
+clear_way t p h e q c r path = by (at t q) refl
+  where
+    by : (o : Option Leaf) → at t q ≡ o → o ≡ None
+    by None g = refl
+    by (Some x) g = absurd (true≢false (sym (ap is_none (ap (standing t) (sym path) ∙ standing_none t q c r h (leaf_under t q x h g))) ∙ e))
+
+nothing_at : (o : Option Leaf) (t : Flat) → option_or (option_map LeafNode o) (if_full t) ≡ None → (o ≡ None) × (t ≡ [])
+nothing_at None [] e = (refl, refl)
+nothing_at None (d ∷ t) e = cc
+nothing_at (Some x) t e = cc
+
+rest_of : (p q : Path) → is_prefix p q ≡ true → (r : Path) × (q ≡ p ++ r)
+rest_of [] q h = (q, refl)
+rest_of (c ∷ p) [] h = absurd (true≢false (sym h))
+rest_of (c ∷ p) (d ∷ q) h =
+    let r = rest_of p q (second_so (same_bytes c d) (is_prefix p q) h) in
+    (r.0, λ i. sym ((bytes_decides c d).0 (first_so (same_bytes c d) (is_prefix p q) h)) i ∷ r.1 i)
+
+pub remove_nothing : (t : Flat) (p : Path) → IsTree t → standing t p ≡ None → remove t p ≡ t
+remove_nothing t p h e = same_flat (remove t p) t (sorted-remove t p h.sorted) h.sorted (λ q. at-remove t p q ∙ by q (is_prefix p q) refl)
+  where
+    none : (at t p ≡ None) × (under t p ≡ [])
+    none = nothing_at (at t p) (under t p) e
+
+    below : (r : Path) → None ≡ at t (p ++ r)
+    below [] = sym (ap (at t) (append-nil p) ∙ none.0)
+    below (d ∷ s) = ap (λ u. at u (d ∷ s)) (sym none.1) ∙ at-under t p d s
+
+    by : (q : Path) (b : Bool) → is_prefix p q ≡ b → cond b None (at t q) ≡ at t q
+    by q true g = let r = rest_of p q g in below r.0 ∙ ap (at t) (sym r.1)
+    by q false g = refl

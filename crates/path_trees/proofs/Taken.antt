@@ -1,6 +1,6 @@
 -- A tree that is taken in stands for the map of what its body lists.
-use Rattle.std.proofs.Common.{◌≡◌, Bool, true, false, cond, ◌&&◌, ◌||◌, List, [], ◌∷◌, ◌++◌, Option, Some, None, refl, sym, ap, subst, ◌∙◌, true≢false}
-use Rattle.std.specs.Option.{is_none, is_some, unwrap_or, option_map_or}
+use Rattle.std.proofs.Common.{◌≡◌, true, false, cond, ◌&&◌, ◌||◌, List, [], ◌∷◌, ◌++◌, Option, Some, None, refl, sym, ap, subst, ◌∙◌, true≢false}
+use Rattle.std.specs.Option.{is_some, unwrap_or}
 use Rattle.std.specs.Cmp.{first_so, second_so}
 use Rattle.std.specs.Cmp.Lexicographic.{bytes_decides}
 use Rattle.git_objects.specs.Paths.{Bytes, same_bytes}
@@ -12,8 +12,8 @@ use Rattle.git_objects.specs.declared.entry.Entry.{Entry}
 use Rattle.git_objects.specs.declared.kind.Kind.{Kind}
 use Rattle.git_objects.specs.declared.kind.Kind.TheVariants.{Blob, Tree, Commit}
 use Rattle.git_objects.proofs.Basics.{same_bytes-self}
-use Rattle.object_store.specs.Objects.{Object, object_name, same_kind, is_named, find_named, has, has_name, body_of, is_body, IsStore}
-use Rattle.object_store.specs.Puts.{Refusal, Collides, same_object, collision, with_object}
+use Rattle.object_store.specs.Objects.{Object, object_name, same_kind, is_named, find_named, has, has_name, body_of, IsStore}
+use Rattle.object_store.specs.Puts.{Collides, same_object, collision}
 use Rattle.object_store.specs.Unfolding.{flat, joined}
 use Rattle.object_store.proofs.Finding.{found_name}
 use Rattle.path_trees.specs.Made.{AreMade}

@@ -1,18 +1,16 @@
 -- What a stored tree lists, and what it lists is its map.
-use Rattle.std.proofs.Common.{◌≡◌, Bool, true, false, cond, ◌&&◌, ◌||◌, List, [], ◌∷◌, ◌++◌, Option, Some, None, refl, sym, ap, subst, ◌∙◌, true≢false}
+use Rattle.std.proofs.Common.{◌≡◌, true, false, cond, ◌&&◌, ◌||◌, List, [], ◌∷◌, ◌++◌, Option, Some, None, refl, sym, ap, subst, ◌∙◌, true≢false}
 use Rattle.std.specs.Option.{is_none, unwrap_or, option_and_then}
 use Rattle.std.specs.List.{list_all}
-use Rattle.std.specs.Cmp.{first_so, second_so}
 use Rattle.std.specs.Cmp.Lexicographic.{bytes_decides}
 use Rattle.git_objects.specs.Paths.{Bytes, same_bytes, is_component}
-use Rattle.git_objects.specs.Trees.{Flat}
 use Rattle.git_objects.specs.Entries.{AreEntries, body_text}
-use Rattle.git_objects.specs.Bodies.{is_name, tree_entries, IsTreeBody}
+use Rattle.git_objects.specs.Bodies.{is_name, tree_entries}
 use Rattle.git_objects.specs.declared.entry.Entry.{Entry}
 use Rattle.git_objects.specs.declared.kind.Kind.TheVariants.{Blob, Tree}
-use Rattle.git_objects.proofs.Basics.{Each, and_both}
+use Rattle.git_objects.proofs.Basics.{and_both}
 use Rattle.git_objects.proofs.TreeReading.{tree_law, spelled_law}
-use Rattle.object_store.specs.Objects.{Object, object_name, same_kind, is_named, find_named, has, has_name, body_of, has_child, missing_entry, is_body, IsStore}
+use Rattle.object_store.specs.Objects.{Object, object_name, same_kind, is_named, find_named, has, has_name, body_of, missing_entry, is_body, IsStore}
 use Rattle.object_store.specs.Puts.{if_missing, of_tree, of_body}
 use Rattle.object_store.specs.Unfolding.{flat, joined}
 use Rattle.object_store.proofs.Held.{named_kind, has_name-from, tree_held}
@@ -79,14 +77,16 @@ unfolding flat body_of
 own_tree o S n s f =
     let b = tree_held S o.body (subst (λ k. is_body S k o.body ≡ true) (named_kind Tree o n f) s.0) in
     let r = (tree_law o.body b.entries b.bytes).0 b.read in
-    let good : AreGood S b.entries = record { entries = r.entries; held = entries_held S b.entries b.held r.names } in
-    (b.entries, record {
-      read = ap (λ t. tree_entries (cond t o.body (body_of Tree S n))) f ∙ b.read;
-      good = good-above (o ∷ []) S b.entries s good;
-      map = ap (λ t. cond t (joined (body_of Blob S) (flat S) (unwrap_or (tree_entries o.body) [])) (flat S n)) f
-          ∙ ap (λ es. joined_in S (unwrap_or es [])) b.read
-          ∙ sym (joined-above (o ∷ []) S b.entries s good.held);
-    })
+    let good : AreGood S b.entries = record { entries = r.entries; held = entries_held S b.entries b.held r.names } in (
+      b.entries,
+      record {
+        read = ap (λ t. tree_entries (cond t o.body (body_of Tree S n))) f ∙ b.read;
+        good = good-above (o ∷ []) S b.entries s good;
+        map = ap (λ t. cond t (joined (body_of Blob S) (flat S) (unwrap_or (tree_entries o.body) [])) (flat S n)) f
+            ∙ ap (λ es. joined_in S (unwrap_or es [])) b.read
+            ∙ sym (joined-above (o ∷ []) S b.entries s good.held);
+      },
+    )
 
 pub stored_tree : (S : List Object) → IsStore S → (n : Bytes) → has Tree S n ≡ true → (es : List Entry) × IsListedTree S n es
 unfolding has

@@ -5,4 +5,3 @@ pub mod Listed
 pub mod Walked
 pub mod Levels
 pub mod Rows
-pub mod JoinFaults

@@ -1,5 +1,5 @@
 // Edits at a path.
-ghost use Rattle.std.specs.Prelude.{◌≡◌, true, IfOk, IfErr, IfSome, IfNone, Some, None};
+ghost use Rattle.std.specs.Prelude.{◌≡◌, true, IfOk, IfErr, IfSome, IfNone, Some, None, slice_get};
 ghost use Rattle.std.specs.Option.{option_map};
 ghost use Rattle.git_objects.specs.Trees.{put, remove};
 ghost use Rattle.git_objects.specs.declared.kind.Kind.TheVariants.{Tree};
@@ -10,6 +10,7 @@ ghost use Rattle.path_trees.specs.Standing.{IsClear, node};
 ghost use Rattle.path_trees.specs.Made.{IsGrown, IsOnWay, IsTreeFault, StandsFor};
 ghost use Rattle.git_objects.specs.Names.{name};
 ghost use Rattle.git_objects.specs.Entries.{body_text};
+ghost use Rattle.git_objects.specs.Bodies.{is_name};
 ghost use Rattle.git_objects.specs.Parts.{name_bytes};
 ghost use Rattle.object_store.specs.Objects.{IsStore};
 ghost use Rattle.object_store.specs.Puts.{of_body};
@@ -44,6 +45,8 @@ pub fn put_at(
         (IsOnWay (put (flat (newest store.old) root.0) path.now (node (newest store.old) found)) path.now)
         (newest store.old) (newest store.new) }
 {
+    // A name has 20 bytes, a module's too.
+    let _ = found.name.bytes();
     edited(alloc, store, root, path, Some(found))
 }
 
@@ -63,6 +66,8 @@ pub fn remove_at(
     ensures store { IsGrown (IsOnWay (remove (flat (newest store.old) root.0) path.now) path.now)
         (newest store.old) (newest store.new) }
 {
+    // Every answer rests on what the store keeps.
+    let _ = store.get(&root);
     if entry_at(store, root, path).is_none() {
         return Ok(root);
     }
@@ -78,7 +83,7 @@ fn edited(
     change: Option<Found>,
 ) -> Result<Name, TreeFault>
     requires root { has Tree (newest store.old) root.0 ≡ true }
-    requires held { IfSome change (λ f. has_child (newest store.old) f.mode f.name.0 ≡ true) }
+    requires held { IfSome change (λ f. (has_child (newest store.old) f.mode f.name.0 ≡ true) × (is_name f.name.0 ≡ true)) }
     requires clear { IfNone change (IsClear (flat (newest store.old) root.0) path.now) }
     ensures ok { IfOk result (λ n. StandsFor (newest store.new) n.0
         (edited (flat (newest store.old) root.0) path.now (option_map (node (newest store.old)) change))) }
@@ -99,7 +104,7 @@ fn edited(
         let body = body_at(
             alloc,
             store,
-            directories.get(level).copied(),
+            nth(&directories, level),
             components[level].bytes(),
             change,
         )?;
@@ -109,11 +114,18 @@ fn edited(
     let body = body_at(
         alloc,
         store,
-        directories.get(0).copied(),
+        nth(&directories, 0),
         components[0].bytes(),
         change,
     )?;
     taken_in(store, &body)
+}
+
+// The one that comes so many behind the first.
+fn nth(directories: &[Name], level: usize) -> Option<Name>
+    ensures { result ≡ slice_get directories.now level }
+{
+    directories.get(level).copied()
 }
 
 // The names of the directories on the way to a path, from the root's to the deepest one that is there.

@@ -4,13 +4,9 @@
 mod directory;
 mod edits;
 mod found;
-mod join;
 mod lookup;
 mod rebuild;
-mod walk;
 
 pub use edits::{put_at, remove_at};
 pub use found::{Found, Leaf, TreeFault};
-pub use join::{JoinFault, join_disjoint};
 pub use lookup::entry_at;
-pub use walk::Walk;

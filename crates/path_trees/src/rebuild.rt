@@ -52,11 +52,7 @@ fn is_before(component: &[u8], found: &Found, entry: &EntryView<'_>) -> bool
 }
 
 // Adds the component's entry, where it has something.
-fn add_found(
-    body: &mut Vec<u8>,
-    component: &[u8],
-    found: Option<Found>,
-) -> Result<(), AllocError>
+fn add_found(body: &mut Vec<u8>, component: &[u8], found: Option<Found>) -> Result<(), AllocError>
     ensures { OnOk result (body.new.items ≡ body.old.items ++ body_text (with_found component.now found [])) }
 {
     match found {
