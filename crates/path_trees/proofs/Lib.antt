@@ -7,3 +7,4 @@ pub mod Lookups
 pub mod Directories
 pub mod Editing
 pub mod Climbs
+pub mod Walks

@@ -1,6 +1,7 @@
 // Reading one directory.
 ghost use Rattle.std.specs.Prelude.{◌≡◌};
 ghost use Rattle.std.specs.Option.{option_and_then};
+ghost use Rattle.git_objects.specs.Entries.{is_dir};
 ghost use Rattle.object_store.specs.Errors.{newest, object_value};
 ghost use Rattle.object_store.specs.Objects.{IsStore};
 ghost use Rattle.path_trees.specs.Listed.{directory_of, entries_of, found_at, listed};
@@ -8,6 +9,12 @@ ghost use Rattle.path_trees.specs.Listed.{directory_of, entries_of, found_at, li
 use crate::Found;
 use git_objects::{Kind, Mode, Name, TreeView};
 use object_store::{ObjectRef, Store};
+
+pub fn is_dir(mode: Mode) -> bool
+    ensures { result ≡ is_dir mode }
+{
+    mode == Mode::Dir
+}
 
 // The entries of an object, unless it is no tree.
 fn entries_in<'a>(object: ObjectRef<'a>) -> Option<TreeView<'a>>
@@ -64,7 +71,7 @@ pub fn directory_in(store: &Store, directory: &Name, component: &[u8]) -> Option
     ensures store { IsStore (newest store.now) }
 {
     let found = found_in(store, directory, component)?;
-    if found.mode == Mode::Dir {
+    if is_dir(found.mode) {
         Some(found.name)
     } else {
         None

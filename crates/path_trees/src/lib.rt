@@ -6,7 +6,9 @@ mod edits;
 mod found;
 mod lookup;
 mod rebuild;
+mod walk;
 
 pub use edits::{put_at, remove_at};
 pub use found::{Found, Leaf, TreeFault};
 pub use lookup::entry_at;
+pub use walk::Walk;

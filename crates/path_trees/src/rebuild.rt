@@ -3,7 +3,7 @@ ghost use Rattle.std.specs.Prelude.{◌≡◌, ◌++◌, ◌∷◌, [], List, If
 ghost use Rattle.std.specs.Option.{option_map};
 ghost use Rattle.std.specs.Ordering.{nat_cmp};
 ghost use Rattle.std.specs.Cmp.Lexicographic.{slice_cmp};
-ghost use Rattle.git_objects.specs.Entries.{body_text, dir_key, is_dir};
+ghost use Rattle.git_objects.specs.Entries.{body_text, dir_key};
 ghost use Rattle.git_objects.specs.Parts.{name_bytes};
 ghost use Rattle.git_objects.specs.Views.{entry_value};
 ghost use Rattle.object_store.specs.Errors.{newest};
@@ -11,17 +11,11 @@ ghost use Rattle.git_objects.specs.declared.entry.Entry.{Entry};
 ghost use Rattle.path_trees.specs.Listed.{changed, is_before, listed_at, named, with_found};
 
 use crate::Found;
-use crate::directory::entries_of;
-use git_objects::{EntryView, Mode, Name, TreeView, add_entry};
+use crate::directory::{entries_of, is_dir};
+use git_objects::{EntryView, Name, TreeView, add_entry};
 use object_store::Store;
 use std::alloc::{AllocError, Global};
 use std::cmp::Ordering;
-
-fn is_dir(mode: Mode) -> bool
-    ensures { result ≡ is_dir mode }
-{
-    mode == Mode::Dir
-}
 
 fn slash(is_dir: bool) -> &'static [u8]
     ensures { result.now ≡ dir_key [] is_dir }
