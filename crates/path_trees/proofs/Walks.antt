@@ -1,7 +1,8 @@
 -- What is left of open directories, entry by entry.
-use Rattle.std.proofs.Common.{◌≡◌, ℕ, ◌+◌, ◌*◌, ◌<◌, ◌≤◌, true, false, not, List, [], ◌∷◌, ◌++◌, length, drop, reverse, Some, None, refl, sym, ap, subst, ◌∙◌, true≢false, arith, append_assoc}
+use Rattle.std.proofs.Common.{Bool, ◌≡◌, ℕ, ◌+◌, ◌*◌, ◌<◌, ◌≤◌, true, false, not, List, [], ◌∷◌, ◌++◌, length, drop, reverse, Some, None, refl, sym, ap, subst, ◌∙◌, true≢false, arith, append_assoc}
 use Rattle.std.specs.Prelude.{slice_get}
 use Rattle.std.specs.List.{list_all}
+use Rattle.std.specs.Option.{is_some}
 use Rattle.std.specs.Cmp.{first_so, second_so}
 use Rattle.std.proofs.lemmas.Bool.{not-true}
 use Rattle.std.proofs.lemmas.List.{reverse-append, reverse-reverse}
@@ -260,3 +261,11 @@ all_of_path (c ∷ p) h = h
 
 pub leaf_step : (l t : Flat) (e : Path × Leaf) (v : Walked) → l ≡ e ∷ t → v ≡ record { current = Some e; left = t } → IsStep l true v
 leaf_step l t e v h g = subst (λ (m : Flat). IsStep m true v) (sym h) (refl, g)
+
+-- ---- a step that was made
+
+pub step_some : (l : Flat) (more : Bool) (v : Walked) → IsStep l more v → more ≡ true → (is_some v.current ≡ true) × (length v.left < length l)
+step_some [] more v h e = absurd (true≢false (sym e ∙ h.0))
+step_some (x ∷ t) more v h e =
+    let n : length v.left ≡ length t = ap (λ (w : Walked). length w.left) h.1 in
+    (ap (λ (w : Walked). is_some w.current) h.1, omega arith)

@@ -6,6 +6,8 @@ mod edits;
 mod found;
 mod lookup;
 mod rebuild;
+#[cfg(test)]
+mod tests;
 mod walk;
 
 pub use edits::{put_at, remove_at};

@@ -1,0 +1,4 @@
+use Rattle.tree_bench.proofs.step.Goals as goal
+
+pub returns : goal.returns
+returns c = ?
