@@ -95,14 +95,14 @@ entries_held S (e ∷ es) h g =
 valid : (b : Bool) → b ≡ true → T b
 valid b h = subst T (sym h) tt
 
-abbrev node : List Object → Mode → Bytes → Node
+abbrev pub node : List Object → Mode → Bytes → Node
 node S m n = node_of (body_of Blob S) (flat S) m n
 
 abbrev items : List Object → List Entry → List Item
 items S es = map (item_of (body_of Blob S) (flat S)) es
 
 module _ (S : List Object) (s : IsStore S) (is : (n : Bytes) → has Tree S n ≡ true → IsFlat (flat S n) (body_of Tree S n)) where
-  node_good : (m : Mode) (n : Bytes) → has_child S m n ≡ true → is_name n ≡ true → IsFullNode (node S m n)
+  pub node_good : (m : Mode) (n : Bytes) → has_child S m n ≡ true → is_name n ≡ true → IsFullNode (node S m n)
   node_good File n h g = valid _ (body_bytes Blob S n s h)
   node_good Exec n h g = valid _ (body_bytes Blob S n s h)
   node_good Link n h g = valid _ (body_bytes Blob S n s h)
@@ -149,7 +149,7 @@ module _ (S : List Object) (s : IsStore S) (is : (n : Bytes) → has Tree S n �
   full_good [] h d = absurd (true≢false d)
   full_good (e ∷ es) h d = full_join e.component (node S e.mode e.name.0) (join (items S es)) (node_good e.mode e.name.0 h.0.child h.0.name)
 
-  tree_good : (es : List Entry) → AreEntries es → AreHeld S es → IsFlat (joined (body_of Blob S) (flat S) es) (body_text es)
+  pub tree_good : (es : List Entry) → AreEntries es → AreHeld S es → IsFlat (joined (body_of Blob S) (flat S) es) (body_text es)
   tree_good es g h = subst (λ (t : Flat). IsFlat t (body_text es)) (sym (joined-join (body_of Blob S) (flat S) es))
       (record { tree = join-tree (items S es) (items_good es g h); full = full_good es h; bodied = λ k d. body_good es k g h d })
 

@@ -74,6 +74,22 @@ impl Path {
         Ok(Path { components })
     }
 
+    /// The path of these components, without the limits of `parse`. Needs no memory.
+    pub fn of(components: Vec<Component>) -> Path
+        requires { is_path components.items ≡ true }
+        ensures { result ≡ components.items }
+    {
+        Path { components }
+    }
+
+    /// Its components, without a copy.
+    pub fn into_components(self) -> Vec<Component>
+        ensures components { result.items ≡ self }
+        ensures path { is_path self ≡ true }
+    {
+        self.components
+    }
+
     pub fn components(&self) -> &[Component]
         ensures components { result.now ≡ self.now }
         ensures path { is_path self.now ≡ true }

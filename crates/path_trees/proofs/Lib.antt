@@ -1,0 +1,10 @@
+pub mod Grown
+pub mod Listings
+pub mod Levels
+pub mod Trees
+pub mod Taken
+pub mod Lookups
+pub mod Directories
+pub mod Editing
+pub mod Climbs
+pub mod Walks

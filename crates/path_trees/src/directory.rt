@@ -1,0 +1,79 @@
+// Reading one directory.
+ghost use Rattle.std.specs.Prelude.{◌≡◌};
+ghost use Rattle.std.specs.Option.{option_and_then};
+ghost use Rattle.git_objects.specs.Entries.{is_dir};
+ghost use Rattle.object_store.specs.Errors.{newest, object_value};
+ghost use Rattle.object_store.specs.Objects.{IsStore};
+ghost use Rattle.path_trees.specs.Listed.{directory_of, entries_of, found_at, listed};
+
+use crate::Found;
+use git_objects::{Kind, Mode, Name, TreeView};
+use object_store::{ObjectRef, Store};
+
+pub fn is_dir(mode: Mode) -> bool
+    ensures { result ≡ is_dir mode }
+{
+    mode == Mode::Dir
+}
+
+// The entries of an object, unless it is no tree.
+fn entries_in<'a>(object: ObjectRef<'a>) -> Option<TreeView<'a>>
+    ensures { result ≡ entries_of (object_value object.entry) }
+{
+    if object.kind == Kind::Tree {
+        TreeView::of(object.body)
+    } else {
+        None
+    }
+}
+
+// What the tree of that name lists. None: no tree has the name.
+pub fn entries_of<'a>(store: &'a Store, name: &Name) -> Option<TreeView<'a>>
+    ensures entries { result ≡ listed (newest store.now) name.now.0 }
+    ensures store { IsStore (newest store.now) }
+{
+    match store.get(name) {
+        None => None,
+        Some(object) => entries_in(object),
+    }
+}
+
+// What a component has.
+fn find<'a>(mut entries: TreeView<'a>, component: &[u8]) -> Option<Found>
+    ensures { result ≡ found_at component.now entries.entry }
+{
+    'entries: while let Some(entry) = entries.next() {
+        if component == entry.component {
+            return Some(Found {
+                mode: entry.mode,
+                name: entry.name,
+            });
+        }
+    }
+    None
+}
+
+// What a component has in the directory of that name.
+pub fn found_in(store: &Store, directory: &Name, component: &[u8]) -> Option<Found>
+    ensures found { result ≡ option_and_then (found_at component.now) (listed (newest store.now) directory.now.0) }
+    ensures store { IsStore (newest store.now) }
+{
+    match entries_of(store, directory) {
+        None => None,
+        Some(entries) => find(entries, component),
+    }
+}
+
+// The directory that a component has in the directory of that name.
+pub fn directory_in(store: &Store, directory: &Name, component: &[u8]) -> Option<Name>
+    ensures name { result ≡ option_and_then directory_of
+        (option_and_then (found_at component.now) (listed (newest store.now) directory.now.0)) }
+    ensures store { IsStore (newest store.now) }
+{
+    let found = found_in(store, directory, component)?;
+    if is_dir(found.mode) {
+        Some(found.name)
+    } else {
+        None
+    }
+}

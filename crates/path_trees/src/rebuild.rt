@@ -1,0 +1,122 @@
+// The body of a directory with one entry changed.
+ghost use Rattle.std.specs.Prelude.{◌≡◌, ◌++◌, ◌∷◌, [], List, IfOk, OnOk, Option, Some, None};
+ghost use Rattle.std.specs.Option.{option_map};
+ghost use Rattle.std.specs.Ordering.{nat_cmp};
+ghost use Rattle.std.specs.Cmp.Lexicographic.{slice_cmp};
+ghost use Rattle.git_objects.specs.Entries.{body_text, dir_key};
+ghost use Rattle.git_objects.specs.Parts.{name_bytes};
+ghost use Rattle.git_objects.specs.Views.{entry_value};
+ghost use Rattle.object_store.specs.Errors.{newest};
+ghost use Rattle.git_objects.specs.declared.entry.Entry.{Entry};
+ghost use Rattle.path_trees.specs.Listed.{changed, is_before, listed_at, named, with_found};
+
+use crate::Found;
+use crate::directory::{entries_of, is_dir};
+use git_objects::{EntryView, Name, TreeView, add_entry};
+use object_store::Store;
+use std::alloc::{AllocError, Global};
+use std::cmp::Ordering;
+
+fn slash(is_dir: bool) -> &'static [u8]
+    ensures { result.now ≡ dir_key [] is_dir }
+{
+    if is_dir { b"/" } else { b"" }
+}
+
+// Git's order of entries' components.
+fn compare(a: &[u8], a_dir: bool, b: &[u8], b_dir: bool) -> Ordering
+    ensures { result ≡ slice_cmp nat_cmp (dir_key a.now a_dir) (dir_key b.now b_dir) }
+{
+    a.iter()
+        .chain(slash(a_dir).iter())
+        .cmp(b.iter().chain(slash(b_dir).iter()))
+}
+
+// Whether a component with this stands before an entry.
+fn is_before(component: &[u8], found: &Found, entry: &EntryView<'_>) -> bool
+    ensures { result ≡ is_before (named component.now found.now) (entry_value entry.now) }
+{
+    compare(
+        component,
+        is_dir(found.mode),
+        entry.component,
+        is_dir(entry.mode),
+    )
+    .is_lt()
+}
+
+// Adds the component's entry, where it has something.
+fn add_found(body: &mut Vec<u8>, component: &[u8], found: Option<Found>) -> Result<(), AllocError>
+    ensures { OnOk result (body.new.items ≡ body.old.items ++ body_text (with_found component.now found [])) }
+{
+    match found {
+        None => Ok(()),
+        Some(found) => add_entry(body, found.mode, component, &found.name),
+    }
+}
+
+// The body of these entries, where the component has this, or nothing.
+fn with_change(
+    alloc: Global,
+    mut entries: TreeView<'_>,
+    component: &[u8],
+    change: Option<Found>,
+) -> Result<Vec<u8>, AllocError>
+    ensures { IfOk result (λ body. body.items ≡ body_text (changed component.now change entries.entry)) }
+{
+    let mut body = Vec::new(alloc);
+    let mut waiting = change;
+    'entries: while let Some(entry) = entries.next() {
+        if component != entry.component {
+            waiting = add_before(&mut body, component, waiting, &entry)?;
+            add_entry(&mut body, entry.mode, entry.component, &entry.name)?;
+        }
+    }
+    add_found(&mut body, component, waiting)?;
+    Ok(body)
+}
+
+// Adds the component's entry where it stands before this one, and gives it back where it doesn't.
+fn add_before(
+    body: &mut Vec<u8>,
+    component: &[u8],
+    found: Option<Found>,
+    entry: &EntryView<'_>,
+) -> Result<Option<Found>, AllocError>
+    ensures { IfOk result (λ waiting. (es : List Entry) →
+        body.new.items ++ body_text (entry_value entry.now ∷ with_found component.now waiting es)
+        ≡ body.old.items ++ body_text (with_found component.now found (entry_value entry.now ∷ es))) }
+{
+    if let Some(found) = found {
+        if is_before(component, &found, entry) {
+            add_entry(body, found.mode, component, &found.name)?;
+            return Ok(None);
+        }
+    }
+    Ok(found)
+}
+
+// The body of a directory, where the component has this, or nothing. None: there is no directory.
+pub fn changed_body(
+    alloc: Global,
+    store: &Store,
+    directory: Option<Name>,
+    component: &[u8],
+    change: Option<Found>,
+) -> Result<Vec<u8>, AllocError>
+    ensures { IfOk result (λ body. body.items
+        ≡ body_text (changed component.now change (listed_at (newest store.now) (option_map name_bytes directory)))) }
+{
+    let entries = match directory {
+        None => None,
+        Some(name) => entries_of(store, &name),
+    };
+    match entries {
+        Some(entries) => with_change(alloc, entries, component, change),
+        None => {
+            let mut body = Vec::new(alloc);
+            add_found(&mut body, component, change)?;
+            Ok(body)
+        }
+    }
+}

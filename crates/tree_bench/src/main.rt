@@ -1,0 +1,121 @@
+//! Makes a tree of three levels, each of so many entries, and then puts a file at so many of its paths (`put`), or walks
+//! over its leaves (`walk`): to be timed. The arguments are the mode, the entries of a level, and the number of edits.
+#![tactic(auto)]
+
+ghost use Rattle.std.specs.Prelude.{◌≡◌, ◌<◌, true, is_some, length, IfOk};
+ghost use Rattle.git_objects.specs.declared.kind.Kind.{Kind};
+ghost use Rattle.object_store.specs.Errors.{newest};
+ghost use Rattle.object_store.specs.Objects.{has};
+
+use git_objects::{Kind, Mode, Name, add_entry};
+use object_store::Store;
+use path_names::Path;
+use path_trees::{Found, Walk, put_at};
+use std::alloc::{AllocError, Global};
+use std::{env, io};
+
+// Whether an object of that kind has the name.
+fn is_held(store: &Store, kind: Kind, name: &Name) -> bool
+    ensures { result ≡ has kind (newest store.now) name.now.0 }
+{
+    match store.get(name) {
+        None => false,
+        Some(object) => object.kind == kind,
+    }
+}
+
+// The body of a directory whose entries are all the same.
+fn body(alloc: Global, mode: Mode, name: &Name, width: u32) -> Result<Vec<u8>, AllocError> {
+    let mut body = Vec::new(alloc);
+    for number in 0..width {
+        let component = format!(in alloc; "{}", number.saturating_add(1000))?;
+        add_entry(&mut body, mode, component.as_str().as_bytes(), name)?;
+    }
+    Ok(body)
+}
+
+// The tree of one level over another.
+fn level(alloc: Global, store: &mut Store, mode: Mode, name: &Name, width: u32) -> Option<Name> {
+    let body = body(alloc, mode, name, width).ok()?;
+    store.put(Kind::Tree, body).ok()
+}
+
+fn tree(alloc: Global, store: &mut Store, width: u32) -> Option<Name> {
+    let blob = store.put_slice(Kind::Blob, b"1\n").ok()?;
+    let last = level(alloc, store, Mode::File, &blob, width)?;
+    let middle = level(alloc, store, Mode::Dir, &last, width)?;
+    level(alloc, store, Mode::Dir, &middle, width)
+}
+
+// A path of the tree.
+fn path(alloc: Global, width: u32, number: u32) -> Option<Path> {
+    let width = width.max(1);
+    let first = (number % width).saturating_add(1000);
+    let second = (number / width % width).saturating_add(1000);
+    let third = (number / 7 % width).saturating_add(1000);
+    let text = format!(in alloc; "{first}/{second}/{third}").ok()?;
+    Path::parse(alloc, text.as_str().as_bytes()).ok()
+}
+
+// Puts a file at a path.
+fn put_one(alloc: Global, store: &mut Store, root: Name, path: &Path, name: Name) -> Option<Name> {
+    if !is_held(store, Kind::Tree, &root) || !is_held(store, Kind::Blob, &name) {
+        return None;
+    }
+    let found = Found {
+        mode: Mode::File,
+        name,
+    };
+    put_at(alloc, store, root, path, found).ok()
+}
+
+fn put_all(alloc: Global, store: &mut Store, width: u32, count: u32) -> Option<Name> {
+    let mut root = tree(alloc, store, width)?;
+    let blob = store.put_slice(Kind::Blob, b"2\n").ok()?;
+    for number in 0..count {
+        let path = path(alloc, width, number)?;
+        root = put_one(alloc, store, root, &path, blob)?;
+    }
+    Some(root)
+}
+
+// Goes to the next leaf.
+fn step(walk: &mut Walk<'_>) -> Result<bool, AllocError>
+    ensures { IfOk result (λ more. more ≡ true → length walk.new.left < length walk.old.left) }
+{
+    walk.next()
+}
+
+fn walk_all(alloc: Global, store: &Store, root: Name) -> Result<u64, AllocError> {
+    let mut leaves = 0u64;
+    if !is_held(store, Kind::Tree, &root) {
+        return Ok(leaves);
+    }
+    let mut walk = Walk::new(alloc, store, root)?;
+    while step(&mut walk)? {
+        leaves = leaves.saturating_add(1);
+    }
+    Ok(leaves)
+}
+
+fn main(rt: HostRuntime) -> io::Result<()> {
+    let alloc = rt.alloc();
+    let mut words = env::args(&rt)?;
+    let _program = words.next();
+    let (Some(mode), Some(width), Some(count)) = (words.next(), words.next(), words.next()) else {
+        return println!(rt; "three arguments: put or walk, and two numbers");
+    };
+    let (Ok(width), Ok(count)) = (width.as_str().parse::<u32>(), count.as_str().parse::<u32>())
+    else {
+        return println!(rt; "not a number");
+    };
+    let mut store = Store::new(alloc);
+    if mode.as_str() == "put" {
+        let done = put_all(alloc, &mut store, width, count).is_some();
+        return println!(rt; "{count} put: {done}, {} objects", store.len());
+    }
+    let Some(root) = tree(alloc, &mut store, width) else {
+        return println!(rt; "no tree");
+    };
+    println!(rt; "{} leaves", walk_all(alloc, &store, root)?)
+}
