@@ -1,7 +1,11 @@
 pub mod Fields
 pub mod HeldObjects
 pub mod Items
+pub mod TreeObjects
+pub mod Repos
 pub mod Loads
+pub mod Changes
+pub mod Commits
 pub mod Steps
 pub mod Stops
 pub mod Views

@@ -1,6 +1,7 @@
 //! A state that a keeper's items spell.
 #![tactic(auto)]
 
+mod commit;
 mod cursor;
 mod item;
 mod loading;
@@ -11,4 +12,5 @@ mod state;
 #[cfg(test)]
 mod tests;
 
+pub use commit::{Batch, CommitError, Setting};
 pub use state::{LoadError, State};
