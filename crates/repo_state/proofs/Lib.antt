@@ -1,8 +1,10 @@
 pub mod Binds
 pub mod Heads
 pub mod ItemRuns
+pub mod Grows
 pub mod Naming
 pub mod ObjectRuns
 pub mod Pairs
 pub mod RefRuns
 pub mod States
+pub mod Walks

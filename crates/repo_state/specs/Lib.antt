@@ -9,4 +9,6 @@ pub mod Commits
 pub mod Steps
 pub mod Stops
 pub mod Views
+pub mod Growing
+pub mod StoredObjects
 pub mod Rows

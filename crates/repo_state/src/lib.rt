@@ -9,6 +9,7 @@ mod objects;
 mod ref_fields;
 mod ref_table;
 mod state;
+mod walk;
 #[cfg(test)]
 mod tests;
 
