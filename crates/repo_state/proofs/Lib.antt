@@ -7,4 +7,6 @@ pub mod ObjectRuns
 pub mod Pairs
 pub mod RefRuns
 pub mod States
+pub mod StoredCommits
+pub mod TreeLaw
 pub mod Walks

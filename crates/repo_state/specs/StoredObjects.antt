@@ -9,6 +9,8 @@ use Rattle.git_objects.specs.declared.kind.Kind.TheVariants.{Blob, Tree}
 use Rattle.git_objects.specs.declared.mode.Mode.{Mode}
 use Rattle.git_objects.specs.declared.mode.Mode.TheVariants.{File, Exec, Link, Module, Dir}
 use Rattle.object_store.specs.Objects.{Object, is_named, has, has_child, body_of}
+use Rattle.git_objects.specs.Commits.{Commit}
+use Rattle.repo_state.specs.Changes.{commit_named}
 use Rattle.repo_state.specs.declared.walk.Child.{Child}
 use Rattle.repo_state.specs.declared.walk.Child.TheVariants.{BlobChild, TreeChild}
 use Rattle.repo_state.specs.declared.walk.Frame.{Frame}
@@ -95,3 +97,10 @@ pub record IsOpen (S : List Object) (d : Frame) : Type 0 where
 abbrev pub AreOpen : List Object → List Frame → Type 0
 AreOpen S [] = ⊤
 AreOpen S (d ∷ ds) = IsOpen S d × AreOpen S ds
+
+-- a commit's tree, which is stored
+pub record IsTreeOf (S : List Object) (n t : Bytes) : Type 0 where
+  pub commit : Commit
+  pub named : commit_named S n ≡ Some commit
+  pub tree : t ≡ commit.tree
+  pub held : has Tree S t ≡ true

@@ -1,6 +1,7 @@
 //! A state that a keeper's items spell.
 #![tactic(auto)]
 
+mod change;
 mod commit;
 mod cursor;
 mod item;
