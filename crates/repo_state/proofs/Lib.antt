@@ -1,10 +1,13 @@
 pub mod Binds
+pub mod Feeding
 pub mod Heads
 pub mod ItemRuns
 pub mod Grows
+pub mod Lengths
 pub mod Naming
 pub mod ObjectRuns
 pub mod Pairs
+pub mod Plans
 pub mod RefRuns
 pub mod States
 pub mod StoredCommits

@@ -48,7 +48,7 @@ body-children S b h =
     subst (λ o. HasChildren S (unwrap_or o [])) (sym t.read) (children-held S t.entries t.held)
 
 -- of an object that is a tree
-object-children : (S : List Object) (o : Object) (n : Bytes) → is_body S o.kind o.body ≡ true → is_named Tree o n ≡ true → HasChildren S (listed o.body)
+pub object-children : (S : List Object) (o : Object) (n : Bytes) → is_body S o.kind o.body ≡ true → is_named Tree o n ≡ true → HasChildren S (listed o.body)
 object-children S o n h e = body-children S o.body (ap (λ k. is_body S k o.body) (sym (named_kind Tree o n e)) ∙ h)
 
 -- older objects stay as they were

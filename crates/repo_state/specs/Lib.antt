@@ -9,6 +9,7 @@ pub mod Commits
 pub mod Steps
 pub mod Stops
 pub mod Views
+pub mod Drafts
 pub mod Growing
 pub mod StoredObjects
 pub mod Rows

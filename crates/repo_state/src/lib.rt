@@ -4,6 +4,7 @@
 mod change;
 mod commit;
 mod cursor;
+mod draft;
 mod item;
 mod loading;
 mod objects;
