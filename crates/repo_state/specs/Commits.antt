@@ -4,6 +4,8 @@ use Rattle.git_objects.specs.Paths.{Bytes}
 use Rattle.git_objects.specs.Parts.{name_bytes}
 use Rattle.proj_io.specs.Items.{Stays, Gets}
 use Rattle.proj_io.specs.Views.{KeeperView}
+use Rattle.proj_io.specs.declared.keeper.KeepError.{KeepError}
+use Rattle.proj_io.specs.declared.keeper.KeepError.TheVariants.{Failed, OutOfMemory as NoMemory}
 use Rattle.repo_state.specs.Loads.{Stored}
 use Rattle.repo_state.specs.Changes.{Change, Plan, is_empty, plan_text, passed, changed}
 use Rattle.repo_state.specs.declared.commit.Batch.{Batch}
@@ -43,3 +45,8 @@ Appends p before after (Ok _) = (is_empty p ≡ true → KeepsItems before after
 Appends p before after (Err StoreFault) = KeepsItems before after ⊎ GetsItem (plan_text p) before after
 Appends p before after (Err (Limit q)) = KeepsItems before after
 Appends p before after (Err OutOfMemory) = KeepsItems before after
+
+-- why the keeper has no item more
+abbrev pub keep_error : KeepError → CommitError
+keep_error Failed = StoreFault
+keep_error NoMemory = OutOfMemory

@@ -12,4 +12,5 @@ pub mod Views
 pub mod Drafts
 pub mod Growing
 pub mod StoredObjects
+pub mod Wholes
 pub mod Rows

@@ -4,13 +4,14 @@ ghost use Rattle.object_store.specs.Errors.{newest};
 ghost use Rattle.proj_io.specs.Counts.{Counts};
 ghost use Rattle.proj_io.specs.Views.{keeper_view};
 ghost use Rattle.repo_state.specs.Changes.{IsChange, IsCurrent, IsWithin, plan_in};
-ghost use Rattle.repo_state.specs.Commits.{Appends, IsCommitted, IsRefused, change_of};
+ghost use Rattle.repo_state.specs.Commits.{Appends, IsCommitted, IsRefused, change_of, keep_error};
 ghost use Rattle.repo_state.specs.Repos.{is_kept};
 
 use crate::State;
+use crate::draft::{Meter, prepare};
 use git_objects::{Name, Quantity};
 use path_names::RefName;
-use proj_io::Keeper;
+use proj_io::{KeepError, Keeper};
 use std::alloc::Global;
 
 /// A ref, and the commit that it is to name.
@@ -41,6 +42,15 @@ pub enum CommitError {
     OutOfMemory,
 }
 
+fn keep_error(error: KeepError) -> CommitError
+    ensures { result ≡ keep_error error }
+{
+    match error {
+        KeepError::Failed => CommitError::StoreFault,
+        KeepError::OutOfMemory => CommitError::OutOfMemory,
+    }
+}
+
 impl State {
     /// Appends one item with all that the batch brings and no item holds: its blobs, then commit by commit the trees, each
     /// after what it names and these in the order of its body, and the commit; and the refs whose commit changes, in byte
@@ -68,7 +78,31 @@ impl State {
         ensures told { K.tells keeper.new ↔ K.tells keeper.old }
         ensures cause { Counts (K.faults keeper.old) (K.faults keeper.new) (IsErrOf result CommitError.StoreFault) }
     {
-        let _ = (alloc, keeper, batch);
-        Err(CommitError::OutOfMemory)
+        let before = self.held.len();
+        let meter = Meter {
+            commits: self.commits,
+            number: self.number,
+            size: self.size,
+        };
+        match prepare(alloc, &self.store, &mut self.held, &self.refs, meter, &batch) {
+            Err(error) => {
+                self.held.truncate(before);
+                Err(error)
+            }
+            Ok(None) => Ok(()),
+            Ok(Some(draft)) => match keeper.append(&draft.item) {
+                Err(error) => {
+                    self.held.truncate(before);
+                    Err(keep_error(error))
+                }
+                Ok(()) => {
+                    self.number += 1;
+                    self.size += draft.item.len() as u64;
+                    self.refs = draft.refs;
+                    self.commits = draft.commits;
+                    Ok(())
+                }
+            },
+        }
     }
 }
