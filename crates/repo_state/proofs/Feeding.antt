@@ -69,7 +69,7 @@ known-front : (G a b : List Object) → AreKnown G (a ++ b) → AreKnown G a
 known-front G [] b h = tt
 known-front G (x ∷ a) b h = (h.0, known-front G a b h.1)
 
-known-back : (G a b : List Object) → AreKnown G (a ++ b) → AreKnown G b
+pub known-back : (G a b : List Object) → AreKnown G (a ++ b) → AreKnown G b
 known-back G [] b h = h
 known-back G (x ∷ a) b h = known-back G a b h.1
 

@@ -1,5 +1,5 @@
 -- Lengths of items.
-use Rattle.std.proofs.Common.{◌≡◌, ◌+◌, ◌≤◌, ℕ, suc, List, [], ◌∷◌, ◌++◌, length, refl, sym, ap, ◌∙◌, arith, length-append}
+use Rattle.std.proofs.Common.{◌≡◌, ◌+◌, ◌≤◌, ◌<◌, ℕ, suc, List, [], ◌∷◌, ◌++◌, length, refl, sym, ap, ◌∙◌, arith, length-append}
 use Rattle.std.specs.Int.{to_be_bytes, w16, w32}
 use Rattle.std.specs.List.{flat_map}
 use Rattle.git_objects.specs.Paths.{Bytes}
@@ -24,3 +24,7 @@ item-long os rs =
     let c = to_be_bytes w32 (length rs) in
     let d = flat_map ref_text rs in
     omega (arith, some-objects os, some-refs rs, length-append (a ++ b ++ c) d, length-append (a ++ b) c, length-append a b)
+
+pub item-some : (os : List Object) (rs : Refs) → 0 < length (item_text os rs)
+unfolding item_text
+item-some os rs = omega arith

@@ -1,3 +1,4 @@
+pub mod Adopting
 pub mod Binds
 pub mod Feeding
 pub mod Heads

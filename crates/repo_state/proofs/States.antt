@@ -16,7 +16,7 @@ use Rattle.repo_state.specs.HeldObjects.{AreNamed, HoldsObjects}
 use Rattle.repo_state.specs.Wholes.{HoldsState}
 use Rattle.repo_state.specs.Stops.{are_heads}
 
-or-left : (a b : Bool) → (a || b) ≡ false → a ≡ false
+pub or-left : (a b : Bool) → (a || b) ≡ false → a ≡ false
 or-left true b h = h
 or-left false b h = refl
 
@@ -32,7 +32,7 @@ and-right : (a b : Bool) → (a && b) ≡ true → b ≡ true
 and-right true b h = h
 and-right false b h = absurd (cc h)
 
-all-at : {A : Type 0} (p : A → Bool) (xs : List A) (k : ℕ) (d : A) → k < length xs → list_all p xs ≡ true → p (get_or xs k d) ≡ true
+pub all-at : {A : Type 0} (p : A → Bool) (xs : List A) (k : ℕ) (d : A) → k < length xs → list_all p xs ≡ true → p (get_or xs k d) ≡ true
 all-at p [] k d lt h = absurd (omega arith)
 all-at p (x ∷ xs) zero d lt h = and-left (p x) (list_all p xs) h
 all-at p (x ∷ xs) (suc k) d lt h = all-at p xs k d (omega arith) (and-right (p x) (list_all p xs) h)
