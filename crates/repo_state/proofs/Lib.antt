@@ -1,6 +1,7 @@
 pub mod Adopting
 pub mod Binds
 pub mod Feeding
+pub mod Fitting
 pub mod Heads
 pub mod ItemRuns
 pub mod Grows
@@ -9,6 +10,7 @@ pub mod Naming
 pub mod ObjectRuns
 pub mod Pairs
 pub mod Plans
+pub mod ReadBack
 pub mod RefRuns
 pub mod States
 pub mod StoredCommits
