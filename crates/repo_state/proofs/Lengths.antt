@@ -28,3 +28,12 @@ item-long os rs =
 pub item-some : (os : List Object) (rs : Refs) → 0 < length (item_text os rs)
 unfolding item_text
 item-some os rs = omega arith
+
+pub objects-long : (os : List Object) (rs : Refs) → length (flat_map object_text os) ≤ length (item_text os rs)
+unfolding item_text
+objects-long os rs =
+    let a = to_be_bytes w32 (length os) in
+    let b = flat_map object_text os in
+    let c = to_be_bytes w32 (length rs) in
+    let d = flat_map ref_text rs in
+    omega (arith, length-append (a ++ b ++ c) d, length-append (a ++ b) c, length-append a b)

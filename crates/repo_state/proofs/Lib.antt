@@ -1,5 +1,6 @@
 pub mod Adopting
 pub mod Binds
+pub mod Current
 pub mod Feeding
 pub mod Fitting
 pub mod Heads
@@ -12,6 +13,7 @@ pub mod Pairs
 pub mod Plans
 pub mod ReadBack
 pub mod RefRuns
+pub mod Settled
 pub mod States
 pub mod StoredCommits
 pub mod TreeLaw

@@ -81,7 +81,7 @@ limits-same commits objects n number size =
     ≡ or_else (is_some (cond b (Some n) None)) Item (or_else (nat_le (number + 1) (2 ^ 20)) Items (or_else (nat_le (size + unwrap_or (cond b (Some n) None) 0) (2 ^ 31)) Store None))) [ true ↦ refl | false ↦ refl ])
 
 -- no limit is passed
-passes : (b : Bool) (q : Quantity) (later : Option Quantity) → or_else b q later ≡ None → (b ≡ true) × (later ≡ None)
+pub passes : (b : Bool) (q : Quantity) (later : Option Quantity) → or_else b q later ≡ None → (b ≡ true) × (later ≡ None)
 passes true q later h = (refl, h)
 passes false q later h = let no : Some q ≡ None = h in cc
 
@@ -162,7 +162,7 @@ module _ (S : List Object) (old new : List Name) (c : Change) (refs : Refs) wher
           none [] e = refl
           none (x ∷ xs) e = absurd (true≢false (sym e))
 
-      module _ (m : Meter) (counted : m.commits ≡ length (filter is_commit H)) where
+      module _ (valid : list_all is_valid_ref rs ≡ true) (m : Meter) (counted : m.commits ≡ length (filter is_commit H)) where
         commits-all : length (filter is_commit (reverse p.objects ++ H)) ≡ m.commits + length (filter is_commit (found S news))
         commits-all =
             let a = filter-append is_commit (reverse p.objects) H in
@@ -193,6 +193,7 @@ module _ (S : List Object) (old new : List Name) (c : Change) (refs : Refs) wher
               room = leb-true (m.number + 1) (2 ^ 20) four.0;
               sum = subst (λ (t : Bytes). m.size + length t ≤ 2 ^ 31) (sym item) (leb-true (m.size + length (plan_text p)) (2 ^ 31) five.0);
               refs = w.refs ∙ ap (with_refs refs) re;
+              valid = ap (list_all is_valid_ref) (sym re) ∙ valid;
               holds = step.ready.holds;
               objects = held-plan;
               commits = commits;
@@ -240,7 +241,7 @@ module _ (q : Bytes → Bool) where
   pub keys-moved : (refs es : Refs) → all_keys es ≡ true → all_keys (moved refs es) ≡ true
   keys-moved refs es h = keys-filter (is_moved refs) (with_refs [] es) (keys-with es [] refl h)
 
-short : (t : Bytes) → is_ref_name t ≡ true → nat_le (length t) 1024 ≡ true
+pub short : (t : Bytes) → is_ref_name t ≡ true → nat_le (length t) 1024 ≡ true
 unfolding is_ref_name
 short t h =
     second_so (nat_le 6 (length t)) _ (first_so _ _ (first_so _ _ (first_so _ _ (first_so _ _ (first_so _ _ (first_so _ _ (first_so _ _ (first_so _ _ h))))))))

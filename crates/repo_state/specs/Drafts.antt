@@ -1,5 +1,6 @@
 -- What is worked out before an item is appended.
 use Rattle.std.specs.Prelude.{◌≡◌, ⊤, ℕ, ◌+◌, ◌≤◌, ◌^◌, Bool, true, false, cond, nat_le, List, map, filter, length, reverse, ◌++◌, Option, Some, None, Result, Ok, Err}
+use Rattle.std.specs.List.{list_all}
 use Rattle.std.specs.Option.{is_some, unwrap_or}
 use Rattle.git_objects.specs.Paths.{Bytes}
 use Rattle.git_objects.specs.Parts.{name_bytes}
@@ -79,6 +80,7 @@ pub record IsDraft (S : List Object) (names : List Name) (h : Held) (number size
   pub room : number + 1 ≤ 2 ^ 20
   pub sum : size + length d.item.items ≤ 2 ^ 31
   pub refs : d.refs ≡ with_refs h.refs p.refs
+  pub valid : list_all is_valid_ref p.refs ≡ true
   pub holds : Holds S names
   pub objects : held_of S names ≡ reverse p.objects ++ h.objects
   pub commits : d.commits ≡ length (filter is_commit (held_of S names))

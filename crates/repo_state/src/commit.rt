@@ -72,7 +72,7 @@ impl State {
             (λ _. IsCommitted self.old plan self.new)
             (λ e. IsRefused self.old plan self.new e) }
         ensures items { let seen = keeper_view K.items K.number K.faults in Appends (plan_in self.old (change_of batch)) (seen keeper.old) (seen keeper.new) result }
-        ensures current { OnOk result (IfSome (K.items keeper.new) (λ items. IsCurrent items self.new)) }
+        ensures current { OnOk result (IfSome (K.items keeper.old) (λ _. IfSome (K.items keeper.new) (λ items. IsCurrent items self.new))) }
         ensures kept { OnOk result (is_kept self.old.held ≡ true → is_kept self.new.held ≡ true) }
         ensures is_open { MatchResult result (λ _. K.is_open keeper.new) (λ e. e ≢ CommitError.StoreFault → K.is_open keeper.new) }
         ensures told { K.tells keeper.new ↔ K.tells keeper.old }

@@ -33,6 +33,7 @@ returns-in-Ok-moved-clause-prepared c =
     prepared S old new (change_of c.args.batch.now) c.args.refs.now c.requires.holds c.in-Ok.ensures.step c.in-Ok.ensures.extends
     (map ref_value c.in-Ok-moved.moved.items)
     (c.in-Ok-moved.ensures.refs ∙ ap (λ (es : List Setting). moved c.args.refs.now (map setting es)) c.deref.ensures.value)
+    (ap (λ (rs : Refs). list_all is_valid_ref rs) c.in-Ok-moved.ensures.refs ∙ keys-moved is_ref_name c.args.refs.now (map setting c.deref.result.now) c.in-Ok-moved.ensures.valid)
     c.args.meter c.requires.counted c.weigh_news.result
     (subst (λ (d : ℕ × List MovedRef). NewsOrNot (is_nil (drop d.0 new) && is_nil (map ref_value d.1)) (found S (drop d.0 new)) (map ref_value d.1) c.args.refs.now (length new) c.args.meter c.weigh_news.result)
     (λ i. (c.len-before.ensures.len i, c.deref-in-Ok-moved.ensures.value i)) c.weigh_news.ensures)
