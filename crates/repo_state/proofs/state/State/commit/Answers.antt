@@ -1,14 +1,17 @@
-use Rattle.std.proofs.Common.{◌<◌, ◌+◌, Option, sym, subst, ap, ◌∙◌, arith, length}
+use Rattle.std.proofs.Common.{◌<◌, ◌+◌, Option, refl, sym, subst, ap, ◌∙◌, arith, length}
 use Rattle.git_objects.specs.Paths.{Bytes}
 use Rattle.object_store.specs.Errors.{newest}
-use Rattle.repo_state.specs.Changes.{IsChange, plan}
+use Rattle.proj_io.specs.Items.{Gets}
+use Rattle.repo_state.specs.Changes.{IsChange, IsCurrent, IsWithin, plan}
 use Rattle.repo_state.specs.Commits.{change_of}
 use Rattle.repo_state.specs.Drafts.{DraftOrNot}
 use Rattle.repo_state.specs.Growing.{held_of}
 use Rattle.repo_state.specs.Items.{held_with}
 use Rattle.repo_state.specs.Loads.{Stored}
+use Rattle.repo_state.specs.Views.{stored}
 use Rattle.repo_state.specs.declared.draft.Draft.{Draft}
 use Rattle.repo_state.proofs.Adopting.{adopted}
+use Rattle.repo_state.proofs.Current.{current-after, gets-current}
 use Rattle.repo_state.proofs.Lengths.{item-some}
 use Rattle.repo_state.proofs.state.State.commit.Goals as goal
 
@@ -29,3 +32,26 @@ invariant_of-self-in-Ok g c =
     let change = subst (λ (s : Stored). IsChange (newest s.objects) s.held.objects (change_of c.args.batch)) (sym c.self.view_is) c.requires.change in
     adopted c.self.inside.store c.self.inside.held.keys c.prepare.new.held.keys c.self.inside.refs c.self.inside.commits c.self.inside.number c.self.inside.size
     (c.self.inside.number + 1) (c.self.inside.size + c.len.result) (change_of c.args.batch) c.in-Ok-Some.draft c.self.invariant change made
+
+pub returns-clause-current : goal.returns-clause-current
+returns-clause-current g c =
+    let objects = c.self.inside.store in
+    let S = newest objects in
+    let old = c.self.inside.held.keys in
+    let new = c.prepare.new.held.keys in
+    let refs = c.self.inside.refs in
+    let h = held_with (held_of S old) refs in
+    let change = change_of c.args.batch in
+    let p = plan S h change in
+    let draft = c.in-Ok-Some.draft in
+    let made = subst (λ (o : Option Draft). DraftOrNot S old new h c.self.inside.number c.self.inside.size p o) c.in-Ok-Some.field-0-is c.in-Ok-Some.ensures.prepared in
+    let brought = subst (λ (s : Stored). IsChange (newest s.objects) s.held.objects change) (sym c.self.view_is) c.requires.change in
+    let after = stored objects new draft.refs (c.self.inside.number + 1) (c.self.inside.size + c.len.result) in
+    gets-current (g.K.Keeper.items c.args.keeper.now) (g.K.Keeper.items c.append.new.self) draft.item.items c.args.self.now after
+    (IsWithin (newest c.args.self.now.objects) c.args.self.now.held.objects change) c.requires.current c.requires.within
+    (subst (λ (t : Bytes). Gets (g.K.Keeper.items c.args.keeper.now) (g.K.Keeper.items c.append.new.self) t) c.deref.ensures.value c.in-Ok.ensures.items)
+    (λ items within now.
+        current-after objects old new refs c.self.inside.commits c.self.inside.number c.self.inside.size change draft c.self.invariant brought
+        (subst (λ (s : Stored). IsWithin (newest s.objects) s.held.objects change) (sym c.self.view_is) within) made items
+        (subst (λ (s : Stored). IsCurrent items s) (sym c.self.view_is) now) after
+        (λ i. held_with (made.objects i) (made.refs i)) refl (ap (λ n. c.self.inside.size + n) (c.len.ensures ∙ sym c.deref.ensures.len ∙ ap length c.deref.ensures.value)))
