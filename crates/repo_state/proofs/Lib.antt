@@ -6,6 +6,7 @@ pub mod Fitting
 pub mod Heads
 pub mod ItemRuns
 pub mod Grows
+pub mod Keeping
 pub mod Lengths
 pub mod Naming
 pub mod ObjectRuns

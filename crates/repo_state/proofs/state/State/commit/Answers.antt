@@ -1,17 +1,23 @@
-use Rattle.std.proofs.Common.{◌<◌, ◌+◌, Option, refl, sym, subst, ap, ◌∙◌, arith, length}
+use Rattle.std.proofs.Common.{◌≡◌, ◌<◌, ◌+◌, true, List, map, reverse, Option, refl, sym, subst, ap, ◌∙◌, arith, length}
+use Rattle.std.specs.List.{list_all}
 use Rattle.git_objects.specs.Paths.{Bytes}
+use Rattle.git_objects.specs.Parts.{name_bytes}
+use Rattle.object_store.specs.Objects.{Object}
+use Rattle.repo_state.specs.Repos.{is_kept, is_used, snapshots_in}
 use Rattle.object_store.specs.Errors.{newest}
 use Rattle.proj_io.specs.Items.{Gets}
-use Rattle.repo_state.specs.Changes.{IsChange, IsCurrent, IsWithin, plan}
+use Rattle.repo_state.specs.Changes.{IsChange, IsCurrent, IsWithin, objects_of, plan}
 use Rattle.repo_state.specs.Commits.{change_of}
 use Rattle.repo_state.specs.Drafts.{DraftOrNot}
-use Rattle.repo_state.specs.Growing.{held_of}
+use Rattle.repo_state.specs.Growing.{grown, held_of}
 use Rattle.repo_state.specs.Items.{held_with}
 use Rattle.repo_state.specs.Loads.{Stored}
 use Rattle.repo_state.specs.Views.{stored}
 use Rattle.repo_state.specs.declared.draft.Draft.{Draft}
 use Rattle.repo_state.proofs.Adopting.{adopted}
 use Rattle.repo_state.proofs.Current.{current-after, gets-current}
+use Rattle.repo_state.proofs.Grows.{grown-fresh, named-in}
+use Rattle.repo_state.proofs.Keeping.{kept-grown}
 use Rattle.repo_state.proofs.Lengths.{item-some}
 use Rattle.repo_state.proofs.state.State.commit.Goals as goal
 
@@ -55,3 +61,20 @@ returns-clause-current g c =
         (subst (λ (s : Stored). IsWithin (newest s.objects) s.held.objects change) (sym c.self.view_is) within) made items
         (subst (λ (s : Stored). IsCurrent items s) (sym c.self.view_is) now) after
         (λ i. held_with (made.objects i) (made.refs i)) refl (ap (λ n. c.self.inside.size + n) (c.len.ensures ∙ sym c.deref.ensures.len ∙ ap length c.deref.ensures.value)))
+
+pub returns-clause-kept : goal.returns-clause-kept
+returns-clause-kept g c = λ e.
+    let objects = c.self.inside.store in
+    let S = newest objects in
+    let old = c.self.inside.held.keys in
+    let refs = c.self.inside.refs in
+    let H = held_of S old in
+    let h = held_with H refs in
+    let change = change_of c.args.batch in
+    let p = plan S h change in
+    let made = subst (λ (o : Option Draft). DraftOrNot S old c.prepare.new.held.keys h c.self.inside.number c.self.inside.size p o) c.in-Ok-Some.field-0-is c.in-Ok-Some.ensures.prepared in
+    let brought = subst (λ (s : Stored). IsChange (newest s.objects) s.held.objects change) (sym c.self.view_is) c.requires.change in
+    let before = subst (λ (s : Stored). is_kept s.held ≡ true) (sym c.self.view_is) e in
+    let same : grown H (objects_of S change) ≡ held_of S c.prepare.new.held.keys = grown-fresh H (objects_of S change) ∙ sym made.objects in
+    subst (λ (T : List Object). list_all (λ o. is_used (snapshots_in T) o.kind o.body) T ≡ true) same
+    (kept-grown S H c.self.invariant.whole.whole c.self.invariant.whole.held (named-in S (reverse (map name_bytes old))) change brought before)
