@@ -1,5 +1,5 @@
 -- A state after a change is whole.
-use Rattle.std.proofs.Common.{◌≡◌, ◌<◌, ◌^◌, ℕ, zero, suc, Bool, true, false, cond, ◌&&◌, ◌||◌, List, [], ◌∷◌, ◌++◌, map, filter, length, reverse, get_or, Contains, Some, refl, sym, ap, subst, ◌∙◌, true≢false, arith}
+use Rattle.std.proofs.Common.{◌≡◌, ◌<◌, ℕ, zero, suc, Bool, true, false, cond, ◌&&◌, ◌||◌, List, [], ◌∷◌, map, filter, length, reverse, get_or, Contains, Some, refl, sym, ap, subst, ◌∙◌, arith}
 use Rattle.std.specs.Cmp.{first_so, second_so}
 use Rattle.std.specs.List.{flat_map, list_all, list_any}
 use Rattle.std.specs.FinMap.{put}
@@ -8,18 +8,17 @@ use Rattle.git_objects.specs.Paths.{Bytes, same_bytes}
 use Rattle.git_objects.specs.Parts.{name_bytes}
 use Rattle.git_objects.specs.declared.kind.Kind.TheVariants.{Commit as CommitKind}
 use Rattle.git_objects.specs.declared.name.Name.{Name}
-use Rattle.git_objects.proofs.Basics.{Each}
 use Rattle.object_store.specs.Errors.{newest}
 use Rattle.object_store.specs.Objects.{Object, object_name, find_named, has, IsStore}
-use Rattle.repo_state.specs.Changes.{Change, IsChange, blob_object, commit_objects, fresh, is_moved, moved, objects_of, plan, with_refs}
+use Rattle.repo_state.specs.Changes.{Change, IsChange, blob_object, commit_objects, is_moved, moved, objects_of, plan, with_refs}
 use Rattle.repo_state.specs.Drafts.{IsDraft}
-use Rattle.repo_state.specs.Growing.{AreFed, grown, held_of}
+use Rattle.repo_state.specs.Growing.{grown, held_of}
 use Rattle.repo_state.specs.Items.{Refs, bytes_cmp, held_with}
 use Rattle.repo_state.specs.Stops.{are_heads}
 use Rattle.repo_state.specs.Wholes.{HoldsState}
 use Rattle.repo_state.specs.declared.draft.Draft.{Draft}
 use Rattle.repo_state.proofs.Feeding.{change-fed, commits-in, grown-all, in-grown, kept-commit, known-back}
-use Rattle.repo_state.proofs.Grows.{AreIn, AreKnown, grown-fresh, named-in}
+use Rattle.repo_state.proofs.Grows.{AreIn, grown-fresh, named-in}
 use Rattle.repo_state.proofs.Heads.{are_heads-more, are_heads-put}
 use Rattle.repo_state.proofs.States.{all-at}
 
@@ -95,7 +94,7 @@ adopted objects old new refs commits number size after all c d s g w =
     let before = are_heads-more H G refs (change-keeps S H s.whole.whole i c g) (heads-from H refs s.whole.heads) in
     let moves = heads-moved G refs c.refs (change-heads S H s.whole.whole i c g) in
     let heads : are_heads (held_of S new) d.refs ≡ true =
-        (λ j. are_heads (sym e j) (w.refs j)) ∙ heads-with G (moved refs c.refs) refs before moves in
+    (λ j. are_heads (sym e j) (w.refs j)) ∙ heads-with G (moved refs c.refs) refs before moves in
     record {
       whole = record {
         whole = s.whole.whole;

@@ -1,9 +1,6 @@
 -- The items spell the state after a change too.
-use Rattle.std.proofs.Common.{◌≡◌, ◌+◌, ◌<◌, ◌≤◌, ◌^◌, ℕ, suc, Bool, true, false, cond, ◌&&◌, List, [], ◌∷◌, ◌++◌, map, filter, length, reverse, Option, None, Some, IfSome, Result, Ok, Err, refl, sym, ap, subst, ◌∙◌, arith, length-append, sum_by}
-use borrow.Author.Tests.{leb-true}
-use Rattle.std.specs.Prelude.{nat_le, nat_lt}
-use Rattle.std.specs.Cmp.{first_so, second_so}
-use Rattle.std.specs.List.{flat_map}
+use Rattle.std.proofs.Common.{◌≡◌, ◌+◌, ◌≤◌, ◌^◌, ℕ, true, cond, ◌&&◌, List, [], ◌∷◌, ◌++◌, map, filter, length, reverse, Option, None, Some, IfSome, Ok, Err, refl, sym, ap, subst, ◌∙◌, arith, length-append, sum_by}
+use Rattle.std.specs.Prelude.{nat_le}
 use Rattle.std.proofs.lemmas.Bool.{le-leb, lt-ltb}
 use Rattle.std.proofs.lemmas.List.Sums.{sum_by-cons, sum_by_push}
 use Rattle.git_objects.specs.declared.quantity.Quantity.TheVariants.{Commits, Objects}
@@ -14,11 +11,11 @@ use Rattle.git_objects.specs.Parts.{name_bytes}
 use Rattle.git_objects.specs.declared.name.Name.{Name}
 use Rattle.proj_io.specs.Items.{Gets}
 use Rattle.object_store.specs.Errors.{newest}
-use Rattle.object_store.specs.Objects.{Object, IsStore}
-use Rattle.repo_state.specs.Changes.{Change, IsChange, IsCurrent, IsWithin, Plan, fresh, held_after, moved, objects_of, plan, plan_text, with_refs}
+use Rattle.object_store.specs.Objects.{Object}
+use Rattle.repo_state.specs.Changes.{Change, IsChange, IsCurrent, IsWithin, Plan, held_after, objects_of, plan}
 use Rattle.repo_state.specs.Drafts.{IsDraft}
 use Rattle.repo_state.specs.Growing.{grown, held_of}
-use Rattle.repo_state.specs.Items.{Refs, Held, Break, has_room, held_with, is_commit, item_fits, item_text, nothing, numbered, object_text, read_from, read_item, read_items, then_read}
+use Rattle.repo_state.specs.Items.{Refs, Held, has_room, held_with, is_commit, item_fits, item_text, nothing, numbered, read_from, read_item, read_items, then_read}
 use Rattle.repo_state.specs.Fields.{BrokenAt}
 use Rattle.repo_state.specs.Loads.{Stored}
 use Rattle.repo_state.specs.Steps.{step}
@@ -54,7 +51,7 @@ read-behind (x ∷ items) number size h g k item e f r =
           let n : number + length (x ∷ items) ≡ (number + 1) + length items = omega arith in
           let z : size + sum_by length (x ∷ items) ≡ (size + length x) + sum_by length items = omega (arith, sum_by-cons length x items) in
           let rest : read_from (number + 1) (size + length x) m items ≡ Ok g =
-              ap (λ q. then_read q (λ g. read_from (number + 1) (size + length x) g items)) (sym s) ∙ sym (from-step number size h x items) ∙ e in
+          ap (λ q. then_read q (λ g. read_from (number + 1) (size + length x) g items)) (sym s) ∙ sym (from-step number size h x items) ∙ e in
           from-step number size h x (items ++ item ∷ [])
           ∙ ap (λ q. then_read q (λ g. read_from (number + 1) (size + length x) g (items ++ item ∷ []))) s
           ∙ read-behind items (number + 1) (size + length x) m g k item rest ((λ i. item_fits (sym n i) (sym z i) item) ∙ f) r
@@ -109,9 +106,9 @@ module _ (objects : List Object) (old new : List Name) (refs : Refs) (commits nu
   current-after items now all h n z =
       let item = d.item.items in
       let fits : item_fits (0 + length items) (0 + sum_by length items) item ≡ true =
-          let a = now.number in
-          let b = now.size in
-          (λ i. lt-ltb (0 + length items) (2 ^ 20) (omega (arith, a, made.room)) i && le-leb (length item) (2 ^ 29) made.small i && le-leb (0 + sum_by length items + length item) (2 ^ 31) (omega (arith, b, made.sum)) i) in
+      let a = now.number in
+      let b = now.size in
+      (λ i. lt-ltb (0 + length items) (2 ^ 20) (omega (arith, a, made.room)) i && le-leb (length item) (2 ^ 29) made.small i && le-leb (0 + sum_by length items + length item) (2 ^ 31) (omega (arith, b, made.sum)) i) in
       record {
         held = read-behind items 0 0 nothing (held_with H refs) (held_after (held_with H refs) p) item now.held fits (ap (read_item (held_with H refs)) made.item ∙ item-back) ∙ ap (λ (k : Held). Ok k) (sym h);
         number = n ∙ (let a = now.number in let f : number + 1 ≡ length (items ++ item ∷ []) = omega (arith, a, length-append items (item ∷ [])) in f);

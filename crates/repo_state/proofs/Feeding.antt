@@ -1,16 +1,13 @@
 -- The objects of a change are taken in, each after its children.
-use Rattle.std.proofs.Common.{◌≡◌, Bool, true, false, not, cond, ◌&&◌, ◌||◌, List, [], ◌∷◌, ◌++◌, map, reverse, None, Some, refl, sym, ap, subst, ◌∙◌, true≢false}
+use Rattle.std.proofs.Common.{◌≡◌, true, false, not, cond, ◌&&◌, ◌||◌, List, [], ◌∷◌, ◌++◌, map, reverse, Some, refl, sym, ap, subst, ◌∙◌, true≢false}
 use Rattle.std.specs.Cmp.{first_so, second_so}
 use Rattle.std.specs.Cmp.Lexicographic.{bytes_decides}
 use Rattle.std.specs.List.{flat_map, list_all, list_any}
 use Rattle.std.specs.Option.{is_none, option_map_or, unwrap_or}
-use Rattle.std.proofs.lemmas.Bool.{or_right, or_left, or_cases}
-use Rattle.git_objects.specs.Paths.{Bytes, is_bytes, is_nil, same_bytes}
+use Rattle.std.proofs.lemmas.Bool.{or_right}
+use Rattle.git_objects.specs.Paths.{Bytes, is_nil, same_bytes}
 use Rattle.git_objects.specs.Parts.{name_bytes}
 use Rattle.git_objects.specs.Names.{name}
-use Rattle.git_objects.specs.Bodies.{tree_entries}
-use Rattle.git_objects.specs.Commits.{Commit}
-use Rattle.git_objects.specs.CommitBodies.{commit_from}
 use Rattle.git_objects.specs.declared.entry.Entry.{Entry}
 use Rattle.git_objects.specs.declared.kind.Kind.{Kind}
 use Rattle.git_objects.specs.declared.kind.Kind.TheVariants.{Blob, Tree, Commit as CommitKind}
@@ -25,9 +22,9 @@ use Rattle.repo_state.specs.Growing.{with_one, grown, AreFed, held_of, Holds, Is
 use Rattle.repo_state.specs.StoredObjects.{HasChildren, IsTreeOf, child_steps, entries_steps, itself, stored_objects, tree_at, tree_steps}
 use Rattle.object_store.specs.Unfolding.{flat}
 use Rattle.repo_state.specs.TreeObjects.{tree_objects}
-use Rattle.repo_state.proofs.Grows.{AreIn, AreKnown, fed-both, find-name, grown-append, named-in, part-has, part-kind}
-use Rattle.repo_state.proofs.StoredCommits.{IsHeldCommit, commit-body, commit-spelled, commit_at, stored-commit}
-use Rattle.repo_state.proofs.Walks.{children-held, find-has, listed, object-children, tree-unfolds}
+use Rattle.repo_state.proofs.Grows.{AreIn, AreKnown, fed-both, named-in, part-has, part-kind}
+use Rattle.repo_state.proofs.StoredCommits.{commit-body, commit-spelled, commit_at, stored-commit}
+use Rattle.repo_state.proofs.Walks.{find-has, listed, object-children, tree-unfolds}
 
 -- ---- what stays known
 
@@ -83,7 +80,7 @@ module _ (S R G : List Object) (s : IsStore S) (r : IsStore R) (iR : AreIn S R) 
   tree-in : (n : Bytes) → has Tree R n ≡ true → AreKnown G (stored_objects R n) → (has Tree G n ≡ true) × (body_of Tree G n ≡ body_of Tree R n)
   tree-in n h k =
       let last : has_name G (object_name (tree_at R n)) ≡ true =
-          known-last G (entries_steps itself [] R (listed (body_of Tree R n))) (tree_at R n) (subst (AreKnown G) (tree-unfolds itself [] R n r h) k) in
+      known-last G (entries_steps itself [] R (listed (body_of Tree R n))) (tree_at R n) (subst (AreKnown G) (tree-unfolds itself [] R n r h) k) in
       let held : has Tree G n ≡ true = part-kind S G Tree n s iG (ap (has_name G) (sym (body_named Tree R n h)) ∙ last) (part-has S R Tree n iR h).0 in
       (held, (part-has S G Tree n iG held).1 ∙ sym (part-has S R Tree n iR h).1)
 
@@ -144,10 +141,11 @@ module _ (S R : List Object) (s : IsStore S) (r : IsStore R) (iR : AreIn S R)
       let G = grown H es in
       let self : Object = record { kind = Tree; body = o.body } in
       let same : o ≡ self = λ j. record { kind = kind j; body = o.body } in
-      fed-both S H es (self ∷ []) f
-      (subst (λ (x : Object). find_named S (object_name x) ≡ Some x) same found,
-      tree-body R G o.body body (children-in S R G s r iR (in-grown S H es i f) (listed o.body) h (grown-all H es)),
-      tt)
+      fed-both S H es (self ∷ []) f (
+        subst (λ (x : Object). find_named S (object_name x) ≡ Some x) same found,
+        tree-body R G o.body body (children-in S R G s r iR (in-grown S H es i f) (listed o.body) h (grown-all H es)),
+        tt,
+      )
 
 pub stored-fed : (S R : List Object) → IsStore S → IsStore R → AreIn S R → (n : Bytes) → has Tree R n ≡ true → (H : List Object) → AreIn S H → AreFed S H (stored_objects R n)
 unfolding has tree_steps
@@ -216,10 +214,11 @@ module _ (S : List Object) (s : IsStore S) where
       let known = (tree-in S S G s s (in-self S s) iG t held.tree (grown-all H tree)).0 in
       let body = body_of CommitKind S n in
       subst (AreFed S H) (sym (commit-spelled S n t s of))
-      (fed-both S H tree (commit_at S n ∷ []) f
-      (ap (find_named S) (body_named CommitKind S n h) ∙ find-has S CommitKind n s h,
-      commit-body G body (record { commit = held.commit; read = held.read; bytes = held.bytes; tree = known; parents = kept-commits S H s i tree iG held.commit.parents ps }),
-      tt))
+      (fed-both S H tree (commit_at S n ∷ []) f (
+        ap (find_named S) (body_named CommitKind S n h) ∙ find-has S CommitKind n s h,
+        commit-body G body (record { commit = held.commit; read = held.read; bytes = held.bytes; tree = known; parents = kept-commits S H s i tree iG held.commit.parents ps }),
+        tt,
+      ))
 
   -- what knows a commit's objects has the commit
   commit-in : (n : Bytes) (G : List Object) → AreIn S G → has CommitKind S n ≡ true → AreKnown G (commit_objects S n) → has CommitKind G n ≡ true
@@ -252,7 +251,8 @@ module _ (S : List Object) (s : IsStore S) where
         | true ↦ λ e g. kept p e
         | false ↦ λ e g. among H p done g d
       ] refl (first_so _ _ h),
-      parents-known H done ps kept d (second_so (has CommitKind H0 p || list_any (same_bytes p) done) _ h))
+      parents-known H done ps kept d (second_so (has CommitKind H0 p || list_any (same_bytes p) done) _ h),
+    )
 
     pub commits-fed : (ns done : List Bytes) (H : List Object) → list_all (has CommitKind S) ns ≡ true → has_parents S H0 done ns ≡ true → AreIn S H →
         ((p : Bytes) → has CommitKind H0 p ≡ true → has CommitKind H p ≡ true) → Each (λ n. has CommitKind H n ≡ true) done → AreFed S H (flat_map (commit_objects S) ns)
@@ -260,7 +260,7 @@ module _ (S : List Object) (s : IsStore S) where
     commits-fed (n ∷ ns) done H h q i kept d =
         let held = stored-commit S n s (first_so _ _ h) in
         let known : list_all (λ p. has CommitKind H0 p || list_any (same_bytes p) done) held.commit.parents ≡ true =
-            ap (λ o. option_map_or (λ c. list_all (λ p. has CommitKind H0 p || list_any (same_bytes p) done) c.parents) o false) (sym held.read) ∙ first_so _ _ q in
+        ap (λ o. option_map_or (λ c. list_all (λ p. has CommitKind H0 p || list_any (same_bytes p) done) c.parents) o false) (sym held.read) ∙ first_so _ _ q in
         let f = commit-fed n H i (first_so _ _ h) (parents-known H done held.commit.parents kept d known) in
         let one = commit_objects S n in
         let iG = in-grown S H one i f in

@@ -1,18 +1,17 @@
 -- What a change brings is within the limits of objects.
-use Rattle.std.proofs.Common.{◌≡◌, ◌+◌, ◌<◌, ◌≤◌, ◌^◌, ℕ, zero, suc, Bool, true, false, not, cond, ◌&&◌, ◌||◌, List, [], ◌∷◌, ◌++◌, map, filter, length, max, reverse, Option, None, Some, refl, sym, ap, subst, ◌∙◌, true≢false, arith, length-append}
+use Rattle.std.proofs.Common.{◌≡◌, ◌<◌, ◌≤◌, ◌^◌, Bool, true, false, cond, ◌&&◌, ◌||◌, List, [], ◌∷◌, ◌++◌, map, filter, length, Option, None, Some, refl, sym, ap, subst, ◌∙◌, true≢false, arith, length-append}
 use borrow.Author.Tests.{leb-true}
 use Rattle.std.specs.Prelude.{nat_le}
 use Rattle.std.specs.Cmp.{first_so, second_so}
 use Rattle.std.specs.Cmp.Lexicographic.{bytes_decides}
 use Rattle.std.specs.List.{flat_map, list_all, list_any}
-use Rattle.std.specs.Option.{is_none, option_map_or, unwrap_or}
+use Rattle.std.specs.Option.{is_none, option_map_or}
 use Rattle.std.proofs.lemmas.Bool.{le-leb, or_right}
-use Rattle.git_objects.specs.Paths.{Bytes, Path, text, is_nil, same_bytes}
+use Rattle.git_objects.specs.Paths.{Bytes, Path, text, same_bytes}
 use Rattle.git_objects.specs.Trees.{Flat, rests}
 use Rattle.git_objects.specs.Names.{name, depth}
 use Rattle.git_objects.specs.Bodies.{tree_entries}
 use Rattle.git_objects.specs.CommitBodies.{commit_from}
-use Rattle.git_objects.specs.Commits.{Commit}
 use Rattle.git_objects.specs.declared.entry.Entry.{Entry}
 use Rattle.git_objects.specs.declared.kind.Kind.{Kind}
 use Rattle.git_objects.specs.declared.kind.Kind.TheVariants.{Blob, Tree, Commit as CommitKind}
@@ -28,7 +27,7 @@ use Rattle.object_store.proofs.Unfolding.{growing_law}
 use Rattle.repo_state.specs.Changes.{Change, IsChange, IsWithin, blob_object, commit_fits, commit_named, commit_objects, is_known, objects_of}
 use Rattle.repo_state.specs.TreeObjects.{leaf_objects}
 use Rattle.repo_state.specs.Items.{body_fits, has_room, is_commit, tree_fits, tree_map}
-use Rattle.repo_state.specs.StoredObjects.{HasChildren, child_steps, entries_steps, itself, stored_objects, tree_at, tree_steps}
+use Rattle.repo_state.specs.StoredObjects.{HasChildren, child_steps, entries_steps, itself, stored_objects, tree_steps}
 use Rattle.repo_state.specs.Growing.{AreFed, grown, with_one}
 use Rattle.repo_state.specs.StoredObjects.{IsTreeOf}
 use Rattle.repo_state.proofs.Feeding.{in-self}
@@ -38,7 +37,7 @@ use Rattle.repo_state.specs.Items.{object_text}
 use Rattle.repo_state.proofs.ReadBack.{AreTaken, Takes}
 use Rattle.repo_state.proofs.StoredCommits.{commit-spelled, commit_at, stored-commit}
 use Rattle.repo_state.proofs.Grows.{AreIn, part-has}
-use Rattle.repo_state.proofs.Walks.{children-held, listed, object-children, tree-children, tree-unfolds}
+use Rattle.repo_state.proofs.Walks.{listed, object-children, tree-children}
 
 -- ---- the flat map of a stored tree, by its entries
 
@@ -248,9 +247,10 @@ module _ (S H : List Object) (c : Change) (w : IsWithin S H c) where
 
     blobs-fit : (ns : List Bytes) → list_all (has Blob S) ns ≡ true → list_all (λ n. nat_le (length (body_of Blob S n)) (2 ^ 24)) ns ≡ true → AreFit (map (blob_object S) ns)
     blobs-fit [] h g = tt
-    blobs-fit (n ∷ ns) h g =
-        (or_right (has_name H (name Blob (body_of Blob S n))) _ (first_so _ _ g),
-        blobs-fit ns (second_so (has Blob S n) _ h) (second_so (nat_le (length (body_of Blob S n)) (2 ^ 24)) _ g))
+    blobs-fit (n ∷ ns) h g = (
+      or_right (has_name H (name Blob (body_of Blob S n))) _ (first_so _ _ g),
+      blobs-fit ns (second_so (has Blob S n) _ h) (second_so (nat_le (length (body_of Blob S n)) (2 ^ 24)) _ g),
+    )
 
     commits-fit : (ns : List Bytes) → list_all (has CommitKind S) ns ≡ true → list_all (λ n. option_map_or (commit_fits S H c.blobs) (commit_named S n) false) ns ≡ true → AreFit (flat_map (commit_objects S) ns)
     commits-fit [] h g = tt
@@ -376,7 +376,8 @@ module _ (S H0 : List Object) (c : Change) (w : IsWithin S H0 c) (s : IsStore S)
             let all = length-append (object_text o) (flat_map object_text (fresh (o ∷ H) os)) in
             let one = length-append (to_be_bytes w32 (length o.body)) o.body in
             let body : length o.body < 2 ^ 32 = omega (arith, l, all, one) in
-            let rest : length (flat_map object_text (fresh (o ∷ H) os)) ≤ 2 ^ 29 = omega (arith, l, all) in
-            (takes H o h i up f.0 f.1 e g.0 (room-under (o ∷ H) os r) body,
-            taken os (o ∷ H) (f.1, e, h) (f.0, i) (up-one H o up) d g.1 r rest)
+            let rest : length (flat_map object_text (fresh (o ∷ H) os)) ≤ 2 ^ 29 = omega (arith, l, all) in (
+              takes H o h i up f.0 f.1 e g.0 (room-under (o ∷ H) os r) body,
+              taken os (o ∷ H) (f.1, e, h) (f.0, i) (up-one H o up) d g.1 r rest,
+            )
       ] refl f.2 room long

@@ -1,22 +1,22 @@
 -- Objects that are taken in one after another.
-use Rattle.std.proofs.Common.{◌≡◌, ℕ, suc, Bool, true, false, cond, ◌&&◌, ◌||◌, List, [], ◌∷◌, ◌++◌, map, length, reverse, None, Some, refl, sym, ap, subst, ◌∙◌, true≢false}
-use Rattle.std.specs.List.{flat_map, list_any}
-use Rattle.std.specs.Option.{option_to_list, option_map_or}
+use Rattle.std.proofs.Common.{◌≡◌, Bool, true, false, cond, ◌&&◌, ◌||◌, List, [], ◌∷◌, ◌++◌, map, reverse, None, Some, refl, sym, ap, subst, ◌∙◌, true≢false}
+use Rattle.std.specs.List.{list_any}
+use Rattle.std.specs.Option.{option_to_list}
 use Rattle.std.specs.Cmp.Lexicographic.{bytes_decides}
-use Rattle.std.proofs.lemmas.Bool.{or_right, or_left}
+use Rattle.std.proofs.lemmas.Bool.{or_right}
 use Rattle.std.proofs.lemmas.List.{reverse-append, map-append, append_assoc}
 use Rattle.git_objects.specs.Paths.{Bytes, same_bytes}
 use Rattle.git_objects.specs.Parts.{name_bytes}
 use Rattle.git_objects.specs.declared.kind.Kind.{Kind}
 use Rattle.git_objects.specs.declared.name.Name.{Name}
-use Rattle.git_objects.proofs.Basics.{Each, same_bytes-self}
+use Rattle.git_objects.proofs.Basics.{Each}
 use Rattle.object_store.specs.Objects.{Object, object_name, same_kind, is_named, find_named, has, has_name, body_of, is_body, IsStore}
-use Rattle.object_store.proofs.Held.{named_kind, named_name, has_name-from}
+use Rattle.object_store.proofs.Held.{named_name}
 use Rattle.object_store.proofs.Finding.{has-found}
 use Rattle.indexmap.specs.IndexSet.{insert_key}
 use Rattle.repo_state.specs.Changes.{fresh}
 use Rattle.repo_state.specs.HeldObjects.{AreNamed}
-use Rattle.repo_state.specs.Growing.{with_one, grown, AreFed, held_of, Holds, IsReady, IsStep, Extends}
+use Rattle.repo_state.specs.Growing.{with_one, grown, AreFed, held_of, IsReady, IsStep, Extends}
 use Rattle.repo_state.specs.Views.{named}
 use Rattle.repo_state.proofs.Naming.{name-known, named-more}
 
@@ -158,10 +158,11 @@ module _ (S : List Object) (names : List Name) (k : Name) (o : Object) where
       elim (has_name H (object_name o)) as (λ t. has_name H (object_name o) ≡ t → (held_of S after ≡ cond t H (o ∷ H)) × AreNamed (held_of S after) after) [
         | true ↦ λ g. let same : after ≡ names = ap (λ b. cond b names (names ++ k ∷ [])) (known h e ∙ g) in
             (ap (held_of S) same, subst (λ (ns : List Name). AreNamed (held_of S ns) ns) (sym same) h)
-        | false ↦ λ g. let more : after ≡ names ++ k ∷ [] = ap (λ b. cond b names (names ++ k ∷ [])) (known h e ∙ g) in
-            (ap (held_of S) more ∙ held-push e,
-            subst (λ (ns : List Name). AreNamed (held_of S ns) ns) (sym more)
-            (subst (λ (T : List Object). AreNamed T (names ++ k ∷ [])) (sym (held-push e)) (named-more H names o k h (sym (find-name S k.0 o e)))))
+        | false ↦ λ g. let more : after ≡ names ++ k ∷ [] = ap (λ b. cond b names (names ++ k ∷ [])) (known h e ∙ g) in (
+          ap (held_of S) more ∙ held-push e,
+          subst (λ (ns : List Name). AreNamed (held_of S ns) ns) (sym more)
+              (subst (λ (T : List Object). AreNamed T (names ++ k ∷ [])) (sym (held-push e)) (named-more H names o k h (sym (find-name S k.0 o e)))),
+        )
       ] refl
 
   pub hold-step : (os : List Object) → find_named S k.0 ≡ Some o → IsReady S names (o ∷ os) → IsStep S names after (o ∷ os) os

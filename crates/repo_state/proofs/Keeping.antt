@@ -1,9 +1,9 @@
 -- After a change nothing is held beside the repository's own objects, where nothing was before.
-use Rattle.std.proofs.Common.{◌≡◌, Bool, true, false, cond, ◌&&◌, ◌||◌, List, [], ◌∷◌, ◌++◌, map, None, Some, refl, sym, ap, subst, ◌∙◌, true≢false}
+use Rattle.std.proofs.Common.{◌≡◌, Bool, true, false, cond, ◌&&◌, ◌||◌, List, [], ◌∷◌, ◌++◌, map, Some, refl, sym, ap, subst, ◌∙◌, true≢false}
 use Rattle.std.specs.Cmp.{first_so, second_so}
 use Rattle.std.specs.List.{flat_map, list_all, list_any}
 use Rattle.std.specs.Option.{option_map, option_map_or, option_to_list}
-use Rattle.std.proofs.lemmas.Bool.{or_left, or_right}
+use Rattle.std.proofs.lemmas.Bool.{or_right}
 use Rattle.git_objects.specs.Paths.{Bytes, same_bytes}
 use Rattle.git_objects.specs.Trees.{Flat}
 use Rattle.git_objects.specs.Commits.{Commit}
@@ -17,13 +17,12 @@ use Rattle.object_store.proofs.Held.{named_kind}
 use Rattle.repo_state.specs.Changes.{Change, IsChange, blob_object, commit_named, commit_objects, objects_of}
 use Rattle.repo_state.specs.Growing.{grown, with_one}
 use Rattle.repo_state.specs.Repos.{Snapshot, has_tree, is_tree_of, is_used, snapshot_in, snapshot_of, snapshots_in}
-use Rattle.repo_state.specs.StoredObjects.{IsTreeOf}
 use Rattle.repo_state.specs.TreeObjects.{tree_objects}
 use Rattle.repo_state.proofs.Adopting.{change-in}
 use Rattle.repo_state.proofs.Feeding.{change-fed, commits-in, grown-all, known-back}
 use Rattle.repo_state.proofs.Fitting.{flat-part}
 use Rattle.repo_state.proofs.Grows.{AreIn, part-has, store-grown}
-use Rattle.repo_state.proofs.StoredCommits.{IsHeldCommit, commit-held, stored-commit}
+use Rattle.repo_state.proofs.StoredCommits.{commit-held, stored-commit}
 
 any-front : {A : Type 0} (p : A → Bool) (xs ys : List A) → list_any p xs ≡ true → list_any p (xs ++ ys) ≡ true
 any-front p [] ys h = absurd (true≢false (sym h))
@@ -80,9 +79,9 @@ commit-shows S q n c s r h (o ∷ G) g i t =
           let body : o.body ≡ body_of CommitKind S n = own o G n e ∙ (part-has S (o ∷ G) CommitKind n i t).1 in
           let same : held.commit ≡ c = let f : Some held.commit ≡ Some c = sym held.read ∙ ap commit_from body ∙ r in cc in
           let shown : q (flat G held.commit.tree) ≡ true =
-              ap q (flat-part S G held.commit.tree s g.2 i.1 held.tree ∙ ap (λ (d : Commit). flat S d.tree) same) ∙ h in
+          ap q (flat-part S G held.commit.tree s g.2 i.1 held.tree ∙ ap (λ (d : Commit). flat S d.tree) same) ∙ h in
           let list : list_any (λ s. q s.tree) (option_to_list (option_map (snapshot_of G) (commit_from o.body))) ≡ true =
-              ap (λ m. list_any (λ s. q s.tree) (option_to_list (option_map (snapshot_of G) m))) held.read ∙ ap (λ b. b || false) shown in
+          ap (λ m. list_any (λ s. q s.tree) (option_to_list (option_map (snapshot_of G) m))) held.read ∙ ap (λ b. b || false) shown in
           any-front (λ s. q s.tree) (snapshot_in G o.kind o.body) (snapshots_in G) (ap (λ j. list_any (λ s. q s.tree) (snapshot_in G j o.body)) kind ∙ list)
       | false ↦ λ e k. any-back (λ s. q s.tree) (snapshot_in G o.kind o.body) (snapshots_in G) (commit-shows S q n c s r h G g.2 i.1 k)
     ] refl t
@@ -147,4 +146,4 @@ module _ (S H : List Object) (s : IsStore S) (h : IsStore H) (i : AreIn S H) (c 
       all-grown (snapshots_in G) H (objects_of S c) (old-used H (objects_of S c) H e)
       (both-used (map (blob_object S) c.blobs) (flat_map (commit_objects S) c.commits) (blobs-used c.blobs)
       (commits-used c.commits g.commits (λ n a.
-          commits-in S s c.commits n G iG g.commits (known-back G (map (blob_object S) c.blobs) (flat_map (commit_objects S) c.commits) (grown-all H (objects_of S c))) a)))
+      commits-in S s c.commits n G iG g.commits (known-back G (map (blob_object S) c.blobs) (flat_map (commit_objects S) c.commits) (grown-all H (objects_of S c))) a)))

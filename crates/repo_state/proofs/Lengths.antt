@@ -1,8 +1,7 @@
 -- Lengths of items.
-use Rattle.std.proofs.Common.{◌≡◌, ◌+◌, ◌≤◌, ◌<◌, ℕ, suc, List, [], ◌∷◌, ◌++◌, length, refl, sym, ap, ◌∙◌, arith, length-append}
+use Rattle.std.proofs.Common.{◌+◌, ◌≤◌, ◌<◌, List, [], ◌∷◌, ◌++◌, length, arith, length-append}
 use Rattle.std.specs.Int.{to_be_bytes, w16, w32}
 use Rattle.std.specs.List.{flat_map}
-use Rattle.git_objects.specs.Paths.{Bytes}
 use Rattle.object_store.specs.Objects.{Object}
 use Rattle.repo_state.specs.Items.{Refs, item_text, object_text, ref_text}
 

@@ -19,9 +19,9 @@ use Rattle.git_objects.specs.declared.quantity.Quantity.TheVariants.{Commits, Ob
 use Rattle.path_names.specs.RefNames.{is_ref_name}
 use Rattle.object_store.specs.Objects.{Object, find_named}
 use Rattle.repo_state.specs.Items.{Refs, Held, bytes_cmp, held_with, is_commit, item_text}
-use Rattle.repo_state.specs.Changes.{Change, Plan, fresh, is_empty, is_moved, moved, objects_of, or_else, passed, plan, plan_text, with_refs}
+use Rattle.repo_state.specs.Changes.{Change, Plan, is_empty, is_moved, moved, objects_of, or_else, passed, plan, plan_text, with_refs}
 use Rattle.repo_state.specs.Drafts.{DraftOrNot, IsDraft, IsNoDraft, IsNothing, IsWeighed, NewsOrNot, first_passed, found, is_short, is_valid_ref, sized}
-use Rattle.repo_state.specs.Growing.{Extends, Holds, IsReady, IsStep, grown, held_of}
+use Rattle.repo_state.specs.Growing.{Extends, Holds, IsStep, held_of}
 use Rattle.repo_state.specs.Views.{named}
 use Rattle.repo_state.specs.declared.commit.CommitError.{CommitError}
 use Rattle.repo_state.specs.declared.commit.CommitError.TheVariants.{StoreFault, Limit, OutOfMemory}

@@ -1,23 +1,21 @@
 -- An item that was written is read back.
-use Rattle.std.proofs.Common.{◌≡◌, ◌+◌, ◌<◌, ◌≤◌, ◌^◌, ℕ, suc, Bool, true, false, cond, ◌&&◌, List, [], ◌∷◌, ◌++◌, length, take, drop, reverse, Option, None, Some, Result, Ok, Err, refl, sym, ap, subst, ◌∙◌, arith, length-append}
-use Rattle.std.specs.Prelude.{nat_eq, nat_le}
-use Rattle.std.specs.Int.{from_be_bytes, to_be_bytes, w16, w32}
+use Rattle.std.proofs.Common.{◌≡◌, ◌+◌, ◌<◌, ◌≤◌, ◌^◌, ℕ, true, false, cond, ◌&&◌, List, [], ◌∷◌, ◌++◌, length, take, drop, reverse, Option, None, Some, Result, Ok, Err, refl, sym, ap, ◌∙◌, arith, length-append}
+use Rattle.std.specs.Prelude.{nat_eq}
+use Rattle.std.specs.Int.{to_be_bytes, w16, w32}
 use Rattle.std.specs.List.{flat_map}
 use Rattle.std.specs.FinMap.{put as put_entry}
-use Rattle.std.specs.Option.{is_none}
 use Rattle.std.proofs.lemmas.Bool.{le-leb}
 use Rattle.std.proofs.lemmas.List.{append_assoc, reverse-append}
 use Rattle.std.proofs.lemmas.Nat.{from_be_bytes-to_be_bytes_2, from_be_bytes-to_be_bytes_4}
 use Rattle.std.proofs.Math.Seq.{drop-append_seam}
 use Rattle.git_objects.specs.Paths.{Bytes}
-use Rattle.git_objects.specs.Names.{name}
 use Rattle.git_objects.specs.declared.kind.Kind.{Kind}
 use Rattle.git_objects.specs.declared.kind.Kind.TheVariants.{Blob, Tree, Commit as CommitKind}
 use Rattle.path_names.specs.RefNames.{is_ref_name}
 use Rattle.object_store.specs.Objects.{Object, object_name, has, has_name}
 use Rattle.object_store.specs.Puts.{refusal}
 use Rattle.repo_state.specs.Changes.{with_refs}
-use Rattle.repo_state.specs.Fields.{Spot, Fault, BrokenAt, Read, ◌>>=◌, field, marker, number, number_of, start}
+use Rattle.repo_state.specs.Fields.{Spot, Fault, BrokenAt, ◌>>=◌, field, marker, number, number_of}
 use Rattle.repo_state.specs.Items.{Refs, Held, body_fits, bytes_cmp, checked, ended_with, has_room, head_field, held_with, item_text, kind_byte, kind_field, kind_of, listed_kind, object_field, object_text, objects_field, read_item, ref_field, ref_text, refs_field, rises, take_object, with_rest}
 use Rattle.repo_state.proofs.Binds.{then-ok}
 use Rattle.repo_state.proofs.Naming.{take-new}
@@ -100,13 +98,14 @@ objects-read : (os S : List Object) (at : ℕ) (rest : Bytes) → AreTaken S os 
 objects-read [] S at rest h = (at, refl)
 objects-read (o ∷ os) S at rest h =
     let next = objects-read os (o ∷ S) (at + 1 + 4 + length o.body) rest h.1 in
-    let back : reverse (o ∷ os) ++ S ≡ reverse os ++ (o ∷ S) = ap (λ (t : List Object). t ++ S) (reverse-append (o ∷ []) os) ∙ append_assoc (reverse os) (o ∷ []) S in
-    (next.0,
-    ap (λ (t : Bytes). objects_field (length (o ∷ os)) S (spot at t)) (append_assoc (object_text o) (flat_map object_text os) rest)
-    ∙ then-ok (object_field S (spot at (object_text o ++ (flat_map object_text os ++ rest)))) (λ r. objects_field (length os) r.0 r.1) (o ∷ S, spot (at + 1 + 4 + length o.body) (flat_map object_text os ++ rest))
-    (object-read S o at (flat_map object_text os ++ rest) h.0)
-    ∙ next.1
-    ∙ ap (λ (T : List Object). Ok (T, spot next.0 rest)) (sym back))
+    let back : reverse (o ∷ os) ++ S ≡ reverse os ++ (o ∷ S) = ap (λ (t : List Object). t ++ S) (reverse-append (o ∷ []) os) ∙ append_assoc (reverse os) (o ∷ []) S in (
+      next.0,
+      ap (λ (t : Bytes). objects_field (length (o ∷ os)) S (spot at t)) (append_assoc (object_text o) (flat_map object_text os) rest)
+          ∙ then-ok (object_field S (spot at (object_text o ++ (flat_map object_text os ++ rest)))) (λ r. objects_field (length os) r.0 r.1) (o ∷ S, spot (at + 1 + 4 + length o.body) (flat_map object_text os ++ rest))
+          (object-read S o at (flat_map object_text os ++ rest) h.0)
+          ∙ next.1
+          ∙ ap (λ (T : List Object). Ok (T, spot next.0 rest)) (sym back),
+    )
 
 -- ---- refs
 
@@ -150,13 +149,14 @@ refs-read G (r ∷ rs) before refs at rest h =
     let set = put_entry bytes_cmp r.0 r.1 refs in
     let next = refs-read G rs (Some r.0) set at2 rest h.1 in
     let text : flat_map ref_text (r ∷ rs) ++ rest ≡ n ++ (r.0 ++ (r.1 ++ more)) =
-        append_assoc (n ++ r.0 ++ r.1) (flat_map ref_text rs) rest ∙ append_assoc (n ++ r.0) r.1 more ∙ append_assoc n r.0 (r.1 ++ more) in
-    (next.0,
-    ap (λ (t : Bytes). refs_field (length (r ∷ rs)) G before refs (spot at t)) text
-    ∙ then-ok (ref_field before (spot at (n ++ (r.0 ++ (r.1 ++ more))))) (λ q. head_field G q.1 >>= (λ h. refs_field (length rs) G (Some q.0) (put_entry bytes_cmp q.0 h.0 refs) h.1)) (r.0, spot at1 (r.1 ++ more))
-    (ref-read before r.0 at (r.1 ++ more) h.0.valid h.0.rising h.0.short)
-    ∙ then-ok (head_field G (spot at1 (r.1 ++ more))) (λ h. refs_field (length rs) G (Some r.0) (put_entry bytes_cmp r.0 h.0 refs) h.1) (r.1, spot at2 more) (head-read G r.1 at1 more h.0.named h.0.head)
-    ∙ next.1)
+    append_assoc (n ++ r.0 ++ r.1) (flat_map ref_text rs) rest ∙ append_assoc (n ++ r.0) r.1 more ∙ append_assoc n r.0 (r.1 ++ more) in (
+      next.0,
+      ap (λ (t : Bytes). refs_field (length (r ∷ rs)) G before refs (spot at t)) text
+          ∙ then-ok (ref_field before (spot at (n ++ (r.0 ++ (r.1 ++ more))))) (λ q. head_field G q.1 >>= (λ h. refs_field (length rs) G (Some q.0) (put_entry bytes_cmp q.0 h.0 refs) h.1)) (r.0, spot at1 (r.1 ++ more))
+          (ref-read before r.0 at (r.1 ++ more) h.0.valid h.0.rising h.0.short)
+          ∙ then-ok (head_field G (spot at1 (r.1 ++ more))) (λ h. refs_field (length rs) G (Some r.0) (put_entry bytes_cmp r.0 h.0 refs) h.1) (r.1, spot at2 more) (head-read G r.1 at1 more h.0.named h.0.head)
+          ∙ next.1,
+    )
 
 -- ---- the item
 
@@ -191,7 +191,7 @@ item-read H os refs rs a b l m =
     let r = flat_map ref_text rs in
     let G = reverse os ++ H in
     let text : n ++ o ++ k ++ r ≡ n ++ (o ++ (k ++ (r ++ []))) =
-        append_assoc (n ++ o) k r ∙ append_assoc n o (k ++ r) ∙ ap (λ (t : Bytes). n ++ (o ++ (k ++ t))) (sym (append-nothing r)) in
+    append_assoc (n ++ o) k r ∙ append_assoc n o (k ++ r) ∙ ap (λ (t : Bytes). n ++ (o ++ (k ++ t))) (sym (append-nothing r)) in
     let one = objects-read os H 6 (k ++ (r ++ [])) a in
     let two = refs-read G rs None refs (one.0 + 4) [] b in
     ap (λ (t : Bytes). read_item (held_with H refs) (1 ∷ 1 ∷ t)) text

@@ -1,5 +1,5 @@
 -- The refs of an item, which stand in byte order.
-use Rattle.std.proofs.Common.{◌≡◌, ◌<◌, ◌≤◌, ◌^◌, Bool, true, false, cond, ◌&&◌, T, List, [], ◌∷◌, ◌++◌, filter, length, Option, None, Some, refl, sym, ap, subst, ◌∙◌, arith}
+use Rattle.std.proofs.Common.{◌≡◌, Bool, true, false, cond, ◌&&◌, T, List, [], ◌∷◌, filter, length, Option, None, Some, refl, sym, ap, ◌∙◌, arith}
 use borrow.Author.Tests.{leb-true}
 use Rattle.std.specs.Cmp.{first_so, second_so}
 use Rattle.std.specs.Cmp.Lexicographic.{nat_list_cmp_total}
@@ -17,11 +17,11 @@ use Rattle.path_names.specs.RefNames.{is_ref_name}
 use Rattle.object_store.specs.Objects.{Object, has, body_of}
 use Rattle.object_store.proofs.Held.{body_named}
 use Rattle.repo_state.specs.Changes.{is_moved, moved, with_refs}
-use Rattle.repo_state.specs.Drafts.{is_short, is_valid_ref}
+use Rattle.repo_state.specs.Drafts.{is_valid_ref}
 use Rattle.repo_state.specs.Items.{Refs, bytes_cmp, rises}
 use Rattle.repo_state.specs.Stops.{are_heads}
 use Rattle.repo_state.proofs.Plans.{short}
-use Rattle.repo_state.proofs.ReadBack.{AreSet, Sets}
+use Rattle.repo_state.proofs.ReadBack.{AreSet}
 
 both : (a b : Bool) → T a → T b → T (a && b)
 both true b p q = q

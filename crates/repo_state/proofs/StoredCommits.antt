@@ -1,8 +1,8 @@
 -- Commits of a store.
-use Rattle.std.proofs.Common.{◌≡◌, ℕ, zero, suc, ◌<◌, Bool, true, false, cond, ◌&&◌, ◌||◌, List, [], ◌∷◌, ◌++◌, ◌+◌, map, length, get_or, drop, add-one, None, Some, refl, sym, ap, subst, ◌∙◌, true≢false, arith}
+use Rattle.std.proofs.Common.{◌≡◌, ℕ, zero, suc, ◌<◌, Bool, true, false, cond, ◌&&◌, ◌||◌, List, [], ◌∷◌, ◌++◌, ◌+◌, map, length, get_or, drop, add-one, None, Some, refl, sym, ap, ◌∙◌, true≢false, arith}
 use Rattle.std.proofs.Math.Seq.{drop-cons}
 use Rattle.std.specs.Cmp.{first_so, second_so}
-use Rattle.std.specs.List.{flat_map, list_all}
+use Rattle.std.specs.List.{list_all}
 use Rattle.std.specs.Option.{is_none, option_map_or}
 use Rattle.std.proofs.lemmas.Bool.{or_right}
 use Rattle.git_objects.specs.Paths.{Bytes, is_bytes}
@@ -12,7 +12,7 @@ use Rattle.git_objects.specs.CommitBodies.{commit_from}
 use Rattle.git_objects.specs.declared.kind.Kind.TheVariants.{Tree, Commit as CommitKind}
 use Rattle.git_objects.specs.declared.name.Name.{Name}
 use Rattle.git_objects.proofs.Basics.{Each}
-use Rattle.object_store.specs.Objects.{Object, is_named, find_named, has, body_of, missing_parent, missing_of_commit, is_body, same_kind, IsStore}
+use Rattle.object_store.specs.Objects.{Object, is_named, find_named, has, body_of, missing_parent, missing_of_commit, is_body, IsStore}
 use Rattle.object_store.specs.Unfolding.{flat}
 use Rattle.object_store.proofs.Finding.{has-found}
 use Rattle.object_store.proofs.Held.{named_kind}

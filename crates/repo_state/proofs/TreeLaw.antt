@@ -6,9 +6,7 @@ use Rattle.std.specs.Cmp.{first_so, second_so}
 use Rattle.std.proofs.lemmas.Bool.{not-true}
 use Rattle.git_objects.specs.Paths.{Bytes}
 use Rattle.git_objects.specs.Trees.{Leaf, Flat, rests}
-use Rattle.git_objects.specs.Names.{body, body_within, depth}
-use Rattle.git_objects.specs.Entries.{AreEntries}
-use Rattle.git_objects.specs.Bodies.{tree_entries}
+use Rattle.git_objects.specs.Names.{body, depth}
 use Rattle.git_objects.specs.declared.entry.Entry.{Entry}
 use Rattle.git_objects.specs.declared.kind.Kind.TheVariants.{Blob, Tree}
 use Rattle.git_objects.specs.declared.mode.Mode.{Mode}
@@ -16,10 +14,10 @@ use Rattle.git_objects.specs.declared.mode.Mode.TheVariants.{File, Exec, Link, M
 use Rattle.git_objects.proofs.TreeReading.{tree_law}
 use Rattle.object_store.specs.Objects.{Object, is_named, has, has_child, body_of, is_body, IsStore}
 use Rattle.object_store.specs.Unfolding.{below, joined, flat}
-use Rattle.object_store.proofs.Listings.{AreItems, Item, join}
+use Rattle.object_store.proofs.Listings.{AreItems, join}
 use Rattle.object_store.proofs.Bodies.{leaf_of, tree_of, tops_each}
 use Rattle.object_store.proofs.Held.{named_kind, tree_held}
-use Rattle.object_store.proofs.Unfolding.{IsFlat, IsFull, entries_held, flat_good, items, items_good, joined-join, node}
+use Rattle.object_store.proofs.Unfolding.{IsFull, entries_held, flat_good, items, items_good, joined-join, node}
 use Rattle.repo_state.specs.StoredObjects.{HasChildren, child_steps, entries_steps, itself, stored_objects, tree_steps}
 use Rattle.repo_state.specs.TreeObjects.{objects_at, objects_within, tree_objects}
 use Rattle.repo_state.proofs.Walks.{children-held, listed}

@@ -1,19 +1,18 @@
 -- A walk over a stored tree.
-use Rattle.std.proofs.Common.{◌≡◌, Bool, true, false, not, cond, ◌&&◌, ◌||◌, List, [], ◌∷◌, ◌++◌, map, reverse, drop, slice_get, length, None, Some, Result, Ok, Err, refl, sym, ap, subst, ◌∙◌, true≢false, append-nil}
+use Rattle.std.proofs.Common.{◌≡◌, true, false, not, cond, ◌&&◌, ◌||◌, List, [], ◌∷◌, ◌++◌, map, reverse, drop, slice_get, None, Some, Result, Ok, Err, refl, sym, ap, subst, ◌∙◌, true≢false, append-nil}
 use Rattle.std.proofs.lemmas.List.{append_assoc}
 use Rattle.std.specs.Cmp.{first_so, second_so}
-use Rattle.std.specs.List.{flat_map}
 use Rattle.std.specs.Option.{is_none, unwrap_or}
-use Rattle.std.proofs.lemmas.Bool.{or_right, or_left}
+use Rattle.std.proofs.lemmas.Bool.{or_right}
 use Rattle.git_objects.specs.Paths.{Bytes, same_bytes, is_nil}
 use Rattle.git_objects.specs.Names.{name}
 use Rattle.git_objects.specs.Bodies.{tree_entries}
 use Rattle.git_objects.specs.declared.entry.Entry.{Entry}
 use Rattle.git_objects.specs.declared.kind.Kind.{Kind}
-use Rattle.git_objects.specs.declared.kind.Kind.TheVariants.{Blob, Tree, Commit}
+use Rattle.git_objects.specs.declared.kind.Kind.TheVariants.{Blob, Tree}
 use Rattle.git_objects.specs.declared.mode.Mode.{Mode}
 use Rattle.git_objects.specs.declared.mode.Mode.TheVariants.{File, Exec, Link, Module, Dir}
-use Rattle.git_objects.proofs.Basics.{Each, same_bytes-self}
+use Rattle.git_objects.proofs.Basics.{same_bytes-self}
 use Rattle.object_store.specs.Objects.{Object, object_name, same_kind, is_named, find_named, has, has_name, has_child, body_of, missing_entry, is_body, IsStore}
 use Rattle.object_store.proofs.Held.{named_kind, named_name, body_named, tree_held, kind_is, not_named, has_name-from}
 use denote.Enum.Bare.{sameb}
@@ -26,7 +25,7 @@ use Rattle.repo_state.specs.declared.walk.Frame.{Frame}
 use Rattle.git_objects.specs.Parts.{name_bytes}
 use Rattle.git_objects.specs.declared.name.Name.{Name}
 use Rattle.repo_state.specs.Growing.{grown, AreFed, held_of, IsReady, IsStep}
-use Rattle.repo_state.specs.StoredObjects.{AreOpen, HasChildren, HasNext, IsOpen, child_steps, listed_steps, tree_steps, entries_steps, frame_steps, frames_steps, next_steps, itself, stored_objects, tree_at}
+use Rattle.repo_state.specs.StoredObjects.{AreOpen, HasChildren, IsOpen, child_steps, listed_steps, tree_steps, entries_steps, frame_steps, frames_steps, next_steps, itself, stored_objects, tree_at}
 use Rattle.repo_state.proofs.Grows.{AreIn, AreKnown, grown-append, grown-known, found-has, named-in, part-has, part-kind, fed-back}
 
 -- ---- children that are held

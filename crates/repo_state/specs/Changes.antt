@@ -9,7 +9,7 @@ use Rattle.git_objects.specs.CommitBodies.{commit_from}
 use Rattle.git_objects.specs.declared.kind.Kind.TheVariants.{Blob, Commit as CommitKind}
 use Rattle.git_objects.specs.declared.quantity.Quantity.{Quantity}
 use Rattle.git_objects.specs.declared.quantity.Quantity.TheVariants.{Commits, Objects, Item, Items, Store}
-use Rattle.object_store.specs.Objects.{Object, object_name, has, has_name, find_named, body_of}
+use Rattle.object_store.specs.Objects.{Object, object_name, has, has_name, body_of}
 use Rattle.object_store.specs.Errors.{newest}
 use Rattle.object_store.specs.Unfolding.{flat}
 use Rattle.repo_state.specs.Items.{Refs, Held, bytes_cmp, held_with, is_commit, item_text, tree_fits, read_items}

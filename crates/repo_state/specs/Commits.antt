@@ -1,5 +1,5 @@
 -- What comes of committing a change.
-use Rattle.std.specs.Prelude.{◌≡◌, ⊤, ◌⊎◌, ◌+◌, true, false, List, map, None, Some, Result, Ok, Err}
+use Rattle.std.specs.Prelude.{◌≡◌, ◌⊎◌, ◌+◌, true, false, map, None, Some, Result, Ok, Err}
 use Rattle.git_objects.specs.Paths.{Bytes}
 use Rattle.git_objects.specs.Parts.{name_bytes}
 use Rattle.proj_io.specs.Items.{Stays, Gets}

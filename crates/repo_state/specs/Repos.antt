@@ -1,5 +1,5 @@
 -- What the held objects and refs are to a reader: known blobs, commits with their flat trees, and refs.
-use Rattle.std.specs.Prelude.{Bool, true, ◌&&◌, List, [], ◌∷◌, ◌++◌, Some, None}
+use Rattle.std.specs.Prelude.{Bool, true, ◌&&◌, List, [], ◌∷◌, ◌++◌}
 use Rattle.std.specs.List.{list_all, list_any}
 use Rattle.std.specs.Option.{option_to_list, option_map}
 use Rattle.git_objects.specs.Paths.{Bytes, same_bytes}

@@ -84,7 +84,14 @@ impl State {
             number: self.number,
             size: self.size,
         };
-        match prepare(alloc, &self.store, &mut self.held, &self.refs, meter, &batch) {
+        match prepare(
+            alloc,
+            &self.store,
+            &mut self.held,
+            &self.refs,
+            meter,
+            &batch,
+        ) {
             Err(error) => {
                 self.held.truncate(before);
                 Err(error)

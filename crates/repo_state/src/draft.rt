@@ -13,8 +13,8 @@ ghost use Rattle.repo_state.specs.Growing.{Extends, Holds, IsReady, IsStep, held
 ghost use Rattle.repo_state.specs.Items.{held_with, is_commit, item_text, kind_byte, object_text, ref_text};
 
 use crate::change::{hold_blobs, hold_commits};
-use crate::{Batch, CommitError};
 use crate::ref_table::{MovedRef, RefTable};
+use crate::{Batch, CommitError};
 use git_objects::{Kind, Name, Quantity};
 use indexmap::IndexSet;
 use object_store::Store;
@@ -148,7 +148,13 @@ fn count_commits(store: &Store, names: &[Name]) -> usize
 }
 
 // The first limit that is passed.
-fn first_passed(commits: usize, objects: usize, item: Option<usize>, number: u32, size: u64) -> Option<Quantity>
+fn first_passed(
+    commits: usize,
+    objects: usize,
+    item: Option<usize>,
+    number: u32,
+    size: u64,
+) -> Option<Quantity>
     ensures { result ≡ first_passed commits objects item number size }
 {
     if commits > COMMITS {
@@ -248,7 +254,13 @@ fn write_number(text: &mut Vec<u8>, n: usize) -> Result<(), AllocError>
 
 // The item of these objects and refs, of so many bytes.
 #[tactic(auto, unfolding(crate::specs::Items::item_text))]
-fn write_item(alloc: Global, store: &Store, names: &[Name], refs: &[MovedRef], size: usize) -> Result<Vec<u8>, AllocError>
+fn write_item(
+    alloc: Global,
+    store: &Store,
+    names: &[Name],
+    refs: &[MovedRef],
+    size: usize,
+) -> Result<Vec<u8>, AllocError>
     requires found { length (found (newest store.now) names.now) ≡ length names.now }
     requires short { list_all is_short (map ref_value refs.now) ≡ true }
     requires size { length (item_text (found (newest store.now) names.now) (map ref_value refs.now)) ≤ 2 ^ 29 }
@@ -265,7 +277,15 @@ fn write_item(alloc: Global, store: &Store, names: &[Name], refs: &[MovedRef], s
 }
 
 // The item of these objects and refs, and the table with these refs.
-fn build(alloc: Global, store: &Store, names: &[Name], moved: &[MovedRef], refs: &RefTable, size: usize, commits: u32) -> Result<Draft, AllocError>
+fn build(
+    alloc: Global,
+    store: &Store,
+    names: &[Name],
+    moved: &[MovedRef],
+    refs: &RefTable,
+    size: usize,
+    commits: u32,
+) -> Result<Draft, AllocError>
     requires found { length (found (newest store.now) names.now) ≡ length names.now }
     requires short { list_all is_short (map ref_value moved.now) ≡ true }
     requires size { length (item_text (found (newest store.now) names.now) (map ref_value moved.now)) ≤ 2 ^ 29 }
@@ -284,7 +304,15 @@ fn build(alloc: Global, store: &Store, names: &[Name], moved: &[MovedRef], refs:
 }
 
 // What the objects of these names and these refs make, where no limit is passed. So many objects are held with them.
-fn weigh(alloc: Global, store: &Store, names: &[Name], moved: &[MovedRef], refs: &RefTable, objects: usize, meter: Meter) -> Result<Draft, CommitError>
+fn weigh(
+    alloc: Global,
+    store: &Store,
+    names: &[Name],
+    moved: &[MovedRef],
+    refs: &RefTable,
+    objects: usize,
+    meter: Meter,
+) -> Result<Draft, CommitError>
     requires found { length (found (newest store.now) names.now) ≡ length names.now }
     requires short { list_all is_short (map ref_value moved.now) ≡ true }
     ensures { WeighedOrNot (found (newest store.now) names.now) (map ref_value moved.now) refs.now objects meter result }
@@ -304,7 +332,12 @@ fn weigh(alloc: Global, store: &Store, names: &[Name], moved: &[MovedRef], refs:
 }
 
 // Holds a change's objects behind those that are held.
-fn hold_change(alloc: Global, store: &Store, held: &mut IndexSet<Name>, batch: &Batch) -> Result<(), AllocError>
+fn hold_change(
+    alloc: Global,
+    store: &Store,
+    held: &mut IndexSet<Name>,
+    batch: &Batch,
+) -> Result<(), AllocError>
     requires whole { IsStore (newest store.now) }
     requires holds { Holds (newest store.now) held.old.keys }
     requires change { IsChange (newest store.now) (held_of (newest store.now) held.old.keys) (change_of batch.now) }
@@ -330,7 +363,15 @@ fn is_nothing(names: &[Name], moved: &[MovedRef]) -> bool
 }
 
 // What the names from a place on and these refs make. None: there are none of both.
-fn weigh_news(alloc: Global, store: &Store, held: &IndexSet<Name>, before: usize, moved: &[MovedRef], refs: &RefTable, meter: Meter) -> Result<Option<Draft>, CommitError>
+fn weigh_news(
+    alloc: Global,
+    store: &Store,
+    held: &IndexSet<Name>,
+    before: usize,
+    moved: &[MovedRef],
+    refs: &RefTable,
+    meter: Meter,
+) -> Result<Option<Draft>, CommitError>
     requires before { before ≤ length held.now.keys }
     requires found { length (found (newest store.now) (drop before held.now.keys)) ≡ length (drop before held.now.keys) }
     requires short { list_all is_short (map ref_value moved.now) ≡ true }
@@ -350,7 +391,14 @@ fn weigh_news(alloc: Global, store: &Store, held: &IndexSet<Name>, before: usize
 
 /// Holds a change's objects, and works out its item and what the state is after it. None: nothing is new. After an error
 /// names of the change may be held too.
-pub(crate) fn prepare(alloc: Global, store: &Store, held: &mut IndexSet<Name>, refs: &RefTable, meter: Meter, batch: &Batch) -> Result<Option<Draft>, CommitError>
+pub(crate) fn prepare(
+    alloc: Global,
+    store: &Store,
+    held: &mut IndexSet<Name>,
+    refs: &RefTable,
+    meter: Meter,
+    batch: &Batch,
+) -> Result<Option<Draft>, CommitError>
     requires whole { IsStore (newest store.now) }
     requires holds { Holds (newest store.now) held.old.keys }
     requires counted { meter.commits ≡ length (filter is_commit (held_of (newest store.now) held.old.keys)) }

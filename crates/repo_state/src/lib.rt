@@ -11,9 +11,9 @@ mod objects;
 mod ref_fields;
 mod ref_table;
 mod state;
-mod walk;
 #[cfg(test)]
 mod tests;
+mod walk;
 
 pub use commit::{Batch, CommitError, Setting};
 pub use state::{LoadError, State};

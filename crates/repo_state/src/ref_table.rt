@@ -109,7 +109,11 @@ impl RefTable {
     }
 
     /// Those of the settings that give a ref another commit, in the byte order of the refs.
-    pub(crate) fn moved(&self, alloc: Global, settings: &[Setting]) -> Result<Vec<MovedRef>, AllocError>
+    pub(crate) fn moved(
+        &self,
+        alloc: Global,
+        settings: &[Setting],
+    ) -> Result<Vec<MovedRef>, AllocError>
         ensures refs { IfOk result (λ refs. map ref_value refs.items ≡ moved self.now (map setting settings.now)) }
         ensures valid { OnOk result (list_all is_valid_ref (map setting settings.now) ≡ true) }
     {

@@ -1,11 +1,11 @@
-use Rattle.std.proofs.Common.{List, [], ◌∷◌, ◌++◌, drop, get_or, map, sym, subst, ap, ◌+◌}
+use Rattle.std.proofs.Common.{List, [], ◌∷◌, drop, get_or, map, subst, ap, ◌+◌}
 use Rattle.git_objects.specs.Parts.{name_bytes}
 use Rattle.git_objects.specs.declared.kind.Kind.TheVariants.{Blob}
 use Rattle.git_objects.specs.declared.name.Name.{Name}
 use Rattle.object_store.specs.Errors.{newest}
 use Rattle.object_store.specs.Objects.{Object, has}
 use Rattle.repo_state.specs.Changes.{blob_object}
-use Rattle.repo_state.specs.Growing.{IsReady, IsStep}
+use Rattle.repo_state.specs.Growing.{IsStep}
 use Rattle.repo_state.proofs.Grows.{extends-then, step-then}
 use Rattle.repo_state.proofs.StoredCommits.{drop-at, named-at}
 use Rattle.repo_state.proofs.Walks.{find-has}

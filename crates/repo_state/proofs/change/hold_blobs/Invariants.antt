@@ -1,4 +1,4 @@
-use Rattle.std.proofs.Common.{[], drop, map}
+use Rattle.std.proofs.Common.{drop, map}
 use Rattle.git_objects.specs.Parts.{name_bytes}
 use Rattle.object_store.specs.Errors.{newest}
 use Rattle.repo_state.specs.Changes.{blob_object}

@@ -20,9 +20,9 @@ returns-clause-step c =
     let last = commit_at S n ∷ [] in
     on-ok c.hold.result
     (λ step r.
-        let e = commit-spelled S n c.tree_of-tree.result.0 r.whole c.tree_of-tree.ensures in
-        let q = subst (λ (os : List Object). IsReady S old os) e r in
-        let tree = step-front S old mid front last q (c.in_ok-hold_tree.ensures.step (ready-front S old front last q)) in
-        subst (λ (os : List Object). IsStep S old new os []) (sym e)
-        (step-then S old mid new (front ++ last) last [] tree (step S (commit_at S n) [] (find-has S Commit n r.whole c.requires) tree.ready)))
+    let e = commit-spelled S n c.tree_of-tree.result.0 r.whole c.tree_of-tree.ensures in
+    let q = subst (λ (os : List Object). IsReady S old os) e r in
+    let tree = step-front S old mid front last q (c.in_ok-hold_tree.ensures.step (ready-front S old front last q)) in
+    subst (λ (os : List Object). IsStep S old new os []) (sym e)
+    (step-then S old mid new (front ++ last) last [] tree (step S (commit_at S n) [] (find-has S Commit n r.whole c.requires) tree.ready)))
     c.hold.ensures.step

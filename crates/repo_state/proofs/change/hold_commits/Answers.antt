@@ -1,4 +1,4 @@
-use Rattle.std.proofs.Common.{List, [], ◌∷◌, ◌++◌, drop, get_or, map, sym, subst, ap, ◌+◌}
+use Rattle.std.proofs.Common.{List, [], ◌++◌, drop, get_or, map, subst, ap, ◌+◌}
 use Rattle.std.specs.List.{flat_map}
 use Rattle.git_objects.specs.Parts.{name_bytes}
 use Rattle.git_objects.specs.declared.kind.Kind.TheVariants.{Commit}
@@ -6,7 +6,7 @@ use Rattle.git_objects.specs.declared.name.Name.{Name}
 use Rattle.object_store.specs.Errors.{newest}
 use Rattle.object_store.specs.Objects.{Object, has}
 use Rattle.repo_state.specs.Changes.{commit_objects}
-use Rattle.repo_state.specs.Growing.{IsReady, IsStep}
+use Rattle.repo_state.specs.Growing.{IsStep}
 use Rattle.repo_state.proofs.Grows.{extends-then, ready-front, step-front, step-then}
 use Rattle.repo_state.proofs.StoredCommits.{drop-at, named-at}
 use Rattle.repo_state.proofs.change.hold_commits.Goals as goal

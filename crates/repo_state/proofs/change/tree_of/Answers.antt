@@ -1,4 +1,4 @@
-use Rattle.std.proofs.Common.{None, Some, sym, ◌∙◌, true≢false}
+use Rattle.std.proofs.Common.{None, sym, ◌∙◌, true≢false}
 use Rattle.git_objects.specs.declared.kind.Kind.TheVariants.{Commit}
 use Rattle.object_store.specs.Errors.{newest, object_value}
 use Rattle.object_store.proofs.Finding.{has-found}

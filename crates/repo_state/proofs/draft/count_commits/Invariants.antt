@@ -1,4 +1,4 @@
-use Rattle.std.proofs.Common.{◌≡◌, ◌≤◌, ◌^◌, ◌+◌, drop, length, filter}
+use Rattle.std.proofs.Common.{◌≡◌, ◌≤◌, ◌+◌, drop, length, filter}
 use Rattle.object_store.specs.Errors.{newest}
 use Rattle.repo_state.specs.Drafts.{found}
 use Rattle.repo_state.specs.Items.{is_commit}

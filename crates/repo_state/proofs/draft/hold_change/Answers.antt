@@ -24,6 +24,6 @@ returns-clause-step c =
     let blobs = step-front S old mid front back r (subst (λ (ns : List Name). IsReady S old (map (blob_object S) (map name_bytes ns)) → IsStep S old mid (map (blob_object S) (map name_bytes ns)) []) c.deref.ensures.value c.in_ok-hold_blobs.ensures.step (ready-front S old front back r)) in
     on-ok c.hold_commits.result
     (λ later.
-        let step = subst (λ (ns : List Name). IsReady S mid (flat_map (commit_objects S) (map name_bytes ns)) → IsStep S mid new (flat_map (commit_objects S) (map name_bytes ns)) []) c.deref-2.ensures.value later in
-        step-then S old mid new (objects_of S change) back [] blobs (step blobs.ready))
+    let step = subst (λ (ns : List Name). IsReady S mid (flat_map (commit_objects S) (map name_bytes ns)) → IsStep S mid new (flat_map (commit_objects S) (map name_bytes ns)) []) c.deref-2.ensures.value later in
+    step-then S old mid new (objects_of S change) back [] blobs (step blobs.ready))
     c.hold_commits.ensures.step

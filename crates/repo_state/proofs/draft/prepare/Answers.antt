@@ -3,7 +3,7 @@ use Rattle.std.specs.List.{list_all}
 use Rattle.git_objects.specs.Paths.{is_nil}
 use Rattle.object_store.specs.Errors.{newest}
 use Rattle.path_names.specs.RefNames.{is_ref_name}
-use Rattle.repo_state.specs.Changes.{moved, plan}
+use Rattle.repo_state.specs.Changes.{moved}
 use Rattle.repo_state.specs.Commits.{change_of, setting}
 use Rattle.repo_state.specs.Drafts.{NewsOrNot, found, is_short, is_valid_ref, ref_value}
 use Rattle.repo_state.specs.Items.{Refs}

@@ -1,4 +1,4 @@
-use Rattle.std.proofs.Common.{◌≡◌, List, [], ◌∷◌, ◌++◌, length, sym, ap, subst, ◌∙◌, arith, length-append}
+use Rattle.std.proofs.Common.{List, [], ◌∷◌, ◌++◌, length, ap, subst, ◌∙◌, arith, length-append}
 use Rattle.object_store.specs.Errors.{newest}
 use Rattle.object_store.specs.Objects.{Object}
 use Rattle.repo_state.specs.Growing.{IsStep}

@@ -1,4 +1,4 @@
-use Rattle.std.proofs.Common.{[], ◌∷◌}
+use Rattle.std.proofs.Common.{[]}
 use Rattle.object_store.specs.Errors.{newest}
 use Rattle.repo_state.specs.Growing.{Extends, IsReady, IsStep}
 use Rattle.repo_state.specs.StoredObjects.{AreOpen, frames_steps, itself, stored_objects, work_of_frames}

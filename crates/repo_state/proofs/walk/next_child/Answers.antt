@@ -1,8 +1,7 @@
-use Rattle.std.proofs.Common.{◌≡◌, List, [], ◌∷◌, ◌++◌, sym, ap, subst, ◌∙◌}
+use Rattle.std.proofs.Common.{List, [], ◌∷◌, ◌++◌, sym, ap, subst, ◌∙◌}
 use Rattle.git_objects.specs.Views.{entry_value}
 use Rattle.git_objects.specs.declared.entry.Entry.{Entry}
 use Rattle.git_objects.specs.declared.mode.Mode.{Mode}
-use Rattle.git_objects.specs.declared.mode.Mode.TheVariants.{File, Exec, Link, Module, Dir}
 use Rattle.object_store.specs.Objects.{has_child}
 use Rattle.repo_state.specs.StoredObjects.{HasChildren, child_steps, counted, entries_steps, itself}
 use Rattle.git_objects.specs.declared.kind.Kind.TheVariants.{Blob}

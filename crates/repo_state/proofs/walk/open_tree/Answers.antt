@@ -1,17 +1,15 @@
-use Rattle.std.proofs.Common.{◌≡◌, List, [], ◌∷◌, ◌++◌, length, true, false, None, Some, sym, ap, subst, ◌∙◌, arith, length-append}
-use Rattle.std.proofs.lemmas.Bool.{not-true, not-false}
+use Rattle.std.proofs.Common.{List, [], ◌∷◌, ◌++◌, length, None, Some, sym, ap, subst, ◌∙◌, arith, length-append}
+use Rattle.std.proofs.lemmas.Bool.{not-true}
 use Rattle.std.specs.Option.{unwrap_or}
 use Rattle.git_objects.specs.Bodies.{tree_entries}
 use Rattle.git_objects.specs.declared.entry.Entry.{Entry}
 use Rattle.git_objects.specs.declared.kind.Kind.TheVariants.{Tree}
 use Rattle.object_store.specs.Errors.{newest, object_value}
-use Rattle.object_store.specs.Objects.{has, body_of}
 use Rattle.object_store.proofs.Finding.{has-found, kind_test}
-use Rattle.repo_state.specs.Growing.{held_of, IsStep}
-use Rattle.repo_state.specs.StoredObjects.{AreOpen, HasChildren, counted, frames_steps, itself, stored_objects, tree_steps, work_of_frames}
+use Rattle.repo_state.specs.Growing.{held_of}
+use Rattle.repo_state.specs.StoredObjects.{AreOpen, HasChildren, counted, frames_steps, itself, stored_objects, tree_steps}
 use Rattle.repo_state.specs.declared.walk.Frame.{Frame}
 use Rattle.repo_state.proofs.Naming.{name-known}
-use Rattle.repo_state.proofs.Grows.{found-has}
 use Rattle.repo_state.proofs.Walks.{absent-step, frames-open, listed, open-push, tree-children, same-step, skip-step, tree-found, tree-read}
 use Rattle.repo_state.proofs.walk.open_tree.Goals as goal
 
@@ -54,8 +52,8 @@ returns-in_ok-push-in-Some-of-clause-work c =
     let S = newest c.args.store.now in
     let t = tree-found S c.args.name.0 (object_value c.in-Some.object) c.in-Some.ensures.store c.in-Some.ensures.object (sym c.ne.ensures ∙ c.if-ne.false) in
     let e = ap length
-        (frames-open counted (tt ∷ []) S c.args.frames.now.items c.args.name c.in-Some-of.entries c.in-Some.ensures.store t.0
-        (ap listed t.1 ∙ ap (λ o. unwrap_or o []) (sym c.of.ensures ∙ c.in-Some-of.is)) ∙ ap (frames_steps counted (tt ∷ []) S) (sym c.in_ok-push-in-Some-of.ensures.items)) in
+    (frames-open counted (tt ∷ []) S c.args.frames.now.items c.args.name c.in-Some-of.entries c.in-Some.ensures.store t.0
+    (ap listed t.1 ∙ ap (λ o. unwrap_or o []) (sym c.of.ensures ∙ c.in-Some-of.is)) ∙ ap (frames_steps counted (tt ∷ []) S) (sym c.in_ok-push-in-Some-of.ensures.items)) in
     omega (arith, e, length-append (tree_steps counted (tt ∷ []) S c.args.name.0) (frames_steps counted (tt ∷ []) S c.args.frames.now.items))
 
 pub returns-in_ok-push-in-Some-of-clause-opened : goal.returns-in_ok-push-in-Some-of-clause-opened

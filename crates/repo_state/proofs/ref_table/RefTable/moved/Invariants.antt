@@ -1,6 +1,6 @@
-use Rattle.std.proofs.Common.{◌≡◌, ◌++◌, [], map, filter}
+use Rattle.std.proofs.Common.{◌≡◌, ◌++◌, map, filter}
 use Rattle.git_objects.specs.Parts.{name_bytes}
-use Rattle.repo_state.specs.Changes.{is_moved, moved, with_refs}
+use Rattle.repo_state.specs.Changes.{is_moved, moved}
 use Rattle.repo_state.specs.Commits.{setting}
 use Rattle.repo_state.specs.Drafts.{ref_value}
 use Rattle.repo_state.proofs.Pairs.{pairs}

@@ -1,4 +1,4 @@
-use Rattle.std.proofs.Common.{◌≡◌, [], drop, map}
+use Rattle.std.proofs.Common.{◌≡◌, drop, map}
 use Rattle.repo_state.specs.Changes.{with_refs}
 use Rattle.repo_state.specs.Drafts.{ref_value}
 use Rattle.repo_state.proofs.ref_table.RefTable.set_all.Given as goal

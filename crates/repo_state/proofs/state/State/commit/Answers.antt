@@ -1,4 +1,4 @@
-use Rattle.std.proofs.Common.{◌≡◌, ◌<◌, ◌+◌, true, List, map, reverse, Option, refl, sym, subst, ap, ◌∙◌, arith, length}
+use Rattle.std.proofs.Common.{◌≡◌, ◌<◌, ◌+◌, true, List, map, reverse, Option, refl, sym, subst, ap, ◌∙◌, length}
 use Rattle.std.specs.List.{list_all}
 use Rattle.git_objects.specs.Paths.{Bytes}
 use Rattle.git_objects.specs.Parts.{name_bytes}
@@ -57,10 +57,10 @@ returns-clause-current g c =
     (IsWithin (newest c.args.self.now.objects) c.args.self.now.held.objects change) c.requires.current c.requires.within
     (subst (λ (t : Bytes). Gets (g.K.Keeper.items c.args.keeper.now) (g.K.Keeper.items c.append.new.self) t) c.deref.ensures.value c.in-Ok.ensures.items)
     (λ items within now.
-        current-after objects old new refs c.self.inside.commits c.self.inside.number c.self.inside.size change draft c.self.invariant brought
-        (subst (λ (s : Stored). IsWithin (newest s.objects) s.held.objects change) (sym c.self.view_is) within) made items
-        (subst (λ (s : Stored). IsCurrent items s) (sym c.self.view_is) now) after
-        (λ i. held_with (made.objects i) (made.refs i)) refl (ap (λ n. c.self.inside.size + n) (c.len.ensures ∙ sym c.deref.ensures.len ∙ ap length c.deref.ensures.value)))
+    current-after objects old new refs c.self.inside.commits c.self.inside.number c.self.inside.size change draft c.self.invariant brought
+    (subst (λ (s : Stored). IsWithin (newest s.objects) s.held.objects change) (sym c.self.view_is) within) made items
+    (subst (λ (s : Stored). IsCurrent items s) (sym c.self.view_is) now) after
+    (λ i. held_with (made.objects i) (made.refs i)) refl (ap (λ n. c.self.inside.size + n) (c.len.ensures ∙ sym c.deref.ensures.len ∙ ap length c.deref.ensures.value)))
 
 pub returns-clause-kept : goal.returns-clause-kept
 returns-clause-kept g c = λ e.
