@@ -74,7 +74,7 @@ module _ (S H : List Object) (s : IsStore S) (i : AreIn S H) (c : Change) (g : I
   pub change-heads : are_heads G c.refs ≡ true
   change-heads = some-heads c.refs g.heads
 
-each-at : (S os : List Object) (k : ℕ) (o : Object) → k < length os → AreIn S os → find_named S (object_name (get_or os k o)) ≡ Some (get_or os k o)
+pub each-at : (S os : List Object) (k : ℕ) (o : Object) → k < length os → AreIn S os → find_named S (object_name (get_or os k o)) ≡ Some (get_or os k o)
 each-at S [] k o lt h = absurd (omega arith)
 each-at S (x ∷ os) zero o lt h = h.0
 each-at S (x ∷ os) (suc k) o lt h = each-at S os k o (omega arith) h.1

@@ -171,7 +171,7 @@ name-apart o x S h g =
       | false ↦ λ e. refl
     ] refl
 
-in-above : (o : Object) (S xs : List Object) → has_name S (object_name o) ≡ false → AreKnown S xs → AreIn S xs → AreIn (o ∷ S) xs
+pub in-above : (o : Object) (S xs : List Object) → has_name S (object_name o) ≡ false → AreKnown S xs → AreIn S xs → AreIn (o ∷ S) xs
 unfolding find_named
 in-above o S [] h k i = tt
 in-above o S (x ∷ xs) h k i =

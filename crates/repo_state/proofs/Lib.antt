@@ -5,6 +5,7 @@ pub mod Feeding
 pub mod Fitting
 pub mod Heads
 pub mod ItemRuns
+pub mod Growth
 pub mod Grows
 pub mod Keeping
 pub mod Lengths
