@@ -1,5 +1,5 @@
 -- A state stays whole when its store gets an object.
-use Rattle.std.proofs.Common.{◌≡◌, ◌≤◌, ◌^◌, ℕ, true, false, cond, List, [], ◌∷◌, ◌++◌, map, filter, length, reverse, Contains, Some, refl, sym, ap, subst, ◌∙◌}
+use Rattle.std.proofs.Common.{◌≡◌, ◌≤◌, ◌^◌, ℕ, true, false, cond, List, [], ◌∷◌, ◌++◌, map, filter, length, reverse, Contains, None, Some, Result, Ok, Err, refl, sym, ap, subst, ◌∙◌}
 use Rattle.std.specs.Option.{option_to_list}
 use Rattle.git_objects.specs.Paths.{Bytes}
 use Rattle.git_objects.specs.Names.{name}
@@ -9,7 +9,9 @@ use Rattle.git_objects.specs.declared.kind.Kind.TheVariants.{Commit}
 use Rattle.git_objects.specs.declared.name.Name.{Name}
 use Rattle.object_store.specs.Errors.{newest}
 use Rattle.object_store.specs.Objects.{Object, object_name, find_named, has, has_name, IsStore}
-use Rattle.object_store.specs.Puts.{with_object}
+use Rattle.std.specs.Prelude.{IfErr, IfOk}
+use Rattle.object_store.specs.Puts.{refusal, with_object}
+use Rattle.object_store.specs.declared.store.PutError.{PutError}
 use Rattle.object_store.proofs.Finding.{found_name}
 use Rattle.std.specs.Option.{is_some}
 use Rattle.repo_state.specs.Growing.{held_of}
@@ -68,3 +70,9 @@ pub held-more : (before after : List Object) (names : List Name) (k : Kind) (b :
 held-more before after names k b h e =
     let S = newest before in
     held-same S (newest after) names h (subst (λ (R : List Object). AreIn R (held_of S names)) (sym e) (more-in S k b (held_of S names) (named-in S (reverse (map name_bytes names)))))
+
+-- a put, whatever it answers
+pub stored-put : (X : PutError → Type 0) (before after : List Object) (names : List Name) (refs : Refs) (commits number size : ℕ) (k : Kind) (b : Bytes) (r : Result Name PutError) → HoldsState before names refs commits number size → IsStore (newest after) →
+    IfOk r (λ n. (n.0 ≡ name k b) × (refusal (newest before) k b ≡ None) × (newest after ≡ with_object (newest before) k b)) → IfErr r (λ e. (after ≡ before) × X e) → HoldsState after names refs commits number size
+stored-put X before after names refs commits number size k b (Ok n) s whole ok err = stored-more before after names refs commits number size k b s whole ok.2
+stored-put X before after names refs commits number size k b (Err e) s whole ok err = subst (λ (os : List Object). HoldsState os names refs commits number size) (sym err.0) s

@@ -14,3 +14,4 @@ pub mod Growing
 pub mod StoredObjects
 pub mod Wholes
 pub mod Rows
+pub mod TestChanges

@@ -12,6 +12,8 @@ mod ref_fields;
 mod ref_table;
 mod state;
 #[cfg(test)]
+mod commit_tests;
+#[cfg(test)]
 mod tests;
 mod walk;
 
