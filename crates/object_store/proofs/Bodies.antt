@@ -17,12 +17,12 @@ abbrev pub item_at : Bytes → List Item → Option Node
 item_at c [] = None
 item_at c (i ∷ is) = cond (same_bytes c i.0) (Some i.1) (item_at c is)
 
-abbrev leaf_of : Option Node → Option Leaf
+abbrev pub leaf_of : Option Node → Option Leaf
 leaf_of None = None
 leaf_of (Some (LeafNode x)) = Some x
 leaf_of (Some (TreeNode t)) = None
 
-abbrev tree_of : Option Node → Flat
+abbrev pub tree_of : Option Node → Flat
 tree_of None = []
 tree_of (Some (LeafNode x)) = []
 tree_of (Some (TreeNode t)) = t
@@ -119,6 +119,17 @@ found_later i is (j ∷ js) h g = (ap (λ b. cond b (Some i.1) (item_at j.0 is))
 each_found : (is : List Item) → AreItems is → Each (λ i. item_at i.0 is ≡ Some i.1) is
 each_found [] h = tt
 each_found (i ∷ is) h = (ap (λ b. cond b (Some i.1) (item_at i.0 is)) (same_bytes-self i.0), found_later i is is h.2 (each_found is h.3))
+
+each_join : {A : Type 0} (g : Option Leaf → Flat → List A) (is js : List Item) → AreItems is → Each (λ j. item_at j.0 is ≡ Some j.1) js →
+    flat_map (λ c. g (at (join is) (c ∷ [])) (under (join is) (c ∷ []))) (map item_component js) ≡ flat_map (λ i. g (leaf_of (Some i.1)) (tree_of (Some i.1))) js
+each_join g is [] h e = refl
+each_join g is (j ∷ js) h e = λ k. ((λ k. g (at_join j.0 is h k) (under_join j.0 is h k)) ∙ ap (λ o. g (leaf_of o) (tree_of o)) e.0) k ++ each_join g is js h e.1 k
+
+-- what is made of what stands at each first component
+pub tops_each : {A : Type 0} (g : Option Leaf → Flat → List A) (is : List Item) → AreItems is →
+    flat_map (λ c. g (at (join is) (c ∷ [])) (under (join is) (c ∷ []))) (tops (join is)) ≡ flat_map (λ i. g (leaf_of (Some i.1)) (tree_of (Some i.1))) is
+tops_each g is h =
+    ap (flat_map (λ c. g (at (join is) (c ∷ [])) (under (join is) (c ∷ [])))) (tops_join is h) ∙ each_join g is is h (each_found is h)
 
 -- an item's line, where f names the trees
 abbrev pub item_line : (Flat → Bytes) → Item → Bytes

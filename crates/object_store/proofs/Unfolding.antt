@@ -98,7 +98,7 @@ valid b h = subst T (sym h) tt
 abbrev pub node : List Object → Mode → Bytes → Node
 node S m n = node_of (body_of Blob S) (flat S) m n
 
-abbrev items : List Object → List Entry → List Item
+abbrev pub items : List Object → List Entry → List Item
 items S es = map (item_of (body_of Blob S) (flat S)) es
 
 module _ (S : List Object) (s : IsStore S) (is : (n : Bytes) → has Tree S n ≡ true → IsFlat (flat S n) (body_of Tree S n)) where
@@ -113,7 +113,7 @@ module _ (S : List Object) (s : IsStore S) (is : (n : Bytes) → has Tree S n �
   nodes_good [] h = tt
   nodes_good (e ∷ es) h = (node_good e.mode e.name.0 h.0.child h.0.name, nodes_good es h.1)
 
-  items_good : (es : List Entry) → AreEntries es → AreHeld S es → AreItems (items S es)
+  pub items_good : (es : List Entry) → AreEntries es → AreHeld S es → AreItems (items S es)
   items_good es g h = items_from (items S es) (items-listing (body_of Blob S) (flat S) es g) (nodes_good es h)
 
   line_good : (k : ℕ) (c : Bytes) (m : Mode) (n : Bytes) → has_child S m n ≡ true → depth (rests (node S m n)) ≤ k →

@@ -26,7 +26,7 @@ fault-along OutOfMemory r q s h = tt
 fault-along (Damaged item at) r q s h = s ∙ h
 fault-along (Collision n) r q s h = (h.0, s ∙ h.1)
 
-from-step : (number size : ℕ) (h : Held) (item : Bytes) (items : List Bytes) →
+pub from-step : (number size : ℕ) (h : Held) (item : Bytes) (items : List Bytes) →
     read_from number size h (item ∷ items) ≡ then_read (step number size h item) (λ g. read_from (number + 1) (size + length item) g items)
 from-step number size h item items =
     elim (item_fits number size item) as (λ b. cond b (then_read (numbered number (read_item h item)) (λ g. read_from (number + 1) (size + length item) g items)) (Err (number, BrokenAt 0))

@@ -6,6 +6,7 @@ use Rattle.std.specs.Option.{option_map}
 use Rattle.std.specs.Ordering.{is_eq, match_ordering}
 use Rattle.std.specs.FinMap.{find, put}
 use Rattle.std.specs.FinMap.Entries.{by_order}
+use Rattle.std.specs.List.{AllZip}
 use Rattle.std.specs.Map.{lookup}
 use Rattle.std.specs.BTreeMap.{insert_entry}
 use Rattle.git_objects.specs.Paths.{Bytes}
@@ -32,3 +33,10 @@ module _ {K V : Type 0} (f : K → Bytes) (g : V → Bytes) where
         | Equal ↦ refl
         | Greater ↦ ap (λ (t : Refs). (f e.0, g e.1) ∷ t) (put-pairs es k v)
       ]
+
+  -- a clone shows the same bytes
+  pub pairs-clone : (C : K → K → Type 0) (D : V → V → Type 0) → ((x y : K) → C x y → f y ≡ f x) → ((x y : V) → D x y → g y ≡ g x) → (es ds : List (K × V)) → AllZip (λ p q. C p.0 q.0 × D p.1 q.1) es ds → pairs ds ≡ pairs es
+  pairs-clone C D same alike [] [] h = refl
+  pairs-clone C D same alike [] (d ∷ ds) h = absurd h
+  pairs-clone C D same alike (e ∷ es) [] h = absurd h
+  pairs-clone C D same alike (e ∷ es) (d ∷ ds) h = λ i. (same e.0 d.0 h.0.0 i, alike e.1 d.1 h.0.1 i) ∷ pairs-clone C D same alike es ds h.1 i

@@ -1,5 +1,5 @@
 -- A state that is loaded is whole.
-use Rattle.std.proofs.Common.{◌≡◌, ℕ, zero, suc, ◌<◌, Bool, true, false, cond, ◌&&◌, ◌||◌, List, [], ◌∷◌, ◌++◌, map, length, reverse, get_or, Contains, Some, refl, sym, ap, subst, ◌∙◌, arith}
+use Rattle.std.proofs.Common.{◌≡◌, ℕ, zero, suc, ◌<◌, Bool, true, false, cond, ◌&&◌, ◌||◌, List, [], ◌∷◌, ◌++◌, map, filter, length, reverse, get_or, Contains, Some, refl, sym, ap, subst, ◌∙◌, arith}
 use Rattle.std.specs.List.{list_all}
 use Rattle.std.specs.Option.{option_to_list}
 use Rattle.git_objects.specs.Paths.{Bytes, same_bytes}
@@ -9,13 +9,14 @@ use Rattle.git_objects.specs.declared.name.Name.{Name}
 use Rattle.git_objects.proofs.Basics.{same_bytes-back, same_bytes-self}
 use Rattle.object_store.specs.Objects.{Object, object_name, find_named, has, has_name, IsStore}
 use Rattle.object_store.specs.Errors.{newest}
-use Rattle.repo_state.specs.Items.{Refs}
+use Rattle.repo_state.specs.Items.{Refs, is_commit}
 use Rattle.repo_state.specs.Loads.{IsStored}
 use Rattle.repo_state.specs.Views.{named, stored}
-use Rattle.repo_state.specs.HeldObjects.{AreNamed}
+use Rattle.repo_state.specs.HeldObjects.{AreNamed, HoldsObjects}
+use Rattle.repo_state.specs.Wholes.{HoldsState}
 use Rattle.repo_state.specs.Stops.{are_heads}
 
-or-left : (a b : Bool) → (a || b) ≡ false → a ≡ false
+pub or-left : (a b : Bool) → (a || b) ≡ false → a ≡ false
 or-left true b h = h
 or-left false b h = refl
 
@@ -31,7 +32,7 @@ and-right : (a b : Bool) → (a && b) ≡ true → b ≡ true
 and-right true b h = h
 and-right false b h = absurd (cc h)
 
-all-at : {A : Type 0} (p : A → Bool) (xs : List A) (k : ℕ) (d : A) → k < length xs → list_all p xs ≡ true → p (get_or xs k d) ≡ true
+pub all-at : {A : Type 0} (p : A → Bool) (xs : List A) (k : ℕ) (d : A) → k < length xs → list_all p xs ≡ true → p (get_or xs k d) ≡ true
 all-at p [] k d lt h = absurd (omega arith)
 all-at p (x ∷ xs) zero d lt h = and-left (p x) (list_all p xs) h
 all-at p (x ∷ xs) (suc k) d lt h = all-at p xs k d (omega arith) (and-right (p x) (list_all p xs) h)
@@ -66,8 +67,8 @@ module _ (objects : List Object) (names : List Name) where
   pub all-held : IsStore S → AreNamed S names → held ≡ S
   all-held whole h = ap (named S) h ∙ named-part S S (λ k d lt. found-at S k d lt whole)
 
-  pub state-whole : (refs : Refs) (number size : ℕ) → IsStore S → AreNamed S names → are_heads S refs ≡ true → IsStored (stored objects names refs number size)
-  state-whole refs number size whole h heads =
+  stored-whole : (refs : Refs) (number size : ℕ) → IsStore S → AreNamed S names → are_heads S refs ≡ true → IsStored (stored objects names refs number size)
+  stored-whole refs number size whole h heads =
       let e : held ≡ S = all-held whole h in record {
         whole = whole;
         held = subst (λ (T : List Object). IsStore T) (sym e) whole;
@@ -75,4 +76,13 @@ module _ (objects : List Object) (names : List Name) where
             (λ o m. subst (λ (x : Object). find_named S (object_name x) ≡ Some x) m.2 (found-at S m.0 o m.1 whole));
         heads = λ r n m. subst (λ (T : List Object). has Commit T n ≡ true) (sym e)
             (subst (λ (x : Bytes × Bytes). has Commit S x.1 ≡ true) m.2 (all-at (λ (x : Bytes × Bytes). has Commit S x.1) refs m.0 (r, n) m.1 heads));
+      }
+
+  pub state-whole : (refs : Refs) (commits number size : ℕ) → IsStore S → HoldsObjects S names commits → are_heads S refs ≡ true → HoldsState objects names refs commits number size
+  state-whole refs commits number size whole h heads =
+      let e : held ≡ S = all-held whole h.named in record {
+        whole = stored-whole refs number size whole h.named heads;
+        named = subst (λ (T : List Object). AreNamed T names) (sym e) h.named;
+        counted = subst (λ (T : List Object). commits ≡ length (filter is_commit T)) (sym e) h.counted;
+        few = h.few;
       }

@@ -1,8 +1,17 @@
 pub mod Fields
 pub mod HeldObjects
 pub mod Items
+pub mod TreeObjects
+pub mod Repos
 pub mod Loads
+pub mod Changes
+pub mod Commits
 pub mod Steps
 pub mod Stops
 pub mod Views
+pub mod Drafts
+pub mod Growing
+pub mod StoredObjects
+pub mod Wholes
 pub mod Rows
+pub mod TestChanges

@@ -1,7 +1,10 @@
 //! A state that a keeper's items spell.
 #![tactic(auto)]
 
+mod change;
+mod commit;
 mod cursor;
+mod draft;
 mod item;
 mod loading;
 mod objects;
@@ -9,6 +12,10 @@ mod ref_fields;
 mod ref_table;
 mod state;
 #[cfg(test)]
+mod commit_tests;
+#[cfg(test)]
 mod tests;
+mod walk;
 
+pub use commit::{Batch, CommitError, Setting};
 pub use state::{LoadError, State};

@@ -38,23 +38,26 @@ pub enum LoadError {
 pub struct State {
     /// All objects, those that no item holds too.
     pub store: Store,
-    refs: RefTable,
+    pub(crate) refs: RefTable,
     // The names of the objects that items hold, in order of arrival.
-    held: IndexSet<Name>,
+    pub(crate) held: IndexSet<Name>,
+    // How many of these are commits.
+    pub(crate) commits: u32,
     // How many items there are, and their bytes together.
-    number: u32,
-    size: u64,
+    pub(crate) number: u32,
+    pub(crate) size: u64,
 }
 
 impl Model for State {
-    ghost use Rattle.repo_state.specs.Loads.{Stored, IsStored};
+    ghost use Rattle.repo_state.specs.Loads.{Stored};
     ghost use Rattle.repo_state.specs.Views.{stored};
+    ghost use Rattle.repo_state.specs.Wholes.{HoldsState};
 
     ghost Value = { Stored };
 
     ghost view = { λ s. stored s.store s.held.keys s.refs s.number s.size };
 
-    ghost invariant = { λ s. IsStored (stored s.store s.held.keys s.refs s.number s.size) };
+    ghost invariant = { λ s. HoldsState s.store s.held.keys s.refs s.commits s.number s.size };
 }
 
 impl State {
@@ -74,12 +77,13 @@ impl State {
         let Objects {
             store,
             names,
-            commits: _,
+            commits,
         } = objects;
         State {
             store,
             refs,
             held: names,
+            commits,
             number,
             size,
         }

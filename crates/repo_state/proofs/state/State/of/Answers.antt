@@ -7,7 +7,7 @@ use Rattle.repo_state.proofs.state.State.of.Goals as goal
 
 pub invariant_of-result : goal.invariant_of-result
 invariant_of-result c =
-    state-whole c.objects.inside.store c.objects.inside.names.keys c.args.loaded.refs c.args.number c.args.loaded.size c.objects.invariant.whole c.objects.invariant.named
+    state-whole c.objects.inside.store c.objects.inside.names.keys c.args.loaded.refs c.objects.inside.commits c.args.number c.args.loaded.size c.objects.invariant.whole c.objects.invariant
     (ap (λ (S : List Object). are_heads S c.args.loaded.refs) c.objects.view_is ∙ c.requires)
 
 pub returns-clause-held : goal.returns-clause-held
