@@ -38,7 +38,7 @@ abbrev pub members_within : ℕ → Bytes → Option (List Member)
 members_within zero t = None
 members_within (suc n) t = members_of (members_within n) (gap t).1
 
-abbrev pub members : Bytes → Option (List Member)
+unfoldable pub members : Bytes → Option (List Member)
 members t = members_within (length t + 1) t
 
 -- the target, or without one the path of a filter that is one piece `::a` or `::a/`

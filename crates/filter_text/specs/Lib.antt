@@ -2,6 +2,7 @@ pub mod Filters
 pub mod Shapes
 pub mod Texts
 pub mod Reading
+pub mod Views
 pub mod Limits
 pub mod Items
 pub mod Printing

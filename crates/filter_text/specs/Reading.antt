@@ -102,10 +102,10 @@ abbrev mutual
   list_within zero t = None
   list_within (suc n) t = list_of (pieces_within n) (list_within n) (gap t).1
 
-abbrev pub pieces_at : Bytes → Read Filters
+unfoldable pub pieces_at : Bytes → Read Filters
 pieces_at t = pieces_within (length t + 1) t
 
-abbrev pub list_at : Bytes → Read Filters
+unfoldable pub list_at : Bytes → Read Filters
 list_at t = list_within (length t + 2) t
 
 -- the filter that a whole text is

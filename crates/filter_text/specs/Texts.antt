@@ -89,16 +89,16 @@ abbrev pub without_slash : Bytes → ℕ
 without_slash t = cond (ends_with nat_eq t (47 ∷ [])) (length t - 1) (length t)
 
 -- a bare path, as long as possible, or one between quotes
-abbrev pub name_at : Bytes → Read Path
+unfoldable pub name_at : Bytes → Read Path
 name_at t = as_path (cond (begins 34 t) (quoted_at t) (cut (bare_len t) t))
 
 -- the same, where a bare path leaves a slash at its end to what follows
-abbrev pub kept_name_at : Bytes → Read Path
+unfoldable pub kept_name_at : Bytes → Read Path
 kept_name_at t = as_path (cond (begins 34 t) (quoted_at t) (cut (without_slash (take (bare_len t) t)) t))
 
 -- the target in front of a member that doesn't begin with `:`, with its `=` and the blanks around that
 abbrev pub equals : Path × Bytes → Read (Option Path)
 equals x = option_map (λ r. (Some x.0, past_blanks r)) (strip (61 ∷ []) (past_blanks x.1))
 
-abbrev pub target_at : Bytes → Read (Option Path)
+unfoldable pub target_at : Bytes → Read (Option Path)
 target_at t = cond (begins 58 t) (Some (None, t)) (option_and_then equals (name_at t))

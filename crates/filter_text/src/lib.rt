@@ -2,6 +2,8 @@
 #![tactic(auto)]
 
 mod filter;
+mod gaps;
+mod names;
 mod word;
 
 pub use filter::{Filter, FilterFault, Item, ItemsFault};
