@@ -1,1 +1,4 @@
 pub mod Fronts
+pub mod Shorter
+pub mod RowLists
+pub mod Steps

@@ -3,6 +3,7 @@ pub mod Shapes
 pub mod Texts
 pub mod Reading
 pub mod Views
+pub mod Nesting
 pub mod Limits
 pub mod Items
 pub mod Printing

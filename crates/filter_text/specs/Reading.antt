@@ -13,16 +13,25 @@ abbrev pub or_word : Option Bytes → Word → Read Word → Read Word
 or_word None word others = others
 or_word (Some t) word others = Some (word, t)
 
+-- how pieces begin; none of these texts begins another
+abbrev pub spellings : List (Bytes × Word)
+spellings =
+    (codes ":nop", words.Nop)
+    ∷ (codes ":/", words.Sub)
+    ∷ (codes ":prefix=", words.Prefix)
+    ∷ (codes "::", words.Kept)
+    ∷ (codes ":exclude[", words.Exclude)
+    ∷ (codes ":[", words.Join)
+    ∷ (codes ":workspace=", words.Workspace)
+    ∷ []
+
+abbrev pub word_among : List (Bytes × Word) → Bytes → Read Word
+word_among [] t = None
+word_among (w ∷ ws) t = or_word (strip w.0 t) w.1 (word_among ws t)
+
 -- the word that a piece begins with
 unfoldable pub word_at : Bytes → Read Word
-word_at t =
-    or_word (strip (codes ":nop") t) words.Nop
-    (or_word (strip (codes ":/") t) words.Sub
-    (or_word (strip (codes ":prefix=") t) words.Prefix
-    (or_word (strip (codes "::") t) words.Kept
-    (or_word (strip (codes ":exclude[") t) words.Exclude
-    (or_word (strip (codes ":[") t) words.Join
-    (or_word (strip (codes ":workspace=") t) words.Workspace None))))))
+word_at t = word_among spellings t
 
 -- a directory where a slash stands directly behind the path, else a file
 abbrev pub kept : Path × Bytes → Filter × Bytes

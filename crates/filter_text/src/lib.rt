@@ -2,7 +2,9 @@
 #![tactic(auto)]
 
 mod filter;
+mod frame;
 mod gaps;
+mod making;
 mod names;
 mod word;
 
