@@ -2,3 +2,4 @@ pub mod Fronts
 pub mod Shorter
 pub mod RowLists
 pub mod Steps
+pub mod Resuming

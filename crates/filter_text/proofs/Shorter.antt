@@ -213,3 +213,11 @@ heads_shorter n t = head_shorter (list_within n) (lists_shorter n) t
 
 pub members_shorter : (n : ℕ) (t : Bytes) → Less 2 t (option_and_then (member_of (pieces_within n)) (target_at t))
 members_shorter n t = member_shorter (pieces_within n) (pieces_shorter n) t
+
+pub pieces_at_shorter : Shortens 2 pieces_at
+unfolding pieces_at
+pieces_at_shorter t = pieces_shorter (length t + 1) t
+
+pub list_at_shorter : Shortens 0 list_at
+unfolding list_at
+list_at_shorter t = lists_shorter (length t + 2) t

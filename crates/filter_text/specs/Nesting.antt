@@ -1,11 +1,13 @@
 -- What reading gives while brackets are open.
-use Rattle.std.specs.Prelude.{ℕ, ◌+◌, ◌*◌, List, [], ◌∷◌, length, Option, Some, None, option_map}
+use Rattle.std.specs.Prelude.{◌≡◌, ℕ, ◌+◌, ◌*◌, reverse, List, [], ◌∷◌, length, Option, Some, None, option_map}
 use Rattle.std.specs.Option.{option_and_then}
 use Rattle.git_objects.specs.Paths.{Bytes}
-use Rattle.filter_text.specs.Filters.{Filter, Filters, exclude, join, append}
+use Rattle.filter_text.specs.Filters.{Filter, Filters, nop, sub, onto, workspace, exclude, join, append, only}
 use Rattle.filter_text.specs.Shapes.{shapes}
-use Rattle.filter_text.specs.Texts.{Read}
-use Rattle.filter_text.specs.Reading.{inside, made, bracketed, more_pieces, more_members, pieces_at, list_at}
+use Rattle.filter_text.specs.Texts.{Read, kept_name_at}
+use Rattle.filter_text.specs.Reading.{inside, made, kept, with_path, bracketed, more_pieces, more_members, pieces_at, list_at}
+use Rattle.filter_text.specs.declared.word.Word.{Word}
+use Rattle.filter_text.specs.declared.word.Word.TheVariants as words
 use Rattle.filter_text.specs.declared.frame.Bracket.{Bracket}
 use Rattle.filter_text.specs.declared.frame.Bracket.TheVariants as brackets
 use Rattle.filter_text.specs.declared.frame.Frame.{Frame}
@@ -15,6 +17,16 @@ use Rattle.filter_text.specs.declared.frame.At.TheVariants as places
 abbrev pub enclosed : Bracket → Filters → Filter
 enclosed brackets.Exclude fs = exclude (inside fs)
 enclosed brackets.Join fs = join fs
+
+-- a piece without brackets, behind its word
+abbrev pub leaf_of : Word → Bytes → Read Filter
+leaf_of words.Nop t = Some (nop, t)
+leaf_of words.Sub t = with_path sub t
+leaf_of words.Prefix t = with_path onto t
+leaf_of words.Kept t = option_map kept (kept_name_at t)
+leaf_of words.Exclude t = None
+leaf_of words.Join t = None
+leaf_of words.Workspace t = with_path workspace t
 
 -- with filters that were read before
 abbrev pub with_front : Filters → Read Filters → Read Filters
@@ -29,6 +41,16 @@ abbrev pub after_list : Frame → Read Filters → Read Filters
 after_list f list =
     with_front (shapes f.before.items)
     (option_and_then (more_pieces pieces_at) (bracketed (enclosed f.bracket) (with_front (shapes f.members.items) list)))
+
+-- the innermost bracket first
+unfoldable pub nested : List Frame → List Frame
+nested open_ones = reverse open_ones
+
+-- new is old with a member of this chain, and with no target
+pub record HasMember (old : Frame) (chain : Filters) (new : Frame) : Type 0 where
+  pub bracket : new.bracket ≡ old.bracket
+  pub before : shapes new.before.items ≡ shapes old.before.items
+  pub members : shapes new.members.items ≡ append (shapes old.members.items) (only (made old.target chain))
 
 -- the pieces of the outermost chain, where those of the innermost are these; the innermost bracket comes first
 abbrev pub resumed : List Frame → Read Filters → Read Filters

@@ -6,6 +6,7 @@ mod frame;
 mod gaps;
 mod making;
 mod names;
+mod reader;
 mod word;
 
 pub use filter::{Filter, FilterFault, Item, ItemsFault};

@@ -1,5 +1,5 @@
 // The words that pieces begin with, and what stands first in a text.
-ghost use Rattle.std.specs.Prelude.{◌≡◌};
+ghost use Rattle.std.specs.Prelude.{◌≡◌, drop};
 ghost use Rattle.filter_text.specs.Texts.{strip, begins};
 ghost use Rattle.filter_text.specs.Reading.{word_at};
 ghost use Rattle.filter_text.specs.Views.{behind, word_read};
@@ -34,6 +34,16 @@ pub fn begins(byte: u8, text: &[u8]) -> bool
         Some(first) => *first == byte,
         None => false,
     }
+}
+
+// What follows the first byte.
+pub fn past_first(text: &[u8]) -> &[u8]
+    ensures { result.now ≡ drop 1 text.now }
+{
+    if text.is_empty() {
+        return text;
+    }
+    &text[1..]
 }
 
 // The word that a piece begins with, and what follows it.
