@@ -3,3 +3,4 @@ pub mod Shorter
 pub mod RowLists
 pub mod Steps
 pub mod Resuming
+pub mod Rooms

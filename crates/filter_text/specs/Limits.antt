@@ -1,5 +1,5 @@
 -- What a filter text is read as, and why another isn't.
-use Rattle.std.specs.Prelude.{ℕ, ◌+◌, Bool, true, false, cond, ◌&&◌, ◌||◌, ◌==◌, nat_le, [], ◌∷◌, length, Option, None, Some, Result, Ok, Err}
+use Rattle.std.specs.Prelude.{ℕ, ◌+◌, ◌-◌, Bool, true, false, cond, ◌&&◌, ◌||◌, ◌==◌, nat_le, [], ◌∷◌, length, Option, None, Some, Result, Ok, Err}
 use Rattle.git_objects.specs.Paths.{Bytes}
 use Rattle.filter_text.specs.Filters.{Filter, is_placed, pieces, components}
 use Rattle.filter_text.specs.Reading.{filter_of}
@@ -19,6 +19,10 @@ is_deep opened closed (x ∷ t) =
 
 abbrev pub too_deep : Bytes → Bool
 too_deep t = is_deep 0 0 t
+
+-- what is left of a room for so many when n of them are taken, or none where they are too many
+abbrev pub without : ℕ → ℕ → Option ℕ
+without room n = cond (nat_le n room) (Some (room - n)) None
 
 -- at most 1,024 pieces, and at most 256 components over all paths
 abbrev pub is_small : Filter → Bool

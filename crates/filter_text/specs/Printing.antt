@@ -43,12 +43,16 @@ abbrev mutual
   pub printed_listed : Filters → Bytes
   printed_listed no_more = []
   printed_listed (more f no_more) = list_text (printed f)
-  printed_listed (more f (more g fs)) = printed f ++ 44 ∷ printed_members (more g fs)
+  printed_listed (more f (more g fs)) = printed f ++ printed_further (more g fs)
 
   pub printed_members : Filters → Bytes
   printed_members no_more = []
-  printed_members (more f no_more) = printed f
-  printed_members (more f (more g fs)) = printed f ++ 44 ∷ printed_members (more g fs)
+  printed_members (more f fs) = printed f ++ printed_further fs
+
+  -- members behind another, each with a comma before it
+  pub printed_further : Filters → Bytes
+  printed_further no_more = []
+  printed_further (more f fs) = 44 ∷ (printed f ++ printed_further fs)
 
   pub printed_pieces : Filters → Bytes
   printed_pieces no_more = []

@@ -4,6 +4,7 @@
 mod filter;
 mod frame;
 mod gaps;
+mod limits;
 mod making;
 mod names;
 mod reader;
