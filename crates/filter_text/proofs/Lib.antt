@@ -4,3 +4,5 @@ pub mod RowLists
 pub mod Steps
 pub mod Resuming
 pub mod Rooms
+pub mod Prints
+pub mod Sames

@@ -52,7 +52,7 @@ near a b (Err x) e h = tt
 
 -- ---- pieces in front
 
-append-one : (fs gs : Filters) (g : Filter) → append fs (more g gs) ≡ append (append fs (only g)) gs
+pub append-one : (fs gs : Filters) (g : Filter) → append fs (more g gs) ≡ append (append fs (only g)) gs
 append-one no_more gs g = refl
 append-one (more f fs) gs g = ap (more f) (append-one fs gs g)
 
@@ -115,7 +115,7 @@ bracket_opens f outer bracket before chain t b p m =
     (sym ((λ i. with_front (p i) (option_and_then (more_pieces pieces_at) (bracketed (enclosed (b i)) (with_front (m i) (list_at t)))))
     ∙ ap (λ y. with_front before (option_and_then (more_pieces pieces_at) (bracketed (enclosed bracket) y))) (front-none (list_at t))))
 
-append-none : (fs : Filters) → append fs no_more ≡ fs
+pub append-none : (fs : Filters) → append fs no_more ≡ fs
 append-none no_more = refl
 append-none (more f fs) = ap (more f) (append-none fs)
 

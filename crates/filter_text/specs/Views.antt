@@ -1,5 +1,5 @@
 -- What contracts see of the values that are read.
-use Rattle.std.specs.Prelude.{List, Option, Some, None}
+use Rattle.std.specs.Prelude.{Bool, true, false, List, [], ◌∷◌, Option, Some, None}
 use Rattle.std.specs.Borrow.{Bor}
 use Rattle.std.specs.Global.{Vec}
 use Rattle.git_objects.specs.Paths.{Bytes, Path}
@@ -33,3 +33,8 @@ filter_read (Some r) = Some (shape r.0, r.1.now)
 abbrev pub filters_read : Option (Vec Filter × Bor Bytes) → Read plain.Filters
 filters_read None = None
 filters_read (Some r) = Some (shapes r.0.items, r.1.now)
+
+-- a comma, or nothing
+abbrev pub comma : Bool → Bytes
+comma true = 44 ∷ []
+comma false = []

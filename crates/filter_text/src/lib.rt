@@ -7,7 +7,13 @@ mod gaps;
 mod limits;
 mod making;
 mod names;
+mod parsing;
+mod printing;
 mod reader;
+mod values;
 mod word;
 
 pub use filter::{Filter, FilterFault, Item, ItemsFault};
+pub use parsing::parse;
+pub use printing::print;
+pub use values::{copy, same};
