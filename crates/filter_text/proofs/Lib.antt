@@ -6,3 +6,4 @@ pub mod Resuming
 pub mod Rooms
 pub mod Prints
 pub mod Sames
+pub mod Files

@@ -68,13 +68,29 @@ is_fit m = nat_le m.size 4096 && nat_le (components m.filter) 256 && not (has_wo
 abbrev pub item_of : Member → Option Item
 item_of m = cond (is_fit m) (option_map (λ p. (p, m.filter)) (place m)) None
 
+-- the member as an item, where there is room for so many pieces, and the room that is left
+abbrev pub roomy_item : ℕ → Member → Option (Item × ℕ)
+roomy_item room m =
+    cond (nat_le (pieces m.filter) room) (option_map (λ i. (i, room - pieces m.filter)) (item_of m)) None
+
 -- the members as items, where each is one and they have together at most so many pieces
 abbrev pub items_of : ℕ → List Member → Option (List Item)
 items_of room [] = Some []
 items_of room (m ∷ ms) =
-    cond (nat_le (pieces m.filter) room)
-    (option_and_then (λ i. option_map (λ is. i ∷ is) (items_of (room - pieces m.filter) ms)) (item_of m))
-    None
+    option_and_then (λ x. option_map (λ is. x.0 ∷ is) (items_of x.1 ms)) (roomy_item room m)
+
+-- the items from here on, where a member or the end of the file comes
+abbrev pub items_from : ℕ → Bytes → Option (List Item)
+items_from room t = option_and_then (items_of room) (members_of members t)
+
+-- an item, the room for pieces behind it, and the text behind it and a gap
+abbrev pub Next : Type 0
+Next = Item × ℕ × Bytes
+
+-- the same by its first item
+abbrev pub with_item : Option Next → Option (List Item)
+with_item None = None
+with_item (Some n) = option_map (λ is. n.0 ∷ is) (items_from n.1 n.2)
 
 -- the items of a file, or none where it is unreadable
 unfoldable pub items : Bytes → Option (List Item)

@@ -4,6 +4,7 @@
 mod filter;
 mod frame;
 mod gaps;
+mod items;
 mod limits;
 mod making;
 mod names;
@@ -14,6 +15,7 @@ mod values;
 mod word;
 
 pub use filter::{Filter, FilterFault, Item, ItemsFault};
+pub use items::parse_items;
 pub use parsing::parse;
 pub use printing::print;
 pub use values::{copy, same};
