@@ -7,3 +7,9 @@ pub mod Rooms
 pub mod Prints
 pub mod Sames
 pub mod Files
+pub mod Equals
+pub mod Depths
+pub mod Quoteds
+pub mod PathNames
+pub mod GapSpelling
+pub mod Grammar

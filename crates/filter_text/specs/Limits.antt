@@ -7,8 +7,7 @@ use Rattle.filter_text.specs.declared.filter.FilterFault.{FilterFault}
 use Rattle.filter_text.specs.declared.filter.FilterFault.TheVariants.{TooLong, TooDeep, Syntax, WorkspacePlace, TooMany}
 
 abbrev pub one_if : Bool → ℕ
-one_if true = 1
-one_if false = 0
+one_if b = cond b 1 0
 
 -- At some place at least 17 more bytes `[` (91) than bytes `]` (93) stand before, where so many were opened and closed
 -- before the text. Every byte counts, also in quotes and in comments.
