@@ -13,3 +13,4 @@ pub mod Quoteds
 pub mod PathNames
 pub mod GapSpelling
 pub mod Grammar
+pub mod Spelled
