@@ -14,3 +14,4 @@ pub mod PathNames
 pub mod GapSpelling
 pub mod Grammar
 pub mod Spelled
+pub mod FileGrammar
