@@ -15,3 +15,5 @@ pub mod GapSpelling
 pub mod Grammar
 pub mod Spelled
 pub mod FileGrammar
+pub mod Goods
+pub mod Printable

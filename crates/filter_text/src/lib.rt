@@ -5,6 +5,7 @@ mod filter;
 mod frame;
 mod gaps;
 mod items;
+mod laws;
 mod limits;
 mod making;
 mod names;
@@ -16,6 +17,7 @@ mod word;
 
 pub use filter::{Filter, FilterFault, Item, ItemsFault};
 pub use items::parse_items;
+pub use laws::{depth_law, grammar_law, print_law, same_law};
 pub use parsing::parse;
 pub use printing::print;
 pub use values::{copy, same};
