@@ -1,7 +1,7 @@
 -- A text is too deep where some front of it is.
-use Rattle.std.proofs.Common.{◌≡◌, ◌+◌, ◌≤◌, ℕ, zero, suc, Bool, true, false, cond, ◌||◌, [], ◌∷◌, length, take, refl, sym, ap, ◌∙◌, arith, leb, le-leb, eqb}
+use Rattle.std.proofs.Common.{◌≡◌, ◌+◌, ◌≤◌, ℕ, zero, suc, true, false, cond, ◌||◌, [], ◌∷◌, take, refl, arith, leb, le-leb, eqb}
 use Rattle.std.specs.Prelude.{count_by}
-use Rattle.std.proofs.lemmas.Bool.{leb-true, leb-false}
+use Rattle.std.proofs.lemmas.Bool.{leb-true}
 use Rattle.std.proofs.lemmas.List.Sums.{sum_by-cons}
 use Rattle.git_objects.specs.Paths.{Bytes}
 use Rattle.filter_text.specs.Limits.{is_deep}

@@ -1,8 +1,8 @@
 -- The test of sameness.
-use Rattle.std.proofs.Common.{◌≡◌, Bool, true, false, ◌&&◌, true≢false, List, [], ◌∷◌, refl, sym, ap, ◌∙◌}
+use Rattle.std.proofs.Common.{◌≡◌, true, true≢false, [], ◌∷◌, refl, sym, ap}
 use Rattle.std.specs.Cmp.{first_so, second_so}
 use Rattle.std.specs.Cmp.Lexicographic.{bytes_decides}
-use Rattle.git_objects.specs.Paths.{Bytes, Path, same_bytes, same_path}
+use Rattle.git_objects.specs.Paths.{Path, same_bytes, same_path}
 use Rattle.git_objects.proofs.Basics.{and_both, same_bytes-self}
 use Rattle.filter_text.specs.Filters.{Filter, Filters, nop, sub, onto, dir, file, exclude, join, chain, workspace, no_more, more, same_filter, same_filters}
 

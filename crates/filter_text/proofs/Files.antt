@@ -1,5 +1,5 @@
 -- Reading a workspace file, member by member.
-use Rattle.std.proofs.Common.{◌≡◌, ◌+◌, ◌-◌, ◌<◌, ◌≤◌, ℕ, zero, suc, true, false, cond, List, [], ◌∷◌, ◌++◌, length, drop, Option, Some, None, refl, sym, ap, ◌∙◌, arith, add-one, append_assoc}
+use Rattle.std.proofs.Common.{◌≡◌, ◌+◌, ◌-◌, ◌<◌, ◌≤◌, ℕ, zero, suc, true, false, cond, List, [], ◌∷◌, ◌++◌, length, Option, Some, None, refl, sym, ap, ◌∙◌, arith, add-one, append_assoc}
 use Rattle.std.specs.Option.{option_map, option_and_then}
 use Rattle.git_objects.specs.Paths.{Bytes, Path, is_nil}
 use Rattle.filter_text.specs.Filters.{Filters}
@@ -8,7 +8,7 @@ use Rattle.filter_text.specs.Reading.{made, pieces_at}
 use Rattle.filter_text.specs.Items.{Member, Item, sized_member, member_at, ends_member, later_members, members_of, members_within, members, roomy_item, items_of, items_from, with_item}
 use Rattle.filter_text.specs.declared.filter.Item as declared
 use Rattle.filter_text.specs.Views.{item_value, item_values}
-use Rattle.filter_text.proofs.Shorter.{Less, less_some, less_then, less_map, less_weak, less_from, gap_shorter, target_shorter, pieces_at_shorter}
+use Rattle.filter_text.proofs.Shorter.{Less, less_some, less_then, less_weak, less_from, gap_shorter, target_shorter, pieces_at_shorter}
 
 abbrev sized : ℕ → Option Path → Filters × Bytes → Member × Bytes
 sized n target y = (record { target = target; filter = made target y.0; size = n - length y.1 }, y.1)

@@ -1,5 +1,5 @@
 -- Words at the front of texts.
-use Rattle.std.proofs.Common.{◌≡◌, refl, ◌∙◌, sym, ap, true, false, cond, ◌&&◌, [], ◌∷◌, length, take, drop, nat_eq, Some, None}
+use Rattle.std.proofs.Common.{◌≡◌, refl, true, false, cond, ◌&&◌, [], ◌∷◌, length, take, drop, nat_eq, Some, None}
 use Rattle.std.specs.Cmp.Lexicographic.{pointwise}
 use Rattle.git_objects.specs.Paths.{Bytes}
 use Rattle.filter_text.specs.Texts.{strip}

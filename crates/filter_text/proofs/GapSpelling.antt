@@ -1,10 +1,10 @@
 -- Gaps, blanks and targets, and how they are spelled.
-use Rattle.std.proofs.Common.{◌≡◌, ◌⊎◌, inl, inr, ℕ, Bool, true, false, not, cond, ◌&&◌, ◌||◌, true≢false, List, [], ◌∷◌, ◌++◌, length, Option, Some, None, refl, sym, ap, ◌∙◌, eqb, eqb-true, append_assoc, append-nil, subst}
+use Rattle.std.proofs.Common.{◌≡◌, ◌⊎◌, inl, inr, ℕ, Bool, true, false, not, cond, ◌&&◌, ◌||◌, true≢false, [], ◌∷◌, ◌++◌, Option, Some, None, refl, sym, ap, ◌∙◌, eqb, eqb-true, append_assoc, append-nil, subst}
 use Rattle.std.specs.Option.{option_map, option_and_then}
-use Rattle.std.specs.List.{list_all, list_any}
+use Rattle.std.specs.List.{list_all}
 use Rattle.git_objects.specs.Paths.{Bytes, Path}
 use Rattle.path_names.specs.PathTexts.{path_of}
-use Rattle.filter_text.specs.Texts.{Read, strip, begins, is_blank, is_break, ends_bare, gap_byte, going, gap_from, gap, past_blanks, name_at, equals, target_at}
+use Rattle.filter_text.specs.Texts.{Read, strip, begins, is_blank, is_break, ends_bare, going, gap_from, gap, past_blanks, name_at, equals, target_at}
 use Rattle.filter_text.specs.Spelling.{SpellsName, bare, quoted, AreBlanks, no_lf, IsGap, nothing, blank, separator, comment, IsLastGap, closed, open_comment, SpellsTarget, without, target}
 use Rattle.filter_text.proofs.Quoteds.{quoted-begins}
 use Rattle.filter_text.proofs.PathNames.{stops, IsFront, some_is, bare-first, name-read, name-spelled}
@@ -152,12 +152,12 @@ mutual
   commented b (x ∷ t) =
       elim (eqb x 10) as (λ k. eqb x 10 ≡ k → InComment (x ∷ t) (gap_from (not k) (b || k) t) ⊎ OpenComment (x ∷ t) (gap_from (not k) (b || k) t)) [
         | true ↦ λ e. inl (record {
-            line = [];
-            behind = t;
-            plain = refl;
-            is = (λ i. eqb-true x 10 e i ∷ t);
-            after = subst (λ d. Gapped d t (gap_from false (b || true) t)) (or-all b) (gapped (b || true) t);
-          })
+          line = [];
+          behind = t;
+          plain = refl;
+          is = (λ i. eqb-true x 10 e i ∷ t);
+          after = subst (λ d. Gapped d t (gap_from false (b || true) t)) (or-all b) (gapped (b || true) t);
+        })
         | false ↦ λ e. line_longer x t (gap_from true (b || false) t) e (commented (b || false) t)
       ] refl
 

@@ -1,12 +1,12 @@
 -- What is spelled is a filter as they are given away, and its paths are read again.
-use Rattle.std.proofs.Common.{◌≡◌, Bool, true, false, not, cond, ◌&&◌, ◌||◌, true≢false, List, [], ◌∷◌, ◌++◌, Option, Some, None, Ok, refl, sym, ap, ◌∙◌, subst}
+use Rattle.std.proofs.Common.{◌≡◌, Bool, true, false, not, cond, ◌||◌, true≢false, Option, Ok, refl, sym, ap, ◌∙◌, subst}
 use Rattle.git_objects.specs.Paths.{Bytes, Path, text}
 use Rattle.git_objects.proofs.Basics.{and_both}
 use Rattle.std.specs.Cmp.{first_so, second_so}
 use Rattle.path_names.specs.PathTexts.{path_of}
 use Rattle.path_names.proofs.Readings.{path_text_law}
-use Rattle.filter_text.specs.Filters.{Filter, Filters, nop, sub, onto, dir, file, exclude, join, chain, workspace, no_more, more, append, only, is_several, is_chain, are_pieces, is_linked, are_linked, is_workspace, has_workspace, some_have_workspace, has_one_place, is_placed}
-use Rattle.filter_text.specs.Reading.{inside, linked, with_target, made}
+use Rattle.filter_text.specs.Filters.{Filter, Filters, nop, sub, onto, dir, file, exclude, join, chain, workspace, no_more, more, append, only, is_chain, are_pieces, is_linked, are_linked, is_workspace, has_workspace, some_have_workspace, has_one_place, is_placed}
+use Rattle.filter_text.specs.Reading.{inside, linked, made}
 use Rattle.filter_text.specs.Spelling.{SpellsName, bare, quoted, SpellsTarget, without, target, SpellsPiece, a_nop, a_sub, a_prefix, a_dir, a_file, an_exclude, a_list, a_workspace, SpellsPieces, a_piece, pieces, SpellsMember, member, SpellsMembers, a_member, members, SpellsList, no_members, some_members, SpellsFilter}
 
 -- the path is read of its text

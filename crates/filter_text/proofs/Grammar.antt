@@ -1,17 +1,14 @@
 -- What is read of a filter text is spelled so, and what is spelled so is read.
-use Rattle.std.proofs.Common.{◌≡◌, ◌⊎◌, inl, inr, ℕ, zero, suc, Bool, true, false, not, cond, ◌||◌, true≢false, List, [], ◌∷◌, ◌++◌, length, drop, Option, Some, None, refl, sym, ap, ◌∙◌, eqb, eqb-true, append_assoc, append-nil, subst}
-use Rattle.std.specs.Prelude.{codes}
+use Rattle.std.proofs.Common.{◌≡◌, ℕ, Bool, true, false, cond, ◌||◌, [], ◌∷◌, ◌++◌, drop, Option, Some, None, refl, sym, ap, ◌∙◌, eqb, append_assoc, append-nil}
 use Rattle.std.specs.Option.{option_map, option_and_then}
 use Rattle.git_objects.specs.Paths.{Bytes, Path}
-use Rattle.filter_text.specs.Filters.{Filter, Filters, nop, sub, onto, dir, file, exclude, join, workspace, no_more, more, only}
-use Rattle.filter_text.specs.Texts.{Read, strip, begins, gap_from, gap, name_at, kept_name_at, target_at}
-use Rattle.filter_text.specs.Reading.{or_word, spellings, word_among, word_at, kept, with_path, inside, bracketed, piece_of, with_first, more_pieces, linked, made, member_of, goes_on, more_members, list_of, pieces_within, list_within, pieces_at, list_at, whole, filter_of}
-use Rattle.filter_text.specs.declared.word.Word.{Word}
-use Rattle.filter_text.specs.declared.word.Word.TheVariants as words
-use Rattle.filter_text.specs.Spelling.{SpellsName, IsGap, SpellsTarget, SpellsPiece, a_nop, a_sub, a_prefix, a_dir, a_file, an_exclude, a_list, a_workspace, SpellsPieces, a_piece, pieces, SpellsMember, member, SpellsMembers, a_member, members, SpellsList, no_members, some_members, SpellsFilter, without, target}
+use Rattle.filter_text.specs.Filters.{Filter, Filters, sub, onto, dir, file, exclude, join, workspace, no_more, only}
+use Rattle.filter_text.specs.Texts.{Read, begins, kept_name_at, target_at}
+use Rattle.filter_text.specs.Reading.{word_at, kept, inside, bracketed, piece_of, with_first, more_pieces, made, member_of, goes_on, more_members, list_of, pieces_at, list_at, whole, filter_of}
+use Rattle.filter_text.specs.Spelling.{IsGap, SpellsTarget, SpellsPiece, a_nop, a_sub, a_prefix, a_dir, a_file, an_exclude, a_list, a_workspace, SpellsPieces, a_piece, pieces, SpellsMember, member, SpellsMembers, a_member, members, SpellsList, no_members, some_members, SpellsFilter, without, target}
 use Rattle.filter_text.proofs.Steps.{pieces_step, list_step}
-use Rattle.filter_text.proofs.PathNames.{stops, IsFront, some_is, name-read, file-read, dir-read, name-spelled, kept-spelled}
-use Rattle.filter_text.proofs.GapSpelling.{Gapped, gapped, firm, firm-from, firm-at, gap-read, gap-stops, gap-no-colon, break-stops, break-no-colon, stops-not, begins-one, begins-stops, name-first, target-read, target-spelled, target-none, strip-front}
+use Rattle.filter_text.proofs.PathNames.{stops, name-read, file-read, dir-read}
+use Rattle.filter_text.proofs.GapSpelling.{firm, firm-from, gap-read, gap-stops, gap-no-colon, break-stops, break-no-colon, stops-not, begins-one, begins-stops, name-first, target-read}
 
 -- ---- what is spelled so is read
 

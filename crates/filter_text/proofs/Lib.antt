@@ -7,6 +7,7 @@ pub mod Rooms
 pub mod Prints
 pub mod Sames
 pub mod Files
+pub mod Leaving
 pub mod Equals
 pub mod Depths
 pub mod Quoteds
@@ -17,3 +18,4 @@ pub mod Spelled
 pub mod FileGrammar
 pub mod Goods
 pub mod Printable
+pub mod ItemFilters

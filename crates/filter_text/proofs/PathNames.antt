@@ -1,18 +1,16 @@
 -- Paths at the front of texts, and how they are spelled.
-use Rattle.std.proofs.Common.{◌≡◌, ◌≢◌, ◌+◌, ◌-◌, ◌≤◌, ℕ, zero, suc, Bool, true, false, not, cond, ◌&&◌, ◌||◌, true≢false, T, List, [], ◌∷◌, ◌++◌, length, take, drop, Option, Some, None, Result, Ok, Err, refl, sym, ap, ◌∙◌, arith, eqb, eqb-true, append_assoc, append-nil, length-append, length-take, subst}
+use Rattle.std.proofs.Common.{◌≡◌, ◌+◌, ◌-◌, ◌≤◌, ℕ, zero, suc, Bool, true, false, not, cond, ◌&&◌, ◌||◌, true≢false, T, [], ◌∷◌, ◌++◌, length, take, drop, Option, Some, None, Ok, Err, refl, sym, ap, ◌∙◌, arith, eqb, eqb-true, append_assoc, append-nil, length-append, length-take}
 use Rattle.std.proofs.Math.ListN.{take-append-drop}
 use Rattle.std.specs.Prelude.{nat_eq}
 use Rattle.std.specs.Option.{option_map}
-use Rattle.std.specs.List.{list_all, list_any, position_or_len, ends_with, onto_first}
+use Rattle.std.specs.List.{list_all, list_any, ends_with, onto_first}
 use Rattle.std.specs.Cmp.Lexicographic.{bytes_decides, pointwise}
 use Rattle.std.proofs.lemmas.List.{drop_at, take_at}
-use Rattle.git_objects.specs.Paths.{Bytes, Path, is_nil, is_component, is_path, text}
+use Rattle.git_objects.specs.Paths.{Bytes, Path, is_nil, is_component}
 use Rattle.git_objects.proofs.Basics.{second}
 use Rattle.path_names.specs.PathTexts.{parts, path_of}
 use Rattle.path_names.specs.Quoting.{unquote}
-use Rattle.path_names.specs.declared.path.PathFault.{PathFault}
 use Rattle.path_names.proofs.Readings.{path_text_law}
-use Rattle.path_names.proofs.Quotes.{place-le-length}
 use Rattle.filter_text.specs.Texts.{Read, begins, ends_bare, ok_path, as_path, quoted_at, cut, bare_len, without_slash, name_at, kept_name_at}
 use Rattle.filter_text.specs.Spelling.{SpellsName, bare, quoted}
 use Rattle.filter_text.proofs.Quoteds.{quoted-front, quoted-append, quoted-begins}

@@ -1,23 +1,20 @@
 -- The canonical text of a filter spells it.
-use Rattle.std.proofs.Common.{◌≡◌, ◌≤◌, Bool, true, false, not, cond, ◌&&◌, ◌||◌, true≢false, T, List, [], ◌∷◌, ◌++◌, length, Option, Some, None, Result, Ok, Err, refl, sym, ap, ◌∙◌, append-nil, subst, leb, le-leb, ltb}
-use Rattle.std.specs.Prelude.{codes}
+use Rattle.std.proofs.Common.{◌≡◌, ◌≤◌, Bool, true, false, not, cond, ◌&&◌, true≢false, T, [], ◌∷◌, ◌++◌, length, Option, Some, None, Ok, Err, refl, sym, ap, ◌∙◌, append-nil, subst, leb, le-leb, ltb}
 use Rattle.std.specs.List.{list_all, list_any}
 use Rattle.std.specs.Cmp.{first_so, second_so}
-use Rattle.git_objects.specs.Paths.{Bytes, Path, text, is_bytes, is_component, is_path, is_nil}
-use Rattle.git_objects.proofs.Basics.{and_both, first, second}
-use Rattle.path_names.specs.PathTexts.{path_of}
+use Rattle.git_objects.specs.Paths.{Bytes, Path, text, is_bytes, is_component, is_nil}
+use Rattle.git_objects.proofs.Basics.{and_both, second}
 use Rattle.path_names.specs.Quoting as quoting
 use Rattle.path_names.proofs.Again.{round_trip}
 use Rattle.path_names.proofs.Readings.{path_text_law}
 use Rattle.filter_text.specs.Filters.{Filter, Filters, nop, sub, onto, dir, file, exclude, join, chain, workspace, no_more, more, only, is_several, is_chain, are_pieces, is_linked, are_linked, is_placed, is_filter}
 use Rattle.filter_text.specs.Texts.{ends_bare}
-use Rattle.filter_text.specs.Reading.{inside, linked, made, filter_of}
+use Rattle.filter_text.specs.Reading.{inside, filter_of}
 use Rattle.filter_text.specs.Limits.{too_deep, is_small, judged, read}
-use Rattle.filter_text.specs.declared.filter.FilterFault.{FilterFault}
-use Rattle.filter_text.specs.declared.filter.FilterFault.TheVariants.{TooLong, TooDeep, Syntax, WorkspacePlace, TooMany}
-use Rattle.filter_text.specs.Printing.{name_text, path_text, list_text, printed, printed_inside, printed_listed, printed_members, printed_further, printed_pieces}
-use Rattle.filter_text.specs.Spelling.{SpellsName, bare, quoted, IsGap, nothing, separator, SpellsTarget, without, SpellsPiece, a_nop, a_sub, a_prefix, a_dir, a_file, an_exclude, a_list, a_workspace, SpellsPieces, a_piece, pieces, SpellsMember, member, SpellsMembers, a_member, members, SpellsList, no_members, some_members, SpellsFilter}
-use Rattle.filter_text.proofs.Goods.{IsReadable, HasReadable, HaveReadable, IsGood, AreGood, filter-good}
+use Rattle.filter_text.specs.declared.filter.FilterFault.TheVariants.{TooLong, TooDeep, WorkspacePlace, TooMany}
+use Rattle.filter_text.specs.Printing.{path_text, list_text, printed, printed_inside, printed_members, printed_further, printed_pieces}
+use Rattle.filter_text.specs.Spelling.{SpellsName, bare, quoted, IsGap, nothing, separator, without, SpellsPiece, a_nop, a_sub, a_prefix, a_dir, a_file, an_exclude, a_list, a_workspace, SpellsPieces, a_piece, pieces, SpellsMember, member, SpellsMembers, a_member, members, SpellsList, no_members, some_members, SpellsFilter}
+use Rattle.filter_text.proofs.Goods.{IsReadable, HasReadable, HaveReadable, filter-good}
 use Rattle.filter_text.proofs.Grammar.{filter_read}
 use Rattle.filter_text.proofs.Spelled.{filter-spelled}
 
@@ -158,9 +155,10 @@ mutual
 
   each_piece : (fs : Filters) → are_pieces fs ≡ true → are_linked fs ≡ true → HaveReadable fs → EachPiece fs
   each_piece no_more c l r = tt
-  each_piece (more f fs) c l r =
-      (piece_spelt f (is_not (is_chain f) (first_so (not (is_chain f)) (are_pieces fs) c)) (first_so (is_linked f) (are_linked fs) l) r.0,
-      each_piece fs (second_so (not (is_chain f)) (are_pieces fs) c) (second_so (is_linked f) (are_linked fs) l) r.1)
+  each_piece (more f fs) c l r = (
+    piece_spelt f (is_not (is_chain f) (first_so (not (is_chain f)) (are_pieces fs) c)) (first_so (is_linked f) (are_linked fs) l) r.0,
+    each_piece fs (second_so (not (is_chain f)) (are_pieces fs) c) (second_so (is_linked f) (are_linked fs) l) r.1,
+  )
 
   inside_spelt : (f : Filter) → is_linked f ≡ true → HasReadable f → InsideOf f
   inside_spelt nop l r = (only nop, alone nop (to_member nop (one_piece nop a_nop)), refl)

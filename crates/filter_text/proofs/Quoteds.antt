@@ -1,5 +1,5 @@
 -- What is read of a text between quotes depends on that text alone.
-use Rattle.std.proofs.Common.{◌≡◌, ◌+◌, ◌-◌, ℕ, suc, Bool, true, false, cond, ◌&&◌, List, [], ◌∷◌, ◌++◌, length, Option, Some, None, refl, sym, ap, ◌∙◌, arith, eqb, leb, append-nil, length-append, subst, ◌*◌}
+use Rattle.std.proofs.Common.{◌≡◌, ◌+◌, ◌-◌, ℕ, true, false, cond, ◌&&◌, [], ◌∷◌, ◌++◌, length, Some, None, refl, sym, ap, ◌∙◌, arith, eqb, leb, append-nil, length-append, subst, ◌*◌}
 use Rattle.std.specs.Option.{option_map}
 use Rattle.git_objects.specs.Paths.{Bytes}
 use Rattle.path_names.specs.Quoting.{Place, Plain, Slash, First, Second, Found, passing, adding, is_octal, letter, unshort, unquoted, unquote}

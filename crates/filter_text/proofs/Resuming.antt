@@ -1,18 +1,17 @@
 -- Reading with open brackets, step by step.
-use Rattle.std.proofs.Common.{◌≡◌, ◌≢◌, ◌+◌, ◌<◌, ◌≤◌, ℕ, true, false, cond, List, [], ◌∷◌, ◌++◌, length, drop, Option, Some, None, refl, sym, ap, ◌∙◌, arith}
+use Rattle.std.proofs.Common.{◌≡◌, ◌≢◌, ◌<◌, ◌≤◌, ℕ, true, false, cond, List, [], ◌∷◌, ◌++◌, length, drop, Option, Some, None, refl, sym, ap, ◌∙◌, arith}
 use Rattle.std.proofs.lemmas.List.{reverse-append}
 use Rattle.std.specs.Prelude.{reverse}
 use Rattle.std.specs.Option.{option_map, option_and_then}
 use Rattle.git_objects.specs.Paths.{Bytes, Path}
-use Rattle.filter_text.specs.Filters.{Filter, Filters, exclude, join, no_more, more, append, only}
+use Rattle.filter_text.specs.Filters.{Filter, Filters, no_more, more, append, only}
 use Rattle.filter_text.specs.Shapes.{shapes}
 use Rattle.filter_text.specs.Texts.{Read, begins, gap, target_at}
-use Rattle.filter_text.specs.Reading.{word_at, inside, bracketed, piece_of, with_first, more_pieces, made, member_of, goes_on, more_members, list_of, pieces_at, list_at}
-use Rattle.filter_text.specs.Nesting.{enclosed, leaf_of, with_front, after_member, after_list, nested, HasMember, resumed, answer, left}
+use Rattle.filter_text.specs.Reading.{word_at, bracketed, piece_of, with_first, more_pieces, made, member_of, goes_on, more_members, pieces_at, list_at}
+use Rattle.filter_text.specs.Nesting.{enclosed, leaf_of, with_front, after_list, nested, HasMember, resumed, answer, left}
 use Rattle.filter_text.specs.declared.word.Word.{Word}
 use Rattle.filter_text.specs.declared.word.Word.TheVariants as words
 use Rattle.filter_text.specs.declared.frame.Bracket.{Bracket}
-use Rattle.filter_text.specs.declared.frame.Bracket.TheVariants as brackets
 use Rattle.filter_text.specs.declared.frame.Frame.{Frame}
 use Rattle.filter_text.specs.declared.frame.At.{At}
 use Rattle.filter_text.specs.declared.frame.At.TheVariants as places

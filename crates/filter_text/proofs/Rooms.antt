@@ -1,5 +1,5 @@
 -- Rooms for pieces and components, and depth.
-use Rattle.std.proofs.Common.{◌≡◌, ◌+◌, ◌-◌, ◌≤◌, ℕ, true, false, cond, ◌||◌, [], ◌∷◌, Option, Some, None, refl, sym, ap, ◌∙◌, arith, leb, le-leb}
+use Rattle.std.proofs.Common.{◌≡◌, ◌+◌, ◌-◌, ◌≤◌, ℕ, true, false, cond, [], ◌∷◌, Some, None, refl, sym, ap, ◌∙◌, arith, leb, le-leb}
 use Rattle.std.proofs.lemmas.Bool.{leb-true, leb-false}
 use Rattle.git_objects.specs.Paths.{Bytes}
 use Rattle.filter_text.specs.Limits.{without, is_deep}

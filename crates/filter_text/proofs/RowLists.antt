@@ -1,5 +1,5 @@
 -- Filters made of a vector of members.
-use Rattle.std.proofs.Common.{◌≡◌, rules, refl, ap, ◌∙◌, sym, ℕ, ◌+◌, List, [], ◌∷◌, ◌++◌, length, arith, ◌≢◌, length-append}
+use Rattle.std.proofs.Common.{◌≡◌, rules, refl, ap, ◌∙◌, sym, List, [], ◌∷◌, ◌++◌, length, arith, ◌≢◌, length-append}
 use Rattle.std.specs.Global.{Vec}
 use Rattle.filter_text.specs.Filters as plain
 use Rattle.filter_text.specs.Filters.{append, only}

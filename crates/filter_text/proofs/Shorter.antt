@@ -1,12 +1,12 @@
 -- What is read leaves a shorter text, and how far a reading may go makes no difference to it.
-use Rattle.std.proofs.Common.{◌≡◌, ◌+◌, ◌-◌, ◌<◌, ◌≤◌, ℕ, zero, suc, Bool, true, false, not, cond, ◌||◌, [], ◌∷◌, length, take, drop, Option, Some, None, Result, Ok, Err, refl, sym, ap, ◌∙◌, arith, eqb, subst, length-drop, List}
+use Rattle.std.proofs.Common.{◌≡◌, ◌+◌, ◌≤◌, ℕ, zero, suc, Bool, true, false, cond, [], ◌∷◌, length, take, drop, Option, Some, None, refl, arith, eqb, subst, length-drop, List}
 use Rattle.std.specs.Option.{option_map, option_and_then}
 use Rattle.git_objects.specs.Paths.{Bytes, Path}
 use Rattle.path_names.specs.PathTexts.{path_of}
 use Rattle.path_names.specs.Quoting.{unquote}
-use Rattle.filter_text.specs.Filters.{Filter, Filters, nop, sub, onto, dir, file, exclude, join, workspace, no_more, more, only}
+use Rattle.filter_text.specs.Filters.{Filter, Filters, sub, onto, dir, file, exclude, join, workspace, no_more, more, only}
 use Rattle.filter_text.specs.Texts.{Read, strip, begins, is_blank, gap_byte, going, gap_from, gap, past_blanks, ok_path, as_path, quoted_at, cut, bare_len, without_slash, name_at, kept_name_at, equals, target_at}
-use Rattle.filter_text.specs.Reading.{or_word, spellings, word_among, word_at, kept, with_path, inside, bracketed, piece_of, with_first, more_pieces, made, member_of, goes_on, more_members, list_of, pieces_within, list_within, pieces_at, list_at}
+use Rattle.filter_text.specs.Reading.{or_word, spellings, word_among, word_at, kept, inside, piece_of, with_first, more_pieces, made, member_of, goes_on, more_members, list_of, pieces_within, list_within, pieces_at, list_at}
 use Rattle.filter_text.specs.declared.word.Word.{Word}
 use Rattle.filter_text.specs.declared.word.Word.TheVariants as words
 
@@ -158,14 +158,14 @@ piece_shorter list h (words.Exclude, t) = less_map (λ fs. exclude (inside fs)) 
 piece_shorter list h (words.Join, t) = less_map join 0 t (list t) (h t)
 piece_shorter list h (words.Workspace, t) = less_map workspace 0 t (name_at t) (name_shorter t)
 
-more_pieces_shorter : (pieces : Bytes → Read Filters) → Shortens 2 pieces → (k : ℕ) (t : Bytes) (x : Filter × Bytes) → length x.1 + k ≤ length t → Less k t (more_pieces pieces x)
+pub more_pieces_shorter : (pieces : Bytes → Read Filters) → Shortens 2 pieces → (k : ℕ) (t : Bytes) (x : Filter × Bytes) → length x.1 + k ≤ length t → Less k t (more_pieces pieces x)
 more_pieces_shorter pieces h k t x l =
     elim (begins 58 x.1) as (λ b. Less k t (cond b (with_first x.0 (pieces x.1)) (Some (only x.0, x.1)))) [
       | true ↦ less_map (λ fs. more x.0 fs) k t (pieces x.1) (less_weak k (2 + k) t (pieces x.1) (omega arith) (less_from k 2 x.1 t (pieces x.1) l (h x.1)))
       | false ↦ l
     ]
 
-more_members_shorter : (list : Bytes → Read Filters) → Shortens 0 list → (k : ℕ) (t : Bytes) (x : Filter × Bytes) → length x.1 + k ≤ length t → Less k t (more_members list x)
+pub more_members_shorter : (list : Bytes → Read Filters) → Shortens 0 list → (k : ℕ) (t : Bytes) (x : Filter × Bytes) → length x.1 + k ≤ length t → Less k t (more_members list x)
 more_members_shorter list h k t x l =
     elim (goes_on x.1) as (λ b. Less k t (cond b (with_first x.0 (list x.1)) None)) [
       | true ↦ less_map (λ fs. more x.0 fs) k t (list x.1) (less_weak k (0 + k) t (list x.1) (omega arith) (less_from k 0 x.1 t (list x.1) l (h x.1)))

@@ -1,17 +1,17 @@
 -- What is read of a filter text is spelled so.
-use Rattle.std.proofs.Common.{◌≡◌, ◌⊎◌, inl, inr, ℕ, zero, suc, Bool, true, false, not, cond, ◌||◌, true≢false, List, [], ◌∷◌, ◌++◌, length, drop, Option, Some, None, refl, sym, ap, ◌∙◌, ◌+◌, eqb, eqb-true, append_assoc, append-nil, subst}
+use Rattle.std.proofs.Common.{◌≡◌, ◌⊎◌, inl, inr, ℕ, zero, suc, Bool, true, false, cond, ◌||◌, true≢false, List, [], ◌∷◌, ◌++◌, length, drop, Option, Some, None, refl, sym, ap, ◌∙◌, ◌+◌, eqb-true, append_assoc, append-nil, subst}
 use Rattle.std.specs.Prelude.{codes}
 use Rattle.std.specs.Option.{option_map, option_and_then}
 use Rattle.git_objects.specs.Paths.{Bytes, Path}
 use Rattle.filter_text.specs.Filters.{Filter, Filters, nop, sub, onto, dir, file, exclude, join, workspace, no_more, more, only}
 use Rattle.filter_text.specs.Texts as texts
 use Rattle.filter_text.specs.Texts.{Read, strip, begins, name_at, kept_name_at, target_at}
-use Rattle.filter_text.specs.Reading.{or_word, spellings, word_among, word_at, kept, with_path, inside, bracketed, piece_of, with_first, more_pieces, linked, made, member_of, goes_on, more_members, list_of, pieces_within, list_within, pieces_at, list_at, whole, filter_of}
+use Rattle.filter_text.specs.Reading.{or_word, spellings, word_among, word_at, kept, inside, piece_of, with_first, more_pieces, linked, made, member_of, goes_on, more_members, list_of, pieces_within, list_within, pieces_at, whole, filter_of}
 use Rattle.filter_text.specs.declared.word.Word.{Word}
 use Rattle.filter_text.specs.declared.word.Word.TheVariants as words
-use Rattle.filter_text.specs.Spelling.{SpellsName, IsGap, SpellsTarget, SpellsPiece, a_nop, a_sub, a_prefix, a_dir, a_file, an_exclude, a_list, a_workspace, SpellsPieces, a_piece, pieces, SpellsMember, member, SpellsMembers, a_member, members, SpellsList, no_members, some_members, SpellsFilter}
+use Rattle.filter_text.specs.Spelling.{IsGap, SpellsPiece, a_nop, a_sub, a_prefix, a_dir, a_file, an_exclude, a_list, a_workspace, SpellsPieces, a_piece, pieces, SpellsMember, member, SpellsMembers, a_member, members, SpellsList, no_members, some_members, SpellsFilter}
 use Rattle.filter_text.proofs.PathNames.{IsFront, some_is, name-spelled, kept-spelled}
-use Rattle.filter_text.proofs.GapSpelling.{Gapped, InGap, InLast, gapped, target-spelled, target-none, strip-front}
+use Rattle.filter_text.proofs.GapSpelling.{Gapped, gapped, target-spelled, target-none, strip-front}
 
 -- ---- steps backwards
 
@@ -87,15 +87,15 @@ kept_front s x f r n e =
     let name = kept-spelled s x.0 x.1 n in
     elim (begins 47 x.1) as (λ b. begins 47 x.1 ≡ b → ◌≡◌ {A = Filter × Bytes} (cond b (dir x.0, drop 1 x.1) (file x.0, x.1)) (f, r) → IsFront (λ w. SpellsPiece w f) (codes "::" ++ s) r) [
       | true ↦ λ g h. record {
-          front = codes "::" ++ (name.front ++ 47 ∷ []);
-          is = ap (λ y. codes "::" ++ y) (name.is ∙ ap (λ y. name.front ++ y) (first-is 47 x.1 g ∙ ap (λ z. 47 ∷ z.1) h) ∙ sym (append_assoc name.front (47 ∷ []) r));
-          spelled = subst (SpellsPiece (codes "::" ++ (name.front ++ 47 ∷ []))) (ap (λ z. z.0) h) (a_dir name.front x.0 name.spelled);
-        }
+        front = codes "::" ++ (name.front ++ 47 ∷ []);
+        is = ap (λ y. codes "::" ++ y) (name.is ∙ ap (λ y. name.front ++ y) (first-is 47 x.1 g ∙ ap (λ z. 47 ∷ z.1) h) ∙ sym (append_assoc name.front (47 ∷ []) r));
+        spelled = subst (SpellsPiece (codes "::" ++ (name.front ++ 47 ∷ []))) (ap (λ z. z.0) h) (a_dir name.front x.0 name.spelled);
+      }
       | false ↦ λ g h. record {
-          front = codes "::" ++ name.front;
-          is = ap (λ y. codes "::" ++ y) (name.is ∙ ap (λ z. name.front ++ z.1) h);
-          spelled = subst (SpellsPiece (codes "::" ++ name.front)) (ap (λ z. z.0) h) (a_file name.front x.0 name.spelled);
-        }
+        front = codes "::" ++ name.front;
+        is = ap (λ y. codes "::" ++ y) (name.is ∙ ap (λ z. name.front ++ z.1) h);
+        spelled = subst (SpellsPiece (codes "::" ++ name.front)) (ap (λ z. z.0) h) (a_file name.front x.0 name.spelled);
+      }
     ] refl e
 
 kept_some : (s : Bytes) (o : Read Path) (f : Filter) (r : Bytes) → kept_name_at s ≡ o → option_map kept o ≡ Some (f, r) → IsFront (λ w. SpellsPiece w f) (codes "::" ++ s) r
@@ -122,13 +122,19 @@ piece_spelled list l words.Kept s f r e = kept_some s (kept_name_at s) f r refl 
 piece_spelled list l words.Exclude s f r e =
     let m = maps_to (λ fs. exclude (inside fs)) (list s) f r e in
     let n = l s m.value r m.is in
-    record { front = codes ":exclude[" ++ (n.front ++ 93 ∷ []); is = ap (λ x. codes ":exclude[" ++ x) (n.is ∙ bracket_is n.front r);
-    spelled = subst (SpellsPiece (codes ":exclude[" ++ (n.front ++ 93 ∷ []))) m.to (an_exclude n.front m.value n.spelled) }
+    record {
+      front = codes ":exclude[" ++ (n.front ++ 93 ∷ []);
+      is = ap (λ x. codes ":exclude[" ++ x) (n.is ∙ bracket_is n.front r);
+      spelled = subst (SpellsPiece (codes ":exclude[" ++ (n.front ++ 93 ∷ []))) m.to (an_exclude n.front m.value n.spelled);
+    }
 piece_spelled list l words.Join s f r e =
     let m = maps_to join (list s) f r e in
     let n = l s m.value r m.is in
-    record { front = codes ":[" ++ (n.front ++ 93 ∷ []); is = ap (λ x. codes ":[" ++ x) (n.is ∙ bracket_is n.front r);
-    spelled = subst (SpellsPiece (codes ":[" ++ (n.front ++ 93 ∷ []))) m.to (a_list n.front m.value n.spelled) }
+    record {
+      front = codes ":[" ++ (n.front ++ 93 ∷ []);
+      is = ap (λ x. codes ":[" ++ x) (n.is ∙ bracket_is n.front r);
+      spelled = subst (SpellsPiece (codes ":[" ++ (n.front ++ 93 ∷ []))) m.to (a_list n.front m.value n.spelled);
+    }
 piece_spelled list l words.Workspace s f r e =
     let m = maps_to workspace (name_at s) f r e in
     let n = name-spelled s m.value r m.is in

@@ -1,5 +1,5 @@
 -- How far a reading may go makes no difference where it is enough: reading goes on by one step.
-use Rattle.std.proofs.Common.{◌≡◌, ◌+◌, ◌<◌, ◌≤◌, ℕ, zero, suc, true, false, cond, [], ◌∷◌, length, drop, Option, Some, None, refl, sym, ap, ◌∙◌, arith, add-one}
+use Rattle.std.proofs.Common.{◌≡◌, ◌+◌, ◌<◌, ◌≤◌, ℕ, zero, suc, false, cond, length, drop, Option, Some, None, refl, sym, ap, ◌∙◌, arith, add-one}
 use Rattle.std.specs.Option.{option_map, option_and_then}
 use Rattle.git_objects.specs.Paths.{Bytes, Path}
 use Rattle.filter_text.specs.Filters.{Filter, Filters, exclude, join, no_more, only}
@@ -7,7 +7,7 @@ use Rattle.filter_text.specs.Texts.{Read, begins, gap, target_at}
 use Rattle.filter_text.specs.Reading.{word_at, inside, bracketed, piece_of, with_first, more_pieces, made, member_of, goes_on, more_members, list_of, pieces_within, list_within, pieces_at, list_at}
 use Rattle.filter_text.specs.declared.word.Word.{Word}
 use Rattle.filter_text.specs.declared.word.Word.TheVariants as words
-use Rattle.filter_text.proofs.Shorter.{Less, less_some, gap_shorter, word_shorter, target_shorter, heads_shorter, members_shorter}
+use Rattle.filter_text.proofs.Shorter.{less_some, gap_shorter, word_shorter, target_shorter, heads_shorter, members_shorter}
 
 then_agree : {X Y : Type 0} (f g : X × Bytes → Read Y) (o : Read X) → ((x : X × Bytes) → o ≡ Some x → f x ≡ g x) → option_and_then f o ≡ option_and_then g o
 then_agree f g None h = refl

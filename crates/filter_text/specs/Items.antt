@@ -1,9 +1,8 @@
 -- Workspace files: lists of items.
-use Rattle.std.specs.Prelude.{ℕ, zero, suc, ◌+◌, ◌-◌, Bool, true, false, not, cond, ◌&&◌, ◌||◌, nat_le, List, [], ◌∷◌, map, length, Option, None, Some, option_map, is_some}
+use Rattle.std.specs.Prelude.{ℕ, zero, suc, ◌+◌, ◌-◌, Bool, not, cond, ◌&&◌, ◌||◌, nat_le, List, [], ◌∷◌, length, Option, None, Some, option_map, ◌<◌, ◌≡◌}
 use Rattle.std.specs.Option.{option_and_then}
-use Rattle.std.specs.List.{list_all}
 use Rattle.git_objects.specs.Paths.{Bytes, Path, is_nil}
-use Rattle.filter_text.specs.Filters.{Filter, nop, sub, onto, dir, file, exclude, join, chain, workspace, has_workspace, pieces, components}
+use Rattle.filter_text.specs.Filters.{Filter, nop, sub, onto, dir, file, exclude, join, chain, workspace, is_filter, has_workspace, pieces, components}
 use Rattle.filter_text.specs.Texts.{Read, gap, target_at}
 use Rattle.filter_text.specs.Reading.{pieces_at, made}
 use Rattle.filter_text.specs.Limits.{too_deep}
@@ -21,6 +20,15 @@ sized_member before x =
 -- the member at the front of a text
 abbrev pub member_at : Bytes → Read Member
 member_at t = option_and_then (sized_member (length t)) (target_at t)
+
+-- what reading a member gives, or nothing where its text is too long
+abbrev pub IsLong : Read Member → Type 0
+IsLong None = Unit {0}
+IsLong (Some x) = 4096 < x.0.size
+
+abbrev pub TellsMember : Read Member → Read Member → Type 0
+TellsMember whole None = IsLong whole
+TellsMember whole (Some x) = whole ≡ Some x
 
 -- behind a member: a break, or the end of the file
 abbrev pub ends_member : Bytes → Bool
@@ -55,6 +63,10 @@ kept_place (workspace p) = None
 
 abbrev pub place : Member → Option Path
 place m = elim m.target as (λ t. Option Path) [ None ↦ kept_place m.filter | Some p ↦ Some p ]
+
+-- a filter that other calls may be given, without a workspace
+abbrev pub is_item_filter : Filter → Bool
+is_item_filter f = is_filter f && not (has_workspace f)
 
 -- an item: its place and its filter
 abbrev pub Item : Type 0

@@ -1,7 +1,7 @@
 -- What reading, writing and comparing filters keep to.
-use Rattle.std.specs.Prelude.{◌≡◌, ◌≤◌, ◌+◌, ◌==◌, ◌↔◌, ℕ, true, false, List, length, take, count_by, Some, Ok}
+use Rattle.std.specs.Prelude.{◌≡◌, ◌≤◌, ◌+◌, ◌==◌, ℕ, true, false, List, length, take, count_by, Some, Ok}
 use Rattle.git_objects.specs.Paths.{Bytes}
-use Rattle.filter_text.specs.Filters.{Filter, is_filter, same_filter}
+use Rattle.filter_text.specs.Filters.{Filter, same_filter}
 use Rattle.filter_text.specs.Reading.{filter_of}
 use Rattle.filter_text.specs.Limits.{too_deep, read}
 use Rattle.filter_text.specs.Items.{Member, members}

@@ -1,5 +1,5 @@
 -- What a filter text is read as, and why another isn't.
-use Rattle.std.specs.Prelude.{ℕ, ◌+◌, ◌-◌, Bool, true, false, cond, ◌&&◌, ◌||◌, ◌==◌, nat_le, [], ◌∷◌, length, Option, None, Some, Result, Ok, Err}
+use Rattle.std.specs.Prelude.{ℕ, ◌+◌, ◌-◌, Bool, cond, ◌&&◌, ◌||◌, ◌==◌, nat_le, [], ◌∷◌, length, Option, None, Some, Result, Ok, Err}
 use Rattle.git_objects.specs.Paths.{Bytes}
 use Rattle.filter_text.specs.Filters.{Filter, is_placed, pieces, components}
 use Rattle.filter_text.specs.Reading.{filter_of}

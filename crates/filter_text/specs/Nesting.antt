@@ -1,5 +1,5 @@
 -- What reading gives while brackets are open.
-use Rattle.std.specs.Prelude.{◌≡◌, ℕ, ◌+◌, ◌*◌, reverse, List, [], ◌∷◌, length, Option, Some, None, option_map}
+use Rattle.std.specs.Prelude.{◌≡◌, ℕ, ◌+◌, ◌*◌, reverse, List, [], ◌∷◌, length, Some, None, option_map, ◌<◌}
 use Rattle.std.specs.Option.{option_and_then}
 use Rattle.git_objects.specs.Paths.{Bytes}
 use Rattle.filter_text.specs.Filters.{Filter, Filters, nop, sub, onto, workspace, exclude, join, append, only}
@@ -72,3 +72,12 @@ left places.Piece t = 2 * length t + 1
 left places.Inside t = 2 * length t + 2
 left places.Ended t = 0
 left places.Refused t = 0
+
+-- what reading gives, or nothing where that leaves fewer bytes than so many
+abbrev pub LeavesLess : ℕ → Read Filters → Type 0
+LeavesLess least None = Unit {0}
+LeavesLess least (Some x) = length x.1 < least
+
+abbrev pub TellsPieces : ℕ → Read Filters → Read Filters → Type 0
+TellsPieces least whole None = LeavesLess least whole
+TellsPieces least whole (Some x) = whole ≡ Some x

@@ -1,9 +1,9 @@
 -- The canonical text of a filter.
-use Rattle.std.specs.Prelude.{Bool, cond, [], ◌∷◌, ◌++◌, codes}
+use Rattle.std.specs.Prelude.{cond, [], ◌∷◌, ◌++◌, codes}
 use Rattle.std.specs.List.{list_any}
 use Rattle.git_objects.specs.Paths.{Bytes, Path, text}
 use Rattle.path_names.specs.Quoting.{quoted}
-use Rattle.filter_text.specs.Filters.{Filter, Filters, nop, sub, onto, dir, file, exclude, join, chain, workspace, no_more, more, only}
+use Rattle.filter_text.specs.Filters.{Filter, Filters, nop, sub, onto, dir, file, exclude, join, chain, workspace, no_more, more}
 use Rattle.filter_text.specs.Texts.{ends_bare}
 
 -- bare where each byte may stand in a bare path, else between quotes

@@ -1,9 +1,9 @@
 -- Worked examples.
-use Rattle.std.specs.Prelude.{◌≡◌, refl, ℕ, [], ◌∷◌, ◌++◌, replicate, codes, true, false, Ok, Err, Some, None}
+use Rattle.std.specs.Prelude.{◌≡◌, refl, [], ◌∷◌, ◌++◌, replicate, codes, false, Ok, Err, Some, None}
 use Rattle.git_objects.specs.Paths.{Bytes, Path, text}
 use Rattle.path_names.specs.PathTexts.{path_of}
 use Rattle.path_names.specs.Quoting.{unquote, quoted_byte}
-use Rattle.filter_text.specs.Filters.{Filter, Filters, nop, sub, onto, dir, file, exclude, join, chain, workspace, no_more, more, only, pieces, components, is_filter}
+use Rattle.filter_text.specs.Filters.{Filter, Filters, nop, sub, onto, dir, file, exclude, join, chain, workspace, no_more, more, only}
 use Rattle.filter_text.specs.Texts.{name_at, kept_name_at, target_at}
 use Rattle.filter_text.specs.Reading.{word_at, pieces_at, list_at}
 use Rattle.filter_text.specs.Limits.{read, too_deep}
@@ -256,7 +256,7 @@ nothing_in_a_list = refl
 -- ---- workspace files
 
 pub an_item : items (codes "deps = :/modules:[::tools/,::lib/]" ++ 10 ∷ [])
-    ≡ Some ((codes "deps" ∷ [] , chain (more (sub (codes "modules" ∷ [])) (two (join (two (dir (codes "tools" ∷ [])) (dir (codes "lib" ∷ [])))) (onto (codes "deps" ∷ []))))) ∷ [])
+    ≡ Some ((codes "deps" ∷ [], chain (more (sub (codes "modules" ∷ [])) (two (join (two (dir (codes "tools" ∷ [])) (dir (codes "lib" ∷ [])))) (onto (codes "deps" ∷ []))))) ∷ [])
 unfolding items members pieces_at list_at target_at name_at kept_name_at word_at path_of unquote
 an_item = refl
 
@@ -264,7 +264,7 @@ pub no_items : items [] ≡ Some []
 unfolding items members pieces_at list_at target_at name_at kept_name_at word_at path_of unquote
 no_items = refl
 
-pub kept_items : items (codes "::a/" ++ 10 ∷ codes "::b # last") ≡ Some ((a , dir a) ∷ (b , file b) ∷ [])
+pub kept_items : items (codes "::a/" ++ 10 ∷ codes "::b # last") ≡ Some ((a, dir a) ∷ (b, file b) ∷ [])
 unfolding items members pieces_at list_at target_at name_at kept_name_at word_at path_of unquote
 kept_items = refl
 

@@ -1,9 +1,7 @@
 -- The plain data of a filter of the code.
-use Rattle.std.specs.Prelude.{List, [], ◌∷◌, Option, None, Some}
+use Rattle.std.specs.Prelude.{List, [], ◌∷◌}
 use Rattle.filter_text.specs.Filters as plain
-use Rattle.git_objects.specs.Paths.{Path}
 use Rattle.filter_text.specs.declared.filter.Filter.{Filter, Nop, Sub, Prefix, Dir, File, Exclude', Join', Chain', Workspace, Row_of-Filter, end_of-Filter, more_of-Filter}
-use Rattle.filter_text.specs.declared.filter.Item.{Item}
 
 abbrev mutual
   pub shape : Filter → plain.Filter

@@ -1,5 +1,5 @@
 -- The parts of filter texts below pieces: bytes, words at the front, gaps, names of paths.
-use Rattle.std.specs.Prelude.{ℕ, ◌+◌, ◌-◌, Bool, true, false, not, cond, ◌&&◌, ◌||◌, ◌==◌, nat_le, nat_eq, List, [], ◌∷◌, length, take, drop, codes, Option, Some, None, option_map, Result, Ok, Err}
+use Rattle.std.specs.Prelude.{ℕ, ◌-◌, Bool, true, false, not, cond, ◌||◌, ◌==◌, nat_le, nat_eq, [], ◌∷◌, length, take, drop, Option, Some, None, option_map, Result, Ok, Err}
 use Rattle.std.specs.Option.{option_and_then}
 use Rattle.std.specs.List.{position_or_len, ends_with}
 use Rattle.git_objects.specs.Paths.{Bytes, Path}

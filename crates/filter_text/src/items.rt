@@ -1,16 +1,19 @@
 // Workspace files.
 ghost use Rattle.std.specs.Prelude.{◌≡◌, ◌≤◌, ◌<◌, ◌⊎◌, [], Some, None, true, false, IfOk, IfSome, MatchResult, option_map, length, nat_le};
 ghost use Rattle.std.specs.Option.{option_and_then};
+ghost use Rattle.std.specs.List.{list_all};
 ghost use Rattle.git_objects.specs.Paths.{is_nil};
 ghost use Rattle.filter_text.specs.Shapes.{shape};
-ghost use Rattle.filter_text.specs.Items.{sized_member, member_at, ends_member, members, kept_place, place, is_fit, item_of, roomy_item, items_of, items_from, with_item, items};
+ghost use Rattle.filter_text.specs.Items.{sized_member, member_at, ends_member, members, kept_place, place, is_item_filter, is_fit, item_of, roomy_item, items_of, items_from, with_item, TellsMember, items};
 ghost use Rattle.filter_text.specs.Views.{member_value, member_read, item_value, item_values, items_read, next_read};
 
 use crate::gaps::gap;
-use crate::limits::{MOST_COMPONENTS, MOST_PIECES, has_workspace, too_deep, without_components, without_pieces};
+use crate::limits::{
+    MOST_COMPONENTS, MOST_PIECES, has_workspace, too_deep, without_components, without_pieces,
+};
 use crate::making::made;
 use crate::names::target_at;
-use crate::reader::pieces_at;
+use crate::reader::pieces_to;
 use crate::{Filter, Item, ItemsFault};
 use path_names::Path;
 use std::alloc::{AllocError, Global};
@@ -38,7 +41,8 @@ fn copy_target(alloc: Global, target: &Option<Path>) -> Result<Option<Path>, All
     }
 }
 
-// The member of this target and the pieces at the front of a text, so many bytes before which it began.
+// The member of this target and the pieces at the front of a text, so many bytes before whose end it began. None also
+// where its text is too long.
 fn sized_member<'a>(
     alloc: Global,
     before: usize,
@@ -46,25 +50,29 @@ fn sized_member<'a>(
     text: &'a [u8],
 ) -> Result<Option<(Member, &'a [u8])>, AllocError>
     requires { length text.now ≤ before }
-    ensures { IfOk result (λ read. member_read read ≡ sized_member before (target, text.now)) }
+    ensures { IfOk result (λ read. TellsMember (sized_member before (target, text.now)) (member_read read)) }
 {
-    match pieces_at(alloc, text)? {
+    match pieces_to(alloc, text, before.saturating_sub(LONGEST_MEMBER))? {
         None => Ok(None),
         Some((pieces, rest)) => {
             let size = before - rest.len();
             let kept = copy_target(alloc, &target)?;
             let filter = made(target, pieces)?;
-            Ok(Some((Member { target: kept, filter, size }, rest)))
+            Ok(Some((
+                Member {
+                    target: kept,
+                    filter,
+                    size,
+                },
+                rest,
+            )))
         }
     }
 }
 
-// The member at the front of a text, and what follows it.
-fn member_at<'a>(
-    alloc: Global,
-    text: &'a [u8],
-) -> Result<Option<(Member, &'a [u8])>, AllocError>
-    ensures { IfOk result (λ read. member_read read ≡ member_at text.now) }
+// The member at the front of a text, and what follows it. None also where its text is too long.
+fn member_at<'a>(alloc: Global, text: &'a [u8]) -> Result<Option<(Member, &'a [u8])>, AllocError>
+    ensures { IfOk result (λ read. TellsMember (member_at text.now) (member_read read)) }
 {
     match target_at(alloc, text)? {
         None => Ok(None),
@@ -113,7 +121,11 @@ fn item_of(alloc: Global, member: Member) -> Result<Option<Item>, AllocError>
     if !is_fit(&member) {
         return Ok(None);
     }
-    let Member { target, filter, size: _ } = member;
+    let Member {
+        target,
+        filter,
+        size: _,
+    } = member;
     match target {
         Some(place) => Ok(Some(Item { place, filter })),
         None => match kept_place(alloc, &filter)? {
@@ -184,10 +196,9 @@ fn read_items(alloc: Global, text: &[u8]) -> Result<Option<Vec<Item>>, AllocErro
     Ok(Some(items))
 }
 
-/// Reads the items of a workspace file.
 #[tactic(auto, unfolding(crate::specs::Items::items))]
-pub fn parse_items(alloc: Global, text: &[u8]) -> Result<Vec<Item>, ItemsFault>
-    ensures read { MatchResult result (λ v. items text.now ≡ Some (item_values v.items))
+fn items_in(alloc: Global, text: &[u8]) -> Result<Vec<Item>, ItemsFault>
+    ensures { MatchResult result (λ v. items text.now ≡ Some (item_values v.items))
         (λ fault. (fault ≡ ItemsFault.OutOfMemory) ⊎ ((fault ≡ ItemsFault.Unreadable) × (items text.now ≡ None))) }
 {
     if text.len() > LONGEST_FILE {
@@ -201,4 +212,14 @@ pub fn parse_items(alloc: Global, text: &[u8]) -> Result<Vec<Item>, ItemsFault>
         Ok(None) => Err(ItemsFault::Unreadable),
         Ok(Some(items)) => Ok(items),
     }
+}
+
+/// Reads the items of a workspace file.
+pub fn parse_items(alloc: Global, text: &[u8]) -> Result<Vec<Item>, ItemsFault>
+    ensures read { MatchResult result (λ v. items text.now ≡ Some (item_values v.items))
+        (λ fault. (fault ≡ ItemsFault.OutOfMemory) ⊎ ((fault ≡ ItemsFault.Unreadable) × (items text.now ≡ None))) }
+    // Each item's filter is one that other calls may be given, without a workspace.
+    ensures valid { IfOk result (λ v. list_all (λ i. is_item_filter i.1) (item_values v.items) ≡ true) }
+{
+    items_in(alloc, text)
 }

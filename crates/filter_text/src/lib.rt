@@ -12,6 +12,8 @@ mod names;
 mod parsing;
 mod printing;
 mod reader;
+#[cfg(test)]
+mod tests;
 mod values;
 mod word;
 

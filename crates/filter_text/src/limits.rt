@@ -134,7 +134,11 @@ pub fn is_placed(filter: &Filter) -> bool
 fn without(room: usize, taken: usize) -> Option<usize>
     ensures { result ≡ without room taken }
 {
-    if taken <= room { Some(room - taken) } else { None }
+    if taken <= room {
+        Some(room - taken)
+    } else {
+        None
+    }
 }
 
 // What is left of a room for pieces.
@@ -211,5 +215,6 @@ fn without_components_in(room: usize, members: &[Filter]) -> Option<usize>
 pub fn is_small(filter: &Filter) -> bool
     ensures { result ≡ is_small (shape filter.now) }
 {
-    without_pieces(MOST_PIECES, filter).is_some() && without_components(MOST_COMPONENTS, filter).is_some()
+    without_pieces(MOST_PIECES, filter).is_some()
+        && without_components(MOST_COMPONENTS, filter).is_some()
 }

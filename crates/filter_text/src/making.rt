@@ -69,10 +69,20 @@ pub fn enclosed(alloc: Global, bracket: Bracket, members: Vec<Filter>) -> Result
 pub fn with_member(frame: Frame, chain: Vec<Filter>) -> Result<Frame, AllocError>
     ensures { IfOk result (λ f. HasMember frame (shapes chain.items) f) }
 {
-    let Frame { bracket, before, members, target } = frame;
+    let Frame {
+        bracket,
+        before,
+        members,
+        target,
+    } = frame;
     let mut members = members;
     members.push(made(target, chain)?)?;
-    Ok(Frame { bracket, before, members, target: None })
+    Ok(Frame {
+        bracket,
+        before,
+        members,
+        target: None,
+    })
 }
 
 // A piece without brackets behind its word, and what follows it.

@@ -26,7 +26,10 @@ pub fn ends_bare(x: u8) -> bool
     ensures { result ≡ ends_bare x }
 {
     x <= 32
-        || matches!(x, 127 | b':' | b',' | b'[' | b']' | b'=' | b'"' | b'#' | b'*')
+        || matches!(
+            x,
+            127 | b':' | b',' | b'[' | b']' | b'=' | b'"' | b'#' | b'*'
+        )
 }
 
 fn first_end(text: &[u8]) -> Option<usize>
@@ -75,10 +78,7 @@ fn bare_path<'a>(
 }
 
 // A path between quotes at the front of a text, and what follows it.
-fn quoted_path<'a>(
-    alloc: Global,
-    text: &'a [u8],
-) -> Result<Option<(Path, &'a [u8])>, AllocError>
+fn quoted_path<'a>(alloc: Global, text: &'a [u8]) -> Result<Option<(Path, &'a [u8])>, AllocError>
     ensures { IfOk result (λ read. path_read read ≡ as_path (quoted_at text.now)) }
 {
     match unquote(alloc, text) {
@@ -93,10 +93,7 @@ fn quoted_path<'a>(
 
 // The path at the front of a text, and what follows it.
 #[tactic(auto, unfolding(crate::specs::Texts::name_at))]
-pub fn name_at<'a>(
-    alloc: Global,
-    text: &'a [u8],
-) -> Result<Option<(Path, &'a [u8])>, AllocError>
+pub fn name_at<'a>(alloc: Global, text: &'a [u8]) -> Result<Option<(Path, &'a [u8])>, AllocError>
     ensures { IfOk result (λ read. path_read read ≡ name_at text.now) }
 {
     if begins(b'"', text) {

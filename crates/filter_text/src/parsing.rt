@@ -1,8 +1,10 @@
 // Reading a whole filter text.
-ghost use Rattle.std.specs.Prelude.{◌≡◌, ◌⊎◌, Ok, Err, Some, IfOk, MatchResult, option_map};
+ghost use Rattle.std.specs.Prelude.{◌≡◌, ◌⊎◌, true, Ok, Err, Some, IfOk, MatchResult, option_map};
 ghost use Rattle.filter_text.specs.Shapes.{shape};
 ghost use Rattle.filter_text.specs.Reading.{filter_of};
+ghost use Rattle.filter_text.specs.Filters.{is_filter};
 ghost use Rattle.filter_text.specs.Limits.{judged, read};
+ghost use Rattle.filter_text.specs.Spelling.{SpellsFilter};
 
 use crate::limits::{is_placed, is_small, too_deep};
 use crate::making::linked;
@@ -41,10 +43,9 @@ fn judged(filter: Filter) -> Result<Filter, FilterFault>
     Ok(filter)
 }
 
-/// Reads a filter. The first of several faults is told.
 #[tactic(auto, unfolding(crate::specs::Limits::read))]
-pub fn parse(alloc: Global, text: &[u8]) -> Result<Filter, FilterFault>
-    ensures read { MatchResult result (λ f. read text.now ≡ Ok (shape f))
+fn read_filter(alloc: Global, text: &[u8]) -> Result<Filter, FilterFault>
+    ensures { MatchResult result (λ f. read text.now ≡ Ok (shape f))
         (λ fault. (fault ≡ FilterFault.OutOfMemory) ⊎ (read text.now ≡ Err fault)) }
 {
     if text.len() > LONGEST {
@@ -58,4 +59,15 @@ pub fn parse(alloc: Global, text: &[u8]) -> Result<Filter, FilterFault>
         Ok(None) => Err(FilterFault::Syntax),
         Ok(Some(filter)) => judged(filter),
     }
+}
+
+/// Reads a filter. The first of several faults is told.
+pub fn parse(alloc: Global, text: &[u8]) -> Result<Filter, FilterFault>
+    ensures read { MatchResult result (λ f. read text.now ≡ Ok (shape f))
+        (λ fault. (fault ≡ FilterFault.OutOfMemory) ⊎ (read text.now ≡ Err fault)) }
+    // What is read is spelled so, and is a filter that other calls may be given.
+    ensures spelled { IfOk result (λ f. SpellsFilter text.now (shape f)) }
+    ensures valid { IfOk result (λ f. is_filter (shape f) ≡ true) }
+{
+    read_filter(alloc, text)
 }

@@ -31,12 +31,7 @@ fn add_path(alloc: Global, out: &mut Vec<u8>, path: &Path) -> Result<(), AllocEr
 }
 
 // Adds a word and the path behind it.
-fn add_named(
-    alloc: Global,
-    out: &mut Vec<u8>,
-    word: &[u8],
-    path: &Path,
-) -> Result<(), AllocError>
+fn add_named(alloc: Global, out: &mut Vec<u8>, word: &[u8], path: &Path) -> Result<(), AllocError>
     ensures { OnOk result (out.new.items ≡ out.old.items ++ (word.now ++ path_text path.now)) }
 {
     out.extend_from_slice(word)?;

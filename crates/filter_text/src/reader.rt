@@ -6,7 +6,7 @@ ghost use Rattle.filter_text.specs.Shapes.{shape, shapes};
 ghost use Rattle.filter_text.specs.Reading.{piece_of, more_pieces, bracketed, goes_on, member_of, more_members, pieces_at, list_at};
 ghost use Rattle.filter_text.specs.Filters.{no_more};
 ghost use Rattle.filter_text.specs.Texts.{target_at};
-ghost use Rattle.filter_text.specs.Nesting.{enclosed, with_front, nested, resumed, after_list, answer, left};
+ghost use Rattle.filter_text.specs.Nesting.{enclosed, with_front, nested, resumed, after_list, answer, left, TellsPieces};
 ghost use Rattle.filter_text.specs.Views.{filters_read};
 
 use crate::Filter;
@@ -98,7 +98,12 @@ fn enter<'a>(
 {
     let before = mem::replace(pieces, Vec::new(alloc));
     let members = Vec::new(alloc);
-    frames.push(Frame { bracket, before, members, target: None })?;
+    frames.push(Frame {
+        bracket,
+        before,
+        members,
+        target: None,
+    })?;
     Ok((At::Inside, text))
 }
 
@@ -114,7 +119,12 @@ fn close<'a>(
         ≡ answer (nested frames.new.items) (shapes pieces.new.items) r.0 r.1.now) }
     ensures left { IfOk result (λ r. left r.0 r.1.now ≤ 2 * length text.now + 2) }
 {
-    let Frame { bracket, before, members, target: _ } = frame;
+    let Frame {
+        bracket,
+        before,
+        members,
+        target: _,
+    } = frame;
     *pieces = before;
     let piece = enclosed(alloc, bracket, members)?;
     after_piece(alloc, frames, pieces, piece, text)
@@ -176,9 +186,19 @@ fn begin_member<'a>(
     match target_at(alloc, text)? {
         None => Ok((At::Refused, text)),
         Some((target, rest)) => {
-            let Frame { bracket, before, members, target: _ } = frame;
+            let Frame {
+                bracket,
+                before,
+                members,
+                target: _,
+            } = frame;
             pieces.clear();
-            frames.push(Frame { bracket, before, members, target })?;
+            frames.push(Frame {
+                bracket,
+                before,
+                members,
+                target,
+            })?;
             Ok((At::Piece, rest))
         }
     }
@@ -241,18 +261,23 @@ fn step<'a>(
     }
 }
 
-// The pieces at the front of a text, one or more and as many as there are, and what follows them.
-pub fn pieces_at<'a>(
+// The pieces at the front of a text, one or more and as many as there are, and what follows them. None also where that has
+// fewer bytes than `least`; the reading doesn't go further then.
+pub fn pieces_to<'a>(
     alloc: Global,
     text: &'a [u8],
+    least: usize,
 ) -> Result<Option<(Vec<Filter>, &'a [u8])>, AllocError>
-    ensures { IfOk result (λ read. filters_read read ≡ pieces_at text.now) }
+    ensures { IfOk result (λ read. TellsPieces least (pieces_at text.now) (filters_read read)) }
 {
     let mut frames = Vec::new(alloc);
     let mut pieces = Vec::new(alloc);
     let mut at = At::Piece;
     let mut rest = text;
     while at == At::Piece || at == At::Inside {
+        if rest.len() < least {
+            return Ok(None);
+        }
         let (next, behind) = step(alloc, &mut frames, &mut pieces, at, rest)?;
         at = next;
         rest = behind;
@@ -262,4 +287,14 @@ pub fn pieces_at<'a>(
     } else {
         Ok(None)
     }
+}
+
+// The same, whatever follows.
+pub fn pieces_at<'a>(
+    alloc: Global,
+    text: &'a [u8],
+) -> Result<Option<(Vec<Filter>, &'a [u8])>, AllocError>
+    ensures { IfOk result (λ read. filters_read read ≡ pieces_at text.now) }
+{
+    pieces_to(alloc, text, 0)
 }

@@ -1,5 +1,5 @@
 // Filters compared and copied.
-ghost use Rattle.std.specs.Prelude.{◌≡◌, IfOk};
+ghost use Rattle.std.specs.Prelude.{◌≡◌, ◌↔◌, IfOk, IsTrue};
 ghost use Rattle.git_objects.specs.Paths.{same_path};
 ghost use Rattle.filter_text.specs.Filters.{join, chain, same_filter, same_filters};
 ghost use Rattle.filter_text.specs.Shapes.{shape, shapes};
@@ -57,9 +57,8 @@ fn same_path(p: &Path, q: &Path) -> bool
     true
 }
 
-/// Whether two filters are the same.
 #[cycle(comparing)]
-pub fn same(a: &Filter, b: &Filter) -> bool
+fn is_same(a: &Filter, b: &Filter) -> bool
     ensures { result ≡ same_filter (shape a.now) (shape b.now) }
 {
     match a {
@@ -84,7 +83,7 @@ pub fn same(a: &Filter, b: &Filter) -> bool
             _ => false,
         },
         Filter::Exclude(f) => match b {
-            Filter::Exclude(g) => same(f, g),
+            Filter::Exclude(g) => is_same(f, g),
             _ => false,
         },
         Filter::Join(fs) => same_join(fs.as_slice(), b),
@@ -140,9 +139,17 @@ fn same_all(fs: &[Filter], gs: &[Filter]) -> bool
         return false;
     }
     for i in 0..fs.len() {
-        if !same(&fs[i], &gs[i]) {
+        if !is_same(&fs[i], &gs[i]) {
             return false;
         }
     }
     true
+}
+
+/// Whether two filters are the same.
+pub fn same(a: &Filter, b: &Filter) -> bool
+    ensures test { result ≡ same_filter (shape a.now) (shape b.now) }
+    ensures equal { IsTrue result ↔ (shape a.now ≡ shape b.now) }
+{
+    is_same(a, b)
 }

@@ -1,9 +1,7 @@
-use Rattle.std.proofs.Common.{◌≡◌, ◌∙◌, ap, sym, Some, [], ◌∷◌, ◌++◌, length, arith}
-use Rattle.std.specs.Option.{option_map, option_and_then}
-use Rattle.filter_text.specs.Texts.{gap}
-use Rattle.filter_text.specs.Items.{members_of, members, items_of, items_from, with_item}
+use Rattle.std.proofs.Common.{◌∙◌, ap, sym}
+use Rattle.filter_text.specs.Items.{items_from, with_item}
 use Rattle.filter_text.specs.Views.{item_value, item_values, next_read}
-use Rattle.filter_text.proofs.Files.{members_step, behind_items, items_more, items_begin, values-push}
+use Rattle.filter_text.proofs.Files.{behind_items, items_more, items_begin, values-push}
 use Rattle.filter_text.proofs.items.read_items.Goals as goal
 
 pub loop-rest-init : goal.loop-rest-init

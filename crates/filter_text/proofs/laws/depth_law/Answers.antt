@@ -1,5 +1,4 @@
-use Rattle.std.proofs.Common.{◌≡◌, ◌+◌, ◌≤◌, ℕ, take, arith}
-use Rattle.git_objects.specs.Paths.{Bytes}
+use Rattle.std.proofs.Common.{◌+◌, ◌≤◌, take, arith}
 use Rattle.filter_text.proofs.Depths.{opens, closes, deep-front, front-deep}
 use Rattle.filter_text.proofs.laws.depth_law.Goals as goal
 

@@ -1,4 +1,4 @@
-use Rattle.std.proofs.Common.{rules, ◌∙◌, ap, sym, not, ◌&&◌, Bool, true, false, ◌≡◌, refl}
+use Rattle.std.proofs.Common.{◌∙◌, ap, sym, not, ◌&&◌, Bool, true, false, ◌≡◌, refl}
 use Rattle.filter_text.specs.Filters.{is_placed, some_have_workspace, has_one_place}
 use Rattle.filter_text.specs.Shapes.{shape, shapes}
 use Rattle.filter_text.proofs.RowLists.{shape-join, shape-chain}

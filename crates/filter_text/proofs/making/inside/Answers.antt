@@ -1,4 +1,4 @@
-use Rattle.std.proofs.Common.{◌≡◌, length, ◌∙◌, arith}
+use Rattle.std.proofs.Common.{◌∙◌, arith}
 use Rattle.filter_text.proofs.RowLists.{shape-join, inside-join}
 use Rattle.filter_text.proofs.making.inside.Goals as goal
 

@@ -1,5 +1,5 @@
-use Rattle.std.proofs.Common.{◌≡◌, ◌++◌, ◌∷◌, [], ◌∙◌, ap, sym, length}
-use Rattle.filter_text.specs.Shapes.{shape, shapes}
+use Rattle.std.proofs.Common.{◌++◌, ◌∷◌, [], ◌∙◌, ap, sym, length}
+use Rattle.filter_text.specs.Shapes.{shapes}
 use Rattle.filter_text.specs.Printing.{printed_members, printed_pieces}
 use Rattle.filter_text.proofs.Prints.{on_ok, on_ok_if, join-text, chain-text, inside-one-text, inside-other-text, list-put}
 use Rattle.filter_text.proofs.printing.+printing.Goals as goal

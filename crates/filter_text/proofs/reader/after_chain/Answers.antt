@@ -1,6 +1,6 @@
-use Rattle.std.proofs.Common.{◌≡◌, ◌∙◌, ap, sym, Some, ◌∷◌, length, arith}
+use Rattle.std.proofs.Common.{ap, Some, arith}
 use Rattle.filter_text.specs.Shapes.{shapes}
-use Rattle.filter_text.specs.Nesting.{nested, resumed, answer}
+use Rattle.filter_text.specs.Nesting.{nested, resumed}
 use Rattle.filter_text.proofs.Resuming.{told, nested-push, nested-empty}
 use Rattle.filter_text.proofs.reader.after_chain.Goals as goal
 

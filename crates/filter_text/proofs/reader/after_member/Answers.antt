@@ -1,4 +1,4 @@
-use Rattle.std.proofs.Common.{◌≡◌, ◌∙◌, ap, sym, Some, ◌∷◌}
+use Rattle.std.proofs.Common.{◌∙◌, ap, sym, Some, ◌∷◌}
 use Rattle.filter_text.specs.Shapes.{shapes}
 use Rattle.filter_text.specs.Nesting.{nested, resumed, answer}
 use Rattle.filter_text.specs.declared.frame.At.TheVariants as places

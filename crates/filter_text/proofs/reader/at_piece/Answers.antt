@@ -1,4 +1,4 @@
-use Rattle.std.proofs.Common.{◌≡◌, ◌∙◌, ap, sym, refl, Some, length, arith, ◌*◌, ◌+◌}
+use Rattle.std.proofs.Common.{sym, length, arith, ◌*◌, ◌+◌}
 use Rattle.filter_text.specs.Shapes.{shapes}
 use Rattle.filter_text.specs.Reading.{word_at}
 use Rattle.filter_text.specs.Nesting.{nested}

@@ -1,4 +1,4 @@
-use Rattle.std.proofs.Common.{◌≡◌, ◌≤◌, ◌+◌, ◌∙◌, ap, sym, refl, Some, length, arith}
+use Rattle.std.proofs.Common.{◌∙◌, ap, sym, refl, arith}
 use Rattle.filter_text.specs.Shapes.{shapes}
 use Rattle.filter_text.specs.Texts.{target_at}
 use Rattle.filter_text.specs.Views.{target_read}

@@ -1,4 +1,4 @@
-use Rattle.std.proofs.Common.{◌≡◌, ◌∙◌, ap, sym, refl, Some, length, arith, ◌*◌, ◌+◌}
+use Rattle.std.proofs.Common.{◌∙◌, ap, sym, length, arith, ◌*◌, ◌+◌}
 use Rattle.std.specs.Option.{option_and_then}
 use Rattle.filter_text.specs.Shapes.{shape, shapes}
 use Rattle.filter_text.specs.Reading.{piece_of, more_pieces, pieces_at, list_at}

@@ -1,4 +1,4 @@
-use Rattle.std.proofs.Common.{◌≡◌, ◌∙◌, ap, sym, refl}
+use Rattle.std.proofs.Common.{◌∙◌, ap, sym}
 use Rattle.filter_text.specs.Shapes.{shapes}
 use Rattle.filter_text.specs.Reading.{more_pieces, pieces_at}
 use Rattle.filter_text.specs.Nesting.{nested, with_front, resumed}

@@ -1,4 +1,4 @@
-use Rattle.std.proofs.Common.{◌≡◌, ◌∙◌, ap, sym, refl, None}
+use Rattle.std.proofs.Common.{◌∙◌, ap, sym, refl, None}
 use Rattle.filter_text.specs.Shapes.{shapes}
 use Rattle.filter_text.specs.Nesting.{nested, answer}
 use Rattle.filter_text.specs.declared.frame.At.TheVariants as places

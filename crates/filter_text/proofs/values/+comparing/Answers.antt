@@ -1,21 +1,20 @@
-use Rattle.std.proofs.Common.{rules, ◌≡◌, ◌∙◌, ap, sym}
-use Rattle.filter_text.proofs.RowLists.{row-list, shape-join, shape-chain}
+use Rattle.std.proofs.Common.{◌∙◌, ap, sym}
+use Rattle.filter_text.proofs.RowLists.{shape-join, shape-chain}
 use Rattle.filter_text.proofs.Sames.{longer-differs}
 use Rattle.filter_text.specs.Filters.{join, chain, same_filter, same_filters}
 use Rattle.filter_text.specs.Shapes.{shape, shapes}
-use Rattle.filter_text.specs.declared.filter.Filter.TheViews.{the_lemmas}
 use Rattle.filter_text.proofs.values.+comparing.Goals as goal
 
 pub same_all-returns-then-fs-gs : goal.same_all-returns-then-fs-gs
 same_all-returns-then-fs-gs t c = longer-differs c.args.fs.now c.args.gs.now c.if-fs-gs.true
 
-pub same-returns-in-Join : goal.same-returns-in-Join
-same-returns-in-Join t c =
+pub is_same-returns-in-Join : goal.is_same-returns-in-Join
+is_same-returns-in-Join t c =
     c.same_join.ensures ∙ ap (λ xs. same_filter (join (shapes xs)) (shape c.args.b.now)) c.as_slice.ensures.value
     ∙ sym (ap (λ f. same_filter (shape f) (shape c.args.b.now)) c.in-Join.is ∙ ap (λ f. same_filter f (shape c.args.b.now)) (shape-join c.in-Join.fs))
 
-pub same-returns-in-Chain : goal.same-returns-in-Chain
-same-returns-in-Chain t c =
+pub is_same-returns-in-Chain : goal.is_same-returns-in-Chain
+is_same-returns-in-Chain t c =
     c.same_chain.ensures ∙ ap (λ xs. same_filter (chain (shapes xs)) (shape c.args.b.now)) c.as_slice-in-Chain.ensures.value
     ∙ sym (ap (λ f. same_filter (shape f) (shape c.args.b.now)) c.in-Chain.is ∙ ap (λ f. same_filter f (shape c.args.b.now)) (shape-chain c.in-Chain.fs))
 

@@ -1,4 +1,4 @@
-use Rattle.std.proofs.Common.{◌≡◌, ◌∙◌, ◌+◌, ap, sym, refl, [], ◌∷◌, drop, get_or, arith, length, length-drop}
+use Rattle.std.proofs.Common.{◌∙◌, ◌+◌, ap, sym, ◌∷◌, drop, arith}
 use Rattle.std.proofs.lemmas.List.{drop_more, drop_all}
 use Rattle.filter_text.specs.Filters.{Filters, no_more, append, only}
 use Rattle.filter_text.specs.Shapes.{shape, shapes}
