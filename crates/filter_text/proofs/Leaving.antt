@@ -1,9 +1,9 @@
 -- What reading leaves behind it is no longer than what was left at any step.
-use Rattle.std.proofs.Common.{◌≡◌, ◌+◌, ◌-◌, ◌<◌, ◌≤◌, ℕ, true, false, cond, ◌&&◌, ◌||◌, List, [], ◌∷◌, length, Option, Some, None, refl, sym, ap, ◌∙◌, arith, subst, leb, not}
+use Rattle.std.proofs.Common.{◌≡◌, ◌-◌, ◌<◌, ℕ, true, false, cond, ◌&&◌, List, [], ◌∷◌, length, Option, Some, None, refl, sym, ap, arith, subst, leb, not}
 use Rattle.std.proofs.lemmas.Bool.{leb-true}
 use Rattle.std.specs.Option.{option_map, option_and_then}
 use Rattle.git_objects.specs.Paths.{Bytes, Path, is_nil}
-use Rattle.filter_text.specs.Filters.{Filter, Filters, append, components, has_workspace, pieces}
+use Rattle.filter_text.specs.Filters.{Filters, append, components, has_workspace, pieces}
 use Rattle.filter_text.specs.Shapes.{shapes}
 use Rattle.filter_text.specs.Texts.{Read}
 use Rattle.filter_text.specs.Reading.{bracketed, more_pieces, made, more_members, pieces_at, list_at}

@@ -1,4 +1,4 @@
-use Rattle.std.proofs.Common.{◌≡◌, ◌-◌, Some, None, length, arith, subst}
+use Rattle.std.proofs.Common.{◌≡◌, Some, arith, subst}
 use Rattle.filter_text.specs.Shapes.{shapes}
 use Rattle.filter_text.specs.Reading.{pieces_at}
 use Rattle.filter_text.specs.Nesting.{LeavesLess, TellsPieces}
