@@ -1,0 +1,12 @@
+pub mod Filters
+pub mod Shapes
+pub mod Texts
+pub mod Reading
+pub mod Views
+pub mod Nesting
+pub mod Limits
+pub mod Items
+pub mod Printing
+pub mod Spelling
+pub mod Laws
+pub mod Rows
