@@ -1,0 +1,16 @@
+//! Reading streams of git-fast-import(1), in pieces.
+#![tactic(auto)]
+
+mod command;
+mod commit_ref;
+mod fault;
+mod halt;
+mod kinds;
+mod modify;
+mod progress;
+mod reader;
+
+pub use command::{BlobRef, Change, Command, CommitHead, Merges, Placed};
+pub use commit_ref::{CommitRef, Target};
+pub use fault::{Feature, StreamFault};
+pub use reader::Next;
