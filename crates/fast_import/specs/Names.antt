@@ -20,6 +20,10 @@ refname at t = cond (is_ref_name t) (Ok t) (fault (Syntax at))
 abbrev pub ident : ℕ → Bytes → Judged Bytes
 ident at t = cond (is_ident t) (Ok t) (fault (Syntax at))
 
+abbrev pub name_of : Option Bytes → Option Name
+name_of None = None
+name_of (Some n) = Some (record { 0 = n })
+
 -- the name of 20 bytes, which aren't all zero
 abbrev pub some_name : ℕ → Bytes → Judged Name
 some_name at n = cond (same_bytes n (replicate 20 0)) (fault (Unsupported at ZeroName)) (Ok (record { 0 = n }))

@@ -45,6 +45,9 @@ word_read x = (x.0.now, maybe_bytes x.1)
 abbrev pub value_read : {A : Type 0} → A × Option (Bor (List ℕ)) → A × Option Bytes
 value_read x = (x.0, maybe_bytes x.1)
 
+abbrev pub owned_and_rest : Bytes × Bor (List ℕ) → Bytes × Bytes
+owned_and_rest x = (x.0, x.1.now)
+
 abbrev pub change_kind : ChangeKind → ChangeLine
 change_kind (changes.Modify t) = ModifyIs t.now
 change_kind (changes.Delete t) = DeleteIs t.now

@@ -1,14 +1,20 @@
 //! Reading streams of git-fast-import(1), in pieces.
 #![tactic(auto)]
 
+mod blocks;
+mod changes;
 mod command;
 mod commit_ref;
 mod fault;
 mod halt;
 mod kinds;
+mod lines;
 mod modify;
+mod names;
+mod path_words;
 mod progress;
 mod reader;
+mod words;
 
 pub use command::{BlobRef, Change, Command, CommitHead, Merges, Placed};
 pub use commit_ref::{CommitRef, Target};
