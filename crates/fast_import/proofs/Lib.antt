@@ -1,1 +1,10 @@
 pub mod FrontWords
+pub mod Merging
+pub mod Combining
+pub mod Judging
+pub mod Composed
+pub mod Turning
+pub mod Lowering
+pub mod Commanding
+pub mod Iterating
+pub mod Reading

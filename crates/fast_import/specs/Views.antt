@@ -6,6 +6,7 @@ use Rattle.stream_lex.specs.declared.cursor.Cursor.{Cursor}
 use Rattle.stream_lex.specs.declared.cursor.LineView.{LineView}
 use Rattle.stream_lex.specs.Lines.{Input, Line}
 use Rattle.stream_lex.specs.Views.{input, line, maybe_bytes}
+use Rattle.fast_import.specs.declared.commit_ref.CommitRef.{CommitRef}
 use Rattle.fast_import.specs.declared.halt.Halt.{Halt}
 use Rattle.fast_import.specs.declared.halt.Halt.TheVariants as halts
 use Rattle.fast_import.specs.declared.progress.Event.{Event}
@@ -47,6 +48,12 @@ value_read x = (x.0, maybe_bytes x.1)
 
 abbrev pub owned_and_rest : Bytes × Bor (List ℕ) → Bytes × Bytes
 owned_and_rest x = (x.0, x.1.now)
+
+abbrev pub people_read : Bytes × Bytes × Cursor → (Bytes × Bytes) × Input
+people_read x = ((x.0, x.1), input x.2)
+
+abbrev pub parents_read : Option CommitRef × List CommitRef × Cursor → (Option CommitRef × List CommitRef) × Input
+parents_read x = ((x.0, x.1), input x.2)
 
 abbrev pub change_kind : ChangeKind → ChangeLine
 change_kind (changes.Modify t) = ModifyIs t.now

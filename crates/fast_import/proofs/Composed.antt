@@ -1,0 +1,142 @@
+-- Each reader of the grammar is one.
+use Rattle.std.proofs.Common.{◌≡◌, ℕ, zero, suc, Bool, true, false, cond, List, [], ◌∷◌, ◌++◌, Option, Some, None, Ok, Err, refl, nat_eq}
+use Rattle.std.specs.Prelude.{codes, nat_le}
+use Rattle.std.specs.List.{starts_with}
+use Rattle.git_objects.specs.declared.quantity.Quantity.{Quantity}
+use Rattle.git_objects.specs.declared.quantity.Quantity.TheVariants as limits
+use Rattle.git_objects.specs.Paths.{Bytes}
+use Rattle.stream_lex.specs.Lines.{Input, Line}
+use Rattle.stream_lex.specs.Cutting.{grown, Advances}
+use Rattle.stream_lex.proofs.Advance.{stays}
+use Rattle.fast_import.specs.declared.fault.StreamFault.TheVariants.{Syntax, Unsupported, Limit}
+use Rattle.fast_import.specs.declared.command.Command.TheVariants as commands
+use Rattle.fast_import.specs.declared.commit_ref.CommitRef.{CommitRef}
+use Rattle.fast_import.specs.declared.modify.DataRef.{DataRef}
+use Rattle.fast_import.specs.declared.modify.DataRef.TheVariants as datas
+use Rattle.fast_import.specs.declared.progress.Phase.{Phase}
+use Rattle.fast_import.specs.declared.progress.Phase.TheVariants.{Between, InCommit, Finished}
+use Rattle.fast_import.specs.declared.progress.Progress.{Progress}
+use Rattle.fast_import.specs.Reading.{Reader, ◌then◌, judged, or_fault, refuse, pure, option_line, need_line}
+use Rattle.fast_import.specs.Names.{refname}
+use Rattle.fast_import.specs.Blocks.{count, sized_block, whole_block, data_behind, blob_data, message_behind, message_data, blob_max, message_max}
+use Rattle.fast_import.specs.PathWords.{last_path, two_paths}
+use Rattle.fast_import.specs.Changes.{modify_line, blob_ref, modify, change, change_line, ChangeLine, ModifyIs, DeleteIs, RenameIs, CopyIs, DeleteAllIs, NotesAre, EmptyIs, NoChange}
+use Rattle.fast_import.specs.Heads.{mark_of, mark_lines, blob, author_of, committer_of, people, ref_of, ref_line, more_merges, merges, merges_max, parents, head, reset}
+use Rattle.fast_import.specs.Commands.{CommandLine, EmptyLine, BlobLine, CommitLine, ResetLine, IdleLine, WantsDone, DoneLine, RefusedLine, OtherLine, command_line, gives, between, at_the_end, between_at, changed, in_commit_at, turn_in, turn}
+use Rattle.fast_import.specs.Cutting.{Agrees, IsTold, Steps, IsReader}
+use Rattle.fast_import.proofs.Combining.{then-reader, pure-reader, refuse-reader, judged-reader, cond-reader, option_line-reader, need_line-reader, whole_block-reader, OfLine, IsOfLine, on_line, line-reader, bind_steps}
+use Rattle.fast_import.proofs.Judging.{given, refname-judged, last_path-judged, two_paths-judged, modify_line-judged, mark_of-judged, author_of-judged, committer_of-judged, ref_of-judged}
+
+sized_block-reader : (which : Quantity) (most at n : ℕ) → IsReader (sized_block which most at n)
+sized_block-reader which most at n = cond-reader (nat_le n most) (whole_block at n) (refuse (Limit at which)) (whole_block-reader at n) (refuse-reader (Limit at which))
+
+data_behind-reader : (which : Quantity) (most : ℕ) (l : Line) → IsReader (data_behind which most l)
+unfolding data_behind
+data_behind-reader which most l =
+    cond-reader (starts_with nat_eq l.bytes (codes "data <<")) _ _ (refuse-reader _)
+    (then-reader (judged (or_fault (Syntax l.place) (count l.bytes))) (sized_block which most l.place) (judged-reader _ (given (Syntax l.place) (count l.bytes)).told) (sized_block-reader which most l.place))
+
+blob_data-reader : IsReader blob_data
+unfolding blob_data
+blob_data-reader = then-reader need_line (data_behind limits.Blob blob_max) need_line-reader (data_behind-reader limits.Blob blob_max)
+
+message_behind-reader : (l : Line) → IsReader (message_behind l)
+message_behind-reader l =
+    cond-reader (starts_with nat_eq l.bytes (codes "encoding ")) _ _ (refuse-reader _)
+    (cond-reader (starts_with nat_eq l.bytes (codes "gpgsig ")) _ _ (refuse-reader _) (data_behind-reader limits.Message message_max l))
+
+message_data-reader : IsReader message_data
+unfolding message_data
+message_data-reader = then-reader need_line message_behind need_line-reader message_behind-reader
+
+-- ---- changes
+
+blob_ref-reader : (d : DataRef) → IsReader (blob_ref d)
+blob_ref-reader (datas.Mark n) = pure-reader _
+blob_ref-reader (datas.Digits n) = pure-reader _
+blob_ref-reader datas.Inline = then-reader blob_data _ blob_data-reader (λ b. pure-reader _)
+
+modify-reader : (at : ℕ) (t : Bytes) → IsReader (modify at t)
+unfolding modify
+modify-reader at t =
+    then-reader (judged (modify_line at t)) _ (judged-reader (modify_line at t) (modify_line-judged at t).told) (λ l. then-reader (blob_ref l.blob) _ (blob_ref-reader l.blob) (λ b. pure-reader _))
+
+pub change-reader : (at : ℕ) (k : ChangeLine) → IsReader (change at k)
+unfolding change
+change-reader at (ModifyIs t) = modify-reader at t
+change-reader at (DeleteIs t) = then-reader (judged (last_path at t)) _ (judged-reader (last_path at t) (last_path-judged at t).told) (λ p. pure-reader _)
+change-reader at (RenameIs t) = then-reader (judged (two_paths at t)) _ (judged-reader (two_paths at t) (two_paths-judged at t).told) (λ p. pure-reader _)
+change-reader at (CopyIs t) = then-reader (judged (two_paths at t)) _ (judged-reader (two_paths at t) (two_paths-judged at t).told) (λ p. pure-reader _)
+change-reader at DeleteAllIs = pure-reader _
+change-reader at NotesAre = refuse-reader _
+change-reader at EmptyIs = refuse-reader _
+change-reader at NoChange = refuse-reader _
+
+-- ---- heads
+
+mark_lines-reader : IsReader mark_lines
+unfolding mark_lines
+mark_lines-reader =
+    then-reader (option_line (codes "mark ")) _ (option_line-reader (codes "mark ")) (λ l.
+    then-reader (judged (mark_of l)) _ (judged-reader (mark_of l) (mark_of-judged l).told) (λ m.
+    then-reader (option_line (codes "original-oid ")) _ (option_line-reader (codes "original-oid ")) (λ o. pure-reader m)))
+
+pub blob-reader : IsReader blob
+unfolding blob
+blob-reader = then-reader mark_lines _ mark_lines-reader (λ m. then-reader blob_data _ blob_data-reader (λ d. pure-reader _))
+
+people-reader : IsReader people
+unfolding people
+people-reader =
+    then-reader (option_line (codes "author ")) _ (option_line-reader (codes "author ")) (λ l.
+    then-reader (judged (author_of l)) _ (judged-reader (author_of l) (author_of-judged l).told) (λ a.
+    then-reader need_line _ need_line-reader (λ l.
+    then-reader (judged (committer_of l)) _ (judged-reader (committer_of l) (committer_of-judged l).told) (λ c. pure-reader _))))
+
+ref_line-reader : (word : Bytes) → IsReader (ref_line word)
+unfolding ref_line
+ref_line-reader word = then-reader (option_line word) _ (option_line-reader word) (λ l. judged-reader (ref_of l) (ref_of-judged l).told)
+
+more_merges-reader : (done : List CommitRef) (next : CommitRef → Reader (List CommitRef)) → ((r : CommitRef) → IsReader (next r)) → (o : Option CommitRef) → IsReader (more_merges done next o)
+more_merges-reader done next h None = pure-reader done
+more_merges-reader done next h (Some r) = h r
+
+merges-reader : (n : ℕ) (done : List CommitRef) → IsReader (merges n done)
+merges-reader zero done = then-reader (ref_line (codes "merge ")) _ (ref_line-reader (codes "merge ")) (more_merges-reader done _ (λ r. refuse-reader (Limit r.at limits.Parents)))
+merges-reader (suc n) done = then-reader (ref_line (codes "merge ")) _ (ref_line-reader (codes "merge ")) (more_merges-reader done _ (λ r. merges-reader n (done ++ r ∷ [])))
+
+parents-reader : IsReader parents
+unfolding parents
+parents-reader =
+    then-reader (ref_line (codes "from ")) _ (ref_line-reader (codes "from ")) (λ f. then-reader (merges (merges_max f) []) _ (merges-reader (merges_max f) []) (λ m. pure-reader _))
+
+pub head-reader : (at : ℕ) (t : Bytes) → IsReader (head at t)
+unfolding head
+head-reader at t =
+    then-reader (judged (refname at t)) _ (judged-reader (refname at t) (refname-judged at t).told) (λ r.
+    then-reader mark_lines _ mark_lines-reader (λ m.
+    then-reader people _ people-reader (λ p.
+    then-reader message_data _ message_data-reader (λ d.
+    then-reader parents _ parents-reader (λ q. pure-reader _)))))
+
+pub reset-reader : (at : ℕ) (t : Bytes) → IsReader (reset at t)
+unfolding reset
+reset-reader at t =
+    then-reader (judged (refname at t)) _ (judged-reader (refname at t) (refname-judged at t).told) (λ r. then-reader (ref_line (codes "from ")) _ (ref_line-reader (codes "from ")) (λ f. pure-reader _))
+
+-- ---- turns
+
+pub between-reader : (k : CommandLine) (at : ℕ) (d : Bool) → IsReader (between k at d)
+between-reader EmptyLine at d = pure-reader _
+between-reader BlobLine at d = then-reader blob (gives at Between d) blob-reader (λ c. pure-reader _)
+between-reader (CommitLine t) at d = then-reader (head at t) (gives at InCommit d) (head-reader at t) (λ c. pure-reader _)
+between-reader (ResetLine t) at d = then-reader (reset at t) (gives at Between d) (reset-reader at t) (λ c. pure-reader _)
+between-reader IdleLine at d = pure-reader _
+between-reader WantsDone at d = pure-reader _
+between-reader DoneLine at d = pure-reader _
+between-reader (RefusedLine f) at d = refuse-reader _
+between-reader OtherLine at d = refuse-reader _
+
+pub at_the_end-reader : (at : ℕ) (d : Bool) → IsReader (at_the_end at d)
+at_the_end-reader at true = refuse-reader _
+at_the_end-reader at false = pure-reader _
