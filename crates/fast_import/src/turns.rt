@@ -144,14 +144,10 @@ pub fn turn<'a>(
         Phase::Finished => Ok((Event::Ends, progress, i)),
         Phase::Between => match line(ended, i)? {
             (None, after) => at_the_end(wants_done, after),
-            (Some(l), after) => between(
-                alloc,
-                command_kind(l.bytes),
-                l.at,
-                wants_done,
-                ended,
-                after,
-            ),
+            (Some(l), after) => {
+                let kind = command_kind(l.bytes);
+                between(alloc, kind, l.at, wants_done, ended, after)
+            }
         },
         Phase::InCommit => match line(ended, i)? {
             (None, after) => {
@@ -159,15 +155,8 @@ pub fn turn<'a>(
                 Ok(gives(at, Phase::Between, wants_done, Command::CommitEnd, after))
             }
             (Some(l), after) => {
-                changed(
-                    alloc,
-                    change_kind(l.bytes),
-                    l.at,
-                    wants_done,
-                    ended,
-                    i,
-                    after,
-                )
+                let kind = change_kind(l.bytes);
+                changed(alloc, kind, l.at, wants_done, ended, i, after)
             }
         },
     }
