@@ -16,16 +16,16 @@ use Rattle.fast_import.specs.declared.modify.DataRef.TheVariants as datas
 use Rattle.fast_import.specs.declared.progress.Phase.{Phase}
 use Rattle.fast_import.specs.declared.progress.Phase.TheVariants.{Between, InCommit, Finished}
 use Rattle.fast_import.specs.declared.progress.Progress.{Progress}
-use Rattle.fast_import.specs.Reading.{Reader, ◌then◌, judged, or_fault, refuse, pure, option_line, need_line}
+use Rattle.fast_import.specs.Reading.{Judged, Reader, ◌then◌, judged, or_fault, refuse, pure, option_line, need_line}
 use Rattle.fast_import.specs.Names.{refname}
 use Rattle.fast_import.specs.Blocks.{count, sized_block, whole_block, data_behind, blob_data, message_behind, message_data, blob_max, message_max}
 use Rattle.fast_import.specs.PathWords.{last_path, two_paths}
 use Rattle.fast_import.specs.Changes.{modify_line, blob_ref, modify, change, change_line, ChangeLine, ModifyIs, DeleteIs, RenameIs, CopyIs, DeleteAllIs, NotesAre, EmptyIs, NoChange}
-use Rattle.fast_import.specs.Heads.{mark_of, mark_lines, blob, author_of, committer_of, people, ref_of, ref_line, more_merges, merges, merges_max, parents, head, reset}
+use Rattle.fast_import.specs.Heads.{if_some, said, mark_in, mark_lines, blob, author_in, committer_of, people, ref_in, ref_line, more_merges, merges, merges_max, parents, head, reset}
 use Rattle.fast_import.specs.Commands.{CommandLine, EmptyLine, BlobLine, CommitLine, ResetLine, IdleLine, WantsDone, DoneLine, RefusedLine, OtherLine, command_line, gives, between, at_the_end, between_at, changed, in_commit_at, turn_in, turn}
 use Rattle.fast_import.specs.Cutting.{Agrees, IsTold, Steps, IsReader}
 use Rattle.fast_import.proofs.Combining.{then-reader, pure-reader, refuse-reader, judged-reader, cond-reader, option_line-reader, need_line-reader, whole_block-reader, OfLine, IsOfLine, on_line, line-reader, bind_steps}
-use Rattle.fast_import.proofs.Judging.{given, refname-judged, last_path-judged, two_paths-judged, modify_line-judged, mark_of-judged, author_of-judged, committer_of-judged, ref_of-judged}
+use Rattle.fast_import.proofs.Judging.{IsJudged, given, refname-judged, last_path-judged, two_paths-judged, modify_line-judged, if_some-judged, mark_in-judged, author_in-judged, committer_of-judged, ref_in-judged}
 
 sized_block-reader : (which : Quantity) (most at n : ℕ) → IsReader (sized_block which most at n)
 sized_block-reader which most at n = cond-reader (nat_le n most) (whole_block at n) (refuse (Limit at which)) (whole_block-reader at n) (refuse-reader (Limit at which))
@@ -74,12 +74,15 @@ change-reader at NoChange = refuse-reader _
 
 -- ---- heads
 
+said-reader : {A : Type 0} (word : Bytes) (says : Line → Judged A) → ((l : Line) → IsJudged (says l)) → IsReader (said word says)
+said-reader word says h =
+    then-reader (option_line word) (λ l. judged (if_some says l)) (option_line-reader word) (λ l. judged-reader (if_some says l) (if_some-judged says h l).told)
+
 mark_lines-reader : IsReader mark_lines
 unfolding mark_lines
 mark_lines-reader =
-    then-reader (option_line (codes "mark ")) _ (option_line-reader (codes "mark ")) (λ l.
-    then-reader (judged (mark_of l)) _ (judged-reader (mark_of l) (mark_of-judged l).told) (λ m.
-    then-reader (option_line (codes "original-oid ")) _ (option_line-reader (codes "original-oid ")) (λ o. pure-reader m)))
+    then-reader (said (codes "mark ") mark_in) _ (said-reader (codes "mark ") mark_in mark_in-judged) (λ m.
+    then-reader (option_line (codes "original-oid ")) _ (option_line-reader (codes "original-oid ")) (λ o. pure-reader m))
 
 pub blob-reader : IsReader blob
 unfolding blob
@@ -88,14 +91,13 @@ blob-reader = then-reader mark_lines _ mark_lines-reader (λ m. then-reader blob
 people-reader : IsReader people
 unfolding people
 people-reader =
-    then-reader (option_line (codes "author ")) _ (option_line-reader (codes "author ")) (λ l.
-    then-reader (judged (author_of l)) _ (judged-reader (author_of l) (author_of-judged l).told) (λ a.
+    then-reader (said (codes "author ") author_in) _ (said-reader (codes "author ") author_in author_in-judged) (λ a.
     then-reader need_line _ need_line-reader (λ l.
-    then-reader (judged (committer_of l)) _ (judged-reader (committer_of l) (committer_of-judged l).told) (λ c. pure-reader _))))
+    then-reader (judged (committer_of l)) _ (judged-reader (committer_of l) (committer_of-judged l).told) (λ c. pure-reader _)))
 
 ref_line-reader : (word : Bytes) → IsReader (ref_line word)
 unfolding ref_line
-ref_line-reader word = then-reader (option_line word) _ (option_line-reader word) (λ l. judged-reader (ref_of l) (ref_of-judged l).told)
+ref_line-reader word = said-reader word ref_in ref_in-judged
 
 more_merges-reader : (done : List CommitRef) (next : CommitRef → Reader (List CommitRef)) → ((r : CommitRef) → IsReader (next r)) → (o : Option CommitRef) → IsReader (more_merges done next o)
 more_merges-reader done next h None = pure-reader done

@@ -22,7 +22,7 @@ use Rattle.fast_import.specs.Reading.{Judged, ◌>>=◌, fault, or_fault}
 use Rattle.fast_import.specs.Names.{refname, ident, some_name, without_zero, target_by, target}
 use Rattle.fast_import.specs.PathWords.{path_by, path_at, unquoted_at, is_quoted, last_path, behind_quote, first_path, two_paths}
 use Rattle.fast_import.specs.Changes.{mode, dataref, is_module, is_digits, fitting, data_part, mode_part, modify_line}
-use Rattle.fast_import.specs.Heads.{mark_of, author_of, committer_by, committer_of, ref_of}
+use Rattle.fast_import.specs.Heads.{if_some, mark_in, author_in, committer_by, committer_of, ref_in}
 use Rattle.fast_import.specs.Cutting.{IsTold}
 use Rattle.fast_import.proofs.Combining.{bind_told}
 
@@ -118,13 +118,15 @@ pub modify_line-judged : (at : ℕ) (t : Bytes) → IsJudged (modify_line at t)
 unfolding modify_line
 modify_line-judged at t = mode_part-judged at (first_word t)
 
-pub mark_of-judged : (o : Option Line) → IsJudged (mark_of o)
-mark_of-judged None = ok _
-mark_of-judged (Some l) = next (given _ (mark l.bytes)) (λ n. ok _)
+pub if_some-judged : {A : Type 0} (says : Line → Judged A) → ((l : Line) → IsJudged (says l)) → (o : Option Line) → IsJudged (if_some says o)
+if_some-judged says h None = ok _
+if_some-judged says h (Some l) = next (h l) (λ x. ok _)
 
-pub author_of-judged : (o : Option Line) → IsJudged (author_of o)
-author_of-judged None = ok _
-author_of-judged (Some l) = next (ident-judged l.place l.bytes) (λ a. ok _)
+pub mark_in-judged : (l : Line) → IsJudged (mark_in l)
+mark_in-judged l = given _ (mark l.bytes)
+
+pub author_in-judged : (l : Line) → IsJudged (author_in l)
+author_in-judged l = ident-judged l.place l.bytes
 
 committer_by-judged : (at : ℕ) (o : Option Bytes) → IsJudged (committer_by at o)
 committer_by-judged at o = next (given _ o) (ident-judged at)
@@ -132,6 +134,5 @@ committer_by-judged at o = next (given _ o) (ident-judged at)
 pub committer_of-judged : (l : Line) → IsJudged (committer_of l)
 committer_of-judged l = committer_by-judged l.place (strip (codes "committer ") l.bytes)
 
-pub ref_of-judged : (o : Option Line) → IsJudged (ref_of o)
-ref_of-judged None = ok _
-ref_of-judged (Some l) = next (target-judged l.place l.bytes) (λ t. ok _)
+pub ref_in-judged : (l : Line) → IsJudged (ref_in l)
+ref_in-judged l = next (target-judged l.place l.bytes) (λ t. ok _)

@@ -8,3 +8,7 @@ pub mod Lowering
 pub mod Commanding
 pub mod Iterating
 pub mod Reading
+pub mod SpelledLines
+pub mod SpelledHeads
+pub mod SpelledChanges
+pub mod SpelledTurns

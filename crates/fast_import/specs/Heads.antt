@@ -14,16 +14,22 @@ use Rattle.fast_import.specs.Names.{refname, ident, target}
 use Rattle.fast_import.specs.Blocks.{blob_data, message_data}
 use Rattle.git_objects.specs.CommitBodies.{strip}
 
+abbrev pub if_some : {A : Type 0} → (Line → Judged A) → Option Line → Judged (Option A)
+if_some says None = Ok None
+if_some says (Some l) = says l >>= λ x. Ok (Some x)
+
+-- a line that begins with a word and may be missing, and what its text says
+abbrev pub said : {A : Type 0} → Bytes → (Line → Judged A) → Reader (Option A)
+said word says = option_line word then λ l. judged (if_some says l)
+
 -- ---- marks
 
-abbrev pub mark_of : Option Line → Judged (Option ℕ)
-mark_of None = Ok None
-mark_of (Some l) = or_fault (Syntax l.place) (mark l.bytes) >>= λ n. Ok (Some n)
+abbrev pub mark_in : Line → Judged ℕ
+mark_in l = or_fault (Syntax l.place) (mark l.bytes)
 
 -- The lines `mark :N` and `original-oid TEXT`, each of which may be missing.
 unfoldable pub mark_lines : Reader (Option ℕ)
-mark_lines =
-    option_line (codes "mark ") then λ l. judged (mark_of l) then λ m. option_line (codes "original-oid ") then λ o. pure m
+mark_lines = said (codes "mark ") mark_in then λ m. option_line (codes "original-oid ") then λ o. pure m
 
 -- What stands behind the line `blob`.
 unfoldable pub blob : Reader Command
@@ -36,9 +42,8 @@ abbrev pub author_or : Bytes → Option Bytes → Bytes
 author_or c None = c
 author_or c (Some a) = a
 
-abbrev pub author_of : Option Line → Judged (Option Bytes)
-author_of None = Ok None
-author_of (Some l) = ident l.place l.bytes >>= λ a. Ok (Some a)
+abbrev pub author_in : Line → Judged Bytes
+author_in l = ident l.place l.bytes
 
 abbrev pub committer_by : ℕ → Option Bytes → Judged Bytes
 committer_by at t = or_fault (Syntax at) t >>= ident at
@@ -49,18 +54,16 @@ committer_of l = committer_by l.place (strip (codes "committer ") l.bytes)
 -- The line `author IDENT`, which may be missing, and the line `committer IDENT`.
 unfoldable pub people : Reader (Bytes × Bytes)
 people =
-    option_line (codes "author ") then λ l. judged (author_of l) then λ a. need_line then λ l. judged (committer_of l) then λ c.
-    pure (author_or c a, c)
+    said (codes "author ") author_in then λ a. need_line then λ l. judged (committer_of l) then λ c. pure (author_or c a, c)
 
 -- ---- parents
 
-abbrev pub ref_of : Option Line → Judged (Option CommitRef)
-ref_of None = Ok None
-ref_of (Some l) = target l.place l.bytes >>= λ t. Ok (Some (record { at = l.place; target = t }))
+abbrev pub ref_in : Line → Judged CommitRef
+ref_in l = target l.place l.bytes >>= λ t. Ok (record { at = l.place; target = t })
 
 -- A line of a word and a commit's name, which may be missing.
 unfoldable pub ref_line : Bytes → Reader (Option CommitRef)
-ref_line word = option_line word then λ l. judged (ref_of l)
+ref_line word = said word ref_in
 
 abbrev pub more_merges : List CommitRef → (CommitRef → Reader (List CommitRef)) → Option CommitRef → Reader (List CommitRef)
 more_merges done next None = pure done

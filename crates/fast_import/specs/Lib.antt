@@ -10,5 +10,6 @@ pub mod Verdicts
 pub mod Cutting
 pub mod Views
 pub mod Readers
+pub mod Spelling
 pub mod Laws
 pub mod Rows

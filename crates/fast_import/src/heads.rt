@@ -2,7 +2,7 @@
 ghost use Rattle.std.specs.Prelude.{◌≡◌, ◌≤◌, ◌<◌, ◌^◌, [], IfOk};
 ghost use Rattle.stream_lex.specs.Lines.{stream_max};
 ghost use Rattle.stream_lex.specs.Views.{input, line, maybe_line};
-ghost use Rattle.fast_import.specs.Heads.{mark_of, mark_lines, blob, author_of, author_or, committer_of, people, ref_of, ref_line, merges, merges_max, parents, head, reset};
+ghost use Rattle.fast_import.specs.Heads.{if_some, mark_in, mark_lines, blob, author_in, author_or, committer_of, people, ref_in, ref_line, merges, merges_max, parents, head, reset};
 ghost use Rattle.fast_import.specs.Views.{Tells, same, with_rest, people_read, parents_read};
 
 use crate::blocks::{blob_data, message_data};
@@ -19,7 +19,7 @@ use stream_lex::{Cursor, LineView};
 const PARENTS_MAX: u8 = 16;
 
 fn mark_of<'a>(l: Option<LineView<'a>>) -> Result<Option<u64>, Halt>
-    ensures { Tells same result (mark_of (maybe_line l.entry)) }
+    ensures { Tells same result (if_some mark_in (maybe_line l.entry)) }
 {
     let Some(l) = l else {
         return Ok(None);
@@ -57,7 +57,7 @@ pub fn blob<'a>(alloc: Global, ended: bool, i: Cursor<'a>) -> Result<(Command, C
 }
 
 fn author_of<'a>(alloc: Global, l: Option<LineView<'a>>) -> Result<Option<Ident>, Halt>
-    ensures { Tells same result (author_of (maybe_line l.entry)) }
+    ensures { Tells same result (if_some author_in (maybe_line l.entry)) }
 {
     let Some(l) = l else {
         return Ok(None);
@@ -101,7 +101,7 @@ fn people<'a>(alloc: Global, ended: bool, i: Cursor<'a>) -> Result<(Ident, Ident
 }
 
 fn ref_of<'a>(alloc: Global, l: Option<LineView<'a>>) -> Result<Option<CommitRef>, Halt>
-    ensures { Tells same result (ref_of (maybe_line l.entry)) }
+    ensures { Tells same result (if_some ref_in (maybe_line l.entry)) }
 {
     let Some(l) = l else {
         return Ok(None);

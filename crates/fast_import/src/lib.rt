@@ -26,5 +26,5 @@ mod words;
 pub use command::{BlobRef, Change, Command, CommitHead, Merges, Placed};
 pub use commit_ref::{CommitRef, Target};
 pub use fault::{Feature, StreamFault};
-pub use laws::{fault_law, verdict_law};
+pub use laws::{fault_law, spelling_law, verdict_law};
 pub use reader::{Next, Reader};
