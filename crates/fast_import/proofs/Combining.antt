@@ -34,7 +34,7 @@ bind_steps i (Err e) f h k = tt
 pub bind_told : {A B : Type 0} (r : Judged A) (f : A → Judged B) → IsTold r → ((x : A) → IsTold (f x)) → IsTold (r >>= f)
 bind_told (Ok x) f h k = k x
 bind_told (Err halts.More) f h k = h
-bind_told (Err halts.Memory) f h k = tt
+bind_told (Err halts.Memory) f h k = h
 bind_told (Err (halts.Fault e)) f h k = tt
 
 -- ---- combinators
@@ -55,7 +55,7 @@ refuse-reader f = record { settles = λ e more i. refl; steps = λ e i. tt; told
 pub judged-reader : {A : Type 0} (r : Judged A) → IsTold r → IsReader (judged r)
 judged-reader (Ok x) h = pure-reader x
 judged-reader (Err halts.More) h = absurd h
-judged-reader (Err halts.Memory) h = record { settles = λ e more i. refl; steps = λ e i. tt; told = λ i. tt }
+judged-reader (Err halts.Memory) h = absurd h
 judged-reader (Err (halts.Fault f)) h = refuse-reader f
 
 pub cond-reader : {A : Type 0} (b : Bool) (f g : Reader A) → IsReader f → IsReader g → IsReader (cond b f g)

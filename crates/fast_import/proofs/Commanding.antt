@@ -60,7 +60,7 @@ turn_told : (f : Progress → Reader Told) (p : Progress) (i : Input) → ((q : 
     (r : Read Turn) → TurnLowers p i r → IsTold r → IsTold (r >>= λ x. turn_on f x.0 true x.1)
 turn_told f p i h (Ok x) l t = event_told f p i h x.0.event x.0.progress x.1 l
 turn_told f p i h (Err halts.More) l t = t
-turn_told f p i h (Err halts.Memory) l t = tt
+turn_told f p i h (Err halts.Memory) l t = t
 turn_told f p i h (Err (halts.Fault e)) l t = tt
 
 within_told : (n : ℕ) (p : Progress) (i : Input) → length i.rest < n → IsTold (command_within n p true i)

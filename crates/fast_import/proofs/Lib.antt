@@ -12,3 +12,4 @@ pub mod SpelledLines
 pub mod SpelledHeads
 pub mod SpelledChanges
 pub mod SpelledTurns
+pub mod SpelledWhole

@@ -25,12 +25,10 @@ use Rattle.fast_import.specs.Reading.{Judged, Read, ◌>>=◌, ◌then◌, lifte
 use Rattle.fast_import.specs.Heads.{blob, head, reset}
 use Rattle.fast_import.specs.Changes.{change, change_line, ChangeLine, ModifyIs, DeleteIs, RenameIs, CopyIs, DeleteAllIs, NotesAre, EmptyIs, NoChange}
 use Rattle.fast_import.specs.Commands.{CommandLine, EmptyLine, BlobLine, CommitLine, ResetLine, IdleLine, WantsDone, DoneLine, RefusedLine, OtherLine, feature_by, refused_line, with_word, by_word, by_text, command_line, Turn, turned, gives, between, at_the_end, between_at, changed, in_commit_at, turn_in, turn}
-use Rattle.fast_import.specs.Spelling.{WordLine, HasHead, HasBlob, HasChange, IsOther, line_of, Spells, phase_behind, IsIdle, Passes}
-use Rattle.fast_import.specs.Laws.{behind, SpellingLaw}
+use Rattle.fast_import.specs.Spelling.{WordLine, HasHead, HasBlob, HasChange, IsOther, line_of, Spells, phase_behind, IsIdle, Passes, behind, EndsHere}
 use Rattle.fast_import.proofs.SpelledLines.{bind_ok}
 use Rattle.fast_import.proofs.SpelledHeads.{BlobIs, blob-reads, HeadIs, head-reads, ResetIs, reset-reads}
 use Rattle.fast_import.proofs.SpelledChanges.{ChangeTold, change_told, change_was, ReadsChange, change_again, empty_again, other_again}
-use Rattle.fast_import.proofs.Commanding.{command-is}
 
 -- ---- lines by their first word
 
@@ -106,16 +104,16 @@ empty_line = refl
 
 -- ---- what is told is spelled
 
-abbrev EventSpelled : Progress → Input → Event → Progress → Input → Type 0
+abbrev pub EventSpelled : Progress → Input → Event → Progress → Input → Type 0
 EventSpelled p i (Gives c) q j = Spells p.phase i c.at c.command j × (q ≡ behind p c.command)
 EventSpelled p i Skips q j = (p.phase ≡ Between) × (q.phase ≡ Between) × Passes i p.wants_done j q.wants_done
-EventSpelled p i Ends q j = Unit {0}
+EventSpelled p i Ends q j = EndsHere p i
 
-abbrev TurnSpelled : Progress → Input → Read Turn → Type 0
+abbrev pub TurnSpelled : Progress → Input → Read Turn → Type 0
 TurnSpelled p i (Ok x) = EventSpelled p i x.0.event x.0.progress x.1
 TurnSpelled p i (Err e) = Unit {0}
 
-abbrev here : Phase → Bool → Progress
+abbrev pub here : Phase → Bool → Progress
 here p d = record { phase = p; wants_done = d }
 
 abbrev given : ℕ → Phase → Bool → Command → Turn
@@ -172,13 +170,13 @@ module _ (d : Bool) (i k : Input) (l : Line) (n : NextLine i l k) where
   changed_spelled DeleteAllIs e = changing_spelled DeleteAllIs e
   changed_spelled NotesAre e = changing_spelled NotesAre e
 
-end_spelled : (d e : Bool) (at : ℕ) (i j : Input) → TurnSpelled (here Between d) i (at_the_end at e true j)
-end_spelled d true at i j = tt
-end_spelled d false at i j = tt
+end_spelled : (d : Bool) (at : ℕ) (i j : Input) → NoLine i j → TurnSpelled (here Between d) i (at_the_end at d true j)
+end_spelled true at i j h = tt
+end_spelled false at i j h = inr (refl, refl, j, h)
 
 between_line : (d : Bool) (i : Input) (r : Result (Option Line × Input) Stop) → Spelled true i r → TurnSpelled (here Between d) i (lifted r >>= between_at d true)
 between_line d i (Ok (Some l, k)) h = between_spelled d i k l h.0 (command_line l.bytes) (command_told l.bytes)
-between_line d i (Ok (None, k)) h = end_spelled d d k.at i k
+between_line d i (Ok (None, k)) h = end_spelled d k.at i k h.0
 between_line d i (Err e) h = tt
 
 commit_spelled : (d : Bool) (i : Input) (r : Result (Option Line × Input) Stop) → Spelled true i r → TurnSpelled (here InCommit d) i (lifted r >>= in_commit_at d true i)
@@ -189,9 +187,9 @@ commit_spelled d i (Err e) h = tt
 turn_in_spelled : (p : Phase) (d : Bool) (i : Input) → TurnSpelled (here p d) i (turn_in p d true i)
 turn_in_spelled Between d i = between_line d i (line_at true i) (line_at-spelled true i)
 turn_in_spelled InCommit d i = commit_spelled d i (line_at true i) (line_at-spelled true i)
-turn_in_spelled Finished d i = tt
+turn_in_spelled Finished d i = inl refl
 
-turn_spelled : (p : Progress) (i : Input) → TurnSpelled p i (turn p true i)
+pub turn_spelled : (p : Progress) (i : Input) → TurnSpelled p i (turn p true i)
 unfolding turn
 turn_spelled p i = turn_in_spelled p.phase p.wants_done i
 
@@ -250,7 +248,7 @@ read_again InCommit d i at (commands.Reset t f) j h = absurd h
 read_again InCommit d i at commands.Done j h = absurd h
 read_again Finished d i at c j h = absurd h
 
-turn_again : (p : Progress) (i j : Input) (c : Placed) → Spells p.phase i c.at c.command j → turn p true i ≡ Ok (record { event = Gives c; progress = behind p c.command }, j)
+pub turn_again : (p : Progress) (i j : Input) (c : Placed) → Spells p.phase i c.at c.command j → turn p true i ≡ Ok (record { event = Gives c; progress = behind p c.command }, j)
 unfolding turn
 turn_again p i j c h = read_again p.phase p.wants_done i c.at c.command j h
 
@@ -271,19 +269,6 @@ passes_again d e i j h =
       | inr g ↦ at_between d i j h.0 WantsDone h.1 (ap command_line g.0 ∙ wants_line) ∙ ap (λ b. Ok (turned Skips Between b, j)) (sym g.1)
     ]
 
-turn_passes : (d e : Bool) (i j : Input) → Passes i d j e → turn (here Between d) true i ≡ Ok (turned Skips Between e, j)
+pub turn_passes : (d e : Bool) (i j : Input) → Passes i d j e → turn (here Between d) true i ≡ Ok (turned Skips Between e, j)
 unfolding turn
 turn_passes d e i j h = passes_again d e i j h
-
-fault_unspelled : (p : Progress) (i : Input) (f : StreamFault) → turn p true i ≡ Err (halts.Fault f) → (j : Input) (c : Placed) → ¬ Spells p.phase i c.at c.command j
-fault_unspelled p i f e j c h = let g = turn_again p i j c h in absurd cc
-
-pub spelling_law : SpellingLaw
-spelling_law = record {
-  spelled = λ p q i j c e. subst (TurnSpelled p i) e (turn_spelled p i);
-  read = turn_again;
-  passed = λ p q i j e. subst (TurnSpelled p i) e (turn_spelled p i);
-  passes = turn_passes;
-  fault = fault_unspelled;
-  next = command-is;
-}

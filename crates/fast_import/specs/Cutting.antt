@@ -20,7 +20,7 @@ Settles f = (ended : Bool) (more : Bytes) (i : Input) → Agrees more (f false i
 abbrev pub IsTold : {A : Type 0} → Judged A → Type 0
 IsTold (Ok x) = Unit {0}
 IsTold (Err halts.More) = ⊥
-IsTold (Err halts.Memory) = Unit {0}
+IsTold (Err halts.Memory) = ⊥
 IsTold (Err (halts.Fault f)) = Unit {0}
 
 abbrev pub Steps : {A : Type 0} → Input → Read A → Type 0

@@ -1,5 +1,5 @@
 -- What commands are, in the bytes of a whole stream: i is what stands from a place on, j what is left behind.
-use Rattle.std.specs.Prelude.{◌≡◌, ◌≢◌, ◌≤◌, ◌⊎◌, ℕ, Bool, true, false, List, [], ◌∷◌, ◌++◌, length, codes, Option, Some, None, Ok, Err}
+use Rattle.std.specs.Prelude.{◌≡◌, ◌≢◌, ◌≤◌, ◌⊎◌, ℕ, zero, suc, Bool, true, false, List, [], ◌∷◌, ◌++◌, length, codes, Option, Some, None, Ok, Err}
 use Rattle.git_objects.specs.Paths.{Bytes, Path}
 use Rattle.git_objects.specs.Idents.{is_ident}
 use Rattle.path_names.specs.RefNames.{is_ref_name}
@@ -17,6 +17,8 @@ use Rattle.fast_import.specs.declared.modify.DataRef.{DataRef}
 use Rattle.fast_import.specs.declared.modify.DataRef.TheVariants as datas
 use Rattle.fast_import.specs.declared.progress.Phase.{Phase}
 use Rattle.fast_import.specs.declared.progress.Phase.TheVariants.{Between, InCommit, Finished}
+use Rattle.fast_import.specs.declared.progress.Progress.{Progress}
+use Rattle.fast_import.specs.declared.command.Placed.{Placed}
 use Rattle.fast_import.specs.Words.{number}
 use Rattle.fast_import.specs.Reading.{Judged}
 use Rattle.fast_import.specs.Blocks.{blob_max, message_max}
@@ -171,3 +173,28 @@ IsIdle l = (l ≡ []) ⊎ ((t : Bytes) × (l ≡ codes "progress " ++ t)) ⊎ (l
 -- such a line between commands, or `feature done`; d and e say whether `done` is wanted before and behind it
 abbrev pub Passes : Input → Bool → Input → Bool → Type 0
 Passes i d j e = (l : Line) × NextLine i l j × ((IsIdle l.bytes × (e ≡ d)) ⊎ ((l.bytes ≡ codes "feature done") × (e ≡ true)))
+
+-- behind a command
+abbrev pub behind : Progress → Command → Progress
+behind p c = record { phase = phase_behind c; wants_done = p.wants_done }
+
+-- behind n such lines
+abbrev pub PassesLines : ℕ → Progress → Input → Progress → Input → Type 0
+PassesLines zero p i q j = (p ≡ q) × (i ≡ j)
+PassesLines (suc n) p i q j =
+    (p.phase ≡ Between) × (k : Input) × (d : Bool) × Passes i p.wants_done k d × PassesLines n (record { phase = Between; wants_done = d }) k q j
+
+abbrev pub Reaches : Progress → Input → Progress → Input → Type 0
+Reaches p i q j = (n : ℕ) × PassesLines n p i q j
+
+-- the stream ends, or `done` was read
+abbrev pub EndsHere : Progress → Input → Type 0
+EndsHere p i = (p.phase ≡ Finished) ⊎ ((p.phase ≡ Between) × (p.wants_done ≡ false) × (j : Input) × NoLine i j)
+
+-- ---- whole streams
+
+-- These commands are spelled one behind the other, up to the end of the stream.
+abbrev pub SpellsAll : List Placed → Progress → Input → Type 0
+SpellsAll [] p i = (q : Progress) × (k : Input) × Reaches p i q k × EndsHere q k
+SpellsAll (c ∷ cs) p i =
+    (q : Progress) × (k : Input) × (j : Input) × Reaches p i q k × Spells q.phase k c.at c.command j × SpellsAll cs (behind q c.command) j

@@ -1,4 +1,4 @@
-use Rattle.fast_import.proofs.SpelledTurns.{spelling_law}
+use Rattle.fast_import.proofs.SpelledWhole.{spelling_law}
 use Rattle.fast_import.proofs.laws.spelling_law.Goals as goal
 
 pub returns : goal.returns
