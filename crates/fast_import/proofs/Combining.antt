@@ -1,5 +1,5 @@
 -- What is built of readers is a reader.
-use Rattle.std.proofs.Common.{◌≡◌, ℕ, Bool, true, false, cond, Option, Some, None, Result, Ok, Err, refl, sym, ap, subst}
+use Rattle.std.proofs.Common.{ℕ, Bool, true, false, cond, Option, Some, None, Result, Ok, Err, refl, sym, ap, subst}
 use Rattle.git_objects.specs.Paths.{Bytes}
 use Rattle.stream_lex.specs.declared.cursor.Stop.{Stop}
 use Rattle.stream_lex.specs.declared.cursor.Stop.TheVariants as stops
@@ -9,9 +9,8 @@ use Rattle.stream_lex.proofs.Settling.{line_at-settles, block_at-settles}
 use Rattle.stream_lex.proofs.Advance.{line_at-steps, block_at-steps, stays, then as onward}
 use Rattle.stream_lex.proofs.Whole.{IsTold as LexTold, line_at-whole, block_at-whole}
 use Rattle.fast_import.specs.declared.fault.StreamFault.{StreamFault}
-use Rattle.fast_import.specs.declared.halt.Halt.{Halt}
 use Rattle.fast_import.specs.declared.halt.Halt.TheVariants as halts
-use Rattle.fast_import.specs.Reading.{Judged, Read, Reader, ◌>>=◌, ◌then◌, pure, judged, refuse, or_fault, lifted, halt_of, line_text, line_behind, option_line, must, need_line}
+use Rattle.fast_import.specs.Reading.{Judged, Read, Reader, ◌>>=◌, ◌then◌, pure, judged, refuse, lifted, line_text, line_behind, option_line, must, need_line}
 use Rattle.git_objects.specs.CommitBodies.{strip}
 use Rattle.fast_import.specs.Blocks.{block_in, whole_block}
 use Rattle.fast_import.specs.Cutting.{Agrees, IsTold, Steps, IsReader}

@@ -1,30 +1,25 @@
 -- Each reader of the grammar is one.
-use Rattle.std.proofs.Common.{◌≡◌, ℕ, zero, suc, Bool, true, false, cond, List, [], ◌∷◌, ◌++◌, Option, Some, None, Ok, Err, refl, nat_eq}
+use Rattle.std.proofs.Common.{ℕ, zero, suc, Bool, true, false, List, [], ◌∷◌, ◌++◌, Option, Some, None, nat_eq}
 use Rattle.std.specs.Prelude.{codes, nat_le}
 use Rattle.std.specs.List.{starts_with}
 use Rattle.git_objects.specs.declared.quantity.Quantity.{Quantity}
 use Rattle.git_objects.specs.declared.quantity.Quantity.TheVariants as limits
 use Rattle.git_objects.specs.Paths.{Bytes}
-use Rattle.stream_lex.specs.Lines.{Input, Line}
-use Rattle.stream_lex.specs.Cutting.{grown, Advances}
-use Rattle.stream_lex.proofs.Advance.{stays}
-use Rattle.fast_import.specs.declared.fault.StreamFault.TheVariants.{Syntax, Unsupported, Limit}
-use Rattle.fast_import.specs.declared.command.Command.TheVariants as commands
+use Rattle.stream_lex.specs.Lines.{Line}
+use Rattle.fast_import.specs.declared.fault.StreamFault.TheVariants.{Syntax, Limit}
 use Rattle.fast_import.specs.declared.commit_ref.CommitRef.{CommitRef}
 use Rattle.fast_import.specs.declared.modify.DataRef.{DataRef}
 use Rattle.fast_import.specs.declared.modify.DataRef.TheVariants as datas
-use Rattle.fast_import.specs.declared.progress.Phase.{Phase}
-use Rattle.fast_import.specs.declared.progress.Phase.TheVariants.{Between, InCommit, Finished}
-use Rattle.fast_import.specs.declared.progress.Progress.{Progress}
-use Rattle.fast_import.specs.Reading.{Judged, Reader, ◌then◌, judged, or_fault, refuse, pure, option_line, need_line}
+use Rattle.fast_import.specs.declared.progress.Phase.TheVariants.{Between, InCommit}
+use Rattle.fast_import.specs.Reading.{Judged, Reader, judged, or_fault, refuse, option_line, need_line}
 use Rattle.fast_import.specs.Names.{refname}
 use Rattle.fast_import.specs.Blocks.{count, sized_block, whole_block, data_behind, blob_data, message_behind, message_data, blob_max, message_max}
 use Rattle.fast_import.specs.PathWords.{last_path, two_paths}
-use Rattle.fast_import.specs.Changes.{modify_line, blob_ref, modify, change, change_line, ChangeLine, ModifyIs, DeleteIs, RenameIs, CopyIs, DeleteAllIs, NotesAre, EmptyIs, NoChange}
+use Rattle.fast_import.specs.Changes.{modify_line, blob_ref, modify, change, ChangeLine, ModifyIs, DeleteIs, RenameIs, CopyIs, DeleteAllIs, NotesAre, EmptyIs, NoChange}
 use Rattle.fast_import.specs.Heads.{if_some, said, mark_in, mark_lines, blob, author_in, committer_of, people, ref_in, ref_line, more_merges, merges, merges_max, parents, head, reset}
-use Rattle.fast_import.specs.Commands.{CommandLine, EmptyLine, BlobLine, CommitLine, ResetLine, IdleLine, WantsDone, DoneLine, RefusedLine, OtherLine, command_line, gives, between, at_the_end, between_at, changed, in_commit_at, turn_in, turn}
-use Rattle.fast_import.specs.Cutting.{Agrees, IsTold, Steps, IsReader}
-use Rattle.fast_import.proofs.Combining.{then-reader, pure-reader, refuse-reader, judged-reader, cond-reader, option_line-reader, need_line-reader, whole_block-reader, OfLine, IsOfLine, on_line, line-reader, bind_steps}
+use Rattle.fast_import.specs.Commands.{CommandLine, EmptyLine, BlobLine, CommitLine, ResetLine, IdleLine, WantsDone, DoneLine, RefusedLine, OtherLine, gives, between, at_the_end}
+use Rattle.fast_import.specs.Cutting.{IsReader}
+use Rattle.fast_import.proofs.Combining.{then-reader, pure-reader, refuse-reader, judged-reader, cond-reader, option_line-reader, need_line-reader, whole_block-reader}
 use Rattle.fast_import.proofs.Judging.{IsJudged, given, refname-judged, last_path-judged, two_paths-judged, modify_line-judged, if_some-judged, mark_in-judged, author_in-judged, committer_of-judged, ref_in-judged}
 
 sized_block-reader : (which : Quantity) (most at n : ℕ) → IsReader (sized_block which most at n)

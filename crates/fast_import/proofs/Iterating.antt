@@ -1,17 +1,16 @@
 -- The verdict is the commands one by one, and the same for every cutting.
-use Rattle.std.proofs.Common.{◌≡◌, ◌+◌, ◌*◌, ◌<◌, ◌≤◌, ℕ, zero, suc, Bool, true, false, List, [], ◌∷◌, ◌++◌, length, Option, Some, None, Ok, Err, refl, sym, ap, ◌∙◌, arith, length-append, subst}
+use Rattle.std.proofs.Common.{◌≡◌, ◌+◌, ◌<◌, ℕ, zero, suc, true, false, List, [], ◌∷◌, ◌++◌, length, Option, Some, None, Ok, Err, refl, sym, ap, ◌∙◌, arith, length-append, subst}
 use Rattle.std.specs.List.{concat}
 use Rattle.git_objects.specs.Paths.{Bytes}
 use Rattle.stream_lex.specs.Lines.{Input}
 use Rattle.stream_lex.specs.Cutting.{grown}
 use Rattle.stream_lex.proofs.Passing.{grown_none, grown_twice}
-use Rattle.fast_import.specs.declared.halt.Halt.{Halt}
 use Rattle.fast_import.specs.declared.halt.Halt.TheVariants as halts
 use Rattle.fast_import.specs.declared.command.Placed.{Placed}
 use Rattle.fast_import.specs.declared.progress.Progress.{Progress}
 use Rattle.fast_import.specs.Reading.{Read}
 use Rattle.fast_import.specs.Commands.{Told, read_command}
-use Rattle.fast_import.specs.Verdicts.{Verdict, stopped, with_command, halted, told_then, go_on, verdict_within, size, verdict_from, start, from_start, verdict, or_next, told_within, turns, told}
+use Rattle.fast_import.specs.Verdicts.{Verdict, with_command, told_then, go_on, verdict_within, size, verdict_from, start, from_start, verdict, or_next, told_within, turns, told}
 use Rattle.fast_import.specs.Cutting.{Agrees}
 use Rattle.fast_import.proofs.Commanding.{IfCommand, CommandLowers, command_lowers, command-reader}
 

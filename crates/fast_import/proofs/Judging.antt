@@ -1,17 +1,12 @@
 -- What is said of a text is a value or a fault.
-use Rattle.std.proofs.Common.{ℕ, Bool, true, false, cond, [], ◌∷◌, drop, Option, Some, None, Result, Ok, Err, nat_eq}
+use Rattle.std.proofs.Common.{ℕ, Bool, true, false, cond, [], ◌∷◌, Option, Some, None, Result, Ok, Err}
 use Rattle.std.specs.Prelude.{codes, ◌||◌}
-use Rattle.std.specs.Option.{option_map}
-use Rattle.std.specs.List.{starts_with}
 use Rattle.git_objects.specs.declared.mode.Mode.{Mode}
 use Rattle.git_objects.specs.declared.mode.Mode.TheVariants.{File, Exec, Link, Module}
-use Rattle.git_objects.specs.Paths.{Bytes, Path, is_nil, same_bytes}
-use Rattle.git_objects.specs.Idents.{is_ident}
+use Rattle.git_objects.specs.Paths.{Bytes, Path, same_bytes}
 use Rattle.git_objects.specs.CommitBodies.{digits_name, strip}
 use Rattle.path_names.specs.declared.path.PathFault.{PathFault}
 use Rattle.path_names.specs.PathTexts.{path_of}
-use Rattle.path_names.specs.Quoting.{unquote}
-use Rattle.path_names.specs.RefNames.{is_ref_name}
 use Rattle.stream_lex.specs.Lines.{Line}
 use Rattle.fast_import.specs.declared.fault.StreamFault.{StreamFault}
 use Rattle.fast_import.specs.declared.fault.StreamFault.TheVariants.{Syntax, Unsupported}
@@ -20,8 +15,8 @@ use Rattle.fast_import.specs.declared.modify.DataRef.{DataRef}
 use Rattle.fast_import.specs.Words.{first_word, mark}
 use Rattle.fast_import.specs.Reading.{Judged, ◌>>=◌, fault, or_fault}
 use Rattle.fast_import.specs.Names.{refname, ident, some_name, without_zero, target_by, target}
-use Rattle.fast_import.specs.PathWords.{path_by, path_at, unquoted_at, is_quoted, last_path, behind_quote, first_path, two_paths}
-use Rattle.fast_import.specs.Changes.{mode, dataref, is_module, is_digits, fitting, data_part, mode_part, modify_line}
+use Rattle.fast_import.specs.PathWords.{path_by, path_at, unquoted_at, last_path, behind_quote, first_path, two_paths}
+use Rattle.fast_import.specs.Changes.{mode, dataref, fitting, data_part, mode_part, modify_line}
 use Rattle.fast_import.specs.Heads.{if_some, mark_in, author_in, committer_by, committer_of, ref_in}
 use Rattle.fast_import.specs.Cutting.{IsTold}
 use Rattle.fast_import.proofs.Combining.{bind_told}

@@ -1,7 +1,5 @@
 -- Each command takes bytes, or leaves a commit.
-use Rattle.std.proofs.Common.{◌≡◌, ◌+◌, ◌*◌, ◌<◌, ◌≤◌, ℕ, Bool, true, false, length, Option, Some, None, Ok, Err, refl, ap, arith, length-drop}
-use Rattle.git_objects.specs.Paths.{Bytes}
-use Rattle.stream_lex.specs.declared.cursor.Stop.{Stop}
+use Rattle.std.proofs.Common.{◌<◌, ◌≤◌, ℕ, Bool, true, false, length, Option, Some, None, Ok, Err, ap, arith, length-drop}
 use Rattle.stream_lex.specs.Lines.{Input, Line, line_at, Read as LexRead}
 use Rattle.stream_lex.specs.Cutting.{Advances}
 use Rattle.stream_lex.proofs.Fuel.{Moves, line_at-moves}
@@ -12,12 +10,12 @@ use Rattle.fast_import.specs.declared.progress.Phase.TheVariants.{Between, InCom
 use Rattle.fast_import.specs.declared.progress.Progress.{Progress}
 use Rattle.fast_import.specs.declared.progress.Event.{Event}
 use Rattle.fast_import.specs.declared.progress.Event.TheVariants.{Gives, Skips, Ends}
-use Rattle.fast_import.specs.Reading.{Read, Reader, ◌>>=◌, ◌then◌, pure, lifted}
+use Rattle.fast_import.specs.Reading.{Read, ◌>>=◌, ◌then◌, lifted}
 use Rattle.fast_import.specs.Heads.{blob, head, reset}
 use Rattle.fast_import.specs.Changes.{change, change_line, ChangeLine, ModifyIs, DeleteIs, RenameIs, CopyIs, DeleteAllIs, NotesAre, EmptyIs, NoChange}
 use Rattle.fast_import.specs.Commands.{CommandLine, EmptyLine, BlobLine, CommitLine, ResetLine, IdleLine, WantsDone, DoneLine, RefusedLine, OtherLine, command_line, Turn, turned, gives, between, at_the_end, between_at, changed, in_commit_at, turn_in, turn}
-use Rattle.fast_import.specs.Verdicts.{weight, size}
-use Rattle.fast_import.specs.Cutting.{Steps, IsReader}
+use Rattle.fast_import.specs.Verdicts.{size}
+use Rattle.fast_import.specs.Cutting.{Steps}
 use Rattle.fast_import.proofs.Composed.{blob-reader, head-reader, reset-reader, change-reader}
 
 abbrev pub Lowers : Progress → Input → Event → Progress → Input → Type 0

@@ -1,10 +1,9 @@
 -- What a reader is told step by step.
-use Rattle.std.proofs.Common.{◌≡◌, ◌+◌, ◌-◌, ◌<◌, ◌≤◌, ℕ, Bool, true, false, List, [], ◌++◌, length, drop, Option, Some, None, Ok, Err, refl, sym, ap, ◌∙◌, arith, subst, inl, inr}
+use Rattle.std.proofs.Common.{◌≡◌, ◌+◌, ◌-◌, ◌<◌, ◌≤◌, Bool, true, false, [], length, drop, Some, None, Ok, Err, refl, sym, ap, ◌∙◌, arith, subst, inl, inr}
 use Rattle.std.specs.Prelude.{◌⊎◌, Result}
 use Rattle.git_objects.specs.Paths.{Bytes}
 use Rattle.stream_lex.specs.Lines.{Input}
 use Rattle.stream_lex.specs.Cutting.{grown, Advances}
-use Rattle.stream_lex.specs.Lexing.{Lexed}
 use Rattle.stream_lex.proofs.Passing.{grown_none}
 use Rattle.fast_import.specs.declared.fault.StreamFault.{StreamFault}
 use Rattle.fast_import.specs.declared.fault.StreamFault.TheVariants.{OutOfMemory}
@@ -12,13 +11,12 @@ use Rattle.fast_import.specs.declared.halt.Halt.{Halt}
 use Rattle.fast_import.specs.declared.halt.Halt.TheVariants as halts
 use Rattle.fast_import.specs.declared.command.Placed.{Placed}
 use Rattle.fast_import.specs.declared.progress.Progress.{Progress}
-use Rattle.fast_import.specs.declared.progress.Event.{Event}
 use Rattle.fast_import.specs.declared.progress.Event.TheVariants.{Gives, Skips, Ends}
 use Rattle.fast_import.specs.declared.reader.Next.{Next}
 use Rattle.fast_import.specs.declared.reader.Next.TheVariants as nexts
-use Rattle.fast_import.specs.Reading.{Read, ◌>>=◌, ◌then◌}
-use Rattle.fast_import.specs.Commands.{Turn, Told, turn, turn_on, read_command}
-use Rattle.fast_import.specs.Readers.{Reading, reading, next_command, fed, MayFollow, IsBefore, TellsNext}
+use Rattle.fast_import.specs.Reading.{Read, ◌>>=◌}
+use Rattle.fast_import.specs.Commands.{Turn, turn, turn_on, read_command}
+use Rattle.fast_import.specs.Readers.{Reading, next_command, fed, MayFollow, IsBefore, TellsNext}
 use Rattle.fast_import.specs.Laws.{FaultLaw}
 use Rattle.fast_import.specs.Cutting.{Agrees, Steps}
 use Rattle.fast_import.proofs.Turning.{turn-reader}

@@ -1,11 +1,11 @@
 -- Changes are read exactly where they are spelled.
-use Rattle.std.proofs.Common.{◌≡◌, ◌≢◌, ◌⊎◌, inl, inr, ℕ, Bool, true, false, cond, List, [], ◌∷◌, ◌++◌, Option, Some, None, Result, Ok, Err, refl, sym, ap, ◌∙◌, subst}
+use Rattle.std.proofs.Common.{◌≡◌, ◌≢◌, ℕ, Bool, true, false, cond, [], ◌∷◌, ◌++◌, Some, None, Ok, refl, sym, ap, ◌∙◌, subst}
 use Rattle.std.specs.Prelude.{codes}
 use Rattle.std.specs.Cmp.Lexicographic.{bytes_decides}
-use Rattle.git_objects.specs.Paths.{Bytes, Path, same_bytes, is_nil}
+use Rattle.git_objects.specs.Paths.{Bytes, same_bytes, is_nil}
 use Rattle.git_objects.specs.CommitBodies.{strip}
-use Rattle.git_objects.proofs.CommitReading.{strip-spelled, strip-read}
-use Rattle.stream_lex.specs.Lines.{Input, Line}
+use Rattle.git_objects.proofs.CommitReading.{strip-spelled}
+use Rattle.stream_lex.specs.Lines.{Input}
 use Rattle.fast_import.specs.declared.command.Change.{Change}
 use Rattle.fast_import.specs.declared.command.Change.TheVariants as changes
 use Rattle.fast_import.specs.declared.command.BlobRef.{BlobRef}
@@ -14,7 +14,7 @@ use Rattle.fast_import.specs.declared.modify.DataRef.{DataRef}
 use Rattle.fast_import.specs.declared.modify.DataRef.TheVariants as datas
 use Rattle.fast_import.specs.declared.modify.ModifyLine.{ModifyLine}
 use Rattle.fast_import.specs.Words.{first_word}
-use Rattle.fast_import.specs.Reading.{Judged, Reader, ◌>>=◌, ◌then◌, pure, judged}
+use Rattle.fast_import.specs.Reading.{Judged, ◌then◌, pure, judged}
 use Rattle.fast_import.specs.Blocks.{blob_data, blob_max}
 use Rattle.fast_import.specs.PathWords.{last_path, two_paths}
 use Rattle.fast_import.specs.Changes.{modify_line, blob_ref, modify, change, change_line, with_word, by_word, is_notes, ChangeLine, ModifyIs, DeleteIs, RenameIs, CopyIs, DeleteAllIs, NotesAre, EmptyIs, NoChange}

@@ -1,6 +1,6 @@
 -- Blobs, heads and resets are read exactly where they are spelled.
-use Rattle.std.proofs.Common.{◌≡◌, ◌≢◌, ◌+◌, ◌<◌, ◌≤◌, ◌⊎◌, inl, inr, ℕ, zero, suc, Bool, true, false, cond, List, [], ◌∷◌, ◌++◌, length, Option, Some, None, Result, Ok, Err, refl, sym, ap, ◌∙◌, arith, nat_eq, leb, leb-true, le-leb, subst, eqb, eqb-true, append-nil, append_assoc}
-use Rattle.std.specs.Prelude.{codes, ◌&&◌, nat_le}
+use Rattle.std.proofs.Common.{◌≡◌, ◌≤◌, ℕ, zero, suc, Bool, true, false, cond, List, [], ◌∷◌, ◌++◌, length, Option, Some, None, Ok, refl, sym, ap, ◌∙◌, arith, nat_eq, leb, leb-true, le-leb, subst, eqb, eqb-true, append-nil, append_assoc}
+use Rattle.std.specs.Prelude.{codes, ◌&&◌}
 use Rattle.std.specs.List.{starts_with}
 use Rattle.git_objects.specs.declared.quantity.Quantity.{Quantity}
 use Rattle.git_objects.specs.declared.quantity.Quantity.TheVariants as limits
@@ -20,11 +20,11 @@ use Rattle.fast_import.specs.declared.command.Command.TheVariants as commands
 use Rattle.fast_import.specs.declared.command.CommitHead.{CommitHead}
 use Rattle.fast_import.specs.declared.commit_ref.CommitRef.{CommitRef}
 use Rattle.fast_import.specs.Words.{number, number_from}
-use Rattle.fast_import.specs.Reading.{Judged, Read, Reader, ◌>>=◌, ◌then◌, pure, judged, refuse, or_fault, fault, option_line, need_line}
+use Rattle.fast_import.specs.Reading.{Reader, ◌>>=◌, ◌then◌, pure, judged, refuse, or_fault, fault, option_line, need_line}
 use Rattle.fast_import.specs.Names.{refname, ident}
 use Rattle.fast_import.specs.Blocks.{count, whole_block, sized_block, data_behind, blob_data, blob_max, message_behind, message_data, message_max}
-use Rattle.fast_import.specs.Heads.{if_some, said, mark_in, mark_lines, blob, author_in, author_or, committer_of, people, ref_in, ref_line, more_merges, merges, merges_max, parents, head_of, head, reset}
-use Rattle.fast_import.specs.Spelling.{WordLine, NoWord, OptionLine, Said, HasData, HasMarks, HasBlob, HasPeople, HasMerges, HasParents, HasHead}
+use Rattle.fast_import.specs.Heads.{said, mark_in, mark_lines, blob, author_in, author_or, committer_of, people, ref_in, ref_line, more_merges, merges, merges_max, parents, head_of, head, reset}
+use Rattle.fast_import.specs.Spelling.{NoWord, OptionLine, Said, HasData, HasMarks, HasBlob, HasPeople, HasMerges, HasParents, HasHead}
 use Rattle.fast_import.proofs.SpelledLines.{Reads, bind_ok, ok_is, or_ok, Then, then_reads, Same, pure_reads, Told, judged_reads, convert, option_line-reads, need_line-reads, said-reads, whole_block-reads}
 
 -- ---- data

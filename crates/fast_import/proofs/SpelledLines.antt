@@ -1,17 +1,15 @@
 -- Lines and blocks are read exactly where they are spelled.
-use Rattle.std.proofs.Common.{◌≡◌, ◌≢◌, ◌+◌, ◌<◌, ◌≤◌, ◌⊎◌, inl, inr, ℕ, zero, suc, Bool, true, false, cond, List, [], ◌∷◌, ◌++◌, length, Option, Some, None, Result, Ok, Err, refl, sym, ap, ◌∙◌, arith, nat_eq, leb, leb-true, le-leb, subst}
-use Rattle.std.specs.Prelude.{codes, ◌&&◌}
+use Rattle.std.proofs.Common.{◌≡◌, ◌≢◌, inl, inr, ℕ, true, ◌++◌, length, Option, Some, None, Result, Ok, Err, refl, sym, ap, ◌∙◌, subst}
 use Rattle.git_objects.specs.Paths.{Bytes}
 use Rattle.git_objects.specs.CommitBodies.{strip}
 use Rattle.git_objects.proofs.CommitReading.{strip-spelled, strip-read}
 use Rattle.stream_lex.specs.declared.cursor.Stop.{Stop}
 use Rattle.stream_lex.specs.Lines.{Input, Line, line_at, block_at}
-use Rattle.stream_lex.specs.Spelling.{NextLine, NoLine, TakesBlock}
+use Rattle.stream_lex.specs.Spelling.{NextLine, TakesBlock}
 use Rattle.stream_lex.proofs.Spelled.{Spelled, line_at-spelled, line_at-again, line_at-none}
 use Rattle.stream_lex.proofs.BlockSpelled.{BlockTold, block_at-told, block_at-again}
 use Rattle.fast_import.specs.declared.fault.StreamFault.{StreamFault}
-use Rattle.fast_import.specs.declared.halt.Halt.{Halt}
-use Rattle.fast_import.specs.Reading.{Judged, Read, Reader, ◌>>=◌, ◌then◌, pure, judged, refuse, or_fault, fault, lifted, line_text, line_behind, option_line, must, need_line}
+use Rattle.fast_import.specs.Reading.{Judged, Reader, ◌>>=◌, ◌then◌, pure, judged, or_fault, lifted, line_text, line_behind, option_line, must, need_line}
 use Rattle.fast_import.specs.Blocks.{block_in, whole_block}
 use Rattle.fast_import.specs.Heads.{if_some, said}
 use Rattle.fast_import.specs.Spelling.{WordLine, NoWord, OptionLine, Said}

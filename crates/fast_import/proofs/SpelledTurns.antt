@@ -1,5 +1,5 @@
 -- Commands are read exactly where they are spelled.
-use Rattle.std.proofs.Common.{◌≡◌, ◌≢◌, ◌⊎◌, inl, inr, ℕ, Bool, true, false, cond, List, [], ◌∷◌, ◌++◌, Option, Some, None, Result, Ok, Err, refl, sym, ap, ◌∙◌, subst}
+use Rattle.std.proofs.Common.{◌≡◌, ◌⊎◌, inl, inr, ℕ, Bool, true, false, cond, [], ◌++◌, Option, Some, None, Result, Ok, Err, refl, sym, ap, ◌∙◌, subst}
 use Rattle.std.specs.Prelude.{codes}
 use Rattle.std.specs.Cmp.Lexicographic.{bytes_decides}
 use Rattle.git_objects.specs.Paths.{Bytes, same_bytes}
@@ -9,8 +9,6 @@ use Rattle.stream_lex.specs.declared.cursor.Stop.{Stop}
 use Rattle.stream_lex.specs.Lines.{Input, Line, line_at}
 use Rattle.stream_lex.specs.Spelling.{NextLine, NoLine}
 use Rattle.stream_lex.proofs.Spelled.{Spelled, line_at-spelled, line_at-again, line_at-none}
-use Rattle.fast_import.specs.declared.fault.StreamFault.{StreamFault}
-use Rattle.fast_import.specs.declared.halt.Halt.TheVariants as halts
 use Rattle.fast_import.specs.declared.command.Command.{Command}
 use Rattle.fast_import.specs.declared.command.Command.TheVariants as commands
 use Rattle.fast_import.specs.declared.command.Change.{Change}
@@ -21,12 +19,11 @@ use Rattle.fast_import.specs.declared.progress.Progress.{Progress}
 use Rattle.fast_import.specs.declared.progress.Event.{Event}
 use Rattle.fast_import.specs.declared.progress.Event.TheVariants.{Gives, Skips, Ends}
 use Rattle.fast_import.specs.Words.{first_word}
-use Rattle.fast_import.specs.Reading.{Judged, Read, ◌>>=◌, ◌then◌, lifted}
+use Rattle.fast_import.specs.Reading.{Read, ◌>>=◌, ◌then◌, lifted}
 use Rattle.fast_import.specs.Heads.{blob, head, reset}
 use Rattle.fast_import.specs.Changes.{change, change_line, ChangeLine, ModifyIs, DeleteIs, RenameIs, CopyIs, DeleteAllIs, NotesAre, EmptyIs, NoChange}
 use Rattle.fast_import.specs.Commands.{CommandLine, EmptyLine, BlobLine, CommitLine, ResetLine, IdleLine, WantsDone, DoneLine, RefusedLine, OtherLine, feature_by, refused_line, with_word, by_word, by_text, command_line, Turn, turned, gives, between, at_the_end, between_at, changed, in_commit_at, turn_in, turn}
-use Rattle.fast_import.specs.Spelling.{WordLine, HasHead, HasBlob, HasChange, IsOther, line_of, Spells, phase_behind, IsIdle, Passes, behind, EndsHere}
-use Rattle.fast_import.proofs.SpelledLines.{bind_ok}
+use Rattle.fast_import.specs.Spelling.{WordLine, line_of, Spells, phase_behind, IsIdle, Passes, behind, EndsHere}
 use Rattle.fast_import.proofs.SpelledHeads.{BlobIs, blob-reads, HeadIs, head-reads, ResetIs, reset-reads}
 use Rattle.fast_import.proofs.SpelledChanges.{ChangeTold, change_told, change_was, ReadsChange, change_again, empty_again, other_again}
 

@@ -1,19 +1,18 @@
 -- The verdict of a whole stream without a fault is what it spells.
-use Rattle.std.proofs.Common.{◌≡◌, ◌⊎◌, inl, inr, ℕ, zero, suc, Bool, true, false, List, [], ◌∷◌, Option, Some, None, Ok, Err, refl, sym, ap, ◌∙◌, subst}
-use Rattle.git_objects.specs.Paths.{Bytes}
+use Rattle.std.proofs.Common.{◌≡◌, inl, inr, ℕ, zero, suc, Bool, true, false, List, [], ◌∷◌, Option, Some, None, Ok, Err, refl, sym, ap, ◌∙◌, subst}
 use Rattle.stream_lex.specs.Lines.{Input, line_at}
 use Rattle.stream_lex.proofs.Spelled.{line_at-none}
 use Rattle.fast_import.specs.declared.fault.StreamFault.{StreamFault}
 use Rattle.fast_import.specs.declared.halt.Halt.TheVariants as halts
 use Rattle.fast_import.specs.declared.command.Placed.{Placed}
-use Rattle.fast_import.specs.declared.progress.Phase.TheVariants.{Between, InCommit, Finished}
+use Rattle.fast_import.specs.declared.progress.Phase.TheVariants.{Between, Finished}
 use Rattle.fast_import.specs.declared.progress.Progress.{Progress}
 use Rattle.fast_import.specs.declared.progress.Event.{Event}
 use Rattle.fast_import.specs.declared.progress.Event.TheVariants.{Gives, Skips, Ends}
 use Rattle.fast_import.specs.Reading.{Read, Reader, ◌>>=◌, lifted}
 use Rattle.fast_import.specs.Commands.{Turn, turned, Told, between_at, turn_in, turn, by_event, turn_on, command_within, read_command}
-use Rattle.fast_import.specs.Spelling.{Spells, Passes, behind, PassesLines, Reaches, EndsHere, SpellsAll}
-use Rattle.fast_import.specs.Verdicts.{Verdict, stopped, with_command, told_then, go_on, start, from_start, verdict_from, verdict}
+use Rattle.fast_import.specs.Spelling.{Spells, behind, PassesLines, Reaches, EndsHere, SpellsAll}
+use Rattle.fast_import.specs.Verdicts.{Verdict, stopped, with_command, told_then, go_on, start, from_start, verdict_from}
 use Rattle.fast_import.specs.Cutting.{IsTold}
 use Rattle.fast_import.specs.Laws.{SpellingLaw}
 use Rattle.fast_import.proofs.Commanding.{command-is, command-reader}

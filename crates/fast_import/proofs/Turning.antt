@@ -1,5 +1,5 @@
 -- One line or one command is read by a reader.
-use Rattle.std.proofs.Common.{◌≡◌, ℕ, Bool, true, false, Option, Some, None, refl}
+use Rattle.std.proofs.Common.{ℕ, Bool, true, false, Option, Some, None, refl}
 use Rattle.git_objects.specs.Paths.{Bytes}
 use Rattle.stream_lex.specs.Lines.{Input, Line}
 use Rattle.stream_lex.specs.Cutting.{grown, Advances}

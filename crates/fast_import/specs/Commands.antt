@@ -1,6 +1,6 @@
 -- The next command of a stream.
-use Rattle.std.specs.Prelude.{◌+◌, ℕ, zero, suc, Bool, true, false, cond, ◌&&◌, [], length, codes, Option, Some, None, Ok, Err}
-use Rattle.git_objects.specs.Paths.{Bytes, same_bytes, is_nil}
+use Rattle.std.specs.Prelude.{◌+◌, ℕ, zero, suc, Bool, true, false, cond, [], length, codes, Option, Some, None, Ok, Err}
+use Rattle.git_objects.specs.Paths.{Bytes, same_bytes}
 use Rattle.git_objects.specs.CommitBodies.{strip}
 use Rattle.stream_lex.specs.Lines.{Input, Line, line_at}
 use Rattle.fast_import.specs.declared.fault.Feature.{Feature}
@@ -18,7 +18,7 @@ use Rattle.fast_import.specs.declared.progress.Event.TheVariants.{Gives, Skips, 
 use Rattle.fast_import.specs.Words.{first_word}
 use Rattle.fast_import.specs.Reading.{Reader, Read, ◌>>=◌, ◌then◌, lifted, pure, refuse}
 use Rattle.fast_import.specs.Heads.{blob, head, reset}
-use Rattle.fast_import.specs.Changes.{ChangeLine, ModifyIs, DeleteIs, RenameIs, CopyIs, DeleteAllIs, NotesAre, EmptyIs, NoChange, change_line, change}
+use Rattle.fast_import.specs.Changes.{ChangeLine, EmptyIs, NoChange, change_line, change}
 
 -- ---- lines between commands, by their first word
 

@@ -1,6 +1,6 @@
 -- What commands are, in the bytes of a whole stream: i is what stands from a place on, j what is left behind.
-use Rattle.std.specs.Prelude.{◌≡◌, ◌≢◌, ◌≤◌, ◌⊎◌, ℕ, zero, suc, Bool, true, false, List, [], ◌∷◌, ◌++◌, length, codes, Option, Some, None, Ok, Err}
-use Rattle.git_objects.specs.Paths.{Bytes, Path}
+use Rattle.std.specs.Prelude.{◌≡◌, ◌≢◌, ◌≤◌, ◌⊎◌, ℕ, zero, suc, Bool, true, false, List, [], ◌∷◌, ◌++◌, length, codes, Option, Some, None, Ok}
+use Rattle.git_objects.specs.Paths.{Bytes}
 use Rattle.git_objects.specs.Idents.{is_ident}
 use Rattle.path_names.specs.RefNames.{is_ref_name}
 use Rattle.stream_lex.specs.Lines.{Input, Line}

@@ -1,5 +1,5 @@
 -- What functions over borrowed bytes tell.
-use Rattle.std.specs.Prelude.{◌≡◌, ℕ, List, Option, Some, None, Result, Ok, Err}
+use Rattle.std.specs.Prelude.{◌≡◌, ℕ, List, Option, Ok, Err}
 use Rattle.std.specs.Borrow.{Bor}
 use Rattle.git_objects.specs.Paths.{Bytes}
 use Rattle.stream_lex.specs.declared.cursor.Cursor.{Cursor}
@@ -7,7 +7,6 @@ use Rattle.stream_lex.specs.declared.cursor.LineView.{LineView}
 use Rattle.stream_lex.specs.Lines.{Input, Line}
 use Rattle.stream_lex.specs.Views.{input, line, maybe_bytes}
 use Rattle.fast_import.specs.declared.commit_ref.CommitRef.{CommitRef}
-use Rattle.fast_import.specs.declared.halt.Halt.{Halt}
 use Rattle.fast_import.specs.declared.halt.Halt.TheVariants as halts
 use Rattle.fast_import.specs.declared.progress.Event.{Event}
 use Rattle.fast_import.specs.declared.progress.Progress.{Progress}

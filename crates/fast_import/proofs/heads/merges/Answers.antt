@@ -1,6 +1,5 @@
-use Rattle.std.proofs.Common.{◌≡◌, ◌∙◌, sym, ap, arith, ◌<◌, List, []}
+use Rattle.std.proofs.Common.{◌∙◌, sym, ap, arith}
 use Rattle.stream_lex.specs.Views.{input}
-use Rattle.fast_import.specs.declared.halt.Halt.{Halt}
 use Rattle.fast_import.specs.Heads.{merges}
 use Rattle.fast_import.specs.Views.{Tells, with_rest}
 use Rattle.fast_import.proofs.Merging.{merges_some, merges_stop}

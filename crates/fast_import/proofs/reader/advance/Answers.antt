@@ -1,4 +1,4 @@
-use Rattle.std.proofs.Common.{◌≡◌, ◌+◌, ◌-◌, ◌≤◌, Bool, Ok, length, drop, sym, ap, ◌∙◌, subst}
+use Rattle.std.proofs.Common.{◌≡◌, ◌+◌, ◌-◌, ◌≤◌, Bool, Ok, length, drop, sym, ap, ◌∙◌}
 use Rattle.stream_lex.specs.Lines.{Input}
 use Rattle.stream_lex.specs.Lexing.{Lexed}
 use Rattle.stream_lex.specs.Views.{input}

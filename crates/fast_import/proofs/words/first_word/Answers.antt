@@ -1,4 +1,4 @@
-use Rattle.std.proofs.Common.{ap, sym}
+use Rattle.std.proofs.Common.{ap}
 use Rattle.git_objects.proofs.Spellings.{cut_at_none, cut_at_some}
 use Rattle.fast_import.specs.Words.{first_word, word_by}
 use Rattle.fast_import.proofs.words.first_word.Goals as goal

@@ -1,4 +1,4 @@
-use Rattle.std.proofs.Common.{◌≡◌, ◌∙◌, inr}
+use Rattle.std.proofs.Common.{◌∙◌, inr}
 use Rattle.fast_import.specs.declared.halt.Halt.TheVariants as halts
 use Rattle.fast_import.specs.Readers.{reading}
 use Rattle.fast_import.proofs.Reading.{told_command, told_end, told_halt, before_same, skipped_before, shorter}
