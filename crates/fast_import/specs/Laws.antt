@@ -1,5 +1,5 @@
 -- Laws of reading a stream.
-use Rattle.std.specs.Prelude.{◌≡◌, ◌⊎◌, ◌↔◌, Bool, true, List, None, Result, Ok, Err}
+use Rattle.std.specs.Prelude.{◌≡◌, ◌⊎◌, ◌↔◌, ℕ, Bool, true, List, None, Result, Ok, Err}
 use Rattle.std.specs.List.{concat}
 use Rattle.git_objects.specs.Paths.{Bytes}
 use Rattle.stream_lex.specs.Lines.{Input}
@@ -13,14 +13,22 @@ use Rattle.fast_import.specs.declared.progress.Progress.{Progress}
 use Rattle.fast_import.specs.declared.reader.Next.{Next}
 use Rattle.fast_import.specs.Cutting.{IsReader}
 use Rattle.fast_import.specs.Reading.{◌then◌}
+use Rattle.fast_import.specs.Heads.{blob, head, reset}
+use Rattle.fast_import.specs.Changes.{ChangeLine, change}
 use Rattle.fast_import.specs.Commands.{turn, turn_on, read_command}
 use Rattle.fast_import.specs.Spelling.{Spells, Passes, behind, EndsHere, SpellsAll}
 use Rattle.fast_import.specs.Verdicts.{verdict_from, go_on, start, from_start, verdict, told}
 use Rattle.fast_import.specs.Readers.{Reading, next_command, IsBefore, fed, MayFollow, TellsNext}
 
--- The verdict of a whole stream is its commands one by one, and each cutting into pieces tells the same.
+-- Each reader of the grammar is one, so that what was told before more came is told again. The verdict of a whole stream
+-- is its commands one by one, and each cutting into pieces tells the same.
 pub record VerdictLaw : Type 0 where
-  pub command : (p : Progress) → IsReader (read_command p)
+  pub blob_is : IsReader blob
+  pub head_is : (at : ℕ) (t : Bytes) → IsReader (head at t)
+  pub reset_is : (at : ℕ) (t : Bytes) → IsReader (reset at t)
+  pub change_is : (at : ℕ) (l : ChangeLine) → IsReader (change at l)
+  pub turn_is : (p : Progress) → IsReader (turn p)
+  pub command_is : (p : Progress) → IsReader (read_command p)
   pub one_by_one : (p : Progress) (i : Input) → verdict_from p i ≡ go_on verdict_from (read_command p true i)
   pub pieces : (pieces : List Bytes) → told pieces ≡ verdict (concat pieces)
 
