@@ -1,0 +1,15 @@
+pub mod FrontWords
+pub mod Merging
+pub mod Combining
+pub mod Judging
+pub mod Composed
+pub mod Turning
+pub mod Lowering
+pub mod Commanding
+pub mod Iterating
+pub mod Reading
+pub mod SpelledLines
+pub mod SpelledHeads
+pub mod SpelledChanges
+pub mod SpelledTurns
+pub mod SpelledWhole

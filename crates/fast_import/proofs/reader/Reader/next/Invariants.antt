@@ -1,0 +1,9 @@
+use Rattle.std.proofs.Common.{length}
+use Rattle.fast_import.specs.Readers.{IsBefore, reading}
+use Rattle.fast_import.proofs.reader.Reader.next.Given as goal
+
+abbrev pub invariant-turns : goal.invariant-turns
+invariant-turns l = IsBefore l.fn.self (reading l.self-inside.progress l.self-inside.lexer)
+
+abbrev pub decreases-turns : goal.decreases-turns
+decreases-turns l = length l.self-inside.lexer.input.rest

@@ -1,0 +1,113 @@
+// A reader of a stream that is fed in pieces.
+ghost use Rattle.std.specs.Prelude.{◌≡◌, ◌≤◌, [], false, true, OnOk, OnErr};
+ghost use Rattle.stream_lex.specs.Cutting.{grown};
+ghost use Rattle.fast_import.specs.Readers.{TellsTurn, TellsNext, reading, fed};
+ghost use Rattle.fast_import.specs.Verdicts.{start};
+
+use crate::halt::Halt;
+use crate::progress::{Event, Phase, Progress};
+use crate::turns::turn;
+use crate::{Placed, StreamFault};
+use std::alloc::{AllocError, Global};
+use std::marker::Model;
+use stream_lex::Lexer;
+
+/// What `Reader::next` tells.
+#[derive(Debug, Drop)]
+pub enum Next {
+    Command(Placed),
+    /// It can't be told before more has come.
+    More,
+    /// The stream ends, or `done` was read.
+    Ended,
+}
+
+/// Reads the commands of a stream one by one. It keeps what was fed and isn't read yet.
+#[derive(Debug, Drop)]
+pub struct Reader {
+    lexer: Lexer,
+    progress: Progress,
+    alloc: Global,
+}
+
+impl Model for Reader {
+    ghost use Rattle.fast_import.specs.Readers.{Reading, reading};
+
+    ghost Value = { Reading };
+
+    ghost view = { λ r. reading r.progress r.lexer };
+}
+
+impl Reader {
+    /// A reader of a stream of which nothing has come.
+    pub fn new(alloc: Global) -> Reader
+        ensures { result ≡ record {
+          progress = start;
+          input = record { at = 0; rest = [] };
+          ended = false;
+        } }
+    {
+        Reader {
+            lexer: Lexer::new(alloc),
+            progress: Progress {
+                phase: Phase::Between,
+                wants_done: false,
+            },
+            alloc,
+        }
+    }
+
+    /// Takes the next piece of the stream. What was read is given up.
+    pub fn feed(&mut self, piece: &[u8]) -> Result<(), AllocError>
+        requires { self.old.ended ≡ false }
+        ensures ok { OnOk result (self.new ≡ fed piece.now false self.old) }
+        ensures err { OnErr result (self.new ≡ self.old) }
+    {
+        self.lexer.feed(piece)
+    }
+
+    /// Nothing more comes.
+    pub fn end(&mut self)
+        ensures { self.new ≡ record {
+          progress = self.old.progress;
+          input = self.old.input;
+          ended = true;
+        } }
+    {
+        self.lexer.end();
+    }
+
+    /// The next command with the place of its first line, that more must come, or the end. After a fault every later
+    /// call gives the same fault, want of memory apart, after which the reader must be dropped.
+    pub fn next(&mut self) -> Result<Next, StreamFault>
+        ensures { TellsNext result self.old self.new }
+    {
+        'turns: loop {
+            match advance(self.alloc, &mut self.lexer, &mut self.progress) {
+                Err(Halt::More) => return Ok(Next::More),
+                Err(Halt::Memory) => return Err(StreamFault::OutOfMemory),
+                Err(Halt::Fault(fault)) => return Err(fault),
+                Ok(Event::Gives(placed)) => return Ok(Next::Command(placed)),
+                Ok(Event::Ends) => return Ok(Next::Ended),
+                Ok(Event::Skips) => {}
+            }
+        }
+    }
+}
+
+// One line or one command of what the lexer holds.
+fn advance(alloc: Global, lexer: &mut Lexer, progress: &mut Progress) -> Result<Event, Halt>
+    ensures { TellsTurn result (reading progress.old lexer.old) (reading progress.new lexer.new) }
+{
+    let i = lexer.cursor();
+    let ended = lexer.has_ended();
+    match turn(alloc, *progress, ended, i) {
+        Err(halt) => Err(halt),
+        Ok((event, behind, after)) => {
+            let to = after.at;
+            lexer.pass(to);
+            *progress = behind;
+            Ok(event)
+        }
+    }
+}
