@@ -21,3 +21,4 @@ pub mod StoredCommits
 pub mod TestRoots
 pub mod TreeLaw
 pub mod Walks
+pub mod CommitNames

@@ -3,6 +3,7 @@
 
 mod change;
 mod commit;
+mod commits;
 mod cursor;
 mod draft;
 mod item;

@@ -1,15 +1,17 @@
 // What a keeper's items spell.
-ghost use Rattle.std.specs.Prelude.{◌≡◌, ◌↔◌, [], Err, IfOk, IfSome, MatchResult, true};
+ghost use Rattle.std.specs.Prelude.{◌≡◌, ◌↔◌, [], Err, filter, map, reverse, IfOk, IfSome, MatchResult, true};
 ghost use Rattle.std.specs.FinMap.{find};
 ghost use Rattle.std.specs.Option.{option_map};
 ghost use Rattle.git_objects.specs.Parts.{name_bytes};
 ghost use Rattle.proj_io.specs.Counts.{Counts};
 ghost use Rattle.proj_io.specs.Items.{Stays};
 ghost use Rattle.object_store.specs.Errors.{newest};
-ghost use Rattle.repo_state.specs.Items.{bytes_cmp, held_with, read_items};
+ghost use Rattle.object_store.specs.Objects.{object_name};
+ghost use Rattle.repo_state.specs.Items.{bytes_cmp, held_with, is_commit, read_items};
 ghost use Rattle.repo_state.specs.Loads.{IsLoaded, IsLoadFault};
 ghost use Rattle.repo_state.specs.Stops.{are_heads};
 
+use crate::commits::commit_names;
 use crate::loading::{Loaded, load_items};
 use crate::objects::Objects;
 use crate::ref_table::RefTable;
@@ -109,6 +111,7 @@ impl State {
             (λ state. IsLoaded items state)
             (λ e. IsLoadFault e (read_items items))) }
         ensures number { IfOk result (λ state. state.number ≡ K.number keeper.old) }
+        ensures whole { IfOk result (λ state. newest state.objects ≡ state.held.objects) }
         ensures same { K.number keeper.new ≡ K.number keeper.old }
         ensures items { Stays (K.items keeper.old) (K.items keeper.new) }
         ensures is_open { K.is_open keeper.new }
@@ -122,6 +125,16 @@ impl State {
         match load_items(alloc, keeper, count) {
             Err(e) => return Err(e),
             Ok(loaded) => return Ok(State::of(loaded, count)),
+        }
+    }
+
+    /// The names of the commits that items hold, in order of arrival.
+    pub fn commits(&self, alloc: Global) -> Result<Vec<Name>, AllocError>
+        ensures { IfOk result (λ v. map name_bytes v.items ≡ reverse (map object_name (filter is_commit self.now.held.objects))) }
+    {
+        match commit_names(alloc, &self.store, self.held.as_slice()) {
+            Ok(commits) => Ok(commits),
+            Err(_) => Err(AllocError),
         }
     }
 
