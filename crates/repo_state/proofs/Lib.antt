@@ -22,3 +22,4 @@ pub mod TestRoots
 pub mod TreeLaw
 pub mod Walks
 pub mod CommitNames
+pub mod Counting

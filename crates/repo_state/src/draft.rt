@@ -133,8 +133,8 @@ fn is_commit(store: &Store, name: &Name) -> bool
     }
 }
 
-// How many of these objects are commits.
-fn count_commits(store: &Store, names: &[Name]) -> usize
+/// How many of these objects are commits.
+pub(crate) fn count_commits(store: &Store, names: &[Name]) -> usize
     ensures number { result ≡ length (filter is_commit (found (newest store.now) names.now)) }
     ensures bound { result < 2 ^ 63 }
 {
@@ -331,8 +331,8 @@ fn weigh(
     }
 }
 
-// Holds a change's objects behind those that are held.
-fn hold_change(
+/// Holds a change's objects behind those that are held.
+pub(crate) fn hold_change(
     alloc: Global,
     store: &Store,
     held: &mut IndexSet<Name>,

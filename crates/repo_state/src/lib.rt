@@ -4,6 +4,7 @@
 mod change;
 mod commit;
 mod commits;
+mod count;
 mod cursor;
 mod draft;
 mod item;
@@ -19,4 +20,5 @@ mod tests;
 mod walk;
 
 pub use commit::{Batch, CommitError, Setting};
+pub use count::count_batch;
 pub use state::{LoadError, State};
