@@ -3,6 +3,8 @@
 
 mod change;
 mod commit;
+#[cfg(test)]
+mod commit_tests;
 mod cursor;
 mod draft;
 mod item;
@@ -11,8 +13,6 @@ mod objects;
 mod ref_fields;
 mod ref_table;
 mod state;
-#[cfg(test)]
-mod commit_tests;
 #[cfg(test)]
 mod tests;
 mod walk;
