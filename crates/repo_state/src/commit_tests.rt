@@ -20,13 +20,16 @@ use std::process::Abort;
 use std::test::Fail;
 
 // Bodies that Git made, and the item that importing them into an empty store appends.
-const INNER: &[u8] = b"100644 f\x00\xce\x016%\x03\x0b\xa8\xdb\xa9\x06\xf7V\x96\x7f\x9e\x9c\xa3\x94FJ";
+const INNER: &[u8] =
+    b"100644 f\x00\xce\x016%\x03\x0b\xa8\xdb\xa9\x06\xf7V\x96\x7f\x9e\x9c\xa3\x94FJ";
 
 const FILES: &[u8] = b"40000 a\x00\x10s\x1d\x0b\x17\x0b\x98H\x1a\x00\xbd\xca\x16\x1e\x87N\n\xb93w";
 
-const FIRST: &[u8] = b"tree 9e875c512d63c924f4d9470217af46b123963bf8\nauthor A <a@x> 1700000000 +0000\ncommitter A <a@x> 1700000000 +0000\n\ninit\n";
+const FIRST: &[u8] =
+    b"tree 9e875c512d63c924f4d9470217af46b123963bf8\nauthor A <a@x> 1700000000 +0000\ncommitter A <a@x> 1700000000 +0000\n\ninit\n";
 
-const ITEM: &[u8] = b"\x01\x01\x00\x00\x00\x04\x01\x00\x00\x00\x06hello\n\x02\x00\x00\x00\x1d100644 f\x00\xce\x016%\x03\x0b\xa8\xdb\xa9\x06\xf7V\x96\x7f\x9e\x9c\xa3\x94FJ\x02\x00\x00\x00\x1c40000 a\x00\x10s\x1d\x0b\x17\x0b\x98H\x1a\x00\xbd\xca\x16\x1e\x87N\n\xb93w\x03\x00\x00\x00wtree 9e875c512d63c924f4d9470217af46b123963bf8\nauthor A <a@x> 1700000000 +0000\ncommitter A <a@x> 1700000000 +0000\n\ninit\n\x00\x00\x00\x01\x00\x0frefs/heads/mainY\x90\xbaac\xd7\x7fw\x07\x1c\xa2\xe8\xe9\x89\x9c6\x8d\xbcn\xb7";
+const ITEM: &[u8] =
+    b"\x01\x01\x00\x00\x00\x04\x01\x00\x00\x00\x06hello\n\x02\x00\x00\x00\x1d100644 f\x00\xce\x016%\x03\x0b\xa8\xdb\xa9\x06\xf7V\x96\x7f\x9e\x9c\xa3\x94FJ\x02\x00\x00\x00\x1c40000 a\x00\x10s\x1d\x0b\x17\x0b\x98H\x1a\x00\xbd\xca\x16\x1e\x87N\n\xb93w\x03\x00\x00\x00wtree 9e875c512d63c924f4d9470217af46b123963bf8\nauthor A <a@x> 1700000000 +0000\ncommitter A <a@x> 1700000000 +0000\n\ninit\n\x00\x00\x00\x01\x00\x0frefs/heads/mainY\x90\xbaac\xd7\x7fw\x07\x1c\xa2\xe8\xe9\x89\x9c6\x8d\xbcn\xb7";
 
 // A keeper in memory that doesn't tell its items.
 #[derive(Drop)]
@@ -165,7 +168,9 @@ fn refs_to(rt: &impl Abort, alloc: Global, names: &[&[u8]], head: Name) -> Vec<S
     let mut refs = Vec::new(alloc);
     for name in names {
         let refname = RefName::parse(alloc, name).ok().expect(rt, "a ref name");
-        refs.push(Setting { refname, head }).ok().expect(rt, "memory");
+        refs.push(Setting { refname, head })
+            .ok()
+            .expect(rt, "memory");
     }
     refs
 }

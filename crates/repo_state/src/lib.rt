@@ -3,6 +3,8 @@
 
 mod change;
 mod commit;
+#[cfg(test)]
+mod commit_tests;
 mod commits;
 mod count;
 mod cursor;
@@ -13,8 +15,6 @@ mod objects;
 mod ref_fields;
 mod ref_table;
 mod state;
-#[cfg(test)]
-mod commit_tests;
 #[cfg(test)]
 mod tests;
 mod walk;
