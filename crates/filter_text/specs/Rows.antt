@@ -165,7 +165,32 @@ pub a_target_of_a_chain : read (codes ":[x=:/a:/b]") ≡ Ok (join (only (chain (
 unfolding read pieces_at list_at target_at name_at kept_name_at word_at path_of unquote
 a_target_of_a_chain = refl
 
+pub no_equals_behind_a_target : read (codes ":[x:/a]") ≡ Err Syntax
+unfolding read pieces_at list_at target_at name_at kept_name_at word_at path_of unquote
+no_equals_behind_a_target = refl
+
+pub no_filter_behind_equals : read (codes ":[x=]") ≡ Err Syntax
+unfolding read pieces_at list_at target_at name_at kept_name_at word_at path_of unquote
+no_filter_behind_equals = refl
+
+pub no_target_outside : read (codes "x=:/a") ≡ Err Syntax
+unfolding read pieces_at list_at target_at name_at kept_name_at word_at path_of unquote
+no_target_outside = refl
+
 -- ---- faults in their order
+
+abbrev sixteen_lists : Bytes
+sixteen_lists = codes ":[:[:[:[:[:[:[:[:[:[:[:[:[:[:[:["
+
+pub sixteen_are_read : read (sixteen_lists ++ replicate 16 93)
+    ≡ Ok (join (only (join (only (join (only (join (only (join (only (join (only (join (only (join (only
+    (join (only (join (only (join (only (join (only (join (only (join (only (join (only (join no_more)))))))))))))))))))))))))))))))
+unfolding read pieces_at list_at target_at name_at kept_name_at word_at path_of unquote
+sixteen_are_read = refl
+
+pub seventeen_are_too_deep : read (sixteen_lists ++ codes ":[" ++ replicate 17 93) ≡ Err TooDeep
+unfolding read pieces_at list_at target_at name_at kept_name_at word_at path_of unquote
+seventeen_are_too_deep = refl
 
 abbrev seventeen : Bytes
 seventeen = replicate 17 91
