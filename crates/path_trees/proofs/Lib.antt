@@ -8,3 +8,4 @@ pub mod Directories
 pub mod Editing
 pub mod Climbs
 pub mod Walks
+pub mod Clashing
