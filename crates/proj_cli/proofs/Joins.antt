@@ -1,22 +1,23 @@
 -- What a command made, what came of writing it, and the text of the outcome are together the answer.
-use Rattle.std.proofs.Common.{◌≡◌, ◌≢◌, ◌⊎◌, ℕ, ◌≤◌, List, refl, sym, ap, subst, ◌∙◌, Some, Ok, Err, Result, IfSome, IsErr, inl, inr, arith}
+use Rattle.std.proofs.Common.{◌≡◌, ◌≢◌, ◌⊎◌, ℕ, ◌≤◌, Bool, List, refl, sym, ap, subst, ◌∙◌, Some, Ok, Err, Result, IfSome, IsErr, inl, inr, arith}
 use Rattle.std.specs.declared.option.Option.{Option}
 use Rattle.std.proofs.KnownBytes.{Keeps-refl}
 use Rattle.git_objects.specs.Paths.{Bytes}
+use Rattle.object_store.specs.Objects.{Object}
 use Rattle.proj_io.specs.Counts.{Counts}
-use Rattle.proj_io.specs.Views.{SourceView, SinkView}
+use Rattle.proj_io.specs.Views.{SourceView, SinkView, KeeperView}
 use Rattle.proj_cli.specs.Step.{Step, done}
-use Rattle.proj_cli.specs.Answer.{IsAnswer, IsMade, IsRefusal, IsConcluded, IsSent, IsOutcome, IsOutput, IsUnread, TakesMemory, IsComplete}
+use Rattle.proj_cli.specs.Answer.{AreItems, Devices, IsAnswer, IsComplete, IsConcluded, IsIdle, IsMade, IsOutcome, IsOutput, IsRefusal, IsReport, IsReported, IsSent, IsStepped, IsTwice, TakesMemory}
 use Rattle.proj_cli.specs.declared.outcome.Outcome.{Outcome}
-use Rattle.proj_cli.specs.declared.outcome.Outcome.TheVariants.{Done, OutOfMemory, ReadFault, WriteFault}
+use Rattle.proj_cli.specs.declared.outcome.Outcome.TheVariants.{Done, OutOfMemory, Collision, ReadFault, WriteFault, StoreFault}
 
 -- ---- a report that was written
 
-sent_outcome : (outcome : Outcome) (report : Bytes) (o p : SinkView) → IsSent outcome report o p → IsOutcome outcome (done report)
-sent_outcome Done report o p h = refl
-sent_outcome WriteFault report o p h = refl
-sent_outcome OutOfMemory report o p h = tt
-sent_outcome _ report o p h = absurd h
+sent_outcome : (hand : Object → Type 0) (outcome : Outcome) (report : Bytes) (o p : SinkView) → IsSent outcome report o p → IsOutcome hand outcome (done report)
+sent_outcome hand Done report o p h = refl
+sent_outcome hand WriteFault report o p h = refl
+sent_outcome hand OutOfMemory report o p h = tt
+sent_outcome hand _ report o p h = absurd h
 
 sent_output : (outcome : Outcome) (report : Bytes) (o p : SinkView) → IsSent outcome report o p → IsOutput outcome (done report) o p
 sent_output Done report o p h = h
@@ -30,100 +31,141 @@ not_read WriteFault report o p h = λ e. cc
 not_read OutOfMemory report o p h = λ e. cc
 not_read _ report o p h = absurd h
 
+not_kept : (outcome : Outcome) (report : Bytes) (o p : SinkView) → IsSent outcome report o p → outcome ≢ StoreFault
+not_kept Done report o p h = λ e. cc
+not_kept WriteFault report o p h = λ e. cc
+not_kept OutOfMemory report o p h = λ e. cc
+not_kept _ report o p h = absurd h
+
 -- ---- a refusal
 
-refusal_outcome : (outcome : Outcome) (s : Step) → IsRefusal outcome s → IsOutcome outcome s
-refusal_outcome Done s h = absurd h
-refusal_outcome WriteFault s h = absurd h
-refusal_outcome OutOfMemory s h = tt
-refusal_outcome ReadFault s h = tt
-refusal_outcome _ s h = h
+refusal_outcome : (hand : Object → Type 0) (outcome : Outcome) (s : Step) → IsRefusal hand outcome s → IsOutcome hand outcome s
+refusal_outcome hand Done s h = absurd h
+refusal_outcome hand WriteFault s h = absurd h
+refusal_outcome hand OutOfMemory s h = tt
+refusal_outcome hand ReadFault s h = tt
+refusal_outcome hand StoreFault s h = tt
+refusal_outcome hand (Collision n) s h = h
+refusal_outcome hand _ s h = h
 
-refusal_output : (outcome : Outcome) (s : Step) (o : SinkView) → IsRefusal outcome s → IsOutput outcome s o o
-refusal_output Done s o h = absurd h
-refusal_output WriteFault s o h = absurd h
-refusal_output OutOfMemory s o h = inl (Keeps-refl o.written)
-refusal_output _ s o h = Keeps-refl o.written
+refusal_output : (hand : Object → Type 0) (outcome : Outcome) (s : Step) (o : SinkView) → IsRefusal hand outcome s → IsOutput outcome s o o
+refusal_output hand Done s o h = absurd h
+refusal_output hand WriteFault s o h = absurd h
+refusal_output hand OutOfMemory s o h = inl (Keeps-refl o.written)
+refusal_output hand _ s o h = Keeps-refl o.written
 
-not_write : (outcome : Outcome) (s : Step) → IsRefusal outcome s → outcome ≢ WriteFault
-not_write outcome s h e = let P : Outcome → Type 0 = λ x. IsRefusal x s in subst P e h
+not_write : (hand : Object → Type 0) (outcome : Outcome) (s : Step) → IsRefusal hand outcome s → outcome ≢ WriteFault
+not_write hand outcome s h e = let P : Outcome → Type 0 = λ x. IsRefusal hand x s in subst P e h
 
 -- ---- both
 
-concluded : (step : Bytes → Step) (i j : SourceView) (o p : SinkView) (made : Result Bytes Outcome) (outcome : Outcome)
-    → IsMade step i j made → IsConcluded made o p outcome → (IsErr made → p ≡ o) → IsAnswer step i j o p outcome
-concluded step i j o p (Ok report) outcome made ended same =
-    let at : done report ≡ step made.all = sym made.made in
-    record {
-      all = made.all;
-      told = made.told;
-      read = record { later = made.read.later; rose = λ e. absurd (not_read outcome report o p ended.0 e) };
-      write = ended.1;
-      memory = ended.2;
-      answered = subst (λ s. IsOutcome outcome s) at (sent_outcome outcome report o p ended.0);
-      output = subst (λ s. IsOutput outcome s o p) at (sent_output outcome report o p ended.0);
-    }
-concluded step i j o p (Err refusal) outcome made ended same =
-    let s = step made.all in
-    let refused : IsAnswer step i j o o refusal = record {
-      all = made.all;
-      told = made.told;
-      read = record { later = made.read.later; rose = λ e. made.read.rose (ap Err e) };
-      write = record { later = omega arith; rose = λ e. absurd (not_write refusal s made.made e) };
-      memory = omega arith;
-      answered = refusal_outcome refusal s made.made;
-      output = refusal_output refusal s o made.made;
-    } in
-    rw (ended, same refl) refused
+module _ (hand : Bytes → Object → Type 0) (step : List Bytes → Bytes → Step) (loads : Bool) (i j : SourceView) (k l : KeeperView) (o p : SinkView) where
+  abbrev pub before : Devices
+  before = record { input = i; out = o; store = k }
 
--- where the text found no memory, nothing was written
-memory_output : (outcome : Outcome) (s : Step) (o p : SinkView) → TakesMemory outcome → IsOutput outcome s o p → IsOutput OutOfMemory s o p
-memory_output Done s o p t h = absurd t
-memory_output OutOfMemory s o p t h = absurd t
-memory_output WriteFault s o p t h = absurd t
-memory_output _ s o p t h = inl h
+  abbrev pub after : Devices
+  after = record { input = j; out = p; store = l }
 
-finished : (step : Bytes → Step) (i j : SourceView) (o p : SinkView) (outcome result : Outcome)
-    → (result ≡ outcome) ⊎ ((result ≡ OutOfMemory) × TakesMemory outcome) → IsAnswer step i j o p outcome → IsAnswer step i j o p result
-finished step i j o p outcome result (inl e) answer = rw e answer
-finished step i j o p outcome result (inr h) answer =
-    let out : IsAnswer step i j o p OutOfMemory = record {
-      all = answer.all;
-      told = answer.told;
-      read = record { later = answer.read.later; rose = λ e. cc };
-      write = record { later = answer.write.later; rose = λ e. cc };
-      memory = answer.memory;
-      answered = tt;
-      output = memory_output outcome (step answer.all) o p h.1 answer.output;
-    } in rw h.0 out
+  reported_ok : (items : List Bytes) (report : Bytes) (outcome : Outcome) → IsSent outcome report o p → IsReported hand (step items) i.left (Ok report) → IsStepped hand (step items) i.left outcome o p
+  reported_ok items report outcome sent r =
+      let at : done report ≡ step items r.all = sym r.report in
+      record {
+        all = r.all;
+        told = r.told;
+        answered = subst (λ s. IsOutcome (hand r.all) outcome s) at (sent_outcome (hand r.all) outcome report o p sent);
+        output = subst (λ s. IsOutput outcome s o p) at (sent_output outcome report o p sent);
+      }
 
--- the three together
-pub answers : (step : Bytes → Step) (i j : SourceView) (o p : SinkView) (made : Result Bytes Outcome) (outcome result : Outcome)
-    → IsMade step i j made → IsConcluded made o p outcome → (IsErr made → p ≡ o) → (result ≡ outcome) ⊎ ((result ≡ OutOfMemory) × TakesMemory outcome) → IsAnswer step i j o p result
-answers step i j o p made outcome result a b c d = finished step i j o p outcome result d (concluded step i j o p made outcome a b c)
+  reported_err : (items : List Bytes) (outcome : Outcome) → IsReported hand (step items) i.left (Err outcome) → IsStepped hand (step items) i.left outcome o o
+  reported_err items outcome r = record {
+    all = r.all;
+    told = r.told;
+    answered = refusal_outcome (hand r.all) outcome (step items r.all) r.report;
+    output = refusal_output (hand r.all) outcome (step items r.all) o r.report;
+  }
 
--- ---- where no device failed, the outcome is the step's, or there was no memory
+  concluded_ok : (report : Bytes) (outcome : Outcome) → IsMade hand step loads i j k l (Ok report) → IsConcluded (Ok report) o p outcome → IsAnswer hand step loads before after outcome
+  concluded_ok report outcome made ended = record {
+    read = record { later = made.read.later; rose = λ e. absurd (not_read outcome report o p ended.0 e) };
+    write = ended.1;
+    keep = record { later = made.keep.later; rose = λ e. absurd (not_kept outcome report o p ended.0 e) };
+    memory = ended.2;
+    number = made.number;
+    items = made.items;
+    stepped = λ items h. reported_ok items report outcome ended.0 (made.reported items h);
+  }
 
-settled : (outcome : Outcome) (s : Step) → IsOutcome outcome s → outcome ≢ ReadFault → outcome ≢ WriteFault → (outcome ≡ OutOfMemory) ⊎ (outcome ≡ s.outcome)
-settled OutOfMemory s h r w = inl refl
-settled ReadFault s h r w = absurd (r refl)
-settled WriteFault s h r w = absurd (w refl)
-settled _ s h r w = inr (sym h)
+  concluded_err : (outcome : Outcome) → IsMade hand step loads i j k l (Err outcome) → p ≡ o → IsAnswer hand step loads before after outcome
+  concluded_err outcome made same = record {
+    read = record { later = made.read.later; rose = λ e. made.read.rose (ap Err e) };
+    write = record { later = subst (λ (q : SinkView). o.faults ≤ q.faults) (sym same) (omega arith); rose = λ e. absurd (made.early (ap Err e)) };
+    keep = record { later = made.keep.later; rose = λ e. made.keep.rose (ap Err e) };
+    memory = subst (λ (q : SinkView). o.refusals ≤ q.refusals) (sym same) (omega arith);
+    number = made.number;
+    items = made.items;
+    stepped = λ items h. subst (λ (q : SinkView). IsStepped hand (step items) i.left outcome o q) (sym same) (reported_err items outcome (made.reported items h));
+  }
 
-pub complete : (step : Bytes → Step) (i j : SourceView) (o p : SinkView) (outcome : Outcome) → IsAnswer step i j o p outcome → IsComplete step i j o p outcome
-complete step i j o p outcome answer all told read write =
-    let same : answer.all ≡ all = (let P : Option Bytes → Type 0 = λ left. IfSome left (λ x. answer.all ≡ x) in subst P told answer.told) in
-    let P : Bytes → Type 0 = λ x. (outcome ≡ OutOfMemory) ⊎ (outcome ≡ (step x).outcome) in
-    subst P same (settled outcome (step answer.all) answer.answered (λ e. read (answer.read.rose e)) (λ e. write (answer.write.rose e)))
+  concluded : (made : Result Bytes Outcome) (outcome : Outcome) → IsMade hand step loads i j k l made → IsConcluded made o p outcome → (IsErr made → p ≡ o) → IsAnswer hand step loads before after outcome
+  concluded (Ok report) outcome made ended same = concluded_ok report outcome made ended
+  concluded (Err refusal) outcome made ended same = subst (λ x. IsAnswer hand step loads before after x) (sym ended) (concluded_err refusal made (same refl))
 
--- ---- words that read nothing
+  -- where the text found no memory, nothing was written
+  memory_output : (outcome : Outcome) (s : Step) → TakesMemory outcome → IsOutput outcome s o p → IsOutput OutOfMemory s o p
+  memory_output Done s t h = absurd t
+  memory_output OutOfMemory s t h = absurd t
+  memory_output WriteFault s t h = absurd t
+  memory_output StoreFault s t h = absurd t
+  memory_output _ s t h = inl h
 
-pub unread_error : (s : Step) (made : Result Bytes Outcome) → IsUnread s made → IsErr made
-unread_error s (Ok report) h = absurd h
-unread_error s (Err outcome) h = refl
+  without_memory : (outcome : Outcome) → TakesMemory outcome → IsAnswer hand step loads before after outcome → IsAnswer hand step loads before after OutOfMemory
+  without_memory outcome t answer = record {
+    read = record { later = answer.read.later; rose = λ e. cc };
+    write = record { later = answer.write.later; rose = λ e. cc };
+    keep = record { later = answer.keep.later; rose = λ e. cc };
+    memory = answer.memory;
+    number = answer.number;
+    items = answer.items;
+    stepped = λ items h. let q = answer.stepped items h in record { all = q.all; told = q.told; answered = tt; output = memory_output outcome (step items q.all) t q.output };
+  }
 
-pub unread_outcome : (s : Step) (made : Result Bytes Outcome) (o p : SinkView) (outcome result : Outcome) → IsUnread s made → IsConcluded made o p outcome
+  finished : (outcome result : Outcome) → (result ≡ outcome) ⊎ ((result ≡ OutOfMemory) × TakesMemory outcome) → IsAnswer hand step loads before after outcome → IsAnswer hand step loads before after result
+  finished outcome result (inl e) answer = subst (λ x. IsAnswer hand step loads before after x) (sym e) answer
+  finished outcome result (inr h) answer = subst (λ x. IsAnswer hand step loads before after x) (sym h.0) (without_memory outcome h.1 answer)
+
+  -- the three together
+  pub answers : (made : Result Bytes Outcome) (outcome result : Outcome) → IsMade hand step loads i j k l made → IsConcluded made o p outcome → (IsErr made → p ≡ o)
+      → (result ≡ outcome) ⊎ ((result ≡ OutOfMemory) × TakesMemory outcome) → IsAnswer hand step loads before after result
+  answers made outcome result a b c d = finished outcome result d (concluded made outcome a b c)
+
+-- ---- where no device failed
+
+settled : (hand : Object → Type 0) (outcome : Outcome) (s : Step) → IsOutcome hand outcome s → outcome ≢ ReadFault → outcome ≢ WriteFault → outcome ≢ StoreFault →
+    (outcome ≡ OutOfMemory) ⊎ (outcome ≡ s.outcome) ⊎ ((n : Bytes) × IsTwice hand n)
+settled hand OutOfMemory s h r w k = inl refl
+settled hand ReadFault s h r w k = absurd (r refl)
+settled hand WriteFault s h r w k = absurd (w refl)
+settled hand StoreFault s h r w k = absurd (k refl)
+settled hand (Collision n) s (inl e) r w k = inr (inl (sym e))
+settled hand (Collision n) s (inr t) r w k = inr (inr (n.0, t))
+settled hand _ s h r w k = inr (inl (sym h))
+
+pub complete : (hand : Bytes → Object → Type 0) (step : List Bytes → Bytes → Step) (loads : Bool) (before after : Devices) (outcome : Outcome)
+    → IsAnswer hand step loads before after outcome → IsComplete hand step loads before after outcome
+complete hand step loads b a outcome answer items all these told read write keep =
+    let q = answer.stepped items these in
+    let same : q.all ≡ all = (let P : Option Bytes → Type 0 = λ left. IfSome left (λ x. q.all ≡ x) in subst P told q.told) in
+    let P : Bytes → Type 0 = λ x. (outcome ≡ OutOfMemory) ⊎ (outcome ≡ (step items x).outcome) ⊎ ((n : Bytes) × IsTwice (hand x) n) in
+    subst P same (settled (hand q.all) outcome (step items q.all) q.answered (λ e. read (answer.read.rose e)) (λ e. write (answer.write.rose e)) (λ e. keep (answer.keep.rose e)))
+
+-- ---- words that touch no device
+
+pub idle_error : (s : Step) (made : Result Bytes Outcome) → IsIdle s made → IsErr made
+idle_error s (Ok report) h = absurd h
+idle_error s (Err outcome) h = refl
+
+pub idle_outcome : (s : Step) (made : Result Bytes Outcome) (o p : SinkView) (outcome result : Outcome) → IsIdle s made → IsConcluded made o p outcome
     → (result ≡ outcome) ⊎ ((result ≡ OutOfMemory) × TakesMemory outcome) → (result ≡ OutOfMemory) ⊎ (result ≡ s.outcome)
-unread_outcome s (Ok report) o p outcome result h c f = absurd h
-unread_outcome s (Err refusal) o p outcome result h c (inl e) = elim h [ inl m ↦ inl (e ∙ c ∙ m) | inr m ↦ inr (e ∙ c ∙ m) ]
-unread_outcome s (Err refusal) o p outcome result h c (inr m) = inl m.0
+idle_outcome s (Ok report) o p outcome result h c f = absurd h
+idle_outcome s (Err refusal) o p outcome result h c (inl e) = elim h [ inl m ↦ inl (e ∙ c ∙ m) | inr m ↦ inr (e ∙ c ∙ m) ]
+idle_outcome s (Err refusal) o p outcome result h c (inr m) = inl m.0

@@ -1,7 +1,18 @@
 pub mod FrontTexts
 pub mod SmallStreams
-pub mod Joined
+pub mod Grows
+pub mod Files
+pub mod Replaying
+pub mod CommitPuts
+pub mod SmallPuts
+pub mod Gathering
+pub mod HeldCommits
+pub mod ShownTrees
+pub mod AllCommits
+pub mod Upon
+pub mod MadeLines
+pub mod Twice
+pub mod Bringing
 pub mod Makes
+pub mod Forms
 pub mod Joins
-mod Runs
-mod Edits

@@ -1,95 +1,57 @@
--- What a command makes stands on the words and on the input.
-use Rattle.std.proofs.Common.{◌≡◌, ◌≢◌, ℕ, ◌+◌, ◌<◌, ◌≤◌, Bool, true, false, cond, not, List, [], ◌∷◌, take, length, replicate, refl, sym, ap, subst, ◌∙◌, Some, None, Ok, Err, Result, IfSome, MatchResult, arith, true≢false, ◌↔◌, nat_eq}
+-- What a command makes stands on the words, the items and the input.
+use Rattle.std.proofs.Common.{◌≡◌, ◌≢◌, ◌⊎◌, ℕ, ◌+◌, ◌<◌, ◌≤◌, Bool, true, false, cond, not, List, [], ◌∷◌, take, length, replicate, refl, sym, ap, subst, ◌∙◌, Some, None, Ok, Err, Result, IfSome, MatchResult, arith, true≢false, ◌↔◌, inl, inr}
 use Rattle.std.specs.Prelude.{unwrap_or, nat_le, IsTrue}
 use Rattle.std.specs.declared.option.Option.{Option}
-use Rattle.std.specs.Option.{option_map}
 use Rattle.std.proofs.lemmas.Grind.{common_steps}
 use Rattle.std.proofs.lemmas.Bool.{le-leb, leb-true, leb-false, lt-leb}
 use Rattle.std.proofs.lemmas.List.{length-replicate}
-use Rattle.std.proofs.lemmas.Bool.Decides.{nat_tests}
-use Rattle.git_objects.specs.Paths.{Bytes, Path, same_bytes, is_nil}
+use Rattle.git_objects.specs.Paths.{Bytes, Path}
+use Rattle.object_store.specs.Objects.{Object}
 use Rattle.proj_io.specs.Counts.{Counts}
-use Rattle.proj_io.specs.Views.{SourceView}
-use Rattle.proj_cli.specs.Streams.{Small, small, stream}
-use Rattle.proj_cli.specs.Projection.{projection, name_line}
+use Rattle.proj_io.specs.Items.{Stays}
+use Rattle.proj_io.specs.Views.{SourceView, KeeperView}
+use Rattle.repo_state.specs.Fields.{BrokenAt, Clash}
+use Rattle.repo_state.specs.Items.{Held, Break, read_items}
+use Rattle.repo_state.specs.Loads.{IsLoadFault}
+use Rattle.repo_state.specs.declared.state.LoadError.{LoadError}
+use Rattle.repo_state.specs.declared.state.LoadError.TheVariants as load
+use Rattle.std.specs.Option.{is_some}
+use Rattle.std.specs.Borrow.{Bor}
 use Rattle.proj_cli.specs.Asked.{command_of}
 use Rattle.proj_cli.specs.declared.words.Asked.{Asked}
 use Rattle.proj_cli.specs.declared.words.Asked.TheVariants as asks
-use Rattle.std.specs.Borrow.{Bor}
-use Rattle.proj_cli.specs.Step.{step, Step, done, refused, name_small, name_stream, name_step, input_max}
-use Rattle.proj_cli.specs.Answer.{IsMade, IsRefusal, Plainly}
+use Rattle.proj_cli.specs.Words.{Command, Import, Project, Name, Unknown}
+use Rattle.proj_cli.specs.Texts.{filter_path}
+use Rattle.proj_cli.specs.Streams.{stream}
+use Rattle.proj_cli.specs.Step.{Step, by_items, done, input_max, load_outcome, loads, name_by, name_step, name_stream, project_by, project_step, refused, step}
+use Rattle.proj_cli.specs.Answer.{IsInHand, IsInStream, IsMade, IsRefusal, IsReport, IsReported, NoObject, Plainly}
 use Rattle.proj_cli.specs.declared.outcome.Outcome.{Outcome}
-use Rattle.proj_cli.specs.declared.outcome.Outcome.TheVariants.{UnknownRef, ReadFault, NotBuilt}
+use Rattle.proj_cli.specs.declared.outcome.Outcome.TheVariants.{Done, OutOfMemory, Usage, Collision, ReadFault, StoreFault, WriteFault, NotBuilt}
 
--- ---- an input that was read whole
+-- ---- items that are as they were
 
-pub nil-test : {A : Type 0} (t : List A) → nat_eq (length t) 0 ≡ is_nil t
-nil-test [] = refl
-nil-test (x ∷ t) = grind (arith, nat_tests)
+Stays-refl : (o : Option (List Bytes)) → Stays o o
+Stays-refl None = tt
+Stays-refl (Some xs) = refl
 
-pub flipped : (b c : Bool) → c ≡ not b → not c ≡ b
-flipped true c e = ap not e
-flipped false c e = ap not e
-
-pub stream-empty : (t : Bytes) → true ≡ is_nil t → stream t ≡ Some None
-unfolding stream
-stream-empty t e = ap (λ b. cond b (Some None) (option_map (λ s. Some s) (small t))) (sym e)
-
-stream-some : (t : Bytes) → false ≡ is_nil t → stream t ≡ option_map (λ s. Some s) (small t)
-unfolding stream
-stream-some t e = ap (λ b. cond b (Some None) (option_map (λ s. Some s) (small t))) (sym e)
-
-pub named_empty : (refname : Bytes) (place : Path) (t : Bytes) → true ≡ is_nil t → name_stream refname place (stream t) ≡ refused UnknownRef
-named_empty refname place t e = ap (name_stream refname place) (stream-empty t e)
-
-pub named_none : (refname : Bytes) (place : Path) (t : Bytes) → false ≡ is_nil t → None ≡ small t → name_stream refname place (stream t) ≡ refused NotBuilt
-named_none refname place t e none = ap (name_stream refname place) (stream-some t e ∙ ap (option_map (λ s. Some s)) (sym none))
-
-named_some : (refname : Bytes) (place : Path) (t : Bytes) (s : Small) → false ≡ is_nil t → Some s ≡ small t → name_stream refname place (stream t) ≡ name_small refname place s
-named_some refname place t s e some = ap (name_stream refname place) (stream-some t e ∙ ap (option_map (λ s. Some s)) (sym some))
-
-pub named_other : (refname : Bytes) (place : Path) (t : Bytes) (s : Small) → false ≡ is_nil t → Some s ≡ small t → false ≡ same_bytes s.head.refname refname
-    → name_stream refname place (stream t) ≡ refused UnknownRef
-named_other refname place t s e some other =
-    named_some refname place t s e some ∙ ap (λ b. cond b (done (name_line (projection place s))) (refused UnknownRef)) (sym other)
-
-pub named_done : (refname : Bytes) (place : Path) (t : Bytes) (s : Small) (line : Bytes) → false ≡ is_nil t → Some s ≡ small t → true ≡ same_bytes s.head.refname refname
-    → line ≡ name_line (projection place s) → name_stream refname place (stream t) ≡ done line
-named_done refname place t s line e some same written =
-    named_some refname place t s e some ∙ ap (λ b. cond b (done (name_line (projection place s))) (refused UnknownRef)) (sym same) ∙ ap done (sym written)
-
--- ---- from a device
+-- ---- an input
 
 -- the input that a call stands for: what the source told, or else what it gave
-pub told_input : (left : Option Bytes) (given : Bytes) → IfSome left (λ all. unwrap_or left given ≡ all)
+told_input : (left : Option Bytes) (given : Bytes) → IfSome left (λ all. unwrap_or left given ≡ all)
 told_input None given = tt
 told_input (Some all) given = refl
 
-no_fault : (before now : ℕ) (step : Step) (result : Result Bytes Outcome) → before ≤ now → Plainly step result → Counts before now (result ≡ Err ReadFault)
-no_fault before now step (Ok report) le h = record { later = le; rose = λ e. cc }
-no_fault before now step (Err outcome) le h = record { later = le; rose = λ e. let same : outcome ≡ ReadFault = cc in absurd (h.1 same) }
-
-refusal_only : (step : Step) (result : Result Bytes Outcome) → Plainly step result → MatchResult result (λ report. step ≡ done report) (λ outcome. IsRefusal outcome step)
-refusal_only step (Ok report) h = h
-refusal_only step (Err outcome) h = h.0
-
--- what was computed from an input
-pub makes : (step : Bytes → Step) (i j : SourceView) (given : Bytes) (result : Result Bytes Outcome) → i.faults ≤ j.faults → Plainly (step (unwrap_or i.left given)) result → IsMade step i j result
-makes step i j given result later plain = record {
-  all = unwrap_or i.left given;
-  told = told_input i.left given;
-  read = no_fault i.faults j.faults (step (unwrap_or i.left given)) result later plain;
-  made = refusal_only (step (unwrap_or i.left given)) result plain;
-}
+pub reports : (hand : Bytes → Object → Type 0) (step : Bytes → Step) (left : Option Bytes) (given : Bytes) (result : Result Bytes Outcome)
+    → IsReport (hand (unwrap_or left given)) (step (unwrap_or left given)) result → IsReported hand step left result
+reports hand step left given result h = record { all = unwrap_or left given; told = told_input left given; report = h }
 
 -- a refusal by the device, or for want of memory
-pub makes_none : (step : Bytes → Step) (i j : SourceView) (outcome : Outcome) → Counts i.faults j.faults (outcome ≡ ReadFault) → ((s : Step) → IsRefusal outcome s) → IsMade step i j (Err outcome)
-makes_none step i j outcome cause refusal = record {
-  all = unwrap_or i.left [];
-  told = told_input i.left [];
-  read = record { later = cause.later; rose = λ e. cause.rose cc };
-  made = refusal (step (unwrap_or i.left []));
-}
+pub reports_none : (hand : Bytes → Object → Type 0) (step : Bytes → Step) (left : Option Bytes) (outcome : Outcome) → ((h : Object → Type 0) (s : Step) → IsRefusal h outcome s) → IsReported hand step left (Err outcome)
+reports_none hand step left outcome refusal = reports hand step left [] (Err outcome) (refusal (hand (unwrap_or left [])) (step (unwrap_or left [])))
+
+pub plain_report : (hand : Object → Type 0) (s : Step) (result : Result Bytes Outcome) → Plainly hand s result → IsReport hand s result
+plain_report hand s (Ok report) h = h
+plain_report hand s (Err outcome) h = h.0
 
 -- the whole input, where it isn't too long
 whole_input : (left : Option Bytes) (given : Bytes) (more : Bool) (n : ℕ) → IfSome left (λ all. given ≡ take n all) → IfSome left (λ all. IsTrue more ↔ (n < length all)) → length given ≤ n → more ≡ false
@@ -102,14 +64,17 @@ whole_input (Some all) given false n h g le e =
       | false ↦ λ t. let long : n < length all = leb-false (length all) n t in absurd (true≢false (sym (g.1 long)))
     ] refl
 
-pub plain_whole : (refname : Bytes) (place : Path) (left : Option Bytes) (given : Bytes) (more : Bool) (result : Result Bytes Outcome)
+pub whole_report : (refname : Bytes) (place : Path) (left : Option Bytes) (given : Bytes) (more : Bool) (result : Result Bytes Outcome)
     → IfSome left (λ all. given ≡ take input_max all) → IfSome left (λ all. IsTrue more ↔ (input_max < length all)) → length given ≤ input_max → more ≡ false
-    → Plainly (name_stream refname place (stream given)) result → Plainly (name_step refname place (unwrap_or left given)) result
-plain_whole refname place left given more result h g le e plain =
+    → Plainly (IsInStream (stream given)) (name_stream refname place (stream given)) result → IsReported (λ all. IsInStream (stream all)) (name_step refname place) left result
+whole_report refname place left given more result h g le e plain =
     let whole = whole_input left given more input_max h g le e in
-    let at : name_step refname place (unwrap_or left given) ≡ name_stream refname place (stream given) =
-    ap (λ b. cond b (name_stream refname place (stream (unwrap_or left given))) (refused NotBuilt)) whole.1 ∙ ap (λ t. name_stream refname place (stream t)) whole.0 in
-    subst (λ s. Plainly s result) (sym at) plain
+    let all = unwrap_or left given in
+    let at : name_step refname place all ≡ name_stream refname place (stream given) =
+      ap (λ b. cond b (name_stream refname place (stream all)) (refused NotBuilt)) whole.1 ∙ ap (λ t. name_stream refname place (stream t)) whole.0 in
+    reports (λ t. IsInStream (stream t)) (name_step refname place) left given result
+    (subst (λ s. IsReport (IsInStream (stream all)) s result) (sym at)
+    (subst (λ t. IsReport (IsInStream (stream t)) (name_stream refname place (stream given)) result) (sym whole.0) (plain_report (IsInStream (stream given)) (name_stream refname place (stream given)) result plain)))
 
 -- an input that is too long, told or not
 long : Bytes
@@ -124,25 +89,128 @@ long_input None more g e = too_long
 long_input (Some all) false g e = absurd (true≢false (sym e))
 long_input (Some all) true g e = let more : input_max < length all = g.0 refl in lt-leb (length all) input_max more
 
-pub makes_long : (refname : Bytes) (place : Path) (i j : SourceView) (more : Bool) → i.faults ≤ j.faults → IfSome i.left (λ all. IsTrue more ↔ (input_max < length all)) → more ≡ true
-    → IsMade (name_step refname place) i j (Err NotBuilt)
-makes_long refname place i j more later g e =
-    let s = name_step refname place (unwrap_or i.left long) in
-    let at : s ≡ refused NotBuilt = ap (λ b. cond b (name_stream refname place (stream (unwrap_or i.left long))) (refused NotBuilt)) (long_input i.left more g e) in
-    makes (name_step refname place) i j long (Err NotBuilt) later (ap (λ x. x.outcome) at, λ f. cc)
+pub long_report : (refname : Bytes) (place : Path) (left : Option Bytes) (more : Bool) → IfSome left (λ all. IsTrue more ↔ (input_max < length all)) → more ≡ true
+    → IsReported (λ all. IsInStream (stream all)) (name_step refname place) left (Err NotBuilt)
+long_report refname place left more g e =
+    let s = name_step refname place (unwrap_or left long) in
+    let at : s ≡ refused NotBuilt = ap (λ b. cond b (name_stream refname place (stream (unwrap_or left long))) (refused NotBuilt)) (long_input left more g e) in
+    reports (λ all. IsInStream (stream all)) (name_step refname place) left long (Err NotBuilt) (ap (λ x. x.outcome) at)
 
--- ---- words that read nothing
+-- ---- items
 
-pub makes_refused : (step : Bytes → Step) (i : SourceView) (outcome : Outcome) → ((input : Bytes) → step input ≡ refused outcome) → outcome ≢ ReadFault → IsRefusal outcome (refused outcome) → IsMade step i i (Err outcome)
-makes_refused step i outcome all own_fault own =
-    makes step i i [] (Err outcome) (omega arith) (subst (λ s. IsRefusal outcome s) (sym (all (unwrap_or i.left []))) own, own_fault)
+-- items that are not loaded
+pub load_report : (f : Held → Step) (e : LoadError) (r : Result Held Break) → IsLoadFault e r → IsReport NoObject (by_items r f) (Err (load_outcome e))
+load_report f load.StoreFault r h = tt
+load_report f (load.Damaged item at) r h = ap (λ q. (by_items q f).outcome) h
+load_report f (load.Collision n) r h = inl (ap (λ q. (by_items q f).outcome) h.1)
+load_report f load.OutOfMemory r h = tt
 
-pub other_words : (asked : Asked) → ((r f : Bor Bytes) → asked ≡ asks.Name r f → ⊥) → (asked ≡ asks.Unknown → ⊥) → (input : Bytes) → step (command_of asked) input ≡ refused NotBuilt
-other_words (asks.Import force) n u input = refl
-other_words (asks.Project r f) n u input = refl
-other_words (asks.Push r f) n u input = refl
-other_words (asks.Export r f) n u input = refl
-other_words (asks.Name r f) n u input = absurd (n r f refl)
-other_words asks.Batch n u input = refl
-other_words (asks.Trial k) n u input = refl
-other_words asks.Unknown n u input = absurd (u refl)
+-- items that are
+pub held_report : (f : Held → Step) (h : Held) (r : Result Held Break) (result : Result Bytes Outcome) → r ≡ Ok h → Plainly NoObject (f h) result → IsReport NoObject (by_items r f) result
+held_report f h r result e plain = subst (λ q. IsReport NoObject (by_items q f) result) (sym e) (plain_report NoObject (f h) result plain)
+
+-- ---- the words
+
+module _ (hand : Bytes → Object → Type 0) (step : List Bytes → Bytes → Step) (loads : Bool) where
+  -- words that touch no device
+  pub made_idle : (i : SourceView) (k : KeeperView) (outcome : Outcome) → ((items : List Bytes) (all : Bytes) → IsRefusal (hand all) outcome (step items all)) →
+      outcome ≢ ReadFault → outcome ≢ StoreFault → outcome ≢ WriteFault → IsMade hand step loads i i k k (Err outcome)
+  made_idle i k outcome h r s w = record {
+    read = record { later = omega arith; rose = λ e. absurd (r cc) };
+    keep = record { later = omega arith; rose = λ e. absurd (s cc) };
+    early = λ e. w cc;
+    number = refl;
+    items = Stays-refl k.items;
+    reported = λ items g. reports hand (step items) i.left [] (Err outcome) (h items (unwrap_or i.left []));
+  }
+
+  -- words that read
+  pub made_read : (i j : SourceView) (k : KeeperView) (result : Result Bytes Outcome) → Counts i.faults j.faults (result ≡ Err ReadFault) → (result ≢ Err WriteFault) × (result ≢ Err StoreFault)
+      → ((items : List Bytes) → IsReported hand (step items) i.left result) → IsMade hand step loads i j k k result
+  made_read i j k result cause early h = record {
+    read = cause;
+    keep = record { later = omega arith; rose = λ e. absurd (early.1 e) };
+    early = early.0;
+    number = refl;
+    items = Stays-refl k.items;
+    reported = λ items g. h items;
+  }
+
+  -- words that load
+  pub made_loaded : loads ≡ true → (i : SourceView) (k l : KeeperView) (result : Result Bytes Outcome) → Counts k.faults l.faults (result ≡ Err StoreFault) → (result ≢ Err WriteFault) × (result ≢ Err ReadFault)
+      → l.number ≡ k.number → Stays k.items l.items
+      → ((items : List Bytes) → k.items ≡ Some items → (all : Bytes) → IsReport (hand all) (step items all) result) → IsMade hand step loads i i k l result
+  made_loaded loaded i k l result cause early number items h = record {
+    read = record { later = omega arith; rose = λ e. absurd (early.1 e) };
+    keep = cause;
+    early = early.0;
+    number = number;
+    items = items;
+    reported = λ xs g. reports hand (step xs) i.left [] result (h xs (g loaded) (unwrap_or i.left []));
+  }
+
+-- two of no objects
+pub report_for : (hand : Object → Type 0) (s : Step) (result : Result Bytes Outcome) → IsReport NoObject s result → IsReport hand s result
+report_for hand s (Ok report) h = h
+report_for hand s (Err outcome) h = by outcome h
+  where
+    by : (outcome : Outcome) → IsRefusal NoObject outcome s → IsRefusal hand outcome s
+    by Done h = h
+    by WriteFault h = h
+    by OutOfMemory h = h
+    by ReadFault h = h
+    by StoreFault h = h
+    by (Collision n) (inl e) = inl e
+    by (Collision n) (inr t) = absurd t.first_there
+    by _ h = h
+
+-- ---- the commands
+
+refused_is : (hand : Object → Type 0) (s : Step) → s ≡ refused NotBuilt → IsRefusal hand NotBuilt s
+refused_is hand s e = ap (λ x. x.outcome) e
+
+-- words that are not built
+pub not_built : (command : Command) (i : SourceView) (k : KeeperView) → ((items : List Bytes) (all : Bytes) → step command items all ≡ refused NotBuilt)
+    → IsMade (IsInHand command) (step command) (loads command) i i k k (Err NotBuilt)
+not_built command i k h = made_idle (IsInHand command) (step command) (loads command) i k NotBuilt (λ items all. refused_is (IsInHand command all) (step command items all) (h items all)) (λ e. cc) (λ e. cc) (λ e. cc)
+
+pub no_memory : (command : Command) (i : SourceView) (k : KeeperView) → IsMade (IsInHand command) (step command) (loads command) i i k k (Err OutOfMemory)
+no_memory command i k = made_idle (IsInHand command) (step command) (loads command) i k OutOfMemory (λ items all. tt) (λ e. cc) (λ e. cc) (λ e. cc)
+
+pub no_form : (i : SourceView) (k : KeeperView) → IsMade (IsInHand Unknown) (step Unknown) (loads Unknown) i i k k (Err Usage)
+no_form i k = made_idle (IsInHand Unknown) (step Unknown) (loads Unknown) i k Usage (λ items all. refl) (λ e. cc) (λ e. cc) (λ e. cc)
+
+module _ (r f : Bytes) where
+  pub name_refused : None ≡ filter_path f → (items : List Bytes) (all : Bytes) → step (Name r f) items all ≡ refused NotBuilt
+  name_refused e items all = ap (λ p. name_by r p all) (sym e)
+
+  pub project_refused : None ≡ filter_path f → (items : List Bytes) (all : Bytes) → step (Project r f) items all ≡ refused NotBuilt
+  project_refused e items all = ap (λ p. project_by r p items) (sym e)
+
+  pub name_made : (place : Path) (rb : Bytes) (i j : SourceView) (k : KeeperView) (result : Result Bytes Outcome) → Some place ≡ filter_path f → rb ≡ r → Counts i.faults j.faults (result ≡ Err ReadFault)
+      → (result ≢ Err WriteFault) × (result ≢ Err StoreFault) → IsReported (λ all. IsInStream (stream all)) (name_step rb place) i.left result
+      → IsMade (IsInHand (Name r f)) (step (Name r f)) (loads (Name r f)) i j k k result
+  name_made place rb i j k result e same cause early h =
+      made_read (IsInHand (Name r f)) (step (Name r f)) (loads (Name r f)) i j k result cause early
+      (λ items. subst (λ (s : Bytes → Step). IsReported (λ all. IsInStream (stream all)) s i.left result) (λ t all. name_by (same t) (e t) all) h)
+
+  pub project_made : (place : Path) (rb : Bytes) (i : SourceView) (k l : KeeperView) (result : Result Bytes Outcome) → Some place ≡ filter_path f → rb ≡ r → Counts k.faults l.faults (result ≡ Err StoreFault)
+      → (result ≢ Err WriteFault) × (result ≢ Err ReadFault) → l.number ≡ k.number → Stays k.items l.items
+      → ((items : List Bytes) → k.items ≡ Some items → IsReport NoObject (by_items (read_items items) (project_step rb place)) result)
+      → IsMade (IsInHand (Project r f)) (step (Project r f)) (loads (Project r f)) i i k l result
+  project_made place rb i k l result e same cause early number items h =
+      made_loaded (IsInHand (Project r f)) (step (Project r f)) (loads (Project r f)) (ap is_some (sym e)) i k l result cause early number items
+      (λ xs g all. subst (λ (s : Step). IsReport NoObject s result) (λ t. project_by (same t) (e t) xs) (h xs g))
+
+-- the other words
+pub other_words : (asked : Asked) → ((r f : Bor Bytes) → asked ≡ asks.Project r f → ⊥) → ((r f : Bor Bytes) → asked ≡ asks.Name r f → ⊥) → (asked ≡ asks.Unknown → ⊥) → (items : List Bytes) (all : Bytes) →
+    step (command_of asked) items all ≡ refused NotBuilt
+other_words (asks.Import true) p n u items all = refl
+other_words (asks.Import false) p n u items all = refl
+other_words (asks.Project r f) p n u items all = absurd (p r f refl)
+other_words (asks.Push r f) p n u items all = refl
+other_words (asks.Export r f) p n u items all = refl
+other_words (asks.Name r f) p n u items all = absurd (n r f refl)
+other_words asks.Batch p n u items all = refl
+other_words (asks.Trial k) p n u items all = refl
+other_words asks.Unknown p n u items all = absurd (u refl)

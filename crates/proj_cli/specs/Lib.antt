@@ -1,11 +1,15 @@
 pub mod Texts
 pub mod Words
 pub mod Streams
+pub mod Replay
 pub mod Projection
 pub mod Step
 pub mod Answer
 pub mod Asked
 pub mod Rows
-pub mod Levels
 pub mod Views
-pub mod Examples
+pub mod Snapshots
+pub mod Replays
+pub mod Shown
+pub mod Kept
+pub mod Calls

@@ -1,29 +1,54 @@
--- What a filter of one directory makes of a root commit.
-use Rattle.std.specs.Prelude.{cond, List, [], ◌∷◌, ◌++◌, codes, fold, Option, Some, None}
-use Rattle.git_objects.specs.Paths.{Bytes, Path, is_nil}
-use Rattle.git_objects.specs.Trees.{Flat, FileLeaf, LeafNode, put, under}
+-- Projections of commits: what a filter shows of their trees, in commits of their own.
+use Rattle.std.specs.Prelude.{Bool, true, false, cond, ◌&&◌, List, [], ◌∷◌, ◌++◌, map, codes, Option, Some, None}
+use Rattle.std.specs.List.{filter_map, list_any}
+use Rattle.std.specs.Option.{option_map}
+use Rattle.git_objects.specs.Paths.{Bytes, Path, is_nil, same_bytes}
+use Rattle.git_objects.specs.Trees.{Flat, under}
 use Rattle.git_objects.specs.Names.{tree_name}
-use Rattle.git_objects.specs.Commits.{Letter, Commit, commit_name, hex}
-use Rattle.proj_cli.specs.Streams.{Change, Small}
+use Rattle.git_objects.specs.Commits.{Letter, commit_name, hex}
+use Rattle.repo_state.specs.Repos.{Snapshot, snapshot_name}
 
--- one file more
-abbrev pub with_change : Flat → Change → Flat
-with_change t c = put t c.0 (LeafNode (FileLeaf c.1))
+-- the names of a projected commit and of its tree
+pub record Shown : Type 0 where
+  pub commit : Bytes
+  pub tree : Bytes
 
--- the tree after all changes, in order
-unfoldable pub tree_of : List Change → Flat
-tree_of cs = fold with_change [] cs
+abbrev pub is_same : Shown → Shown → Bool
+is_same a b = same_bytes a.commit b.commit
 
--- A root commit of which nothing is shown has no projection. Otherwise its projection has the shown tree, no parents, and
--- the commit's own author, committer and message.
-abbrev pub projected : Flat → Letter → Option Commit
-projected shown letter = cond (is_nil shown) None (Some (record { tree = tree_name shown; parents = []; letter = letter }))
+-- the first of those with one name
+abbrev pub add_shown : List Shown → Shown → List Shown
+add_shown before p = cond (list_any (is_same p) before) before (before ++ p ∷ [])
 
--- the projection by the filter that shows what lies below a path
-abbrev pub projection : Path → Small → Option Commit
-projection place s = projected (under (tree_of s.changes) place) s.head.letter
+abbrev pub distinct_from : List Shown → List Shown → List Shown
+distinct_from before [] = before
+distinct_from before (p ∷ ps) = distinct_from (add_shown before p) ps
+
+abbrev pub distinct : List Shown → List Shown
+distinct ps = distinct_from [] ps
+
+abbrev pub shown_commit : Flat → List Shown → Letter → Shown
+shown_commit t ps letter = record { commit = commit_name (record { tree = tree_name t; parents = map (λ p. p.commit) ps; letter = letter }); tree = tree_name t }
+
+-- the projection of a commit of which this tree is shown, upon its parents' projections
+abbrev pub projected : Flat → Letter → List Shown → Option Shown
+projected t letter [] = cond (is_nil t) None (Some (shown_commit t [] letter))
+projected t letter (p ∷ []) = cond (same_bytes p.tree (tree_name t)) (Some p) (Some (shown_commit t (p ∷ []) letter))
+projected t letter ps = Some (shown_commit t ps letter)
+
+-- The projection of the commit of that name, where a filter shows this of each tree; from scratch, over the commits from the
+-- newest to the oldest. A commit of which nothing is shown and that has no projected parent has none. One that shows the same
+-- tree as its only projected parent is projected to that parent's projection.
+abbrev pub projection : (Flat → Flat) → List Snapshot → Bytes → Option Shown
+projection shown [] n = None
+projection shown (c ∷ older) n =
+    cond (same_bytes (snapshot_name c) n) (projected (shown c.tree) c.letter (distinct (filter_map (projection shown older) c.parents))) (projection shown older n)
+
+-- by the filter that shows what lies below a path
+abbrev pub projection_below : Path → List Snapshot → Bytes → Option Shown
+projection_below place cs n = projection (λ t. under t place) cs n
 
 -- the name's digits, or `none`, on a line
-abbrev pub name_line : Option Commit → Bytes
+abbrev pub name_line : Option Shown → Bytes
 name_line None = codes "none" ++ 10 ∷ []
-name_line (Some c) = hex (commit_name c) ++ 10 ∷ []
+name_line (Some p) = hex p.commit ++ 10 ∷ []

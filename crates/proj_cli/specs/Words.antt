@@ -50,3 +50,11 @@ command (w ∷ []) = one_word w
 command (w ∷ v ∷ []) = two_words w v
 command (w ∷ r ∷ f ∷ []) = cond (is_ref_name r) (three_words w r f) Unknown
 command _ = Unknown
+
+-- whether its ref is a ref name
+abbrev pub is_formed : Command → Bool
+is_formed (Project refname filter) = is_ref_name refname
+is_formed (Push refname filter) = is_ref_name refname
+is_formed (Export refname filter) = is_ref_name refname
+is_formed (Name refname filter) = is_ref_name refname
+is_formed _ = true

@@ -1,10 +1,14 @@
 //! `proj` shows parts of a monorepo as Git repositories of their own.
 #![tactic(auto)]
 
-mod flat;
+mod name;
 mod outcome;
 mod program;
+mod project;
 mod projection;
+#[cfg(test)]
+mod projection_tests;
+mod replay;
 mod streams;
 #[cfg(test)]
 mod tests;

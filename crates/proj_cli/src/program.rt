@@ -1,45 +1,97 @@
 // The top call.
-ghost use Rattle.std.specs.Prelude.{◌≡◌, ◌≤◌, ◌⊎◌, [], map, string_bytes, false, IsErr};
+ghost use Rattle.std.specs.Prelude.{◌≡◌, ◌≢◌, ◌≤◌, ◌⊎◌, List, [], map, string_bytes, Some, Err, true, false, IsErr};
+ghost use Rattle.git_objects.specs.Paths.{Bytes};
+ghost use Rattle.path_names.specs.RefNames.{is_ref_name};
+ghost use Rattle.object_store.specs.Errors.{newest};
+ghost use Rattle.proj_io.specs.Items.{Stays};
+ghost use Rattle.repo_state.specs.Items.{read_items};
 ghost use Rattle.proj_io.specs.Counts.{Counts};
-ghost use Rattle.proj_io.specs.Views.{source_view, sink_view};
-ghost use Rattle.proj_cli.specs.Words.{command};
-ghost use Rattle.proj_cli.specs.Asked.{command_of};
+ghost use Rattle.proj_io.specs.Views.{source_view, sink_view, keeper_view};
+ghost use Rattle.proj_cli.specs.Words.{command, is_formed};
 ghost use Rattle.proj_cli.specs.Streams.{stream};
-ghost use Rattle.proj_cli.specs.Step.{step, name_stream, name_step, reads, text_of};
-ghost use Rattle.proj_cli.specs.Answer.{IsAnswer, IsComplete, IsMade, IsRefusal, Plainly, IsUnread, IsSent, IsConcluded, GetsText, TakesMemory};
+ghost use Rattle.proj_cli.specs.Asked.{command_of};
+ghost use Rattle.proj_cli.specs.Step.{by_items, load_outcome, loads, name_step, name_stream, project_step, reads, step, text_of};
+ghost use Rattle.proj_cli.specs.Answer.{GetsText, IsAnswer, IsComplete, IsConcluded, IsIdle, IsInHand, IsInStream, IsMade, IsReport, IsReported, IsSent, NoObject, Plainly, TakesMemory};
+ghost use Rattle.proj_cli.specs.Calls.{devices};
 
 use crate::Outcome;
+use crate::name::name_text;
 use crate::outcome::outcome_text;
-use crate::projection::name_line;
-use crate::streams::small;
+use crate::project::project_line;
+use crate::streams::stream;
 use crate::texts::filter_path;
 use crate::words::{Asked, read_words};
 use git_objects::Bytes;
-use path_names::Path;
+use path_names::{Path, RefFault, RefName};
 use proj_io::{Keeper, ReadError, Sink, SinkError, Source, read_up_to, write_whole};
+use repo_state::{LoadError, State};
 use std::alloc::Global;
 
 const INPUT_MAX: usize = 65536;
 
+// The outcome of items that are not loaded.
+fn load_outcome(error: LoadError) -> Outcome
+    ensures { result ≡ load_outcome error }
+{
+    match error {
+        LoadError::StoreFault => Outcome::StoreFault,
+        LoadError::Damaged { item, at } => Outcome::Damaged { item, at },
+        LoadError::Collision { name } => Outcome::Collision { name },
+        LoadError::OutOfMemory => Outcome::OutOfMemory,
+    }
+}
+
+// The line with the name of the stored ref's projection, for what was loaded.
+fn project_loaded(
+    alloc: Global,
+    state: &State,
+    refname: &[u8],
+    place: &Path,
+) -> Result<Bytes, Outcome>
+    requires refname { is_ref_name refname.now ≡ true }
+    requires whole { newest state.now.objects ≡ state.now.held.objects }
+    ensures { Plainly NoObject (project_step refname.now place.now state.now.held) result }
+{
+    match RefName::parse(alloc, refname) {
+        Ok(refname) => project_line(alloc, state, &refname, place),
+        Err(RefFault::OutOfMemory) => Err(Outcome::OutOfMemory),
+        Err(RefFault::Bad) => unreachable!(),
+    }
+}
+
+// Loads the items and makes the line.
+fn project<K: Keeper>(
+    alloc: Global,
+    refname: &[u8],
+    place: &Path,
+    store: &mut K,
+) -> Result<Bytes, Outcome>
+    requires open { K.is_open store.old }
+    requires refname { is_ref_name refname.now ≡ true }
+    ensures report { (items : List Bytes) → K.items store.old ≡ Some items → IsReport NoObject (by_items (read_items items) (project_step refname.now place.now)) result }
+    ensures cause { Counts (K.faults store.old) (K.faults store.new) (result ≡ Err Outcome.StoreFault) }
+    ensures early { (result ≢ Err Outcome.WriteFault) × (result ≢ Err Outcome.ReadFault) }
+    ensures number { K.number store.new ≡ K.number store.old }
+    ensures items { Stays (K.items store.old) (K.items store.new) }
+    ensures is_open { K.is_open store.new }
+{
+    match State::load(alloc, store) {
+        Err(error) => Err(load_outcome(error)),
+        Ok(state) => project_loaded(alloc, &state, refname, place),
+    }
+}
+
 // The line with the projection's name, for an input that was read whole.
 fn named(alloc: Global, refname: &[u8], place: &Path, text: &[u8]) -> Result<Bytes, Outcome>
-    ensures { Plainly (name_stream refname.now place.now (stream text.now)) result }
+    ensures { Plainly (IsInStream (stream text.now)) (name_stream refname.now place.now (stream text.now)) result }
 {
-    if text.is_empty() {
-        return Err(Outcome::UnknownRef);
-    }
-    match small(alloc, text) {
+    match stream(alloc, text) {
         Err(_) => Err(Outcome::OutOfMemory),
         Ok(None) => Err(Outcome::NotBuilt),
-        Ok(Some(small)) => {
-            if small.head.refname != refname {
-                return Err(Outcome::UnknownRef);
-            }
-            match name_line(alloc, place, small) {
-                Ok(line) => Ok(Bytes::of(line)),
-                Err(_) => Err(Outcome::OutOfMemory),
-            }
-        }
+        Ok(Some(smalls)) => match name_text(alloc, refname, place, &smalls) {
+            Ok(line) => Ok(line),
+            Err(outcome) => Err(outcome),
+        },
     }
 }
 
@@ -50,25 +102,46 @@ fn name<S: Source>(
     place: &Path,
     input: &mut S,
 ) -> Result<Bytes, Outcome>
-    ensures { let seen = source_view S.left S.faults in IsMade (name_step refname.now place.now) (seen input.old) (seen input.new) result }
+    ensures report { IsReported (λ all. IsInStream (stream all)) (name_step refname.now place.now) (S.left input.old) result }
+    ensures cause { Counts (S.faults input.old) (S.faults input.new) (result ≡ Err Outcome.ReadFault) }
+    ensures early { (result ≢ Err Outcome.WriteFault) × (result ≢ Err Outcome.StoreFault) }
 {
     match read_up_to(alloc, input, INPUT_MAX) {
-        Ok(taken) if taken.more => Err(Outcome::NotBuilt),
-        Ok(taken) => named(alloc, refname, place, taken.bytes.bytes()),
+        Ok(taken) => {
+            if taken.more {
+                return Err(Outcome::NotBuilt);
+            }
+            named(alloc, refname, place, taken.bytes.bytes())
+        }
         Err(ReadError::Fault) => Err(Outcome::ReadFault),
         Err(ReadError::OutOfMemory) => Err(Outcome::OutOfMemory),
     }
 }
 
 // Makes what the words ask for. A filter of another kind isn't built, and then nothing is read.
-fn make<S: Source>(alloc: Global, asked: Asked<'_>, input: &mut S) -> Result<Bytes, Outcome>
-    ensures made { let seen = source_view S.left S.faults in IsMade (step (command_of asked.entry)) (seen input.old) (seen input.new) result }
-    ensures untouched { reads (command_of asked.entry) ≡ false → input.new ≡ input.old }
-    ensures unread { reads (command_of asked.entry) ≡ false → IsUnread (step (command_of asked.entry) []) result }
+fn make<S: Source, K: Keeper>(
+    alloc: Global,
+    asked: Asked<'_>,
+    input: &mut S,
+    store: &mut K,
+) -> Result<Bytes, Outcome>
+    requires open { K.is_open store.old }
+    requires formed { is_formed (command_of asked) ≡ true }
+    ensures made { let seen = source_view S.left S.faults in let kept = keeper_view K.items K.number K.faults in
+        IsMade (IsInHand (command_of asked.entry)) (step (command_of asked.entry)) (loads (command_of asked.entry)) (seen input.old) (seen input.new) (kept store.old) (kept store.new) result }
+    ensures unread { reads (command_of asked.entry) ≡ false → input.new ≡ input.old }
+    ensures unloaded { loads (command_of asked.entry) ≡ false → store.new ≡ store.old }
+    ensures idle { reads (command_of asked.entry) ≡ false → loads (command_of asked.entry) ≡ false → IsIdle (step (command_of asked.entry) [] []) result }
+    ensures is_open { K.is_open store.new }
 {
     match asked {
         Asked::Name(refname, filter) => match filter_path(alloc, filter.as_bytes()) {
             Ok(Some(place)) => name(alloc, refname.as_bytes(), &place, input),
+            Ok(None) => Err(Outcome::NotBuilt),
+            Err(_) => Err(Outcome::OutOfMemory),
+        },
+        Asked::Project(refname, filter) => match filter_path(alloc, filter.as_bytes()) {
+            Ok(Some(place)) => project(alloc, refname.as_bytes(), &place, store),
             Ok(None) => Err(Outcome::NotBuilt),
             Err(_) => Err(Outcome::OutOfMemory),
         },
@@ -117,6 +190,7 @@ fn finish<E: Sink>(alloc: Global, outcome: Outcome, err: &mut E) -> Outcome
         Outcome::Done => {}
         Outcome::OutOfMemory => tell(b"out of memory\n", err),
         Outcome::WriteFault => tell(b"write fault\n", err),
+        Outcome::StoreFault => tell(b"store fault\n", err),
         _ => match outcome_text(alloc, &outcome) {
             Ok(text) => tell(&text, err),
             Err(_) => {
@@ -129,8 +203,6 @@ fn finish<E: Sink>(alloc: Global, outcome: Outcome, err: &mut E) -> Outcome
 }
 
 /// Does what the words ask for, and writes the outcome's text to `err`.
-///
-/// The store is not touched.
 pub fn run<S: Source, O: Sink, E: Sink, K: Keeper>(
     alloc: Global,
     words: &[String],
@@ -140,21 +212,27 @@ pub fn run<S: Source, O: Sink, E: Sink, K: Keeper>(
     store: &mut K,
 ) -> Outcome
     requires { K.is_open store.old }
-    // The outcome and the output are the step's, each fault has its cause, and nothing is written before a refusal.
-    ensures answer { let seen = source_view S.left S.faults in let shown = sink_view O.written O.faults O.refusals in
-        IsAnswer (step (command (map (λ word. string_bytes word) words.now))) (seen input.old) (seen input.new) (shown out.old) (shown out.new) result }
-    // Where the input is told and no device failed, the outcome is the step's, or there was no memory.
-    ensures complete { let seen = source_view S.left S.faults in let shown = sink_view O.written O.faults O.refusals in
-        IsComplete (step (command (map (λ word. string_bytes word) words.now))) (seen input.old) (seen input.new) (shown out.old) (shown out.new) result }
-    // Words that don't read are answered without a look at the input or the output.
-    ensures untouched { reads (command (map (λ word. string_bytes word) words.now)) ≡ false →
-        (input.new ≡ input.old) × (out.new ≡ out.old)
-        × ((result ≡ Outcome.OutOfMemory) ⊎ (result ≡ (step (command (map (λ word. string_bytes word) words.now)) []).outcome)) }
+    // The outcome and the output are the step's, each fault has its cause, nothing is written before a refusal, and the items
+    // are as they were.
+    ensures answer { let seen = devices S.left S.faults O.written O.faults O.refusals K.items K.number K.faults in
+        let asked = command (map (λ word. string_bytes word) words.now) in
+        IsAnswer (IsInHand asked) (step asked) (loads asked) (seen input.old out.old store.old) (seen input.new out.new store.new) result }
+    // Where input and items are told and no device failed, the outcome is the step's, or there was no memory, or two objects
+    // have one name.
+    ensures complete { let seen = devices S.left S.faults O.written O.faults O.refusals K.items K.number K.faults in
+        let asked = command (map (λ word. string_bytes word) words.now) in
+        IsComplete (IsInHand asked) (step asked) (loads asked) (seen input.old out.old store.old) (seen input.new out.new store.new) result }
+    // A form that doesn't read leaves the input, and one that doesn't load leaves the store.
+    ensures unread { reads (command (map (λ word. string_bytes word) words.now)) ≡ false → input.new ≡ input.old }
+    ensures unloaded { loads (command (map (λ word. string_bytes word) words.now)) ≡ false → store.new ≡ store.old }
+    // One that does neither is answered without a look at any device.
+    ensures idle { let asked = command (map (λ word. string_bytes word) words.now) in reads asked ≡ false → loads asked ≡ false →
+        (out.new ≡ out.old) × ((result ≡ Outcome.OutOfMemory) ⊎ (result ≡ (step asked [] []).outcome)) }
     ensures text { let seen = sink_view E.written E.faults E.refusals in GetsText (seen err.old) (seen err.new) (text_of result) }
-    ensures store { store.new ≡ store.old }
+    ensures is_open { K.is_open store.new }
 {
     let asked = read_words(words);
-    let made = make(alloc, asked, input);
+    let made = make(alloc, asked, input, store);
     let outcome = conclude(made, out);
     finish(alloc, outcome, err)
 }

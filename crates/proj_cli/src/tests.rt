@@ -1,6 +1,9 @@
 // What no clause says: names that real Git gives, the printed texts, and that calls succeed with ample memory.
+ghost use Rattle.std.specs.Prelude.{◌≡◌, false};
+
 use crate::{Outcome, outcome_code, outcome_text, run};
-use proj_io::{MemKeeper, MemSink, MemSource};
+use git_objects::Name;
+use proj_io::{Failing, Keeper, MemKeeper, MemSink, MemSource};
 use std::alloc::{AllocError, Global};
 use std::process::Abort;
 use std::test::Fail;
@@ -10,6 +13,23 @@ const MAIN: &str = "refs/heads/main";
 // One commit with the file `a/f`.
 const HELLO: &[u8] =
     b"commit refs/heads/main\ncommitter A <a@x> 1700000000 +0000\ndata 5\ninit\nM 100644 inline a/f\ndata 6\nhello\n";
+
+// Three commits in line: `a/f`, then `b/g`, then another `a/f`.
+const THREE: &[u8] =
+    b"commit refs/heads/main\ncommitter A <a@x> 1700000000 +0000\ndata 4\none\nM 100644 inline a/f\ndata 1\n1\ncommit refs/heads/main\ncommitter A <a@x> 1700000000 +0000\ndata 4\ntwo\nM 100644 inline b/g\ndata 1\n1\ncommit refs/heads/main\ncommitter A <a@x> 1700000000 +0000\ndata 6\nthree\nM 100644 inline a/f\ndata 1\n2\n";
+
+// The item of a store that holds the commit of `HELLO` on refs/heads/main.
+const ITEM: &[u8] = b"\x01\x01\
+    \x00\x00\x00\x04\
+    \x01\x00\x00\x00\x06hello\n\
+    \x02\x00\x00\x00\x1d100644 f\x00\xce\x01\x36\x25\x03\x0b\xa8\xdb\xa9\x06\xf7\x56\x96\x7f\x9e\x9c\xa3\x94\x46\x4a\
+    \x02\x00\x00\x00\x1c40000 a\x00\x10\x73\x1d\x0b\x17\x0b\x98\x48\x1a\x00\xbd\xca\x16\x1e\x87\x4e\x0a\xb9\x33\x77\
+    \x03\x00\x00\x00\x77tree 9e875c512d63c924f4d9470217af46b123963bf8\n\
+    author A <a@x> 1700000000 +0000\n\
+    committer A <a@x> 1700000000 +0000\n\n\
+    init\n\
+    \x00\x00\x00\x01\
+    \x00\x0frefs/heads/main\x59\x90\xba\x61\x63\xd7\x7f\x77\x07\x1c\xa2\xe8\xe9\x89\x9c\x36\x8d\xbc\x6e\xb7";
 
 // The name of the commit that `git commit-tree` makes of a tree with `f` alone, and the ident and message of `HELLO`.
 const SHOWN: &[u8] = b"6a27ff6de5d45a65cc66723c6ae6227ea6004aa6\n";
@@ -228,7 +248,7 @@ fn each_form_of_the_words(rt: HostRuntime) -> Result<(), Fail> {
         &["batch"],
         &["trial", "1"],
         &["trial", "100000"],
-        &["project", MAIN, ":/a"],
+        &["project", MAIN, "::a/"],
         &["push", MAIN, ":/a"],
         &["export", MAIN, ":/a"],
         &["name", MAIN, ":/"],
@@ -262,8 +282,38 @@ fn shown(alloc: Global, filter: &str, input: &[u8]) -> Result<Vec<u8>, AllocErro
 #[test]
 fn each_input(rt: HostRuntime) -> Result<(), Fail> {
     let alloc = rt.alloc();
-    let rows: [(&str, &[u8], &[u8]); 22] = [
+    let rows: [(&str, &[u8], &[u8]); 29] = [
         (":/a", HELLO, SHOWN),
+        // several commits: one that changes nothing below `a` has its parent's projection
+        (":/a", THREE, b"c50c864fd89401ba882c873d6f2e3392eb137e9b\n"),
+        (":/c", THREE, b"none\n"),
+        // a file in the place of what is shown leaves the empty tree upon the parent's projection
+        (
+            ":/a",
+            b"commit refs/heads/main\ncommitter A <a@x> 1700000000 +0000\ndata 4\none\nM 100644 inline a/f\ndata 1\n1\n\ncommit refs/heads/main\ncommitter A <a@x> 1700000000 +0000\ndata 4\ntwo\nM 100644 inline a\ndata 1\n2",
+            b"3ad230a0b73d181541fac141368b62ac4a7e14c7\n",
+        ),
+        // a parent that is named, at the first commit and at a later one; another ref
+        (
+            ":/a",
+            b"commit refs/heads/main\ncommitter A <a@x> 1700000000 +0000\ndata 4\none\nfrom 5990ba6163d77f77071ca2e8e9899c368dbc6eb7\nM 100644 inline a/f\ndata 1\n1\n",
+            b"not built\n",
+        ),
+        (
+            ":/a",
+            b"commit refs/heads/main\ncommitter A <a@x> 1700000000 +0000\ndata 4\none\ncommit refs/heads/main\ncommitter A <a@x> 1700000000 +0000\ndata 4\ntwo\nfrom 5990ba6163d77f77071ca2e8e9899c368dbc6eb7\n",
+            b"not built\n",
+        ),
+        (
+            ":/a",
+            b"commit refs/heads/main\ncommitter A <a@x> 1700000000 +0000\ndata 4\none\ncommit refs/heads/next\ncommitter A <a@x> 1700000000 +0000\ndata 4\ntwo\n",
+            b"not built\n",
+        ),
+        (
+            ":/a",
+            b"commit refs/heads/main\ncommitter A <a@x> 1700000000 +0000\ndata 4\none\nfrom 0000000000000000000000000000000000000000\n",
+            b"not built\n",
+        ),
         (":/b", HELLO, b"none\n"),
         (":/a/f", HELLO, b"none\n"),
         // no change, and any number of LF
@@ -389,16 +439,81 @@ fn limits_reached_exactly(rt: HostRuntime) -> Result<(), Fail> {
     Ok(())
 }
 
+// A keeper with one item, whose call of that number fails.
+fn keeper_of(rt: &impl Abort, alloc: Global, item: &[u8], failing: Vec<Failing>) -> MemKeeper
+    ensures { result.broken ≡ false }
+{
+    let mut keeper = MemKeeper::new(alloc, failing);
+    assert!(rt; !item.is_empty());
+    assert!(rt; item.len() < 1000);
+    let added = keeper.append(item);
+    assert!(rt; added.is_ok());
+    keeper
+}
+
+// A stored ref is projected as a stream is by itself, and the store stays as it is.
+#[test]
+fn stored_refs_are_projected(rt: HostRuntime) -> Result<(), Fail> {
+    let alloc = rt.alloc();
+    let other = "refs/heads/other";
+    let broken: &[u8] = b"\xff";
+    // the item, the call of the store that fails (the append is call 0), the ref, the filter, and what comes of it
+    let rows: [(&[u8], Option<u64>, &str, &str, Outcome, &[u8], &[u8]); 7] = [
+        (ITEM, None, MAIN, ":/a", Outcome::Done, SHOWN, b""),
+        (ITEM, None, MAIN, ":/b", Outcome::Done, b"none\n", b""),
+        (ITEM, None, other, ":/a", Outcome::UnknownRef, b"", b"unknown ref\n"),
+        (ITEM, Some(1), MAIN, ":/a", Outcome::StoreFault, b"", b"store fault\n"),
+        (ITEM, Some(3), MAIN, ":/a", Outcome::StoreFault, b"", b"store fault\n"),
+        (broken, None, MAIN, ":/a", Outcome::Damaged { item: 0, at: 0 }, b"", b"damaged: item 0 at 0\n"),
+        (broken, Some(1), MAIN, "::a/", Outcome::NotBuilt, b"", b"not built\n"),
+    ];
+    for (item, call, refname, filter, outcome, output, text) in rows {
+        let mut failing = Vec::new(alloc);
+        if let Some(call) = call {
+            failing.push(Failing {
+                call,
+                landed: false,
+            })?;
+        }
+        let mut store = keeper_of(&rt, alloc, item, failing);
+        let words = strings(alloc, &["project", refname, filter])?;
+        let mut input = MemSource::new(Vec::new(alloc), 64, Vec::new(alloc));
+        let mut out = MemSink::new(alloc, 64, Vec::new(alloc));
+        let mut err = MemSink::new(alloc, 64, Vec::new(alloc));
+        let got = run(alloc, &words, &mut input, &mut out, &mut err, &mut store);
+        assert_eq!(rt; got, outcome);
+        assert_eq!(rt; out.bytes(), output);
+        assert_eq!(rt; err.bytes(), text);
+        assert_eq!(rt; store.items().len(), 1);
+    }
+    Ok(())
+}
+
 #[test]
 fn each_outcome_has_its_number_and_its_text(rt: HostRuntime) -> Result<(), Fail> {
     let alloc = rt.alloc();
-    let rows: [(Outcome, u8, &[u8]); 7] = [
+    let name = Name([0xab; 20]);
+    let rows: [(Outcome, u8, &[u8]); 10] = [
         (Outcome::Done, 0, b""),
         (Outcome::OutOfMemory, 1, b"out of memory\n"),
         (Outcome::Usage, 2, USAGE),
         (Outcome::UnknownRef, 8, b"unknown ref\n"),
+        (
+            Outcome::Collision { name },
+            21,
+            b"collision: abababababababababababababababababababab\n",
+        ),
         (Outcome::ReadFault, 22, b"read fault\n"),
         (Outcome::WriteFault, 23, b"write fault\n"),
+        (Outcome::StoreFault, 24, b"store fault\n"),
+        (
+            Outcome::Damaged {
+                item: 12,
+                at: 536870912,
+            },
+            25,
+            b"damaged: item 12 at 536870912\n",
+        ),
         (Outcome::NotBuilt, 90, b"not built\n"),
     ];
     for (outcome, code, text) in &rows {

@@ -1,30 +1,48 @@
-use Rattle.std.proofs.Common.{refl, ap, sym, ◌∙◌, arith, inr, []}
-use Rattle.proj_io.specs.Views.{source_view}
+use Rattle.std.proofs.Common.{◌≡◌, Err, ap, sym, subst, ◌∙◌, refl, inr}
+use Rattle.proj_io.specs.Views.{source_view, keeper_view}
+use Rattle.proj_cli.specs.Answer.{IsInHand, IsMade}
 use Rattle.proj_cli.specs.Asked.{command_of}
+use Rattle.proj_cli.specs.Step.{loads, step}
 use Rattle.proj_cli.specs.Texts.{filter_path}
-use Rattle.proj_cli.specs.Step.{step, name_by}
-use Rattle.proj_cli.specs.declared.outcome.Outcome.TheVariants.{OutOfMemory, NotBuilt, Usage}
-use Rattle.proj_cli.proofs.Makes.{makes_none, makes_refused, other_words}
+use Rattle.proj_cli.specs.Words.{Command, Name, Project}
+use Rattle.proj_cli.specs.declared.outcome.Outcome.TheVariants.{NotBuilt, OutOfMemory, Usage}
+use Rattle.proj_cli.proofs.Makes.{name_made, name_refused, no_form, no_memory, not_built, other_words, project_made, project_refused}
 use Rattle.proj_cli.proofs.program.make.Goals as goal
 
 pub returns-in-Ok-None-clause-made : goal.returns-in-Ok-None-clause-made
 returns-in-Ok-None-clause-made g c =
-    let none = sym (sym c.in-Ok-None.field-0-is ∙ c.in-Ok-None.ensures ∙ ap filter_path c.as_bytes.ensures.value) in
-    makes_refused (step (command_of c.args.asked)) (source_view g.S.Source.left g.S.Source.faults c.args.input.now) NotBuilt
-    (λ input. ap (λ a. step (command_of a) input) c.in-Name.is ∙ ap (λ place. name_by c.in-Name.refname.now place input) none) (λ e. cc) refl
+    subst (λ (a : Command). IsMade (IsInHand a) (step a) (loads a) (source_view g.S.Source.left g.S.Source.faults c.args.input.now) (source_view g.S.Source.left g.S.Source.faults c.args.input.now) (keeper_view g.K.Keeper.items g.K.Keeper.number g.K.Keeper.faults c.args.store.now) (keeper_view g.K.Keeper.items g.K.Keeper.number g.K.Keeper.faults c.args.store.now) (Err NotBuilt)) (sym (ap command_of c.in-Name.is))
+    (not_built (Name c.in-Name.refname.now c.in-Name.filter.now) (source_view g.S.Source.left g.S.Source.faults c.args.input.now) (keeper_view g.K.Keeper.items g.K.Keeper.number g.K.Keeper.faults c.args.store.now) (name_refused c.in-Name.refname.now c.in-Name.filter.now (sym c.in-Ok-None.field-0-is ∙ c.in-Ok-None.ensures ∙ ap filter_path c.as_bytes.ensures.value)))
 
 pub returns-in-Err-clause-made : goal.returns-in-Err-clause-made
-returns-in-Err-clause-made g c = makes_none _ _ _ OutOfMemory (record { later = omega arith; rose = λ e. cc }) (λ _. tt)
+returns-in-Err-clause-made g c = no_memory (command_of c.args.asked) (source_view g.S.Source.left g.S.Source.faults c.args.input.now) (keeper_view g.K.Keeper.items g.K.Keeper.number g.K.Keeper.faults c.args.store.now)
+
+pub returns-in-Err-filter_path-clause-made : goal.returns-in-Err-filter_path-clause-made
+returns-in-Err-filter_path-clause-made g c = no_memory (command_of c.args.asked) (source_view g.S.Source.left g.S.Source.faults c.args.input.now) (keeper_view g.K.Keeper.items g.K.Keeper.number g.K.Keeper.faults c.args.store.now)
+
+pub returns-in-Ok-None-filter_path-clause-made : goal.returns-in-Ok-None-filter_path-clause-made
+returns-in-Ok-None-filter_path-clause-made g c =
+    subst (λ (a : Command). IsMade (IsInHand a) (step a) (loads a) (source_view g.S.Source.left g.S.Source.faults c.args.input.now) (source_view g.S.Source.left g.S.Source.faults c.args.input.now) (keeper_view g.K.Keeper.items g.K.Keeper.number g.K.Keeper.faults c.args.store.now) (keeper_view g.K.Keeper.items g.K.Keeper.number g.K.Keeper.faults c.args.store.now) (Err NotBuilt)) (sym (ap command_of c.in-Project.is))
+    (not_built (Project c.in-Project.refname.now c.in-Project.filter.now) (source_view g.S.Source.left g.S.Source.faults c.args.input.now) (keeper_view g.K.Keeper.items g.K.Keeper.number g.K.Keeper.faults c.args.store.now) (project_refused c.in-Project.refname.now c.in-Project.filter.now (sym c.in-Ok-None-filter_path.field-0-is ∙ c.in-Ok-None-filter_path.ensures ∙ ap filter_path c.as_bytes-in-Project.ensures.value)))
+
+pub returns-in-Ok-Some-filter_path-clause-made : goal.returns-in-Ok-Some-filter_path-clause-made
+returns-in-Ok-Some-filter_path-clause-made g c =
+    let after = keeper_view g.K.Keeper.items g.K.Keeper.number g.K.Keeper.faults c.project.new.store in
+    subst (λ (a : Command). IsMade (IsInHand a) (step a) (loads a) (source_view g.S.Source.left g.S.Source.faults c.args.input.now) (source_view g.S.Source.left g.S.Source.faults c.args.input.now) (keeper_view g.K.Keeper.items g.K.Keeper.number g.K.Keeper.faults c.args.store.now) after c.project.result) (sym (ap command_of c.in-Project.is))
+    (project_made c.in-Project.refname.now c.in-Project.filter.now _ c.as_bytes-in-Ok-Some-filter_path.result.now (source_view g.S.Source.left g.S.Source.faults c.args.input.now) (keeper_view g.K.Keeper.items g.K.Keeper.number g.K.Keeper.faults c.args.store.now) after c.project.result
+    (sym c.in-Ok-Some-filter_path.field-0-is ∙ c.in-Ok-Some-filter_path.ensures ∙ ap filter_path c.as_bytes-in-Project.ensures.value) c.as_bytes-in-Ok-Some-filter_path.ensures.value
+    c.project.ensures.cause c.project.ensures.early c.project.ensures.number c.project.ensures.items c.project.ensures.report)
 
 pub returns-in-Unknown-clause-made : goal.returns-in-Unknown-clause-made
 returns-in-Unknown-clause-made g c =
-    makes_refused (step (command_of c.args.asked)) (source_view g.S.Source.left g.S.Source.faults c.args.input.now) Usage
-    (λ input. ap (λ a. step (command_of a) input) c.in-Unknown.is) (λ e. cc) refl
+    subst (λ (a : Command). IsMade (IsInHand a) (step a) (loads a) (source_view g.S.Source.left g.S.Source.faults c.args.input.now) (source_view g.S.Source.left g.S.Source.faults c.args.input.now) (keeper_view g.K.Keeper.items g.K.Keeper.number g.K.Keeper.faults c.args.store.now) (keeper_view g.K.Keeper.items g.K.Keeper.number g.K.Keeper.faults c.args.store.now) (Err Usage)) (sym (ap command_of c.in-Unknown.is)) (no_form (source_view g.S.Source.left g.S.Source.faults c.args.input.now) (keeper_view g.K.Keeper.items g.K.Keeper.number g.K.Keeper.faults c.args.store.now))
 
 pub returns-in_default : goal.returns-in_default
 returns-in_default g c =
-    let all = other_words c.args.asked c.in_default.not-Name c.in_default.not-Unknown in record {
-      made = makes_refused (step (command_of c.args.asked)) (source_view g.S.Source.left g.S.Source.faults c.args.input.now) NotBuilt all (λ e. cc) refl;
-      untouched = λ _. refl;
-      unread = λ _. inr (sym (ap (λ s. s.outcome) (all [])));
+    let all = other_words c.args.asked c.in_default.not-Project c.in_default.not-Name c.in_default.not-Unknown in record {
+      made = not_built (command_of c.args.asked) (source_view g.S.Source.left g.S.Source.faults c.args.input.now) (keeper_view g.K.Keeper.items g.K.Keeper.number g.K.Keeper.faults c.args.store.now) all;
+      unread = λ _. refl;
+      unloaded = λ _. refl;
+      idle = λ _ _. inr (sym (ap (λ s. s.outcome) (all _ _)));
+      is_open = c.requires.open;
     }

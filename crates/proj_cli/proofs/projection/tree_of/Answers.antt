@@ -1,12 +1,8 @@
-use Rattle.std.proofs.Common.{◌∙◌, sym, ap}
-use Rattle.proj_cli.specs.Projection.{tree_of, with_change}
-use Rattle.proj_cli.specs.Rows.{change_of}
-use Rattle.proj_cli.proofs.Joined.{tree_of-more}
+use Rattle.std.proofs.Common.{◌≡◌, true, sym, ap, subst, ◌∙◌}
+use Rattle.git_objects.specs.Trees.{Flat}
+use Rattle.proj_cli.proofs.Gathering.{nil-name}
+use Rattle.proj_cli.specs.Kept.{IsNameOf}
 use Rattle.proj_cli.proofs.projection.tree_of.Goals as goal
 
-pub loop-row-init : goal.loop-row-init
-unfolding tree_of
-loop-row-init c = c.empty-tree.ensures
-
-pub loop-row-preserved : goal.loop-row-preserved
-loop-row-preserved c = c.in_ok-put.ensures.ok ∙ ap (λ t. with_change t (change_of c.in-Some.row)) c.loop-row.invariant ∙ sym (tree_of-more c.loop-row.yielded c.in-Some.row)
+pub returns-in-None : goal.returns-in-None
+returns-in-None c = λ (t : Flat) h. nil-name t (subst (IsNameOf t) c.in-None.is h) ∙ sym c.name_of.ensures
