@@ -1,5 +1,5 @@
 -- What a stream brought to an empty store, as a change.
-use Rattle.std.proofs.Common.{◌≡◌, Bool, true, false, cond, ◌&&◌, ◌||◌, List, [], ◌∷◌, ◌++◌, map, Option, Some, None, refl, sym, ap, subst, ◌∙◌}
+use Rattle.std.proofs.Common.{◌≡◌, Bool, true, false, cond, ◌||◌, List, [], ◌∷◌, ◌++◌, map, Some, None, refl, sym, ap, subst, ◌∙◌}
 use Rattle.std.specs.List.{flat_map, list_all, list_any}
 use Rattle.std.specs.Option.{option_map_or}
 use Rattle.std.proofs.lemmas.Bool.{or_right}
@@ -11,10 +11,10 @@ use Rattle.git_objects.specs.Parts.{name_bytes}
 use Rattle.git_objects.specs.declared.kind.Kind.TheVariants.{Blob, Commit as CommitKind}
 use Rattle.git_objects.specs.declared.name.Name.{Name}
 use Rattle.git_objects.proofs.Basics.{same_bytes-self}
-use Rattle.object_store.specs.Objects.{Object, IsStore, has, body_of}
+use Rattle.object_store.specs.Objects.{Object, IsStore, has}
 use Rattle.object_store.specs.Unfolding.{flat}
 use Rattle.repo_state.specs.TreeObjects.{tree_objects}
-use Rattle.repo_state.specs.Repos.{Snapshot, snapshot_commit, snapshot_name, snapshot_object}
+use Rattle.repo_state.specs.Repos.{Snapshot, snapshot_name, snapshot_object}
 use Rattle.repo_state.specs.Changes as changes
 use Rattle.repo_state.specs.Changes.{IsChange, are_distinct, commit_named, commit_objects, has_parents, objects_of}
 use Rattle.repo_state.specs.Commits.{change_of, setting}
@@ -51,7 +51,7 @@ module _ (S : List Object) (s : IsStore S) where
   commit-is : (n : Bytes) (c : Snapshot) → IsSnapshot S n c → commit_objects S n ≡ tree_objects c.tree ++ snapshot_object c ∷ []
   commit-is n c h =
       let trees : option_map_or (λ (d : Commit). tree_objects (flat S d.tree)) (commit_named S n) [] ≡ tree_objects c.tree =
-        ap (λ o. option_map_or (λ (d : Commit). tree_objects (flat S d.tree)) o []) (commit-read S s n c h) ∙ ap tree_objects h.map in
+      ap (λ o. option_map_or (λ (d : Commit). tree_objects (flat S d.tree)) o []) (commit-read S s n c h) ∙ ap tree_objects h.map in
       let body = body-found CommitKind S n (snapshot_object c) s (commit-held S s n c h) h.held in
       λ i. trees i ++ record { kind = CommitKind; body = body i } ∷ []
 

@@ -1,9 +1,8 @@
 -- A commit put into a store.
-use Rattle.std.proofs.Common.{◌≡◌, true, cond, List, [], ◌∷◌, Option, Some, None, IfSome, refl, sym, ap, subst, ◌∙◌}
+use Rattle.std.proofs.Common.{◌≡◌, true, cond, List, Option, Some, None, IfSome, refl, sym, ap, ◌∙◌}
 use Rattle.git_objects.specs.Paths.{Bytes}
-use Rattle.git_objects.specs.Trees.{Flat}
 use Rattle.git_objects.specs.Names.{name, tree_name}
-use Rattle.git_objects.specs.Commits.{Letter, Commit, commit_body, commit_name}
+use Rattle.git_objects.specs.Commits.{Letter, commit_body, commit_name}
 use Rattle.git_objects.specs.CommitBodies.{commit_from}
 use Rattle.git_objects.specs.declared.kind.Kind.TheVariants.{Tree, Commit as CommitKind}
 use Rattle.git_objects.specs.declared.name.Name.{Name}
@@ -11,10 +10,10 @@ use Rattle.object_store.specs.Objects.{Object, IsStore, has, find_named, missing
 use Rattle.object_store.specs.Puts.{if_missing, of_body, of_commit}
 use Rattle.object_store.specs.Unfolding.{flat}
 use Rattle.object_store.proofs.Unfolding.{unfolding_law}
-use Rattle.repo_state.specs.Repos.{Snapshot, snapshot_name, snapshot_object}
+use Rattle.repo_state.specs.Repos.{Snapshot, snapshot_object}
 use Rattle.proj_cli.specs.Snapshots.{IsSnapshot}
 use Rattle.proj_cli.specs.Replays.{IsGrownBy, IsOnly, IsOnlyCommit, parent_of}
-use Rattle.proj_cli.proofs.Grows.{flat-grown, grown_as, has-grown}
+use Rattle.proj_cli.proofs.Grows.{flat-grown, has-grown}
 
 -- no parent is missing
 none_missing : (S : List Object) (parent : Option Name) → IfSome parent (λ n. has CommitKind S n.0 ≡ true) → missing_parent S (parent_of parent) ≡ None

@@ -1,12 +1,11 @@
 -- A file put into a stored tree.
-use Rattle.std.proofs.Common.{◌≡◌, ◌⊎◌, inl, inr, ℕ, zero, suc, arith, Bool, true, false, cond, ◌&&◌, ◌||◌, List, [], ◌∷◌, ◌++◌, Option, Some, None, Contains, refl, sym, ap, subst, ◌∙◌}
+use Rattle.std.proofs.Common.{◌≡◌, inl, inr, zero, suc, arith, Bool, true, false, cond, ◌&&◌, ◌||◌, List, [], ◌∷◌, Option, Some, None, Contains, refl, sym, ap, subst, ◌∙◌}
 use Rattle.git_objects.specs.Paths.{Bytes, Path, same_bytes}
-use Rattle.git_objects.specs.Trees.{Flat, Node, LeafNode, FileLeaf, put, under}
-use Rattle.git_objects.specs.Names.{body, name}
+use Rattle.git_objects.specs.Trees.{Flat, LeafNode, FileLeaf, put, under}
+use Rattle.git_objects.specs.Names.{name}
 use Rattle.git_objects.specs.declared.kind.Kind.{Kind}
 use Rattle.git_objects.specs.declared.kind.Kind.TheVariants.{Blob, Tree, Commit}
 use Rattle.git_objects.specs.declared.mode.Mode.TheVariants.{File}
-use Rattle.git_objects.specs.declared.name.Name.{Name}
 use Rattle.object_store.specs.Objects.{Object, object_name, same_kind, is_named, find_named, has, body_of, IsStore}
 use Rattle.object_store.specs.Puts.{Collides, collision, same_object}
 use Rattle.object_store.specs.Unfolding.{flat}
@@ -15,7 +14,7 @@ use Rattle.path_trees.specs.declared.found.TreeFault.{TreeFault}
 use Rattle.path_trees.specs.declared.found.TreeFault.TheVariants.{Collision as Collides_there, OutOfMemory as NoMemory}
 use Rattle.path_trees.specs.Standing.{node}
 use Rattle.proj_cli.specs.Streams.{Change}
-use Rattle.proj_cli.specs.Replay.{IsDirectoryOf, IsMadeIn, blob_object, tree_object, with_change}
+use Rattle.proj_cli.specs.Replay.{IsMadeIn, blob_object, tree_object, with_change}
 use Rattle.proj_cli.specs.Replays.{IsGrownBy, IsClash, IsOnly, IsPutFault, StandsFor, fault_of}
 use Rattle.proj_cli.proofs.Grows.{flat-grown, found-above, grown_as, grown_then, has-grown}
 

@@ -1,9 +1,9 @@
 -- Words that have a form have a ref name.
-use Rattle.std.proofs.Common.{◌≡◌, Bool, true, false, cond, List, [], ◌∷◌, codes, refl, ap}
+use Rattle.std.proofs.Common.{◌≡◌, Bool, true, false, cond, List, [], ◌∷◌, codes, refl}
 use Rattle.std.specs.Prelude.{ℕ, Option, Some, None}
 use Rattle.git_objects.specs.Paths.{Bytes, same_bytes}
 use Rattle.path_names.specs.RefNames.{is_ref_name}
-use Rattle.proj_cli.specs.Words.{Command, Import, Project, Push, Export, Name, Batch, Trial, Unknown, command, is_formed, one_word, two_words, three_words, trial_number, trial_of}
+use Rattle.proj_cli.specs.Words.{Command, Import, Project, Push, Export, Name, Batch, Unknown, command, is_formed, one_word, two_words, three_words, trial_number, trial_of}
 
 either : (b : Bool) (x y : Command) → is_formed x ≡ true → is_formed y ≡ true → is_formed (cond b x y) ≡ true
 either true x y h g = h

@@ -123,5 +123,5 @@ commit-made t tree ps names l m b n e h =
     let parents : map name_bytes names ≡ map (λ (p : projections.Shown). p.commit) (map shown_value ps) = ap (λ (ns : List Name). map name_bytes ns) h.names_are ∙ names-map ps in
     let letter : m ≡ l = (λ i. record { author = h.author i; committer = h.committer i; message = h.message i }) in
     let named : n.0 ≡ commit_name (record { tree = tree_name t; parents = map (λ (p : projections.Shown). p.commit) (map shown_value ps); letter = l }) =
-      h.named ∙ ap (name CommitKind) (h.body ∙ (λ i. commit_body (record { tree = sym e i; parents = parents i; letter = letter i }))) in
+    h.named ∙ ap (name CommitKind) (h.body ∙ (λ i. commit_body (record { tree = sym e i; parents = parents i; letter = letter i }))) in
     λ i. record { commit = named i; tree = sym e i }

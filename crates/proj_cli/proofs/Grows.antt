@@ -1,6 +1,6 @@
 -- What a store that has grown still holds, and what is put into it.
-use Rattle.std.proofs.Common.{◌≡◌, ◌⊎◌, inl, inr, ℕ, zero, suc, arith, Bool, true, false, not, cond, ◌&&◌, ◌||◌, List, [], ◌∷◌, ◌++◌, map, Option, Some, None, Contains, refl, sym, ap, subst, ◌∙◌, append_assoc, true≢false}
-use Rattle.std.specs.Option.{is_some, option_map_or}
+use Rattle.std.proofs.Common.{◌≡◌, ◌⊎◌, inl, inr, zero, suc, arith, true, false, cond, List, [], ◌∷◌, ◌++◌, Option, Some, None, Contains, refl, sym, ap, subst, ◌∙◌, append_assoc, true≢false}
+use Rattle.std.specs.Option.{is_some}
 use Rattle.std.specs.Cmp.{first_so, second_so}
 use Rattle.std.specs.Cmp.Lexicographic.{bytes_decides}
 use Rattle.std.proofs.lemmas.List.Elements.{Contains-append_cases}
@@ -14,7 +14,7 @@ use Rattle.git_objects.specs.declared.entry.Entry.{Entry}
 use Rattle.git_objects.specs.declared.kind.Kind.{Kind}
 use Rattle.git_objects.specs.declared.kind.Kind.TheVariants.{Blob, Tree, Commit as CommitKind}
 use Rattle.git_objects.proofs.Basics.{same_bytes-self}
-use Rattle.object_store.specs.Objects.{Object, object_name, same_kind, is_named, find_named, has, has_name, missing_entry, missing_of_commit, IsStore}
+use Rattle.object_store.specs.Objects.{Object, object_name, find_named, has, has_name, missing_entry, missing_of_commit, IsStore}
 use Rattle.object_store.specs.Puts.{Refusal, Collides, collision, same_object, if_missing, of_tree, of_commit, of_body, refusal, with_object}
 use Rattle.object_store.specs.Unfolding.{flat}
 use Rattle.object_store.proofs.Finding.{found_name}

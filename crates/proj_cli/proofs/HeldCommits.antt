@@ -10,8 +10,8 @@ use Rattle.std.proofs.lemmas.Option.{none-some, same_Some}
 use Rattle.indexmap.specs.IndexMap.{insert_entry}
 use Rattle.git_objects.specs.Paths.{Bytes, Path, same_bytes}
 use Rattle.git_objects.specs.Trees.{under}
-use Rattle.git_objects.specs.Names.{name, tree_name}
-use Rattle.git_objects.specs.Commits.{Commit, commit_body, commit_name}
+use Rattle.git_objects.specs.Names.{name}
+use Rattle.git_objects.specs.Commits.{Commit, commit_name}
 use Rattle.git_objects.specs.CommitBodies.{commit_from, IsCommitBody}
 use Rattle.git_objects.specs.Parts.{name_bytes}
 use Rattle.git_objects.specs.declared.kind.Kind.{Kind}
@@ -25,7 +25,7 @@ use Rattle.object_store.proofs.Finding.{has-found}
 use Rattle.object_store.proofs.Unfolding.{unfolding_law}
 use Rattle.repo_state.specs.Repos.{Snapshot, snapshot_of, snapshot_name}
 use Rattle.repo_state.specs.Changes.{commit_named}
-use Rattle.proj_cli.specs.Projection.{Shown as Pair, distinct, projected, projection, projection_below}
+use Rattle.proj_cli.specs.Projection.{Shown as Pair, distinct, projected, projection_below}
 use Rattle.proj_cli.specs.Snapshots.{snapshots_at}
 use Rattle.proj_cli.specs.Kept.{kept}
 use Rattle.proj_cli.specs.Shown.{shown_value}
@@ -98,9 +98,9 @@ held S n c s h e =
       tree = tree;
       spelled = spelled;
       named =
-        ap (λ (t : Bytes). commit_name (record { tree = t; parents = c.parents; letter = c.letter })) (unfolding_law S c.tree s tree).named
-        ∙ ap (name CommitKind) spelled.spelled
-        ∙ body_named CommitKind S n h;
+          ap (λ (t : Bytes). commit_name (record { tree = t; parents = c.parents; letter = c.letter })) (unfolding_law S c.tree s tree).named
+          ∙ ap (name CommitKind) spelled.spelled
+          ∙ body_named CommitKind S n h;
     }
 
 pub some-held : (S : List Object) (n : Bytes) → IsStore S → has CommitKind S n ≡ true → (c : Commit) × IsHeld S n c
@@ -142,11 +142,11 @@ holds-step S place es commits k v s h made inv n =
     let found = projection_below place older in
     let each : kept es ≡ found = (λ i m. inv m i) in
     let one : option_map shown_value v ≡ projected (under (flat S c.tree) place) c.letter (distinct (filter_map found c.parents)) =
-      made c known.read ∙ ap (λ (f : Bytes → Option Pair). projected (under (flat S c.tree) place) c.letter (distinct (filter_map f c.parents))) each in
+    made c known.read ∙ ap (λ (f : Bytes → Option Pair). projected (under (flat S c.tree) place) c.letter (distinct (filter_map f c.parents))) each in
     let names : reverse (map name_bytes (commits ++ k ∷ [])) ≡ k.0 ∷ reverse (map name_bytes commits) =
-      ap reverse (map-append name_bytes commits (k ∷ [])) ∙ reverse-append (map name_bytes commits) (k.0 ∷ []) in
+    ap reverse (map-append name_bytes commits (k ∷ [])) ∙ reverse-append (map name_bytes commits) (k.0 ∷ []) in
     let snapshots : snapshots_at S (reverse (map name_bytes (commits ++ k ∷ []))) ≡ snapshot_of S c ∷ older =
-      ap (snapshots_at S) names ∙ ap (λ (o : Option Commit). cons_option (option_map (snapshot_of S) o) older) known.read in
+    ap (snapshots_at S) names ∙ ap (λ (o : Option Commit). cons_option (option_map (snapshot_of S) o) older) known.read in
     kept-insert es k v n
     ∙ (λ i. cond (same_bytes (sym known.named i) n) (one i) (inv n i))
     ∙ sym (ap (λ (cs : List Snapshot). projection_below place cs n) snapshots)

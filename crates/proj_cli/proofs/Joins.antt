@@ -1,13 +1,12 @@
 -- What a command made, what came of writing it, and the text of the outcome are together the answer.
-use Rattle.std.proofs.Common.{◌≡◌, ◌≢◌, ◌⊎◌, ℕ, ◌≤◌, Bool, List, refl, sym, ap, subst, ◌∙◌, Some, Ok, Err, Result, IfSome, IsErr, inl, inr, arith}
+use Rattle.std.proofs.Common.{◌≡◌, ◌≢◌, ◌⊎◌, ◌≤◌, Bool, List, refl, sym, ap, subst, ◌∙◌, Ok, Err, Result, IfSome, IsErr, inl, inr, arith}
 use Rattle.std.specs.declared.option.Option.{Option}
 use Rattle.std.proofs.KnownBytes.{Keeps-refl}
 use Rattle.git_objects.specs.Paths.{Bytes}
 use Rattle.object_store.specs.Objects.{Object}
-use Rattle.proj_io.specs.Counts.{Counts}
 use Rattle.proj_io.specs.Views.{SourceView, SinkView, KeeperView}
 use Rattle.proj_cli.specs.Step.{Step, done}
-use Rattle.proj_cli.specs.Answer.{AreItems, Devices, IsAnswer, IsComplete, IsConcluded, IsIdle, IsMade, IsOutcome, IsOutput, IsRefusal, IsReport, IsReported, IsSent, IsStepped, IsTwice, TakesMemory}
+use Rattle.proj_cli.specs.Answer.{Devices, IsAnswer, IsComplete, IsConcluded, IsIdle, IsMade, IsOutcome, IsOutput, IsRefusal, IsReported, IsSent, IsStepped, IsTwice, TakesMemory}
 use Rattle.proj_cli.specs.declared.outcome.Outcome.{Outcome}
 use Rattle.proj_cli.specs.declared.outcome.Outcome.TheVariants.{Done, OutOfMemory, Collision, ReadFault, WriteFault, StoreFault}
 

@@ -1,23 +1,16 @@
 -- Commits that a stream made, by their names.
-use Rattle.std.proofs.Common.{◌≡◌, ◌≢◌, ◌⊎◌, inl, inr, ℕ, zero, suc, arith, ◌-◌, length, get_or, slice_get, Bool, true, false, cond, ◌&&◌, List, [], ◌∷◌, ◌++◌, map, reverse, Option, Some, None, Contains, refl, sym, ap, subst, ◌∙◌, true≢false, append-nil}
-use Rattle.std.specs.List.{filter_map, cons_option, list_all}
+use Rattle.std.proofs.Common.{◌≡◌, suc, arith, ◌-◌, length, slice_get, true, List, [], ◌∷◌, ◌++◌, map, reverse, Option, Some, None, refl, sym, ap, ◌∙◌}
+use Rattle.std.specs.List.{cons_option, list_all}
 use Rattle.std.specs.Option.{option_map}
-use Rattle.std.specs.Cmp.{first_so, second_so}
-use Rattle.std.specs.Cmp.Lexicographic.{bytes_decides}
 use Rattle.std.proofs.lemmas.List.{reverse-append}
 use Rattle.std.proofs.lemmas.Option.{same_Some}
-use Rattle.git_objects.specs.Paths.{Bytes, same_bytes}
-use Rattle.git_objects.specs.Commits.{commit_body}
+use Rattle.git_objects.specs.Paths.{Bytes}
 use Rattle.git_objects.specs.CommitBodies.{commit_from}
-use Rattle.git_objects.specs.Names.{name}
 use Rattle.git_objects.specs.Parts.{name_bytes}
-use Rattle.git_objects.specs.declared.kind.Kind.{Kind}
 use Rattle.git_objects.specs.declared.kind.Kind.TheVariants.{Commit as CommitKind}
 use Rattle.git_objects.specs.declared.name.Name.{Name}
-use Rattle.object_store.specs.Objects.{Object, IsStore, object_name, find_named, has}
-use Rattle.object_store.specs.Puts.{Refusal, Collides, collision, same_object}
-use Rattle.object_store.specs.Unfolding.{flat}
-use Rattle.repo_state.specs.Repos.{Snapshot, snapshot_of, snapshot_commit, snapshot_name, snapshot_object}
+use Rattle.object_store.specs.Objects.{Object, IsStore, has}
+use Rattle.repo_state.specs.Repos.{Snapshot, snapshot_of, snapshot_commit, snapshot_object}
 use Rattle.repo_state.specs.Changes.{commit_named}
 use Rattle.proj_cli.specs.Snapshots.{AreSnapshots, IsSnapshot, snapshots_at}
 use Rattle.proj_cli.specs.Step.{last_name}

@@ -1,5 +1,5 @@
 -- What a command makes stands on the words, the items and the input.
-use Rattle.std.proofs.Common.{◌≡◌, ◌≢◌, ◌⊎◌, ℕ, ◌+◌, ◌<◌, ◌≤◌, Bool, true, false, cond, not, List, [], ◌∷◌, take, length, replicate, refl, sym, ap, subst, ◌∙◌, Some, None, Ok, Err, Result, IfSome, MatchResult, arith, true≢false, ◌↔◌, inl, inr}
+use Rattle.std.proofs.Common.{◌≡◌, ◌≢◌, ℕ, ◌+◌, ◌<◌, ◌≤◌, Bool, true, false, cond, List, [], take, length, replicate, refl, sym, ap, subst, ◌∙◌, Some, None, Ok, Err, Result, IfSome, arith, true≢false, ◌↔◌, inl, inr}
 use Rattle.std.specs.Prelude.{unwrap_or, nat_le, IsTrue}
 use Rattle.std.specs.declared.option.Option.{Option}
 use Rattle.std.proofs.lemmas.Grind.{common_steps}
@@ -10,7 +10,6 @@ use Rattle.object_store.specs.Objects.{Object}
 use Rattle.proj_io.specs.Counts.{Counts}
 use Rattle.proj_io.specs.Items.{Stays}
 use Rattle.proj_io.specs.Views.{SourceView, KeeperView}
-use Rattle.repo_state.specs.Fields.{BrokenAt, Clash}
 use Rattle.repo_state.specs.Items.{Held, Break, read_items}
 use Rattle.repo_state.specs.Loads.{IsLoadFault}
 use Rattle.repo_state.specs.declared.state.LoadError.{LoadError}
@@ -20,10 +19,10 @@ use Rattle.std.specs.Borrow.{Bor}
 use Rattle.proj_cli.specs.Asked.{command_of}
 use Rattle.proj_cli.specs.declared.words.Asked.{Asked}
 use Rattle.proj_cli.specs.declared.words.Asked.TheVariants as asks
-use Rattle.proj_cli.specs.Words.{Command, Import, Project, Name, Unknown}
+use Rattle.proj_cli.specs.Words.{Command, Project, Name, Unknown}
 use Rattle.proj_cli.specs.Texts.{filter_path}
 use Rattle.proj_cli.specs.Streams.{stream}
-use Rattle.proj_cli.specs.Step.{Step, by_items, done, input_max, load_outcome, loads, name_by, name_step, name_stream, project_by, project_step, refused, step}
+use Rattle.proj_cli.specs.Step.{Step, by_items, input_max, load_outcome, loads, name_by, name_step, name_stream, project_by, project_step, refused, step}
 use Rattle.proj_cli.specs.Answer.{IsInHand, IsInStream, IsMade, IsRefusal, IsReport, IsReported, NoObject, Plainly}
 use Rattle.proj_cli.specs.declared.outcome.Outcome.{Outcome}
 use Rattle.proj_cli.specs.declared.outcome.Outcome.TheVariants.{Done, OutOfMemory, Usage, Collision, ReadFault, StoreFault, WriteFault, NotBuilt}
@@ -71,7 +70,7 @@ whole_report refname place left given more result h g le e plain =
     let whole = whole_input left given more input_max h g le e in
     let all = unwrap_or left given in
     let at : name_step refname place all ≡ name_stream refname place (stream given) =
-      ap (λ b. cond b (name_stream refname place (stream all)) (refused NotBuilt)) whole.1 ∙ ap (λ t. name_stream refname place (stream t)) whole.0 in
+    ap (λ b. cond b (name_stream refname place (stream all)) (refused NotBuilt)) whole.1 ∙ ap (λ t. name_stream refname place (stream t)) whole.0 in
     reports (λ t. IsInStream (stream t)) (name_step refname place) left given result
     (subst (λ s. IsReport (IsInStream (stream all)) s result) (sym at)
     (subst (λ t. IsReport (IsInStream (stream t)) (name_stream refname place (stream given)) result) (sym whole.0) (plain_report (IsInStream (stream given)) (name_stream refname place (stream given)) result plain)))

@@ -1,21 +1,17 @@
 -- Files and commits put into a store, one after another.
-use Rattle.std.proofs.Common.{◌≡◌, ◌⊎◌, inl, inr, Bool, true, false, cond, ◌&&◌, List, [], ◌∷◌, ◌++◌, map, Option, Some, None, refl, sym, ap, subst, ◌∙◌, append_assoc, append-nil, get_or, suc, drop-cons}
+use Rattle.std.proofs.Common.{◌≡◌, inl, inr, Bool, true, false, ◌&&◌, List, [], ◌∷◌, ◌++◌, map, refl, sym, ap, subst, ◌∙◌, append_assoc, append-nil, get_or, suc, drop-cons}
 use Rattle.std.specs.Prelude.{nat_le, ◌^◌, ◌<◌, ◌+◌, ℕ, length, take, drop}
-use Rattle.std.specs.List.{list_all}
 use Rattle.std.proofs.lemmas.List.{map-append, take_more, take-append-drop}
 use Rattle.std.proofs.lemmas.List.Folds.{list_all-append}
 use Rattle.git_objects.specs.Paths.{Bytes}
 use Rattle.git_objects.specs.Trees.{Flat}
-use Rattle.git_objects.specs.Names.{tree_name, name}
-use Rattle.git_objects.specs.Commits.{Letter, Commit, commit_body}
-use Rattle.git_objects.specs.CommitBodies.{commit_from}
-use Rattle.git_objects.specs.declared.kind.Kind.TheVariants.{Tree, Commit as CommitKind}
+use Rattle.git_objects.specs.declared.kind.Kind.TheVariants.{Tree}
 use Rattle.git_objects.specs.declared.name.Name.{Name}
-use Rattle.object_store.specs.Objects.{Object, IsStore, has, find_named}
+use Rattle.object_store.specs.Objects.{Object, IsStore, has}
 use Rattle.object_store.specs.Unfolding.{flat}
 use Rattle.proj_cli.specs.Streams.{Change}
 use Rattle.proj_cli.specs.Replay.{IsMadeIn, are_small, blob_object, contents_in, trees_within, with_change, with_changes}
-use Rattle.proj_cli.specs.Replays.{AddsBlobs, AreBlobs, IsFilesFault, IsGrownBy, IsPutFault, StandsFor}
+use Rattle.proj_cli.specs.Replays.{AddsBlobs, AreBlobs, IsFilesFault, IsGrownBy, StandsFor}
 use Rattle.proj_cli.specs.Views.{change_of}
 use Rattle.proj_cli.specs.declared.streams.Row.{Row}
 use Rattle.proj_cli.specs.declared.replay.ReplayFault.{ReplayFault}

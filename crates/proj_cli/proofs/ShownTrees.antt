@@ -10,7 +10,6 @@ use Rattle.git_objects.specs.Entries.{is_dir}
 use Rattle.git_objects.specs.declared.kind.Kind.TheVariants.{Blob, Tree}
 use Rattle.git_objects.specs.declared.mode.Mode.{Mode}
 use Rattle.git_objects.specs.declared.mode.Mode.TheVariants.{File, Exec, Link, Module, Dir}
-use Rattle.git_objects.specs.declared.name.Name.{Name}
 use Rattle.git_objects.proofs.Maps.{same_flat}
 use Rattle.git_objects.proofs.Under.{at-under, at-under_nil, under-tree}
 use Rattle.object_store.specs.Objects.{Object, IsStore, body_of, has, has_child}

@@ -1,7 +1,6 @@
 -- Commits of a stream put into a store, one after another.
-use Rattle.std.proofs.Common.{◌≡◌, ◌⊎◌, inl, inr, ℕ, suc, ◌+◌, ◌<◌, Bool, true, false, cond, ◌&&◌, List, [], ◌∷◌, ◌++◌, map, length, take, drop, get_or, Option, Some, None, IfSome, refl, sym, ap, subst, ◌∙◌, append_assoc, append-nil, drop-cons}
+use Rattle.std.proofs.Common.{◌≡◌, inl, inr, ℕ, suc, ◌+◌, ◌<◌, Bool, true, false, cond, ◌&&◌, List, [], ◌∷◌, ◌++◌, map, length, take, drop, get_or, Option, Some, None, IfSome, refl, sym, ap, subst, ◌∙◌, append_assoc, append-nil, drop-cons}
 use Rattle.std.specs.Prelude.{nat_le, ◌^◌}
-use Rattle.std.specs.List.{list_all, flat_map}
 use Rattle.std.proofs.lemmas.List.{map-append, take_more, take-append-drop}
 use Rattle.std.proofs.lemmas.List.Folds.{list_all-append}
 use Rattle.git_objects.specs.Paths.{Bytes}
@@ -9,18 +8,18 @@ use Rattle.git_objects.specs.Trees.{Flat}
 use Rattle.git_objects.specs.Names.{tree_name}
 use Rattle.git_objects.specs.declared.kind.Kind.TheVariants.{Tree, Commit as CommitKind}
 use Rattle.git_objects.specs.declared.name.Name.{Name}
-use Rattle.object_store.specs.Objects.{Object, IsStore, has, find_named}
+use Rattle.object_store.specs.Objects.{Object, IsStore, has}
 use Rattle.object_store.specs.Unfolding.{flat}
 use Rattle.repo_state.specs.Repos.{Snapshot, snapshot_name, snapshot_object}
 use Rattle.proj_cli.specs.Streams.{Change, Small}
-use Rattle.proj_cli.specs.Replay.{IsDirectoryOf, IsMadeBy, IsMadeIn, are_small, contents, contents_in, replayed, snapshot, snapshots_made, trees_made, trees_within, with_changes}
+use Rattle.proj_cli.specs.Replay.{IsDirectoryOf, IsMadeBy, IsMadeIn, are_small, contents, contents_in, snapshot, snapshots_made, trees_made, trees_within, with_changes}
 use Rattle.proj_cli.specs.Replays.{AddsBlobs, AreBlobs, IsFilesFault, IsGrownBy, IsOnlyCommit, IsPutFault, IsReplayFault, StandsFor, parent_of}
 use Rattle.proj_cli.specs.Snapshots.{AreSnapshots, IsSnapshot}
 use Rattle.proj_cli.specs.Views.{small_value}
 use Rattle.proj_cli.specs.declared.streams.SmallCommit.{SmallCommit}
 use Rattle.proj_cli.specs.declared.replay.ReplayFault.{ReplayFault}
 use Rattle.proj_cli.specs.declared.replay.ReplayFault.TheVariants.{TooManyFiles, Collision, OutOfMemory}
-use Rattle.proj_cli.proofs.Grows.{clash_as, flat-grown, found-grown, grown_as, grown_self, grown_then, has-grown, stands-grown}
+use Rattle.proj_cli.proofs.Grows.{clash_as, flat-grown, found-grown, grown_as, grown_self, grown_then, has-grown}
 use Rattle.proj_cli.proofs.Files.{has-found}
 use Rattle.proj_cli.proofs.Replaying.{blobs-append, blobs-grown}
 

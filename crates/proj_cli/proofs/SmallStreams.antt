@@ -1,5 +1,5 @@
 -- Reading the changes of a small stream, one after another.
-use Rattle.std.proofs.Common.{◌≡◌, ℕ, zero, suc, ◌+◌, ◌<◌, ◌≤◌, Bool, true, false, not, cond, List, [], ◌∷◌, ◌++◌, length, take, drop, map, slice_get, Option, Some, None, refl, sym, ap, ◌∙◌, arith, append_assoc, append-nil, length-drop, nat_eq, true≢false}
+use Rattle.std.proofs.Common.{◌≡◌, ℕ, zero, suc, ◌+◌, ◌<◌, ◌≤◌, Bool, true, false, cond, List, [], ◌∷◌, ◌++◌, length, take, drop, map, slice_get, Option, Some, None, refl, sym, ap, ◌∙◌, arith, append_assoc, append-nil, length-drop, nat_eq, true≢false}
 use Rattle.std.specs.Prelude.{codes, nat_le, ◌==◌}
 use Rattle.std.specs.List.{starts_with}
 use Rattle.std.specs.Option.{option_map, option_and_then}
@@ -93,7 +93,6 @@ change_shorter t r c e =
       | None ↦ λ h e. cc
       | Some s ↦ λ h e. let same : r ≡ s.1 = ap (λ (p : Change × Bytes). p.1) (some_same (c, r) s e) in rw same h
     ] (change_less t) e
-
 
 -- ---- so many turns are enough
 

@@ -1,5 +1,5 @@
 -- What a stream stands upon.
-use Rattle.std.proofs.Common.{◌≡◌, ◌⊎◌, inl, inr, Bool, true, false, cond, ◌&&◌, List, [], ◌∷◌, Option, Some, None, refl, sym, ap, subst, ◌∙◌}
+use Rattle.std.proofs.Common.{◌≡◌, inl, true, false, cond, List, [], ◌∷◌, Some, None, refl, sym, ap, ◌∙◌}
 use Rattle.std.specs.Option.{option_map_or, unwrap_or}
 use Rattle.git_objects.specs.Paths.{Bytes, same_bytes}
 use Rattle.git_objects.specs.Trees.{Flat}
@@ -12,7 +12,6 @@ use Rattle.git_objects.specs.declared.name.Name.{Name}
 use Rattle.object_store.specs.Objects.{Object, IsStore, object_name, is_named, find_named, has, body_of}
 use Rattle.object_store.specs.Puts.{of_tree}
 use Rattle.object_store.specs.Unfolding.{flat, joined}
-use Rattle.repo_state.specs.Changes.{commit_named}
 use Rattle.proj_cli.specs.Streams.{Change, Small}
 use Rattle.proj_cli.specs.Replay.{IsDirectoryOf, IsMadeBy, IsMadeIn}
 use Rattle.proj_cli.specs.Replays.{IsGrownBy, IsOnly, IsPutFault, IsReplayFault, base_tree}

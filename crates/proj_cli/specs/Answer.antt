@@ -1,5 +1,5 @@
 -- When each outcome is answered, and what has then been written.
-use Rattle.std.specs.Prelude.{◌≡◌, ◌≢◌, ◌⊎◌, ◌≤◌, [], ℕ, Bool, true, List, Result, Ok, Err, Some, None, MatchResult, IfSome, take, ⊤}
+use Rattle.std.specs.Prelude.{◌≡◌, ◌≢◌, ◌⊎◌, ◌≤◌, [], ℕ, Bool, true, List, Result, Err, Some, None, MatchResult, IfSome, take, ⊤}
 use Rattle.std.specs.declared.option.Option.{Option}
 use Rattle.std.specs.Io.KnownBytes.{Appends, Keeps}
 use Rattle.git_objects.specs.Paths.{Bytes}

@@ -1,5 +1,4 @@
 -- What the code reads from the words, as the definition has it.
-use Rattle.std.specs.Prelude.{◌≡◌}
 use Rattle.proj_cli.specs.Words.{Command, Import, Project, Push, Export, Name, Batch, Trial, Unknown}
 use Rattle.proj_cli.specs.declared.words.Asked as asked
 use Rattle.proj_cli.specs.declared.words.Asked.{Asked}

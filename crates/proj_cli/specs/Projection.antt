@@ -1,7 +1,6 @@
 -- Projections of commits: what a filter shows of their trees, in commits of their own.
-use Rattle.std.specs.Prelude.{Bool, true, false, cond, ◌&&◌, List, [], ◌∷◌, ◌++◌, map, codes, Option, Some, None}
+use Rattle.std.specs.Prelude.{Bool, cond, List, [], ◌∷◌, ◌++◌, map, codes, Option, Some, None}
 use Rattle.std.specs.List.{filter_map, list_any}
-use Rattle.std.specs.Option.{option_map}
 use Rattle.git_objects.specs.Paths.{Bytes, Path, is_nil, same_bytes}
 use Rattle.git_objects.specs.Trees.{Flat, under}
 use Rattle.git_objects.specs.Names.{tree_name}

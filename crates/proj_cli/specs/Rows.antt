@@ -1,12 +1,12 @@
 -- Worked examples: projections by what lies below a path. Names are as Git gives them.
-use Rattle.std.specs.Prelude.{◌≡◌, refl, List, [], ◌∷◌, ◌++◌, codes, Option, Some, None}
+use Rattle.std.specs.Prelude.{◌≡◌, refl, List, [], ◌∷◌, codes, Option, Some, None}
 use Rattle.std.specs.Fmt.{digits}
 use Rattle.std.specs.Option.{option_map}
 use Rattle.sha1.specs.Sha1.{sha1, first_words, schedule, rounds, compress, hash_after, digest_bytes}
 use Rattle.hex.specs.Hex.{encode_with}
-use Rattle.git_objects.specs.Paths.{Bytes, Path}
-use Rattle.git_objects.specs.Trees.{FileLeaf, Flat}
-use Rattle.git_objects.specs.Names.{name, body, line, tree_name}
+use Rattle.git_objects.specs.Paths.{Bytes}
+use Rattle.git_objects.specs.Trees.{FileLeaf}
+use Rattle.git_objects.specs.Names.{name, body, line}
 use Rattle.git_objects.specs.Commits.{Letter, commit_body, commit_name, hex}
 use Rattle.repo_state.specs.Repos.{Snapshot, snapshot_name}
 use Rattle.proj_cli.specs.Projection.{Shown, distinct, name_line, projection_below}

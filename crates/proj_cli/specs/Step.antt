@@ -1,5 +1,5 @@
 -- What the words, the items and the input ask for: the outcome, and what is written before it.
-use Rattle.std.specs.Prelude.{ℕ, ◌^◌, Bool, true, false, cond, ◌&&◌, nat_le, List, [], ◌∷◌, ◌++◌, length, reverse, filter, codes, decimal, Option, Some, None, Result, Ok, Err}
+use Rattle.std.specs.Prelude.{ℕ, ◌^◌, Bool, false, cond, ◌&&◌, nat_le, List, [], ◌∷◌, ◌++◌, length, reverse, filter, codes, decimal, Option, Some, None, Result, Ok, Err}
 use Rattle.std.specs.Option.{is_some}
 use Rattle.std.specs.FinMap.{find}
 use Rattle.git_objects.specs.Paths.{Bytes, Path, same_bytes}
@@ -11,7 +11,7 @@ use Rattle.repo_state.specs.Repos.{Snapshot, repo_of, snapshot_name}
 use Rattle.repo_state.specs.Changes.{fresh}
 use Rattle.repo_state.specs.declared.state.LoadError.{LoadError}
 use Rattle.repo_state.specs.declared.state.LoadError.TheVariants as load
-use Rattle.proj_cli.specs.Words.{Command, Import, Project, Push, Export, Name, Batch, Trial, Unknown}
+use Rattle.proj_cli.specs.Words.{Command, Project, Name, Unknown}
 use Rattle.proj_cli.specs.Texts.{filter_path}
 use Rattle.proj_cli.specs.Streams.{Small, stream}
 use Rattle.proj_cli.specs.Replay.{replayed, stream_objects}

@@ -122,7 +122,15 @@ pub fn name_text(
                 commits: replayed.commits,
                 refs: Vec::new(alloc),
             };
-            replayed_line(alloc, refname, place, first.head.refname.text(), &store, smalls, &batch)
+            replayed_line(
+                alloc,
+                refname,
+                place,
+                first.head.refname.text(),
+                &store,
+                smalls,
+                &batch,
+            )
         }
     }
 }

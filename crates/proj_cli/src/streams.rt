@@ -306,10 +306,7 @@ fn are_in_line(commits: &[SmallCommit<'_>]) -> bool
 
 /// The commits of a small stream, or None where it is no such stream.
 #[tactic(auto, unfolding(crate::specs::Streams::stream))]
-pub fn stream<'a>(
-    alloc: Global,
-    text: &'a [u8],
-) -> Result<Option<Vec<SmallCommit<'a>>>, AllocError>
+pub fn stream<'a>(alloc: Global, text: &'a [u8]) -> Result<Option<Vec<SmallCommit<'a>>>, AllocError>
     ensures { IfOk result (λ read. smalls_read read ≡ stream text.now) }
 {
     match smalls(alloc, text)? {

@@ -1,5 +1,5 @@
 -- A state stays whole when its store gets an object.
-use Rattle.std.proofs.Common.{◌≡◌, ◌≤◌, ◌^◌, ℕ, true, false, cond, List, [], ◌∷◌, ◌++◌, map, filter, length, reverse, Contains, None, Some, Result, Ok, Err, refl, sym, ap, subst, ◌∙◌}
+use Rattle.std.proofs.Common.{◌≡◌, ℕ, true, false, cond, List, [], ◌∷◌, ◌++◌, map, filter, length, reverse, None, Some, Result, Ok, Err, refl, sym, ap, subst, ◌∙◌}
 use Rattle.std.specs.Option.{option_to_list}
 use Rattle.git_objects.specs.Paths.{Bytes}
 use Rattle.git_objects.specs.Names.{name}
@@ -17,8 +17,7 @@ use Rattle.std.specs.Option.{is_some}
 use Rattle.repo_state.specs.Growing.{held_of}
 use Rattle.repo_state.specs.HeldObjects.{AreNamed}
 use Rattle.repo_state.specs.Items.{Refs, is_commit}
-use Rattle.repo_state.specs.Loads.{IsStored}
-use Rattle.repo_state.specs.Views.{named, stored}
+use Rattle.repo_state.specs.Views.{named}
 use Rattle.repo_state.specs.Wholes.{HoldsState}
 use Rattle.repo_state.proofs.Adopting.{each-at}
 use Rattle.repo_state.proofs.Feeding.{in-above}

@@ -10,7 +10,7 @@ use Rattle.git_objects.specs.Commits.{Commit}
 use Rattle.git_objects.specs.CommitBodies.{commit_from}
 use Rattle.git_objects.specs.contracts.kind.Kind.{the_type}
 use Rattle.git_objects.specs.declared.kind.Kind.TheVariants.{Blob, Commit as CommitKind}
-use Rattle.object_store.specs.Objects.{Object, same_kind, find_named, has, body_of, IsStore}
+use Rattle.object_store.specs.Objects.{Object, same_kind, find_named, has}
 use Rattle.object_store.proofs.Finding.{kind_test}
 use Rattle.repo_state.specs.Changes.{IsChange, commit_named}
 use Rattle.repo_state.specs.Items.{Refs}

@@ -7,7 +7,6 @@ use Rattle.repo_state.specs.Commits.{change_of}
 use Rattle.repo_state.specs.Changes.{objects_of}
 use Rattle.repo_state.specs.Items.{is_commit}
 use Rattle.repo_state.specs.Repos.{Snapshot}
-use Rattle.proj_cli.specs.Replay.{stream_objects}
 use Rattle.proj_cli.specs.Step.{has_few}
 use Rattle.proj_cli.specs.Views.{small_value}
 use Rattle.proj_cli.proofs.Bringing.{brought-change, brought-objects}

@@ -1,12 +1,12 @@
-use Rattle.std.proofs.Common.{◌≡◌, Err, ap, sym, subst, ◌∙◌, refl, inr}
+use Rattle.std.proofs.Common.{Err, ap, sym, subst, ◌∙◌, refl, inr}
 use Rattle.proj_io.specs.Views.{source_view, keeper_view}
 use Rattle.proj_cli.specs.Answer.{IsInHand, IsMade}
 use Rattle.proj_cli.specs.Asked.{command_of}
 use Rattle.proj_cli.specs.Step.{loads, step}
 use Rattle.proj_cli.specs.Texts.{filter_path}
 use Rattle.proj_cli.specs.Words.{Command, Name, Project}
-use Rattle.proj_cli.specs.declared.outcome.Outcome.TheVariants.{NotBuilt, OutOfMemory, Usage}
-use Rattle.proj_cli.proofs.Makes.{name_made, name_refused, no_form, no_memory, not_built, other_words, project_made, project_refused}
+use Rattle.proj_cli.specs.declared.outcome.Outcome.TheVariants.{NotBuilt, Usage}
+use Rattle.proj_cli.proofs.Makes.{name_refused, no_form, no_memory, not_built, other_words, project_made, project_refused}
 use Rattle.proj_cli.proofs.program.make.Goals as goal
 
 pub returns-in-Ok-None-clause-made : goal.returns-in-Ok-None-clause-made

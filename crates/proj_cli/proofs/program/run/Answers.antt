@@ -1,4 +1,4 @@
-use Rattle.std.proofs.Common.{◌≡◌, ap, subst, sym, ◌∙◌, map, string_bytes}
+use Rattle.std.proofs.Common.{ap, subst, ◌∙◌, map, string_bytes}
 use Rattle.proj_io.specs.Views.{source_view, sink_view, keeper_view}
 use Rattle.proj_cli.specs.Answer.{IsInHand, IsMade}
 use Rattle.proj_cli.specs.Step.{loads, step}

@@ -1,6 +1,5 @@
 use Rattle.std.proofs.Common.{List, ap, sym, ◌∙◌}
 use Rattle.object_store.specs.Errors.{newest}
-use Rattle.git_objects.specs.Parts.{name_bytes}
 use Rattle.proj_cli.specs.Projection.{name_line, projection_below}
 use Rattle.repo_state.specs.Repos.{Snapshot}
 use Rattle.proj_cli.specs.Step.{done}

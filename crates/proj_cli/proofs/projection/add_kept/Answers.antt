@@ -1,4 +1,4 @@
-use Rattle.std.proofs.Common.{List, Option, map, sym, ◌∙◌, ap, subst}
+use Rattle.std.proofs.Common.{List, Option, map, sym, ◌∙◌, ap}
 use Rattle.std.specs.Option.{option_map}
 use Rattle.proj_cli.specs.Kept.{with_shown}
 use Rattle.proj_cli.specs.Shown.{shown_value}

@@ -1,4 +1,4 @@
-use Rattle.std.proofs.Common.{◌≤◌, ◌+◌, ℕ, List, Option, length, map, drop, sym, ◌∙◌, ap, add-one, arith}
+use Rattle.std.proofs.Common.{◌≤◌, ◌+◌, ℕ, Option, length, map, drop, sym, ◌∙◌, ap, add-one, arith}
 use Rattle.std.specs.List.{filter_map}
 use Rattle.git_objects.specs.Parts.{name_bytes}
 use Rattle.proj_cli.specs.Projection as projections
@@ -18,7 +18,7 @@ parents-preserved c =
     record {
       few = few;
       whole =
-        ap (λ (n : ℕ). distinct_from after (filter_map found (drop n ns))) (add-one c.parents.i)
-        ∙ gather-step found ns c.parents.i (name_bytes c.in-Some.name) before after (sym c.in-Some.ensures) (c.in_ok-add_kept.ensures.shown ∙ ap (λ (o : Option projections.Shown). with_shown before o) c.kept.ensures)
-        ∙ c.parents.invariant.whole;
+          ap (λ (n : ℕ). distinct_from after (filter_map found (drop n ns))) (add-one c.parents.i)
+          ∙ gather-step found ns c.parents.i (name_bytes c.in-Some.name) before after (sym c.in-Some.ensures) (c.in_ok-add_kept.ensures.shown ∙ ap (λ (o : Option projections.Shown). with_shown before o) c.kept.ensures)
+          ∙ c.parents.invariant.whole;
     }

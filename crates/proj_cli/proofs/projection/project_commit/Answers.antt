@@ -1,4 +1,4 @@
-use Rattle.std.proofs.Common.{◌≡◌, List, Option, Some, map, sym, ◌∙◌, ap, subst}
+use Rattle.std.proofs.Common.{◌≡◌, List, Option, map, sym, ◌∙◌, ap, subst}
 use Rattle.std.specs.List.{filter_map}
 use Rattle.std.specs.Option.{option_map}
 use Rattle.std.specs.Result.{IfOk}
@@ -10,7 +10,6 @@ use Rattle.git_objects.specs.declared.kind.Kind.TheVariants.{Tree}
 use Rattle.object_store.specs.Errors.{newest, object_value}
 use Rattle.object_store.specs.Objects.{has}
 use Rattle.object_store.specs.Unfolding.{flat}
-use Rattle.repo_state.specs.Changes.{commit_named}
 use Rattle.proj_cli.specs.Projection as projections
 use Rattle.proj_cli.specs.Projection.{distinct, projected}
 use Rattle.proj_cli.specs.Kept.{kept}

@@ -1,4 +1,4 @@
-use Rattle.std.proofs.Common.{List, sym, ◌∙◌, ap}
+use Rattle.std.proofs.Common.{◌∙◌}
 use Rattle.git_objects.specs.Trees.{Flat}
 use Rattle.git_objects.specs.Commits.{Letter}
 use Rattle.proj_cli.proofs.Gathering.{commit-made}

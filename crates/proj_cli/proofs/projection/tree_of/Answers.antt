@@ -1,4 +1,4 @@
-use Rattle.std.proofs.Common.{◌≡◌, true, sym, ap, subst, ◌∙◌}
+use Rattle.std.proofs.Common.{sym, subst, ◌∙◌}
 use Rattle.git_objects.specs.Trees.{Flat}
 use Rattle.proj_cli.proofs.Gathering.{nil-name}
 use Rattle.proj_cli.specs.Kept.{IsNameOf}

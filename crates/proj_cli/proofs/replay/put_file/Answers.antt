@@ -1,6 +1,6 @@
 use Rattle.std.proofs.Common.{inl, inr, subst, sym, ◌∷◌, []}
 use Rattle.object_store.specs.Errors.{newest}
-use Rattle.proj_cli.proofs.Files.{blob_grown, file_grown, file_fault, file_stands, root_held, blob_held, blob_stays}
+use Rattle.proj_cli.proofs.Files.{file_grown, file_fault, file_stands, root_held, blob_held, blob_stays}
 use Rattle.object_store.specs.Unfolding.{flat}
 use Rattle.proj_cli.specs.Views.{change_of}
 use Rattle.proj_cli.specs.Replay.{IsMadeIn}

@@ -1,4 +1,4 @@
-use Rattle.std.proofs.Common.{subst, map, drop, take, suc, ◌++◌, ◌∷◌}
+use Rattle.std.proofs.Common.{subst, map, drop, take, suc}
 use Rattle.object_store.specs.Errors.{newest}
 use Rattle.object_store.specs.Unfolding.{flat}
 use Rattle.proj_cli.specs.Views.{change_of}

@@ -1,5 +1,5 @@
 use Rattle.std.proofs.Common.{sym, ap, ◌∙◌}
-use Rattle.proj_cli.proofs.SmallStreams.{change_shorter, read_on, read_all}
+use Rattle.proj_cli.proofs.SmallStreams.{change_shorter, read_on}
 use Rattle.proj_cli.specs.Views.{change_of, change_read}
 use Rattle.proj_cli.proofs.streams.changes.Goals as goal
 

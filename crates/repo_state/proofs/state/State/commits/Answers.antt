@@ -1,4 +1,4 @@
-use Rattle.std.proofs.Common.{◌∙◌, sym, ap, map, reverse, filter}
+use Rattle.std.proofs.Common.{◌∙◌, ap, map, reverse, filter}
 use Rattle.object_store.specs.Errors.{newest}
 use Rattle.object_store.specs.Objects.{object_name}
 use Rattle.repo_state.specs.Items.{is_commit}
