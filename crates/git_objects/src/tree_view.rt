@@ -1,5 +1,5 @@
 // What a tree's body lists, seen in place.
-ghost use Rattle.std.specs.Prelude.{◌≡◌, List, Some, ◌∷◌, [], drop, slice_get};
+ghost use Rattle.std.specs.Prelude.{◌≡◌, List, Some, ◌∷◌, [], drop, is_some, slice_get, true};
 ghost use Rattle.std.specs.Option.{ForSome};
 ghost use Rattle.std.specs.Option.{option_map};
 ghost use Rattle.std.specs.Ordering.{is_lt, nat_cmp};
@@ -57,6 +57,14 @@ impl<'a> TreeView<'a> {
             rest = after;
         }
         Some(TreeView { rest: body })
+    }
+
+    /// The entries of bytes that are a body, as the caller knows. They are not checked again.
+    pub fn of_canonical(body: &'a [u8]) -> TreeView<'a>
+        requires { is_some (tree_entries body.now) ≡ true }
+        ensures { Some result ≡ tree_entries body.now }
+    {
+        TreeView { rest: body }
     }
 
     /// The same entries again.
