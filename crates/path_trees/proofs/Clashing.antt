@@ -19,15 +19,15 @@ use Rattle.path_trees.proofs.Levels.{rests_of}
 
 -- ---- the first of several
 
-or_assoc : {A : Type 0} (x y z : Option A) → option_or x (option_or y z) ≡ option_or (option_or x y) z
+pub or_assoc : {A : Type 0} (x y z : Option A) → option_or x (option_or y z) ≡ option_or (option_or x y) z
 or_assoc None y z = refl
 or_assoc (Some x) y z = refl
 
-or_none : {A : Type 0} (x : Option A) → option_or x None ≡ x
+pub or_none : {A : Type 0} (x : Option A) → option_or x None ≡ x
 or_none None = refl
 or_none (Some x) = refl
 
-map_or : {A B : Type 0} (f : A → B) (x y : Option A) → option_map f (option_or x y) ≡ option_or (option_map f x) (option_map f y)
+pub map_or : {A B : Type 0} (f : A → B) (x y : Option A) → option_map f (option_or x y) ≡ option_or (option_map f x) (option_map f y)
 map_or f None y = refl
 map_or f (Some x) y = refl
 

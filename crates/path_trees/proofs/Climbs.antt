@@ -82,7 +82,7 @@ directory_listed S0 S newer w (Some n) a s d =
 
 -- ---- one more tree
 
-made_append : (made : Bytes → Type 0) (a b : List Object) → AreMade made a → AreMade made b → AreMade made (a ++ b)
+pub made_append : (made : Bytes → Type 0) (a b : List Object) → AreMade made a → AreMade made b → AreMade made (a ++ b)
 made_append made [] b h g = g
 made_append made (o ∷ a) b h g = (h.0, h.1, made_append made a b h.2 g)
 
@@ -98,10 +98,10 @@ held_change : (S : List Object) (c : Bytes) (o : Option Found) → IsHeldChange 
 held_change S c None h = tt
 held_change S c (Some f) h = record { child = h.0; name = h.1 }
 
-no_entries : (es : List Entry) → Some es ≡ Some [] → es ≡ []
+pub no_entries : (es : List Entry) → Some es ≡ Some [] → es ≡ []
 no_entries es e = cc
 
-empty_read : tree_entries [] ≡ Some []
+pub empty_read : tree_entries [] ≡ Some []
 unfolding tree_entries
 empty_read = refl
 

@@ -46,7 +46,7 @@ module _ (S : List Object) where
   at-joined_nil [] = refl
   at-joined_nil (e ∷ es) = block_nil e.component (rests (node S e.mode e.name.0)) (joined_in S es) ∙ at-joined_nil es
 
-  at-away : (c : Bytes) (r : Path) (es : List Entry) → Away c es → at (joined_in S es) (c ∷ r) ≡ None
+  pub at-away : (c : Bytes) (r : Path) (es : List Entry) → Away c es → at (joined_in S es) (c ∷ r) ≡ None
   at-away c r [] h = refl
   at-away c r (e ∷ es) h =
       at-block c e.component (rests (node S e.mode e.name.0)) (joined_in S es) r

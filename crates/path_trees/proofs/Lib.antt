@@ -9,3 +9,10 @@ pub mod Editing
 pub mod Climbs
 pub mod Walks
 pub mod Clashing
+pub mod Apart
+pub mod Merging
+pub mod Together
+pub mod Placed
+pub mod ClashSteps
+pub mod FirstPaths
+pub mod Rises

@@ -26,7 +26,7 @@ Away c es = Each (λ e. same_bytes c e.component ≡ false) es
 
 -- ---- Git's order
 
-same_key : (c d : Bytes) (s t : Bool) → is_component c ≡ true → is_component d ≡ true → dir_key c s ≡ dir_key d t → c ≡ d
+pub same_key : (c d : Bytes) (s t : Bool) → is_component c ≡ true → is_component d ≡ true → dir_key c s ≡ dir_key d t → c ≡ d
 same_key c d false false h g e = e
 same_key c d false true h g e = absurd (no_slash c d h e)
 same_key c d true false h g e = absurd (no_slash d c g (sym e))

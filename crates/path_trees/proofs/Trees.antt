@@ -1,6 +1,6 @@
 -- What a stored tree lists, and what it lists is its map.
 use Rattle.std.proofs.Common.{◌≡◌, true, false, cond, ◌&&◌, ◌||◌, List, [], ◌∷◌, ◌++◌, Option, Some, None, refl, sym, ap, subst, ◌∙◌, true≢false}
-use Rattle.std.specs.Option.{is_none, unwrap_or, option_and_then}
+use Rattle.std.specs.Option.{is_none, is_some, unwrap_or, option_and_then}
 use Rattle.std.specs.List.{list_all}
 use Rattle.std.specs.Cmp.Lexicographic.{bytes_decides}
 use Rattle.git_objects.specs.Paths.{Bytes, same_bytes, is_component}
@@ -118,3 +118,16 @@ listed_tree (o ∷ S) n s h =
 -- what the tree of that name lists
 pub tree_listed : (S : List Object) (n : Bytes) → IsStore S → has Tree S n ≡ true → (es : List Entry) × (listed S n ≡ Some es) × AreGood S es × (flat S n ≡ joined_in S es)
 tree_listed S n s h = let r = stored_tree S s n h in (r.0, listed_tree S n s h ∙ r.1.read, r.1.good, r.1.map)
+
+-- a tree that is found lists something
+pub found_listed : (S : List Object) (n : Bytes) (o : Object) → IsStore S → find_named S n ≡ Some o → o.kind ≡ Tree → is_some (tree_entries o.body) ≡ true
+unfolding find_named
+found_listed [] n o s e k = cc
+found_listed (d ∷ S) n o s e k =
+    elim (same_bytes (object_name d) n) as (λ b. cond b (Some d) (find_named S n) ≡ Some o → is_some (tree_entries o.body) ≡ true) [
+      | true ↦ λ g.
+          let same : d ≡ o = cc in
+          let held : is_body S Tree o.body ≡ true = (λ i. is_body S (sym k i) o.body) ∙ ap (λ (x : Object). is_body S x.kind x.body) (sym same) ∙ s.0 in
+          ap is_some (tree_held S o.body held).read
+      | false ↦ λ g. found_listed S n o s.2 g k
+    ] e

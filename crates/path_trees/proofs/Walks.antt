@@ -40,14 +40,14 @@ behind-nothing (e ∷ t) = ap (λ (s : Flat). e ∷ s) (behind-nothing t)
 
 -- ---- one entry
 
-leaf_rests : (S : List Object) (m : Mode) (n : Bytes) → is_dir m ≡ false → rests (node S m n) ≡ ([], leaf_of (body_of Blob S) m n) ∷ []
+pub leaf_rests : (S : List Object) (m : Mode) (n : Bytes) → is_dir m ≡ false → rests (node S m n) ≡ ([], leaf_of (body_of Blob S) m n) ∷ []
 leaf_rests S File n h = refl
 leaf_rests S Exec n h = refl
 leaf_rests S Link n h = refl
 leaf_rests S Module n h = refl
 leaf_rests S Dir n h = absurd (true≢false h)
 
-dir_rests : (S : List Object) (m : Mode) (n : Bytes) → is_dir m ≡ true → rests (node S m n) ≡ flat S n
+pub dir_rests : (S : List Object) (m : Mode) (n : Bytes) → is_dir m ≡ true → rests (node S m n) ≡ flat S n
 dir_rests S File n h = absurd (true≢false (sym h))
 dir_rests S Exec n h = absurd (true≢false (sym h))
 dir_rests S Link n h = absurd (true≢false (sym h))
@@ -99,11 +99,11 @@ abbrev pub weight : List Object → List (List Entry) → ℕ
 weight S [] = 0
 weight S (es ∷ levels) = 1 + 2 * lengths (joined_in S es) + weight S levels
 
-lengths-append : (a b : Flat) → lengths (a ++ b) ≡ lengths a + lengths b
+pub lengths-append : (a b : Flat) → lengths (a ++ b) ≡ lengths a + lengths b
 lengths-append [] b = omega arith
 lengths-append (e ∷ a) b = let h = lengths-append a b in omega arith
 
-lengths-below : (c : Bytes) (t : Flat) → lengths (below c t) ≡ length t + lengths t
+pub lengths-below : (c : Bytes) (t : Flat) → lengths (below c t) ≡ length t + lengths t
 lengths-below c [] = refl
 lengths-below c (e ∷ t) = let h = lengths-below c t in omega arith
 

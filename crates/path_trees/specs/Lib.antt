@@ -4,4 +4,8 @@ pub mod Clashes
 pub mod Listed
 pub mod Walked
 pub mod Levels
+pub mod Merged
+pub mod Paired
+pub mod Joins
+pub mod Laws
 pub mod Rows

@@ -1,5 +1,6 @@
 // Reading one directory.
-ghost use Rattle.std.specs.Prelude.{◌≡◌};
+ghost use Rattle.std.specs.Prelude.{◌≡◌, is_some, true};
+ghost use Rattle.git_objects.specs.Bodies.{tree_entries};
 ghost use Rattle.std.specs.Option.{option_and_then};
 ghost use Rattle.git_objects.specs.Entries.{is_dir};
 ghost use Rattle.object_store.specs.Errors.{newest, object_value};
@@ -18,10 +19,11 @@ pub fn is_dir(mode: Mode) -> bool
 
 // The entries of an object, unless it is no tree.
 fn entries_in<'a>(object: ObjectRef<'a>) -> Option<TreeView<'a>>
+    requires { object.kind ≡ Kind.Tree → is_some (tree_entries object.body.now) ≡ true }
     ensures { result ≡ entries_of (object_value object.entry) }
 {
     if object.kind == Kind::Tree {
-        TreeView::of(object.body)
+        Some(TreeView::of_canonical(object.body))
     } else {
         None
     }
@@ -39,7 +41,7 @@ pub fn entries_of<'a>(store: &'a Store, name: &Name) -> Option<TreeView<'a>>
 }
 
 // What a component has.
-fn find<'a>(mut entries: TreeView<'a>, component: &[u8]) -> Option<Found>
+pub fn find<'a>(mut entries: TreeView<'a>, component: &[u8]) -> Option<Found>
     ensures { result ≡ found_at component.now entries.entry }
 {
     'entries: while let Some(entry) = entries.next() {

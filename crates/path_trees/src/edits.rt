@@ -172,7 +172,7 @@ fn body_at(
 }
 
 // Takes in the tree of a body whose children are there.
-fn taken_in(store: &mut Store, body: &[u8]) -> Result<Name, TreeFault>
+pub fn taken_in(store: &mut Store, body: &[u8]) -> Result<Name, TreeFault>
     requires { of_body (newest store.old) Tree body.now None ≡ None }
     ensures ok { IfOk result (λ n. (n.0 ≡ name Tree body.now) × IsTaken (newest store.old) body.now (newest store.new)) }
     ensures err { IfErr result (λ e. (store.new ≡ store.old) × IsRefused (newest store.old) body.now e) }

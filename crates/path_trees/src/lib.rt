@@ -1,10 +1,14 @@
 //! Reads, edits and walks of stored trees.
 #![tactic(auto)]
 
+mod clash;
 mod directory;
 mod edits;
 mod found;
+mod join;
+mod laws;
 mod lookup;
+mod pairs;
 mod rebuild;
 #[cfg(test)]
 mod tests;
@@ -12,5 +16,7 @@ mod walk;
 
 pub use edits::{put_at, remove_at};
 pub use found::{Found, Leaf, TreeFault};
+pub use join::{JoinFault, join_disjoint};
+pub use laws::together_law;
 pub use lookup::entry_at;
 pub use walk::Walk;

@@ -24,7 +24,7 @@ fn slash(is_dir: bool) -> &'static [u8]
 }
 
 // Git's order of entries' components.
-fn compare(a: &[u8], a_dir: bool, b: &[u8], b_dir: bool) -> Ordering
+pub fn compare(a: &[u8], a_dir: bool, b: &[u8], b_dir: bool) -> Ordering
     ensures { result ≡ slice_cmp nat_cmp (dir_key a.now a_dir) (dir_key b.now b_dir) }
 {
     a.iter()

@@ -4,7 +4,7 @@ ghost use Rattle.git_objects.specs.declared.kind.Kind.TheVariants.{Tree};
 ghost use Rattle.object_store.specs.Errors.{newest};
 ghost use Rattle.object_store.specs.Objects.{has, has_child};
 
-use crate::{Found, Leaf, TreeFault, Walk, entry_at, put_at, remove_at};
+use crate::{Found, JoinFault, Leaf, TreeFault, Walk, entry_at, join_disjoint, put_at, remove_at};
 use git_objects::{Component, Kind, Mode, Name};
 use object_store::Store;
 use path_names::Path;
@@ -410,5 +410,152 @@ fn trees_of_many_levels(rt: HostRuntime) -> Result<(), Fail> {
         assert_eq!(rt; at(&store, root, &path).is_some(), mode.is_some());
         assert_eq!(rt; listing(alloc, &store, root)?.len(), length);
     }
+    Ok(())
+}
+
+fn joined(alloc: Global, store: &mut Store, a: Name, b: Name) -> Result<Name, JoinFault> {
+    if !is_tree(store, &a) || !is_tree(store, &b) {
+        return Err(JoinFault::OutOfMemory);
+    }
+    join_disjoint(alloc, store, a, b)
+}
+
+// The texts of the paths of a clash.
+fn clash(
+    alloc: Global,
+    store: &mut Store,
+    a: Name,
+    b: Name,
+) -> Result<Option<(Vec<u8>, Vec<u8>)>, AllocError> {
+    match joined(alloc, store, a, b) {
+        Err(JoinFault::Clash { path, by }) => Ok(Some((path.text(alloc)?, by.text(alloc)?))),
+        _ => Ok(None),
+    }
+}
+
+// The names that `git write-tree` gives the files of both, whichever tree comes first.
+#[test]
+fn joins_give_the_trees_of_git(rt: HostRuntime) -> Result<(), Fail> {
+    let alloc = rt.alloc();
+    let mut store = Store::new(alloc);
+    let one = tree(
+        alloc,
+        &mut store,
+        &[
+            (Mode::File, b"a/b", b"1"),
+            (Mode::Exec, b"z/y/x/w", b"2"),
+            (Mode::File, b"a.txt", b"3"),
+        ],
+    )?;
+    let other = tree(
+        alloc,
+        &mut store,
+        &[
+            (Mode::File, b"a/c", b"4"),
+            (Mode::Link, b"a-b/c", b"a"),
+            (Mode::File, b"z/y/v", b"6"),
+            (Mode::File, b"a0", b"7"),
+            (Mode::Module, b"m", b""),
+        ],
+    )?;
+    let beside = tree(
+        alloc,
+        &mut store,
+        &[(Mode::File, b"d/a", b"1"), (Mode::File, b"d-x", b"2")],
+    )?;
+    let near = tree(
+        alloc,
+        &mut store,
+        &[
+            (Mode::File, b"d.x", b"3"),
+            (Mode::File, b"d/b/c", b"4"),
+            (Mode::File, b"d0", b"5"),
+        ],
+    )?;
+    let single = tree(alloc, &mut store, &[(Mode::File, b"a", b"1")])?;
+    let empty = store.put_slice(Kind::Tree, b"")?;
+    for (a, b, name) in [
+        (one, other, b"7d644372a6982e649d737b5272139c4c43f9cafb"),
+        (beside, near, b"fa9c8f94aeb5b565d868f7f771d263e1577dede9"),
+        (single, empty, b"dec00055d1aeef644597adecb6680d94b5ed075f"),
+        (empty, empty, b"4b825dc642cb6eb9a060e54bf8d69288fbee4904"),
+    ] {
+        let both = joined(alloc, &mut store, a, b).ok();
+        assert_eq!(rt; both.map(|n| n.hex()), Some(*name));
+        let turned = joined(alloc, &mut store, b, a).ok();
+        assert_eq!(rt; turned.map(|n| n.hex()), Some(*name));
+    }
+    Ok(())
+}
+
+// The tree of two files.
+fn two_files(alloc: Global, store: &mut Store, one: &str, other: &str) -> Result<Name, Fail> {
+    tree(
+        alloc,
+        store,
+        &[
+            (Mode::File, one.as_bytes(), b"1"),
+            (Mode::File, other.as_bytes(), b"2"),
+        ],
+    )
+}
+
+// The clash of the trees of these paths, which leaves the store as it was.
+fn clash_of(
+    alloc: Global,
+    left: (&str, &str),
+    right: (&str, &str),
+) -> Result<Option<(Vec<u8>, Vec<u8>)>, Fail> {
+    let mut store = Store::new(alloc);
+    let a = two_files(alloc, &mut store, left.0, left.1)?;
+    let b = two_files(alloc, &mut store, right.0, right.1)?;
+    let objects = store.len();
+    let clash = clash(alloc, &mut store, a, b)?;
+    if store.len() == objects {
+        Ok(clash)
+    } else {
+        Ok(None)
+    }
+}
+
+// The paths of the first tree, of the second, the first that is comparable with one of the second, and that one.
+#[test]
+fn the_first_clash_of_two_trees(rt: HostRuntime) -> Result<(), Fail> {
+    let alloc = rt.alloc();
+    for (left, right, path, by) in [
+        (("a", "z"), ("a/x", "b"), "a", "a/x"),
+        (("a/x", "b"), ("a", "z"), "a/x", "a"),
+        (("a", "b"), ("b", "c"), "b", "b"),
+        (("b/c/d", "e"), ("b/c/d/e", "e"), "b/c/d", "b/c/d/e"),
+        (("x", "x.txt"), ("x.txt", "x/y"), "x", "x/y"),
+        (("a-b", "a/p"), ("a", "a-b"), "a-b", "a-b"),
+        (("d/e/f", "d/e/g"), ("d/e/g", "d/e/f/h"), "d/e/f", "d/e/f/h"),
+        (("d", "e"), ("d/b", "d/a/c"), "d", "d/a/c"),
+        (("m/n/o", "m/n/p"), ("m/n", "a"), "m/n/o", "m/n"),
+    ] {
+        let clash = clash_of(alloc, left, right)?;
+        let (first, second) = clash.unwrap_or((Vec::new(alloc), Vec::new(alloc)));
+        assert_eq!(rt; first.as_slice(), path.as_bytes());
+        assert_eq!(rt; second.as_slice(), by.as_bytes());
+    }
+    Ok(())
+}
+
+// Two trees of 1,024 levels that part at the last, and one with itself.
+#[test]
+fn joins_of_many_levels(rt: HostRuntime) -> Result<(), Fail> {
+    let alloc = rt.alloc();
+    let mut store = Store::new(alloc);
+    let empty = store.put_slice(Kind::Tree, b"")?;
+    let (one, other) = (deep(alloc, 1023, b"f")?, deep(alloc, 1023, b"g")?);
+    let a = edited(alloc, &mut store, empty, Some(Mode::File), &one, b"1")?;
+    let b = edited(alloc, &mut store, empty, Some(Mode::File), &other, b"2")?;
+    let both = joined(alloc, &mut store, a, b).ok();
+    assert_eq!(rt;
+        both.map(|n| n.hex()),
+        Some(*b"5dc00857cbf2cd468b4ab792b70895f5a132d494")
+    );
+    let itself = clash(alloc, &mut store, a, a)?;
+    assert_eq!(rt; itself.map(|c| (c.0.len(), c.1.len())), Some((2047, 2047)));
     Ok(())
 }

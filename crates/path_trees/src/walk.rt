@@ -105,7 +105,7 @@ fn directory_of(path: Path) -> Vec<Component>
 }
 
 // Without the last, if there is one.
-fn go_up(components: &mut Vec<Component>)
+pub fn go_up(components: &mut Vec<Component>)
     requires { list_all is_component components.old.items ≡ true }
     ensures directory { reverse components.new.items ≡ drop 1 (reverse components.old.items) }
     ensures components { list_all is_component components.new.items ≡ true }
@@ -114,7 +114,7 @@ fn go_up(components: &mut Vec<Component>)
 }
 
 // A component with these bytes.
-fn copied(alloc: Global, component: &[u8]) -> Result<Component, AllocError>
+pub fn copied(alloc: Global, component: &[u8]) -> Result<Component, AllocError>
     requires { is_component component.now ≡ true }
     ensures { IfOk result (λ copy. copy ≡ component.now) }
 {
@@ -122,7 +122,7 @@ fn copied(alloc: Global, component: &[u8]) -> Result<Component, AllocError>
 }
 
 // The entries of the tree of that name.
-fn entries_at<'a>(store: &'a Store, name: &Name) -> TreeView<'a>
+pub fn entries_at<'a>(store: &'a Store, name: &Name) -> TreeView<'a>
     requires { has Tree (newest store.now) name.now.0 ≡ true }
     ensures listed { listed (newest store.now) name.now.0 ≡ Some result }
     ensures store { IsStore (newest store.now) }
@@ -134,7 +134,7 @@ fn entries_at<'a>(store: &'a Store, name: &Name) -> TreeView<'a>
 }
 
 // The next leaf of what is left in open directories, of which the last has these components.
-fn next_leaf<'a>(
+pub fn next_leaf<'a>(
     alloc: Global,
     store: &'a Store,
     levels: &mut Vec<TreeView<'a>>,
