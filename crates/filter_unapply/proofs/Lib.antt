@@ -1,0 +1,8 @@
+pub mod Carried
+pub mod Firsts
+pub mod Rests
+pub mod Lawful
+pub mod Outcomes
+pub mod Places
+pub mod Told
+pub mod Fronts

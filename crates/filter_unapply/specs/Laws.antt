@@ -1,0 +1,61 @@
+-- The laws of laying, for every lens and all trees.
+use Rattle.std.specs.Prelude.{◌≡◌, true, false, is_some, None}
+use Rattle.std.specs.Ordering.{is_lt}
+use Rattle.git_objects.specs.Paths.{Path, is_path, path_cmp, comparable}
+use Rattle.git_objects.specs.Trees.{Flat, IsTree, at, under}
+use Rattle.filter_unapply.specs.Lenses.{Lens, IsLens, below}
+use Rattle.filter_unapply.specs.Laying.{shown, pre, laid, NotHeld, Blocked, LaidTree}
+
+-- a path with a leaf
+abbrev pub HasLeaf : Flat → Path → Type 0
+HasLeaf t p = is_some (at t p) ≡ true
+
+-- in path order the first path of which it holds
+pub record IsFirst (P : Path → Type 0) (p : Path) : Type 0 where
+  pub holds : P p
+  pub first : (q : Path) → P q → is_lt (path_cmp q p) ≡ false
+
+-- a path of the tree that no path is shown as
+abbrev pub IsLost : Lens → Flat → Path → Type 0
+IsLost f n q = HasLeaf n q × (f.origin q ≡ None)
+
+-- two different paths that are comparable, the first with an image
+pub record IsBlock (f : Lens) (u : Flat) (p q : Path) : Type 0 where
+  pub path : HasLeaf u p
+  pub image : is_some (f.image p) ≡ true
+  pub by : HasLeaf u q
+  pub comparable : comparable p q ≡ true
+  pub other : p ≡ q → ⊥
+
+-- When each answer comes: NotHeld at the first path that no path is shown as, otherwise Blocked at the first path from
+-- what is laid that is comparable with another, and otherwise the tree.
+pub record OutcomeLaw : Type 0 where
+  pub not_held : (f : Lens) (t n : Flat) (q : Path) → IsTree n → laid f t n ≡ NotHeld q → IsFirst (IsLost f n) q
+  pub blocked : (f : Lens) (t n : Flat) (p q : Path) → IsTree t → laid f t n ≡ Blocked p q → IsFirst (λ r. (s : Path) × IsBlock f (pre f t n) r s) p
+  pub by : (f : Lens) (t n : Flat) (p q : Path) → IsTree t → laid f t n ≡ Blocked p q → IsFirst (IsBlock f (pre f t n) p) q
+  pub held : (f : Lens) (t n : Flat) (p q : Path) → laid f t n ≡ Blocked p q → (s : Path) → IsLost f n s → ⊥
+  pub tree : (f : Lens) (t n : Flat) → IsTree n → ((s : Path) → IsLost f n s → ⊥) → IsTree (pre f t n) → laid f t n ≡ LaidTree (pre f t n)
+
+-- what is laid is a tree, and is shown again exactly
+pub record ShownAgainLaw : Type 0 where
+  pub tree : (f : Lens) (t n u : Flat) → IsLens f → IsTree t → IsTree n → laid f t n ≡ LaidTree u → IsTree u
+  pub shown_again : (f : Lens) (t n u : Flat) → IsLens f → IsTree t → IsTree n → laid f t n ≡ LaidTree u → shown f u ≡ n
+
+-- what is shown of a tree is a tree, and laying it gives the tree back
+pub record GivenBackLaw : Type 0 where
+  pub tree : (f : Lens) (t : Flat) → IsLens f → IsTree t → IsTree (shown f t)
+  pub given_back : (f : Lens) (t : Flat) → IsLens f → IsTree t → laid f t (shown f t) ≡ LaidTree t
+
+-- each path without an image keeps what it had
+abbrev pub UnseenLaw : Type 0
+UnseenLaw = (f : Lens) (t n u : Flat) → IsLens f → IsTree t → IsTree n → laid f t n ≡ LaidTree u → (p : Path) → f.image p ≡ None → at u p ≡ at t p
+
+-- laying again forgets what was laid first
+abbrev pub LaidAgainLaw : Type 0
+LaidAgainLaw = (f : Lens) (t n u m : Flat) → IsLens f → IsTree t → IsTree n → laid f t n ≡ LaidTree u → IsTree m → laid f u m ≡ laid f t m
+
+-- the filter `:/a` is a lens, shows what lies below a, and holds every tree
+pub record BelowLaw : Type 0 where
+  pub lens : (a : Path) → is_path a ≡ true → IsLens (below a)
+  pub shows : (a : Path) (t : Flat) → IsTree t → shown (below a) t ≡ under t a
+  pub holds : (a : Path) (t n : Flat) (q : Path) → laid (below a) t n ≡ NotHeld q → ⊥

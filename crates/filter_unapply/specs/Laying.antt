@@ -1,0 +1,69 @@
+-- What is shown of a tree, and a tree laid back into the one that it was shown of.
+use Rattle.std.specs.Prelude.{Bool, cond, not, ◌&&◌, [], ◌∷◌, Option, Some, None, filter, is_some}
+use Rattle.std.specs.Option.{is_none, option_map, option_and_then}
+use Rattle.std.specs.FinMap.{put as put_entry}
+use Rattle.git_objects.specs.Paths.{Path, path_cmp, comparable, same_path}
+use Rattle.git_objects.specs.Trees.{Leaf, Flat}
+use Rattle.filter_unapply.specs.Lenses.{Lens}
+
+-- the leaf entered at the path, where there is one
+abbrev pub entered : Option Path → Leaf → Flat → Flat
+entered None x t = t
+entered (Some p) x t = put_entry path_cmp p x t
+
+-- t with each leaf of s entered at what its path becomes
+abbrev pub carried : (Path → Option Path) → Flat → Flat → Flat
+carried to [] t = t
+carried to (e ∷ s) t = entered (to e.0) e.1 (carried to s t)
+
+-- the leaf of each path that has an image, at that image
+abbrev pub shown : Lens → Flat → Flat
+shown f t = carried f.image t []
+
+-- ---- laying
+
+-- the leaf of each path without an image
+abbrev pub unseen : Lens → Flat → Flat
+unseen f t = filter (λ e. is_none (f.image e.0)) t
+
+-- these, and the leaf of each path of n at its origin. Two of the paths may be comparable.
+abbrev pub pre : Lens → Flat → Flat → Flat
+pre f t n = carried f.origin n (unseen f t)
+
+-- the first path that passes the test
+abbrev pub first_path : (Path → Bool) → Flat → Option Path
+first_path test [] = None
+first_path test (e ∷ t) = cond (test e.0) (Some e.0) (first_path test t)
+
+-- the first path that no path is shown as
+abbrev pub first_lost : Lens → Flat → Option Path
+first_lost f n = first_path (λ q. is_none (f.origin q)) n
+
+-- whether q is comparable with p, and not p itself
+abbrev pub is_other : Path → Path → Bool
+is_other p q = comparable p q && not (same_path p q)
+
+-- Whether p came from what is laid, which is where it has an image, and another path of t is comparable with it.
+abbrev pub is_blocked : Lens → Flat → Path → Bool
+is_blocked f t p = is_some (f.image p) && is_some (first_path (is_other p) t)
+
+-- the first such path, and the first other one that it is comparable with
+abbrev pub first_blocked : Lens → Flat → Option (Path × Path)
+first_blocked f t = option_and_then (λ p. option_map (λ q. (p, q)) (first_path (is_other p) t)) (first_path (is_blocked f t) t)
+
+-- a refusal, or the tree
+pub data Laid : Type 0 where
+  -- no path is shown as this one
+  NotHeld : Path → Laid
+  -- the first path has no place beside the second
+  Blocked : Path → Path → Laid
+  LaidTree : Flat → Laid
+
+abbrev pub laid_from : Option Path → Option (Path × Path) → Flat → Laid
+laid_from (Some q) b u = NotHeld q
+laid_from None (Some b) u = Blocked b.0 b.1
+laid_from None None u = LaidTree u
+
+-- n laid into t: in the place of all that f shows of t
+abbrev pub laid : Lens → Flat → Flat → Laid
+laid f t n = laid_from (first_lost f n) (first_blocked f (pre f t n)) (pre f t n)

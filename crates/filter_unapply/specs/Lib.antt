@@ -1,0 +1,5 @@
+pub mod Lenses
+pub mod Laying
+pub mod Stored
+pub mod Laws
+pub mod Rows

@@ -1,0 +1,140 @@
+// A tree laid back below a path.
+ghost use Rattle.std.specs.Prelude.{◌≡◌, [], true, IfOk, IfErr, Some};
+ghost use Rattle.git_objects.specs.Entries.{is_dir};
+ghost use Rattle.git_objects.specs.Paths.{is_path};
+ghost use Rattle.git_objects.specs.declared.kind.Kind.TheVariants.{Tree};
+ghost use Rattle.object_store.specs.Errors.{newest};
+ghost use Rattle.object_store.specs.Objects.{has};
+ghost use Rattle.object_store.specs.Unfolding.{flat};
+ghost use Rattle.path_trees.specs.Made.{IsGrown};
+ghost use Rattle.filter_unapply.specs.Laying.{laid};
+ghost use Rattle.filter_unapply.specs.Lenses.{below};
+ghost use Rattle.filter_unapply.specs.Stored.{IsLaidBody, IsLaidTree, IsLayFault, IsLeafInWay, first_of};
+
+use crate::LayFault;
+use git_objects::{Mode, Name};
+use object_store::Store;
+use path_names::Path;
+use path_trees::{Found, Walk, entry_at, put_at, remove_at};
+use std::alloc::{AllocError, Global};
+
+/// Lays the tree `pushed` into `base`, as the filter `:/place` shows it: in the place of all that lies below `place`.
+/// A file at `place` itself is not shown, and stays where `pushed` is empty. The directories on the way to `place` are
+/// made anew, and nothing else.
+pub fn laid_below(
+    alloc: Global,
+    store: &mut Store,
+    place: &Path,
+    base: Name,
+    pushed: Name,
+) -> Result<Name, LayFault>
+    requires base { has Tree (newest store.old) base.0 ≡ true }
+    requires pushed { has Tree (newest store.old) pushed.0 ≡ true }
+    ensures ok { IfOk result (IsLaidTree (newest store.new)
+        (laid (below place.now) (flat (newest store.old) base.0) (flat (newest store.old) pushed.0))) }
+    ensures err { IfErr result (IsLayFault
+        (laid (below place.now) (flat (newest store.old) base.0) (flat (newest store.old) pushed.0)) place.now
+        (newest store.new)) }
+    ensures store { IsGrown (IsLaidBody
+        (laid (below place.now) (flat (newest store.old) base.0) (flat (newest store.old) pushed.0)) place.now)
+        (newest store.old) (newest store.new) }
+{
+    let _ = store.get(&base);
+    match first_path(alloc, store, pushed)? {
+        None => emptied(alloc, store, place, base),
+        Some(first) => replaced(alloc, store, place, base, pushed, &first),
+    }
+}
+
+fn is_dir(mode: Mode) -> bool
+    ensures { result ≡ is_dir mode }
+{
+    mode == Mode::Dir
+}
+
+// The first path of a tree, in path order.
+fn first_path(alloc: Global, store: &Store, root: Name) -> Result<Option<Path>, AllocError>
+    requires { has Tree (newest store.now) root.0 ≡ true }
+    ensures { IfOk result (λ path. path ≡ first_of (flat (newest store.now) root.0)) }
+{
+    let mut walk = Walk::new(alloc, store, root)?;
+    if !walk.next()? {
+        return Ok(None);
+    }
+    Ok(Some(walk.path().copy(alloc)?))
+}
+
+// Lays the empty tree: without the directory at the place.
+fn emptied(alloc: Global, store: &mut Store, place: &Path, base: Name) -> Result<Name, LayFault>
+    requires { has Tree (newest store.old) base.0 ≡ true }
+    ensures ok { IfOk result (IsLaidTree (newest store.new)
+        (laid (below place.now) (flat (newest store.old) base.0) [])) }
+    ensures err { IfErr result (IsLayFault
+        (laid (below place.now) (flat (newest store.old) base.0) []) place.now (newest store.new)) }
+    ensures store { IsGrown (IsLaidBody
+        (laid (below place.now) (flat (newest store.old) base.0) []) place.now)
+        (newest store.old) (newest store.new) }
+{
+    let _ = store.get(&base);
+    match entry_at(store, base, place) {
+        Some(found) if is_dir(found.mode) => Ok(remove_at(alloc, store, base, place)?),
+        _ => Ok(base),
+    }
+}
+
+// Lays a tree with this first path: as the directory at the place, unless a leaf stands in the way.
+fn replaced(
+    alloc: Global,
+    store: &mut Store,
+    place: &Path,
+    base: Name,
+    pushed: Name,
+    first: &Path,
+) -> Result<Name, LayFault>
+    requires base { has Tree (newest store.old) base.0 ≡ true }
+    requires pushed { has Tree (newest store.old) pushed.0 ≡ true }
+    requires first { first_of (flat (newest store.old) pushed.0) ≡ Some first.now }
+    ensures ok { IfOk result (IsLaidTree (newest store.new)
+        (laid (below place.now) (flat (newest store.old) base.0) (flat (newest store.old) pushed.0))) }
+    ensures err { IfErr result (IsLayFault
+        (laid (below place.now) (flat (newest store.old) base.0) (flat (newest store.old) pushed.0)) place.now
+        (newest store.new)) }
+    ensures store { IsGrown (IsLaidBody
+        (laid (below place.now) (flat (newest store.old) base.0) (flat (newest store.old) pushed.0)) place.now)
+        (newest store.old) (newest store.new) }
+{
+    let _ = store.get(&base);
+    if let Some(by) = leaf_in_way(alloc, store, base, place)? {
+        let path = place.joined(alloc, first)?;
+        return Err(LayFault::Blocked { path, by });
+    }
+    let found = Found {
+        mode: Mode::Dir,
+        name: pushed,
+    };
+    Ok(put_at(alloc, store, base, place, found)?)
+}
+
+// The first front of a path, itself included, at which a leaf stands.
+fn leaf_in_way(
+    alloc: Global,
+    store: &Store,
+    root: Name,
+    path: &Path,
+) -> Result<Option<Path>, AllocError>
+    requires { has Tree (newest store.now) root.0 ≡ true }
+    ensures leaf { IfOk result (IsLeafInWay (flat (newest store.now) root.0) path.now) }
+    ensures path { is_path path.now ≡ true }
+{
+    let _ = store.get(&root);
+    let components = path.components();
+    'fronts: for last in 0..components.len() {
+        let front = Path::of_parts(alloc, &components[..last + 1], &[])?;
+        if let Some(found) = entry_at(store, root, &front) {
+            if !is_dir(found.mode) {
+                return Ok(Some(front));
+            }
+        }
+    }
+    Ok(None)
+}

@@ -1,0 +1,14 @@
+//! A tree laid back into the tree that it was shown of.
+#![tactic(auto)]
+
+mod below;
+mod fault;
+mod laws;
+#[cfg(test)]
+mod tests;
+
+pub use below::laid_below;
+pub use fault::LayFault;
+pub use laws::{
+    below_law, given_back_law, laid_again_law, outcome_law, shown_again_law, unseen_law,
+};
