@@ -1,0 +1,7 @@
+use Rattle.std.proofs.Common.{◌≡◌, drop, ◌++◌, []}
+use Rattle.filter_routes.specs.Operations.{thin, heads}
+use Rattle.filter_routes.proofs.operations.push_thin.Given as goal
+
+abbrev pub invariant-loop-e : goal.invariant-loop-e
+invariant-loop-e l =
+    l.out.items ++ thin (heads l.out.items []) (drop l.e-index l.entries) ≡ l.initial.out.items ++ thin (heads l.initial.out.items []) l.entries

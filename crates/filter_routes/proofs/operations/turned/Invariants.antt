@@ -1,0 +1,6 @@
+use Rattle.std.proofs.Common.{◌≡◌, drop, ◌++◌, []}
+use Rattle.filter_routes.specs.Operations.{turned, heads}
+use Rattle.filter_routes.proofs.operations.turned.Given as goal
+
+abbrev pub invariant-loop-e : goal.invariant-loop-e
+invariant-loop-e l = l.out.items ++ turned (heads l.out.items []) (drop l.e-index l.entries) ≡ turned [] l.entries

@@ -1,0 +1,31 @@
+-- What soundness is for.
+use Rattle.std.specs.Prelude.{◌≡◌, true, Bool, ◌&&◌, Some}
+use Rattle.git_objects.specs.Paths.{Path, is_path, comparable}
+use Rattle.filter_text.specs.Filters.{Filter, Filters, nop, sub, onto, dir, file, exclude, join, chain, workspace, no_more, more}
+use Rattle.filter_routes.specs.Images.{image}
+use Rattle.filter_routes.specs.Soundness.{IsSound}
+
+-- each path of the filter is a path
+abbrev mutual
+  pub has_paths : Filter → Bool
+  has_paths nop = true
+  has_paths (sub a) = is_path a
+  has_paths (onto a) = is_path a
+  has_paths (dir a) = is_path a
+  has_paths (file a) = is_path a
+  has_paths (exclude f) = has_paths f
+  has_paths (join fs) = have_paths fs
+  has_paths (chain fs) = have_paths fs
+  has_paths (workspace a) = is_path a
+
+  pub have_paths : Filters → Bool
+  have_paths no_more = true
+  have_paths (more f fs) = has_paths f && have_paths fs
+
+-- Under a sound filter comparable images come only from comparable paths, and equal images only from equal paths.
+pub record RouteLaw : Type 0 where
+  pub comparable : (f : Filter) (p q x y : Path) → has_paths f ≡ true → IsSound f → is_path p ≡ true → is_path q ≡ true →
+      image f p ≡ Some x → image f q ≡ Some y → comparable x y ≡ true → comparable p q ≡ true
+  pub equal : (f : Filter) (p q x : Path) → has_paths f ≡ true → IsSound f → is_path p ≡ true → is_path q ≡ true →
+      image f p ≡ Some x → image f q ≡ Some x → p ≡ q
+  pub image_path : (f : Filter) (p x : Path) → has_paths f ≡ true → is_path p ≡ true → image f p ≡ Some x → is_path x ≡ true

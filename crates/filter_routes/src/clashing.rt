@@ -1,0 +1,161 @@
+// Whether two decision lists clash.
+ghost use Rattle.std.specs.Prelude.{◌≡◌, [], List, IfOk, ◌&&◌, ◌||◌};
+ghost use Rattle.filter_routes.specs.Entries.{cone_of};
+ghost use Rattle.filter_routes.specs.Images.{strip};
+ghost use Rattle.filter_routes.specs.Operations.{heads, covers, alive};
+ghost use Rattle.filter_routes.specs.Cells.{Cell, touches, reaches_at, clashes, any_right, any_clash, cells, cells_at};
+
+use crate::entry::{Entry, is_alive, joined, rest_behind};
+use git_objects::Component;
+use std::alloc::{AllocError, Global};
+
+// Whether something at a front of `rest` behind the base, or below all of it, is in no hole.
+fn touches(
+    alloc: Global,
+    base: &[Component],
+    holes: &[Entry],
+    rest: &[Component],
+) -> Result<bool, AllocError>
+    ensures { IfOk result (λ b. b ≡ touches base.now (heads holes.now []) rest.now) }
+{
+    let mut front = joined(alloc, base, &[])?;
+    for c in rest {
+        front.push(c.copy(alloc)?)?;
+        if is_alive(holes, true, front.as_slice()) {
+            return Ok(true);
+        }
+    }
+    Ok(is_alive(holes, false, front.as_slice()))
+}
+
+// Whether the images of a cell are comparable with all that stands at or below a target.
+fn reaches(
+    alloc: Global,
+    entry: &Entry,
+    target: &[Component],
+    holes: &[Entry],
+    other: &[Component],
+) -> Result<bool, AllocError>
+    ensures { IfOk result (λ b. b ≡ reaches_at entry.now.0 (heads holes.now []) (strip target.now other.now)) }
+{
+    match rest_behind(target, other) {
+        None => Ok(false),
+        Some(rest) => {
+            if entry.point {
+                return Ok(true);
+            }
+            touches(alloc, entry.base.as_slice(), holes, rest)
+        }
+    }
+}
+
+// Whether a cone but for its holes has all of another cone.
+fn overlaps(entry: &Entry, holes: &[Entry], other: &Entry) -> bool
+    ensures { result ≡ (covers entry.now.0 other.now.0 && alive (heads holes.now []) other.now.0) }
+{
+    entry.covers(other.point, other.base.as_slice())
+        && is_alive(holes, other.point, other.base.as_slice())
+}
+
+// Whether one of two cells has a path of the other, as each has what lies in no hole of its own.
+fn have_one_path(entry: &Entry, holes: &[Entry], other: &Entry, other_holes: &[Entry]) -> bool
+    ensures { result ≡ ((covers entry.now.0 other.now.0 && alive (heads holes.now []) other.now.0)
+        || (covers other.now.0 entry.now.0 && alive (heads other_holes.now []) entry.now.0)) }
+{
+    overlaps(entry, holes, other) || overlaps(other, other_holes, entry)
+}
+
+// Whether two cells have a path in common, or paths with comparable images.
+fn clashes(
+    alloc: Global,
+    entry: &Entry,
+    target: &[Component],
+    holes: &[Entry],
+    other: &Entry,
+    other_target: &[Component],
+    other_holes: &[Entry],
+) -> Result<bool, AllocError>
+    ensures { IfOk result (λ b. b ≡ clashes (entry.now.0, target.now, heads holes.now []) (other.now.0, other_target.now, heads other_holes.now [])) }
+{
+    if have_one_path(entry, holes, other, other_holes) {
+        return Ok(true);
+    }
+    if reaches(alloc, entry, target, holes, other_target)? {
+        return Ok(true);
+    }
+    reaches(alloc, other, other_target, other_holes, target)
+}
+
+// Whether a cell clashes with the cell of an entry, if it is one.
+fn clashes_with(
+    alloc: Global,
+    entry: &Entry,
+    target: &[Component],
+    holes: &[Entry],
+    other: &Entry,
+    other_holes: &[Entry],
+) -> Result<bool, AllocError>
+    ensures { IfOk result (λ b. (ks : List Cell) → (b || any_right (entry.now.0, target.now, heads holes.now []) ks)
+        ≡ any_right (entry.now.0, target.now, heads holes.now []) (cells_at other.now.0 other.now.1 (heads other_holes.now []) ks)) }
+{
+    match &other.target {
+        None => Ok(false),
+        Some(other_target) => {
+            clashes(
+                alloc,
+                entry,
+                target,
+                holes,
+                other,
+                other_target.as_slice(),
+                other_holes,
+            )
+        }
+    }
+}
+
+// Whether a cell clashes with some cell of a list.
+fn any_right(
+    alloc: Global,
+    entry: &Entry,
+    target: &[Component],
+    holes: &[Entry],
+    others: &[Entry],
+) -> Result<bool, AllocError>
+    ensures { IfOk result (λ b. b ≡ any_right (entry.now.0, target.now, heads holes.now []) (cells [] others.now)) }
+{
+    for i in 0..others.len() {
+        if clashes_with(alloc, entry, target, holes, &others[i], &others[..i])? {
+            return Ok(true);
+        }
+    }
+    Ok(false)
+}
+
+// Whether the cell of an entry, if it is one, clashes with some cell of a list.
+fn any_right_of(
+    alloc: Global,
+    entry: &Entry,
+    holes: &[Entry],
+    others: &[Entry],
+) -> Result<bool, AllocError>
+    ensures { IfOk result (λ b. (ks : List Cell) → (b || any_clash ks (cells [] others.now))
+        ≡ any_clash (cells_at entry.now.0 entry.now.1 (heads holes.now []) ks) (cells [] others.now)) }
+{
+    match &entry.target {
+        None => Ok(false),
+        Some(target) => any_right(alloc, entry, target.as_slice(), holes, others),
+    }
+}
+
+// Whether some cell of a list clashes with some cell of another.
+pub fn any_clash(alloc: Global, entries: &[Entry], others: &[Entry]) -> Result<bool, AllocError>
+    ensures { IfOk result (λ b. b ≡ any_clash (cells [] entries.now) (cells [] others.now)) }
+{
+    for i in 0..entries.len() {
+        if any_right_of(alloc, &entries[i], &entries[..i], others)? {
+            return Ok(true);
+        }
+    }
+    Ok(false)
+}

@@ -1,0 +1,290 @@
+// Lists, chains and excludes of decision lists.
+ghost use Rattle.std.specs.Prelude.{◌≡◌, ◌++◌, [], ◌∷◌, option_map, IfOk, OnOk, List, cond};
+ghost use Rattle.filter_routes.specs.Entries.{Entry as RouteEntry, cone_of, at, below};
+ghost use Rattle.filter_routes.specs.Operations.{pull, put, pulled, block, heads, thin, grown, how, either_left, after_left, turned, onward};
+ghost use Rattle.filter_routes.specs.Lists.{part_of};
+ghost use Rattle.filter_routes.specs.Operations.{are_live};
+
+use crate::entry::{Entry, is_alive, joined, onward, rest_behind};
+use git_objects::Component;
+use std::alloc::{AllocError, Global};
+
+// The cone below or at `base` and `more`, with what stands behind the target.
+fn part_at(
+    alloc: Global,
+    point: bool,
+    base: &[Component],
+    more: &[Component],
+    target: &Option<Vec<Component>>,
+    rest: &[Component],
+) -> Result<Entry, AllocError>
+    ensures { IfOk result (λ e. e ≡ (cone_of point (base.now ++ more.now), onward (option_map (λ v. v.items) target.now) rest.now)) }
+{
+    Ok(Entry {
+        point,
+        base: joined(alloc, base, more)?,
+        target: onward(alloc, target, rest)?,
+    })
+}
+
+// The part of one path, as `part` says.
+fn part_of_point(
+    alloc: Global,
+    base: &[Component],
+    target: &[Component],
+    entry: &Entry,
+) -> Result<Option<Entry>, AllocError>
+    ensures { IfOk result (λ o. part_of o ≡ put (pull (at base.now) target.now entry.now.0) entry.now.1 []) }
+{
+    match entry.rest(target) {
+        None => Ok(None),
+        Some(rest) => Ok(Some(part_at(alloc, true, base, &[], &entry.target, rest)?)),
+    }
+}
+
+// The single path of what lies below a base, as `part` says.
+fn point_below(
+    alloc: Global,
+    base: &[Component],
+    target: &[Component],
+    inner: &[Component],
+    aim: &Option<Vec<Component>>,
+) -> Result<Option<Entry>, AllocError>
+    ensures { IfOk result (λ o. part_of o ≡ put (pull (below base.now) target.now (at inner.now)) (option_map (λ v. v.items) aim.now) []) }
+{
+    match rest_behind(target, inner) {
+        None => Ok(None),
+        Some(more) => {
+            if more.is_empty() {
+                return Ok(None);
+            }
+            Ok(Some(part_at(alloc, true, base, more, aim, &[])?))
+        }
+    }
+}
+
+// What lies below a base and comes below another, as `part` says.
+fn all_below(
+    alloc: Global,
+    base: &[Component],
+    target: &[Component],
+    inner: &[Component],
+    aim: &Option<Vec<Component>>,
+) -> Result<Option<Entry>, AllocError>
+    ensures { IfOk result (λ o. part_of o ≡ put (pull (below base.now) target.now (below inner.now)) (option_map (λ v. v.items) aim.now) []) }
+{
+    match rest_behind(inner, target) {
+        Some(rest) => Ok(Some(part_at(alloc, false, base, &[], aim, rest)?)),
+        None => match rest_behind(target, inner) {
+            None => Ok(None),
+            Some(more) => Ok(Some(part_at(alloc, false, base, more, aim, &[])?)),
+        },
+    }
+}
+
+// The part of a cone that comes into the entry's cone when `target` takes the place of the cone's base, with where the
+// entry then sends it.
+fn part(
+    alloc: Global,
+    point: bool,
+    base: &[Component],
+    target: &[Component],
+    entry: &Entry,
+) -> Result<Option<Entry>, AllocError>
+    ensures { IfOk result (λ o. part_of o ≡ put (pull (cone_of point base.now) target.now entry.now.0) entry.now.1 []) }
+{
+    if point {
+        return part_of_point(alloc, base, target, entry);
+    }
+    if entry.point {
+        return point_below(alloc, base, target, entry.base.as_slice(), &entry.target);
+    }
+    all_below(alloc, base, target, entry.base.as_slice(), &entry.target)
+}
+
+// Adds a part of a cone that no cone before has. Whether it is all of the cone, which ends the parts.
+fn push_part(
+    out: &mut Vec<Entry>,
+    point: bool,
+    base: &[Component],
+    found: Entry,
+) -> Result<bool, AllocError>
+    ensures { IfOk result (λ ended. (es : List RouteEntry) →
+        out.new.items ++ cond ended [] (block (heads out.new.items []) (cone_of point base.now) es)
+        ≡ out.old.items ++ block (heads out.old.items []) (cone_of point base.now) (found ∷ es)) }
+{
+    if found.covers(point, base) {
+        out.push(found)?;
+        return Ok(true);
+    }
+    if is_alive(out.as_slice(), found.point, found.base.as_slice()) {
+        out.push(found)?;
+    }
+    Ok(false)
+}
+
+// Adds the part by one entry.
+fn push_part_by(
+    alloc: Global,
+    out: &mut Vec<Entry>,
+    point: bool,
+    base: &[Component],
+    target: &[Component],
+    entry: &Entry,
+) -> Result<bool, AllocError>
+    ensures { IfOk result (λ ended. (es : List RouteEntry) →
+        out.new.items ++ cond ended [] (block (heads out.new.items []) (cone_of point base.now) (pulled (cone_of point base.now) target.now es))
+        ≡ out.old.items ++ block (heads out.old.items []) (cone_of point base.now) (pulled (cone_of point base.now) target.now (entry.now ∷ es))) }
+{
+    match part(alloc, point, base, target, entry)? {
+        None => Ok(false),
+        Some(found) => push_part(out, point, base, found),
+    }
+}
+
+// Adds the parts of a cone that no cone before has, up to one that is all of it; else the cone itself, without a target.
+fn push_block(
+    alloc: Global,
+    out: &mut Vec<Entry>,
+    point: bool,
+    base: &[Component],
+    target: &[Component],
+    others: &[Entry],
+) -> Result<(), AllocError>
+    ensures { OnOk result (out.new.items ≡ out.old.items
+        ++ block (heads out.old.items []) (cone_of point base.now) (pulled (cone_of point base.now) target.now others.now)) }
+{
+    for e in others {
+        if push_part_by(alloc, out, point, base, target, e)? {
+            return Ok(());
+        }
+    }
+    out.push(Entry {
+        point,
+        base: joined(alloc, base, &[])?,
+        target: None,
+    })?;
+    Ok(())
+}
+
+// Adds the entry if no earlier one hides it.
+fn push_alive(alloc: Global, out: &mut Vec<Entry>, entry: &Entry) -> Result<(), AllocError>
+    ensures { OnOk result (out.new.items ≡ out.old.items ++ thin (heads out.old.items []) (entry.now ∷ [])) }
+{
+    if is_alive(out.as_slice(), entry.point, entry.base.as_slice()) {
+        out.push(entry.copy(alloc)?)?;
+    }
+    Ok(())
+}
+
+// Adds the entries that no earlier one hides.
+fn push_thin(alloc: Global, out: &mut Vec<Entry>, entries: &[Entry]) -> Result<(), AllocError>
+    ensures { OnOk result (out.new.items ≡ out.old.items ++ thin (heads out.old.items []) entries.now) }
+{
+    for e in entries {
+        push_alive(alloc, out, e)?;
+    }
+    Ok(())
+}
+
+// Adds what becomes of an entry: a list keeps an entry with a target, a chain one without; of the other come its parts.
+fn push_grown(
+    alloc: Global,
+    out: &mut Vec<Entry>,
+    is_list: bool,
+    entry: &Entry,
+    others: &[Entry],
+) -> Result<(), AllocError>
+    ensures { OnOk result (out.new.items ≡ out.old.items
+        ++ grown (heads out.old.items []) entry.now.0 entry.now.1 (how is_list others.now entry.now.0 entry.now.1)) }
+{
+    let base = entry.base.as_slice();
+    match &entry.target {
+        None => {
+            if is_list {
+                return push_block(alloc, out, entry.point, base, base, others);
+            }
+            out.push(entry.copy(alloc)?)?;
+            Ok(())
+        }
+        Some(target) => {
+            if is_list {
+                out.push(entry.copy(alloc)?)?;
+                return Ok(());
+            }
+            push_block(alloc, out, entry.point, base, target.as_slice(), others)
+        }
+    }
+}
+
+// A list's decision list with one branch more.
+fn either_grown(
+    alloc: Global,
+    entries: &[Entry],
+    others: &[Entry],
+) -> Result<Vec<Entry>, AllocError>
+    ensures { IfOk result (λ v. v.items ≡ either_left entries.now others.now) }
+{
+    let mut out = Vec::new(alloc);
+    for e in entries {
+        push_grown(alloc, &mut out, true, e, others)?;
+    }
+    push_thin(alloc, &mut out, others)?;
+    Ok(out)
+}
+
+// Whether each entry has a target.
+fn are_live(entries: &[Entry]) -> bool
+    ensures { result ≡ are_live entries.now }
+{
+    for e in entries {
+        if e.target.is_none() {
+            return false;
+        }
+    }
+    true
+}
+
+// A list's decision list with one branch more.
+pub fn either(
+    alloc: Global,
+    entries: Vec<Entry>,
+    others: &[Entry],
+) -> Result<Vec<Entry>, AllocError>
+    ensures { IfOk result (λ v. v.items ≡ either_left entries.items others.now) }
+{
+    if !are_live(entries.as_slice()) {
+        return either_grown(alloc, entries.as_slice(), others);
+    }
+    let mut out = entries;
+    push_thin(alloc, &mut out, others)?;
+    Ok(out)
+}
+
+// A chain's decision list with one member more.
+pub fn after(alloc: Global, entries: &[Entry], others: &[Entry]) -> Result<Vec<Entry>, AllocError>
+    ensures { IfOk result (λ v. v.items ≡ after_left entries.now others.now) }
+{
+    let mut out = Vec::new(alloc);
+    for e in entries {
+        push_grown(alloc, &mut out, false, e, others)?;
+    }
+    Ok(out)
+}
+
+// All but what a decision list gives an image.
+pub fn turned(alloc: Global, entries: &[Entry]) -> Result<Vec<Entry>, AllocError>
+    ensures { IfOk result (λ v. v.items ≡ turned [] entries.now) }
+{
+    let mut out = Vec::new(alloc);
+    for e in entries {
+        out.push(e.flipped(alloc)?)?;
+    }
+    let all = Entry {
+        point: false,
+        base: Vec::new(alloc),
+        target: Some(Vec::new(alloc)),
+    };
+    push_alive(alloc, &mut out, &all)?;
+    Ok(out)
+}

@@ -1,0 +1,91 @@
+// Tables of routes.
+ghost use Rattle.std.specs.Prelude.{◌≡◌, ◌≤◌, true, is_some, length, Some, IfOk, IfSome};
+ghost use Rattle.filter_text.specs.Shapes.{shape};
+ghost use Rattle.filter_routes.specs.Images.{image};
+
+use crate::RouteHit;
+use crate::entry::Entry;
+use crate::lists::list_of;
+use crate::locate::{locate, locate_origin};
+use filter_text::{Filter, copy};
+use git_objects::Component;
+use path_names::Path;
+use std::alloc::{AllocError, Global};
+use std::marker::Model;
+
+/// The routes of a sound filter: where each path goes, and where each image comes from.
+#[derive(Debug, Drop)]
+pub struct Table {
+    filter: Filter,
+    entries: Vec<Entry>,
+}
+
+impl Model for Table {
+    ghost use Rattle.std.specs.Coded.{codes};
+    ghost use Rattle.filter_text.specs.contracts.filter.Filter as filters;
+    ghost use Rattle.filter_routes.specs.TableValues.{Table as TableValue, IsTable};
+
+    ghost Value = { TableValue };
+
+    ghost coded = { Prim.hlevel (codes, filters.the_row.coded) };
+
+    ghost view = { λ t. record { filter = t.filter; routes = t.entries.items } };
+
+    ghost invariant = { λ t. IsTable (record { filter = t.filter; routes = t.entries.items }) };
+}
+
+impl Table {
+    ghost use Rattle.filter_routes.specs.Tables.{image_at, source_hit, target, source, IsOrigin, OfFilter};
+
+    /// The filter's table, if the filter is sound. A workspace is read as the paths below its place.
+    pub fn of_sound(alloc: Global, filter: &Filter) -> Result<Option<Table>, AllocError>
+        ensures { IfOk result (OfFilter (shape filter.now)) }
+    {
+        match list_of(alloc, filter, true)? {
+            None => Ok(None),
+            Some(entries) => Ok(Some(Table {
+                filter: copy(alloc, filter)?,
+                entries,
+            })),
+        }
+    }
+
+    /// The route that takes a path to its image, if it has one. Needs no memory.
+    pub fn image(&self, path: &Path) -> Option<RouteHit>
+        ensures image { image_at self.now.routes result path.now ≡ image (shape self.now.filter) path.now }
+        ensures found { is_some result ≡ is_some (image (shape self.now.filter) path.now) }
+        ensures route { IfSome result (λ h. is_some (target self.now h.route) ≡ true) }
+        ensures cut { IfSome result (λ h. h.cut ≤ length path.now) }
+    {
+        locate(self.entries.as_slice(), path.components())
+    }
+
+    /// The route by which the image comes from its path, if some path has it. The hit's `cut` counts components of the
+    /// image. Needs no memory.
+    pub fn origin(&self, image: &Path) -> Option<RouteHit>
+        ensures source { IsOrigin (shape self.now.filter) image.now (source_hit self.now.routes result image.now) }
+        ensures route { IfSome result (λ h. is_some (source self.now h.route) ≡ true) }
+        ensures cut { IfSome result (λ h. h.cut ≤ length image.now) }
+    {
+        locate_origin(self.entries.as_slice(), image.components())
+    }
+
+    /// What the route puts before the rest of a path.
+    pub fn target(&self, route: usize) -> &[Component]
+        requires { is_some (target self.now route) ≡ true }
+        ensures { Some result.now ≡ target self.now route }
+    {
+        match &self.entries[route].target {
+            None => &[],
+            Some(target) => target.as_slice(),
+        }
+    }
+
+    /// What the route takes off the front of a path.
+    pub fn source(&self, route: usize) -> &[Component]
+        requires { is_some (source self.now route) ≡ true }
+        ensures { Some result.now ≡ source self.now route }
+    {
+        self.entries[route].base.as_slice()
+    }
+}
