@@ -1,5 +1,5 @@
 -- The items spell the state after a change too.
-use Rattle.std.proofs.Common.{◌≡◌, ◌+◌, ◌≤◌, ◌^◌, ℕ, true, cond, ◌&&◌, List, [], ◌∷◌, ◌++◌, map, filter, length, reverse, Option, None, Some, IfSome, Ok, Err, refl, sym, ap, subst, ◌∙◌, arith, length-append, sum_by}
+use Rattle.std.proofs.Common.{◌≡◌, ◌+◌, ◌≤◌, ◌^◌, ℕ, true, cond, ◌&&◌, List, [], ◌∷◌, ◌++◌, map, filter, length, reverse, Option, None, Some, IfSome, IsErrOf, Ok, Err, ◌⊎◌, inl, inr, refl, sym, ap, subst, ◌∙◌, arith, length-append, sum_by}
 use Rattle.std.specs.Prelude.{nat_le}
 use Rattle.std.proofs.lemmas.Bool.{le-leb, lt-ltb}
 use Rattle.std.proofs.lemmas.List.Sums.{sum_by-cons, sum_by_push}
@@ -9,10 +9,13 @@ use Rattle.repo_state.proofs.Plans.{passes}
 use Rattle.git_objects.specs.Paths.{Bytes}
 use Rattle.git_objects.specs.Parts.{name_bytes}
 use Rattle.git_objects.specs.declared.name.Name.{Name}
-use Rattle.proj_io.specs.Items.{Gets}
+use Rattle.proj_io.specs.Items.{Stays, Gets}
+use Rattle.proj_io.specs.declared.keeper.KeepError.{KeepError}
+use Rattle.proj_io.specs.declared.keeper.KeepError.TheVariants.{Failed, OutOfMemory}
 use Rattle.object_store.specs.Errors.{newest}
 use Rattle.object_store.specs.Objects.{Object}
-use Rattle.repo_state.specs.Changes.{Change, IsChange, IsCurrent, IsWithin, Plan, held_after, objects_of, plan}
+use Rattle.repo_state.specs.Changes.{Change, IsChange, IsCurrent, IsWithin, Plan, held_after, objects_of, plan, plan_in}
+use Rattle.repo_state.specs.Commits.{IsSpelled}
 use Rattle.repo_state.specs.Drafts.{IsDraft}
 use Rattle.repo_state.specs.Growing.{grown, held_of}
 use Rattle.repo_state.specs.Items.{Refs, Held, has_room, held_with, is_commit, item_fits, item_text, nothing, numbered, read_from, read_item, read_items, then_read}
@@ -100,23 +103,57 @@ module _ (objects : List Object) (old new : List Name) (refs : Refs) (commits nu
       (omega (arith, long, few)) (omega (arith, long, few))
 
   -- the items with this one behind them
-  pub current-after : (items : List Bytes) → IsCurrent items (stored objects old refs number size) → (all : Stored) → all.held ≡ held_after (held_with H refs) p → all.number ≡ number + 1 → all.size ≡ size + length d.item.items →
-      IsCurrent (items ++ d.item.items ∷ []) all
+  read-after : (items : List Bytes) → IsCurrent items (stored objects old refs number size) → read_items (items ++ d.item.items ∷ []) ≡ Ok (held_after (held_with H refs) p)
   unfolding read_items
-  current-after items now all h n z =
+  read-after items now =
       let item = d.item.items in
       let fits : item_fits (0 + length items) (0 + sum_by length items) item ≡ true =
       let a = now.number in
       let b = now.size in
       (λ i. lt-ltb (0 + length items) (2 ^ 20) (omega (arith, a, made.room)) i && le-leb (length item) (2 ^ 29) made.small i && le-leb (0 + sum_by length items + length item) (2 ^ 31) (omega (arith, b, made.sum)) i) in
+      read-behind items 0 0 nothing (held_with H refs) (held_after (held_with H refs) p) item now.held fits (ap (read_item (held_with H refs)) made.item ∙ item-back)
+
+  pub current-after : (items : List Bytes) → IsCurrent items (stored objects old refs number size) → (all : Stored) → all.held ≡ held_after (held_with H refs) p → all.number ≡ number + 1 → all.size ≡ size + length d.item.items →
+      IsCurrent (items ++ d.item.items ∷ []) all
+  current-after items now all h n z =
+      let item = d.item.items in
       record {
-        held = read-behind items 0 0 nothing (held_with H refs) (held_after (held_with H refs) p) item now.held fits (ap (read_item (held_with H refs)) made.item ∙ item-back) ∙ ap (λ (k : Held). Ok k) (sym h);
+        held = read-after items now ∙ ap (λ (k : Held). Ok k) (sym h);
         number = n ∙ (let a = now.number in let f : number + 1 ≡ length (items ++ item ∷ []) = omega (arith, a, length-append items (item ∷ [])) in f);
         size = z ∙ (let a = now.size in let f : size + length item ≡ sum_by length (items ++ item ∷ []) = omega (arith, a, sum_by_push length items item) in f);
       }
+
+  pub spelled-after : (items after : List Bytes) → IsCurrent items (stored objects old refs number size) → after ≡ items ++ d.item.items ∷ [] → IsSpelled items (held_with H refs) p after
+  spelled-after items after now e = inr (made.says, e ∙ ap (λ (t : Bytes). items ++ t ∷ []) made.item, ap read_items e ∙ read-after items now)
 
 pub gets-current : (o p : Option (List Bytes)) (item : Bytes) (before after : Stored) (W : Type 0) → IfSome o (λ items. IsCurrent items before) → IfSome o (λ _. W) → Gets o p item →
     ((items : List Bytes) → W → IsCurrent items before → IsCurrent (items ++ item ∷ []) after) → IfSome o (λ _. IfSome p (λ items. IsCurrent items after))
 gets-current None p item before after W now within e f = tt
 gets-current (Some xs) None item before after W now within e f = absurd e
 gets-current (Some xs) (Some ys) item before after W now within e f = subst (λ (items : List Bytes). IsCurrent items after) (sym e) (f xs within now)
+
+-- ---- the items that are told after a commit
+
+pub stays-spelled : (o q : Option (List Bytes)) (before : Stored) (p : Plan) → IfSome o (λ items. IsCurrent items before) → Stays o q → IfSome o (λ items. IfSome q (λ after. IsSpelled items before.held p after))
+stays-spelled None q before p now e = tt
+stays-spelled (Some xs) None before p now e = tt
+stays-spelled (Some xs) (Some ys) before p now e = inl (e, ap read_items e ∙ now.held)
+
+module _ (objects : List Object) (old new : List Name) (refs : Refs) (commits number size : ℕ) (c : Change) (d : Draft) (before : Stored) where
+  pub gets-spelled : (o q : Option (List Bytes)) → stored objects old refs number size ≡ before → HoldsState objects old refs commits number size → IsChange (newest before.objects) before.held.objects c →
+      IfSome o (λ _. IsWithin (newest before.objects) before.held.objects c) → IfSome o (λ items. IsCurrent items before) →
+      IsDraft (newest objects) new (held_with (held_of (newest objects) old) refs) number size (plan (newest objects) (held_with (held_of (newest objects) old) refs) c) d → Gets o q d.item.items →
+      IfSome o (λ items. IfSome q (λ after. IsSpelled items before.held (plan_in before c) after))
+  gets-spelled None q same s g w now made e = tt
+  gets-spelled (Some xs) None same s g w now made e = tt
+  gets-spelled (Some xs) (Some ys) same s g w now made e =
+      subst (λ (b : Stored). IsSpelled xs b.held (plan_in b c) ys) same
+      (spelled-after objects old new refs commits number size c d s
+      (subst (λ (b : Stored). IsChange (newest b.objects) b.held.objects c) (sym same) g)
+      (subst (λ (b : Stored). IsWithin (newest b.objects) b.held.objects c) (sym same) w)
+      made xs ys (subst (λ (b : Stored). IsCurrent xs b) (sym same) now) e)
+
+-- by why the keeper did not say that it has the item
+pub fault-spelled : {R : Type 0} (error : KeepError) (A B C : Type 0) → (IsErrOf {T = Unit {0}} (Err error) Failed → A ⊎ B) → (IsErrOf {T = Unit {0}} (Err error) OutOfMemory → C) → (A → R) → (B → R) → (C → R) → R
+fault-spelled Failed A B C f m a b c = elim (f refl) [ inl x ↦ a x | inr y ↦ b y ]
+fault-spelled OutOfMemory A B C f m a b c = c (m refl)

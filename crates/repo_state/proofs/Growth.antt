@@ -1,4 +1,4 @@
--- A state stays whole when its store gets an object.
+-- A state stays whole when its store grows.
 use Rattle.std.proofs.Common.{◌≡◌, ℕ, true, false, cond, List, [], ◌∷◌, ◌++◌, map, filter, length, reverse, None, Some, Result, Ok, Err, refl, sym, ap, subst, ◌∙◌}
 use Rattle.std.specs.Option.{option_to_list}
 use Rattle.git_objects.specs.Paths.{Bytes}
@@ -42,15 +42,19 @@ more-in S k b H i =
       | false ↦ λ e. in-above (record { kind = k; body = b }) S H e (known-in S H i) i
     ] refl
 
-pub stored-more : (before after : List Object) (names : List Name) (refs : Refs) (commits number size : ℕ) (k : Kind) (b : Bytes) → HoldsState before names refs commits number size → IsStore (newest after) →
-    newest after ≡ with_object (newest before) k b → HoldsState after names refs commits number size
-stored-more before after names refs commits number size k b s whole e =
+many-in : (newer S H : List Object) → IsStore (newer ++ S) → AreIn S H → AreIn (newer ++ S) H
+many-in [] S H s i = i
+many-in (o ∷ newer) S H s i =
+    let there = many-in newer S H s.2 i in
+    in-above o (newer ++ S) H s.1 (known-in (newer ++ S) H there) there
+
+stored-as : (before after : List Object) (names : List Name) (refs : Refs) (commits number size : ℕ) → HoldsState before names refs commits number size → IsStore (newest after) →
+    AreIn (newest after) (held_of (newest before) names) → HoldsState after names refs commits number size
+stored-as before after names refs commits number size s whole i =
     let S = newest before in
     let T = newest after in
     let H = held_of S names in
-    let i = named-in S (reverse (map name_bytes names)) in
-    let iT : AreIn T H = subst (λ (R : List Object). AreIn R H) (sym e) (more-in S k b H i) in
-    let same : held_of T names ≡ H = held-same S T names s.named iT in
+    let same : held_of T names ≡ H = held-same S T names s.named i in
     record {
       whole = record {
         whole = whole;
@@ -63,12 +67,36 @@ stored-more before after names refs commits number size k b s whole e =
       few = s.few;
     }
 
+module _ (before after : List Object) (names : List Name) (k : Kind) (b : Bytes) (e : newest after ≡ with_object (newest before) k b) where
+  in-more : AreIn (newest after) (held_of (newest before) names)
+  in-more =
+      let S = newest before in
+      subst (λ (R : List Object). AreIn R (held_of S names)) (sym e) (more-in S k b (held_of S names) (named-in S (reverse (map name_bytes names))))
+
+pub stored-more : (before after : List Object) (names : List Name) (refs : Refs) (commits number size : ℕ) (k : Kind) (b : Bytes) → HoldsState before names refs commits number size → IsStore (newest after) →
+    newest after ≡ with_object (newest before) k b → HoldsState after names refs commits number size
+stored-more before after names refs commits number size k b s whole e = stored-as before after names refs commits number size s whole (in-more before after names k b e)
+
 -- what a contract sees of what is held stays too
 pub held-more : (before after : List Object) (names : List Name) (k : Kind) (b : Bytes) → AreNamed (held_of (newest before) names) names → newest after ≡ with_object (newest before) k b →
     held_of (newest after) names ≡ held_of (newest before) names
-held-more before after names k b h e =
+held-more before after names k b h e = held-same (newest before) (newest after) names h (in-more before after names k b e)
+
+-- ---- many objects
+
+in-grown : (before after newer : List Object) (names : List Name) → IsStore (newest after) → newer ++ newest before ≡ newest after → AreIn (newest after) (held_of (newest before) names)
+in-grown before after newer names whole e =
     let S = newest before in
-    held-same S (newest after) names h (subst (λ (R : List Object). AreIn R (held_of S names)) (sym e) (more-in S k b (held_of S names) (named-in S (reverse (map name_bytes names)))))
+    subst (λ (R : List Object). AreIn R (held_of S names)) e
+    (many-in newer S (held_of S names) (subst IsStore (sym e) whole) (named-in S (reverse (map name_bytes names))))
+
+pub stored-grown : (before after newer : List Object) (names : List Name) (refs : Refs) (commits number size : ℕ) → HoldsState before names refs commits number size → IsStore (newest after) →
+    newer ++ newest before ≡ newest after → HoldsState after names refs commits number size
+stored-grown before after newer names refs commits number size s whole e = stored-as before after names refs commits number size s whole (in-grown before after newer names whole e)
+
+pub held-grown : (before after newer : List Object) (names : List Name) (refs : Refs) (commits number size : ℕ) → HoldsState before names refs commits number size → IsStore (newest after) →
+    newer ++ newest before ≡ newest after → held_of (newest after) names ≡ held_of (newest before) names
+held-grown before after newer names refs commits number size s whole e = held-same (newest before) (newest after) names s.named (in-grown before after newer names whole e)
 
 -- a put, whatever it answers
 pub stored-put : (X : PutError → Type 0) (before after : List Object) (names : List Name) (refs : Refs) (commits number size : ℕ) (k : Kind) (b : Bytes) (r : Result Name PutError) → HoldsState before names refs commits number size → IsStore (newest after) →

@@ -1,8 +1,15 @@
 -- Refs whose commits are held.
-use Rattle.std.proofs.Common.{◌≡◌, Bool, true, false, ◌&&◌, List, [], ◌∷◌, refl, ap, ◌∙◌}
+use Rattle.std.proofs.Common.{◌≡◌, arith, zero, Bool, true, false, cond, ◌&&◌, List, [], ◌∷◌, Option, Some, None, refl, sym, ap, ◌∙◌}
+use Rattle.std.specs.Prelude.{Contains, IfSome}
+use Rattle.std.specs.Option.{option_map}
+use Rattle.std.specs.Ordering.{eq_by_cmp}
+use Rattle.std.proofs.lemmas.List.Elements.{Contains-append_right}
+use Rattle.std.proofs.lemmas.Option.{same_Some}
+use Rattle.git_objects.specs.Parts.{name_bytes}
+use Rattle.git_objects.specs.declared.name.Name.{Name}
 use Rattle.std.specs.declared.cmp.Ordering.{Ordering}
 use Rattle.std.specs.declared.cmp.Ordering.TheVariants.{Less, Equal, Greater}
-use Rattle.std.specs.FinMap.{put}
+use Rattle.std.specs.FinMap.{find, put}
 use Rattle.std.specs.FinMap.Entries.{by_order}
 use Rattle.git_objects.specs.Paths.{Bytes}
 use Rattle.git_objects.specs.declared.kind.Kind.TheVariants.{Commit}
@@ -37,3 +44,18 @@ pub are_heads-more : (S T : List Object) (refs : Refs) → ((n : Bytes) → has 
 are_heads-more S T [] more h = refl
 are_heads-more S T (e ∷ refs) more h =
     both (has Commit T e.1) (are_heads T refs) (more e.1 (left (has Commit S e.1) (are_heads S refs) h)) (are_heads-more S T refs more (right (has Commit S e.1) (are_heads S refs) h))
+
+-- what is found is there
+pub find-there : (refs : Refs) (r n : Bytes) → find bytes_cmp r refs ≡ Some n → (q : Bytes) × Contains refs (q, n)
+find-there [] r n h = cc
+find-there (e ∷ refs) r n h =
+    elim (eq_by_cmp bytes_cmp r e.0) as (λ b. cond b (Some e.1) (find bytes_cmp r refs) ≡ Some n → (q : Bytes) × Contains (e ∷ refs) (q, n)) [
+      | true ↦ λ g. (e.0, (zero, omega arith, ap (λ x. (e.0, x)) (same_Some e.1 n g)))
+      | false ↦ λ g. let t = find-there refs r n g in (t.0, Contains-append_right (e ∷ []) refs (t.0, n) t.1)
+    ] h
+
+-- the commit of a ref is held
+pub found-held : (S : List Object) (refs : Refs) (r : Bytes) (result : Option Name) → option_map name_bytes result ≡ find bytes_cmp r refs → ((q n : Bytes) → Contains refs (q, n) → has Commit S n ≡ true)
+    → IfSome result (λ n. has Commit S n.0 ≡ true)
+found-held S refs r None e h = tt
+found-held S refs r (Some n) e h = let t = find-there refs r n.0 (sym e) in h t.0 n.0 t.1

@@ -4,6 +4,7 @@ pub mod Current
 pub mod Feeding
 pub mod Fitting
 pub mod Heads
+pub mod HeldFits
 pub mod ItemRuns
 pub mod Growth
 pub mod Grows

@@ -1,13 +1,14 @@
 -- What comes of committing a change.
-use Rattle.std.specs.Prelude.{◌≡◌, ◌⊎◌, ◌+◌, true, false, map, None, Some, Result, Ok, Err}
+use Rattle.std.specs.Prelude.{◌≡◌, ◌⊎◌, ◌+◌, true, false, List, [], ◌∷◌, ◌++◌, map, None, Some, Result, Ok, Err}
 use Rattle.git_objects.specs.Paths.{Bytes}
 use Rattle.git_objects.specs.Parts.{name_bytes}
 use Rattle.proj_io.specs.Items.{Stays, Gets}
 use Rattle.proj_io.specs.Views.{KeeperView}
 use Rattle.proj_io.specs.declared.keeper.KeepError.{KeepError}
 use Rattle.proj_io.specs.declared.keeper.KeepError.TheVariants.{Failed, OutOfMemory as NoMemory}
+use Rattle.repo_state.specs.Items.{Held, read_items}
 use Rattle.repo_state.specs.Loads.{Stored}
-use Rattle.repo_state.specs.Changes.{Change, Plan, is_empty, plan_text, passed, changed}
+use Rattle.repo_state.specs.Changes.{Change, Plan, is_empty, plan_text, held_after, passed, changed}
 use Rattle.repo_state.specs.declared.commit.Batch.{Batch}
 use Rattle.repo_state.specs.declared.commit.Setting.{Setting}
 use Rattle.repo_state.specs.declared.commit.CommitError.{CommitError}
@@ -45,6 +46,12 @@ Appends p before after (Ok _) = (is_empty p ≡ true → KeepsItems before after
 Appends p before after (Err StoreFault) = KeepsItems before after ⊎ GetsItem (plan_text p) before after
 Appends p before after (Err (Limit q)) = KeepsItems before after
 Appends p before after (Err OutOfMemory) = KeepsItems before after
+
+-- Items before and after, whatever comes of it: they stay and spell what was held, or the plan's item is behind them and
+-- they spell what is held after it.
+abbrev pub IsSpelled : List Bytes → Held → Plan → List Bytes → Type 0
+IsSpelled items h p after =
+    ((after ≡ items) × (read_items after ≡ Ok h)) ⊎ ((is_empty p ≡ false) × (after ≡ items ++ plan_text p ∷ []) × (read_items after ≡ Ok (held_after h p)))
 
 -- why the keeper has no item more
 abbrev pub keep_error : KeepError → CommitError

@@ -6,7 +6,8 @@ ghost use Rattle.git_objects.specs.Parts.{name_bytes};
 ghost use Rattle.proj_io.specs.Counts.{Counts};
 ghost use Rattle.proj_io.specs.Items.{Stays};
 ghost use Rattle.object_store.specs.Errors.{newest};
-ghost use Rattle.object_store.specs.Objects.{object_name};
+ghost use Rattle.git_objects.specs.declared.kind.Kind.TheVariants.{Commit};
+ghost use Rattle.object_store.specs.Objects.{has, object_name};
 ghost use Rattle.repo_state.specs.Items.{bytes_cmp, held_with, is_commit, read_items};
 ghost use Rattle.repo_state.specs.Loads.{IsLoaded, IsLoadFault};
 ghost use Rattle.repo_state.specs.Stops.{are_heads};
@@ -140,7 +141,8 @@ impl State {
 
     /// The commit that a ref names.
     pub fn head(&self, refname: &RefName) -> Option<Name>
-        ensures { option_map name_bytes result ≡ find bytes_cmp refname.now self.now.held.refs }
+        ensures head { option_map name_bytes result ≡ find bytes_cmp refname.now self.now.held.refs }
+        ensures held { IfSome result (λ n. has Commit self.now.held.objects n.0 ≡ true) }
     {
         self.refs.find(refname.text())
     }

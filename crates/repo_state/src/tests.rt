@@ -1,10 +1,12 @@
 // The state, loaded from keepers in memory.
-ghost use Rattle.std.specs.Prelude.{◌≡◌, false};
+ghost use Rattle.std.specs.Prelude.{◌≡◌, ◌<◌, ◌≤◌, ◌+◌, ◌^◌, ◌↔◌, ⊤, false, length, List, ℕ, Option, None};
+ghost use Rattle.proj_io.specs.Counts.{Counts};
+ghost use Rattle.proj_io.specs.Items.{Gets, Stays, item_of};
 
 use crate::{LoadError, State};
 use git_objects::{Kind, Name};
 use path_names::RefName;
-use proj_io::{Failing, Keeper, MemKeeper};
+use proj_io::{Failed, Failing, KeepError, Keeper, MemKeeper};
 use std::alloc::{AllocError, Global};
 use std::process::Abort;
 use std::test::Fail;
@@ -46,6 +48,9 @@ const ONE: &[u8] = b"\x00\x00\x00\x01";
 
 const TWO: &[u8] = b"\x00\x00\x00\x02";
 
+// Behind a commit's tree and parents: who wrote it and when, and no message.
+const LETTER: &[u8] = b"author A <a@x> 1 +0000\ncommitter A <a@x> 1 +0000\n\n";
+
 const COMMIT_NAME: &[u8] =
     b"\x59\x90\xba\x61\x63\xd7\x7f\x77\x07\x1c\xa2\xe8\xe9\x89\x9c\x36\x8d\xbc\x6e\xb7";
 
@@ -55,7 +60,7 @@ fn add_item(rt: &impl Abort, keeper: &mut MemKeeper, item: &[u8])
     ensures { keeper.new.broken ≡ false }
 {
     assert!(rt; !item.is_empty());
-    assert!(rt; item.len() < 1000);
+    assert!(rt; item.len() < 2_000_000);
     assert!(rt; keeper.items().len() < 9);
     let added = keeper.append(item);
     assert!(rt; added.is_ok());
@@ -274,7 +279,7 @@ fn a_break_is_told_at_its_field(rt: HostRuntime) -> Result<(), Fail> {
                 b"\x01\x01",
                 ONE,
                 b"\x03\x00\x00\x00\x60tree 4b825dc642cb6eb9a060e54bf8d69288fbee4904\n",
-                b"author A <a@x> 1 +0000\ncommitter A <a@x> 1 +0000\n\n",
+                LETTER,
                 NONE,
             ],
             11,
@@ -288,10 +293,46 @@ fn a_break_is_told_at_its_field(rt: HostRuntime) -> Result<(), Fail> {
                 NO_FILES,
                 b"\x03\x00\x00\x00\x90tree 4b825dc642cb6eb9a060e54bf8d69288fbee4904\n",
                 b"parent 5990ba6163d77f77071ca2e8e9899c368dbc6eb7\n",
-                b"author A <a@x> 1 +0000\ncommitter A <a@x> 1 +0000\n\n",
+                LETTER,
                 NONE,
             ],
             16,
+        ),
+        (
+            "a tree as a file",
+            1,
+            &[
+                b"\x01\x01",
+                ONE,
+                b"\x02\x00\x00\x00\x1d100644 g\x00\x10\x73\x1d\x0b\x17\x0b\x98\x48\x1a\x00\xbd\xca\x16\x1e\x87\x4e\x0a\xb9\x33\x77",
+                NONE,
+            ],
+            11,
+        ),
+        (
+            "a commit of a blob",
+            1,
+            &[
+                b"\x01\x01",
+                ONE,
+                b"\x03\x00\x00\x00\x60tree ce013625030ba8dba906f756967f9e9ca394464a\n",
+                LETTER,
+                NONE,
+            ],
+            11,
+        ),
+        (
+            "a commit on a tree",
+            1,
+            &[
+                b"\x01\x01",
+                ONE,
+                b"\x03\x00\x00\x00\x90tree 9e875c512d63c924f4d9470217af46b123963bf8\n",
+                b"parent 10731d0b170b98481a00bdca161e874e0ab93377\n",
+                LETTER,
+                NONE,
+            ],
+            11,
         ),
         (
             "an object again",
@@ -379,6 +420,134 @@ fn a_break_is_told_at_its_field(rt: HostRuntime) -> Result<(), Fail> {
         );
     }
     Ok(())
+}
+
+// An item of these pieces, with so many bytes before the last of them.
+fn filled(
+    alloc: Global,
+    pieces: &[&[u8]],
+    count: usize,
+    last: &[u8],
+) -> Result<Vec<u8>, AllocError> {
+    let mut item = joined(alloc, pieces)?;
+    let mut bytes = Vec::new(alloc);
+    bytes.resize(count, b'x')?;
+    item.extend_from_slice(bytes.as_slice())?;
+    item.extend_from_slice(last)?;
+    Ok(item)
+}
+
+// A message and a ref name that are as long as they may be, and each with a byte more.
+#[test]
+fn a_length_past_its_limit_is_told_at_its_field(rt: HostRuntime) -> Result<(), Fail> {
+    let alloc = rt.alloc();
+    for (what, pieces, count, last, fault) in [
+        (
+            "a message",
+            [
+                b"\x01\x01".as_slice(),
+                ONE,
+                b"\x03\x00\x10\x00\x60tree 9e875c512d63c924f4d9470217af46b123963bf8\n",
+                LETTER,
+            ]
+            .as_slice(),
+            1_048_576,
+            NONE,
+            None,
+        ),
+        (
+            "a longer message",
+            &[
+                b"\x01\x01",
+                ONE,
+                b"\x03\x00\x10\x00\x61tree 9e875c512d63c924f4d9470217af46b123963bf8\n",
+                LETTER,
+            ],
+            1_048_577,
+            NONE,
+            Some(LoadError::Damaged { item: 1, at: 11 }),
+        ),
+        (
+            "a ref name",
+            &[b"\x01\x01", NONE, ONE, b"\x04\x00refs/"],
+            1019,
+            COMMIT_NAME,
+            None,
+        ),
+        (
+            "a longer ref name",
+            &[b"\x01\x01", NONE, ONE, b"\x04\x01refs/"],
+            1020,
+            COMMIT_NAME,
+            Some(LoadError::Damaged { item: 1, at: 12 }),
+        ),
+    ] {
+        let item = filled(alloc, pieces, count, last)?;
+        let mut keeper = keeper_of(&rt, alloc, &[ITEM], Vec::new(alloc));
+        add_item(&rt, &mut keeper, item.as_slice());
+        assert_eq!(rt; State::load(alloc, &mut keeper).err(), fault, "{what}");
+    }
+    Ok(())
+}
+
+// A keeper in memory that says a size of its own of each item, and doesn't tell them.
+#[derive(Drop)]
+struct Misjudging {
+    inner: MemKeeper,
+    size: u32,
+}
+
+impl Keeper for Misjudging {
+    ghost tells = { λ _. ⊥ };
+
+    ghost items = { λ _. None };
+
+    ghost number = { λ k. length k.inner.items };
+
+    ghost faults = { λ k. k.inner.faults };
+
+    ghost is_open = { λ k. k.inner.broken ≡ false };
+
+    ghost known = { λ _ h. absurd h };
+
+    ghost counted = { λ _. tt };
+
+    fn count(&mut self) -> Result<u32, Failed> {
+        self.inner.count()
+    }
+
+    fn size(&mut self, item: u32) -> Result<u32, Failed> {
+        match self.inner.size(item) {
+            Ok(0) => Ok(0),
+            Ok(_) => Ok(self.size),
+            Err(error) => Err(error),
+        }
+    }
+
+    fn read(&mut self, item: u32, from: u32, buf: &mut [u8]) -> Result<usize, Failed> {
+        self.inner.read(item, from, buf)
+    }
+
+    fn append(&mut self, bytes: &[u8]) -> Result<(), KeepError> {
+        self.inner.append(bytes)
+    }
+}
+
+// Items may have 2^29 bytes, and this one has 249.
+#[test]
+fn a_wrong_size_is_told(rt: HostRuntime) {
+    let alloc = rt.alloc();
+    for (size, at) in [(536_870_913, 0), (250, 249)] {
+        let mut keeper = Misjudging {
+            inner: keeper_of(&rt, alloc, &[ITEM], Vec::new(alloc)),
+            size,
+        };
+        assert_eq!(rt;
+            State::load(alloc, &mut keeper).err(),
+            Some(LoadError::Damaged { item: 0, at }),
+            "of {size}"
+        );
+    }
 }
 
 #[test]
