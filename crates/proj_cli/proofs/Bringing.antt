@@ -1,5 +1,5 @@
--- What a stream brought to an empty store, as a change.
-use Rattle.std.proofs.Common.{◌≡◌, Bool, true, false, cond, ◌||◌, List, [], ◌∷◌, ◌++◌, map, Some, None, refl, sym, ap, subst, ◌∙◌}
+-- What a stream brought to a store, as a change.
+use Rattle.std.proofs.Common.{◌≡◌, Bool, true, false, ◌||◌, List, [], ◌∷◌, ◌++◌, map, Some, refl, sym, ap, subst, ◌∙◌}
 use Rattle.std.specs.List.{flat_map, list_all, list_any}
 use Rattle.std.specs.Option.{option_map_or}
 use Rattle.std.proofs.lemmas.Bool.{or_right}
@@ -21,25 +21,26 @@ use Rattle.repo_state.specs.Commits.{change_of, setting}
 use Rattle.repo_state.specs.declared.commit.Batch.{Batch}
 use Rattle.repo_state.specs.declared.commit.Setting.{Setting}
 use Rattle.proj_cli.specs.Streams.{Small}
-use Rattle.proj_cli.specs.Replay.{are_small, blob_object, commits_objects, contents, replayed, snapshot, snapshots_made, stream_objects, trees_made, with_changes}
+use Rattle.proj_cli.specs.Replay.{blob_object, commits_objects, contents, replayed, snapshot, snapshots_made, stream_objects, with_changes}
 use Rattle.proj_cli.specs.Replays.{AreBlobs, IsBrought}
 use Rattle.proj_cli.specs.Snapshots.{AreSnapshots, IsSnapshot}
 use Rattle.proj_cli.proofs.AllCommits.{both_true}
 use Rattle.proj_cli.proofs.Files.{has-found}
 use Rattle.proj_cli.proofs.HeldCommits.{body-found}
+use Rattle.proj_cli.proofs.ImportFits.{made-is}
 use Rattle.proj_cli.proofs.MadeLines.{commit-held, commit-read, made-held}
 
 -- whether a name is held or stands before
-abbrev stands : List Object → List Bytes → Bytes → Bool
+abbrev pub stands : List Object → List Bytes → Bytes → Bool
 stands H done p = has CommitKind H p || list_any (same_bytes p) done
 
 module _ (S : List Object) (s : IsStore S) where
-  blobs-held : (ns : List Name) (bs : List Bytes) → AreBlobs S ns bs → list_all (has Blob S) (map name_bytes ns) ≡ true
+  pub blobs-held : (ns : List Name) (bs : List Bytes) → AreBlobs S ns bs → list_all (has Blob S) (map name_bytes ns) ≡ true
   blobs-held [] bs h = refl
   blobs-held (n ∷ ns) [] h = absurd h
   blobs-held (n ∷ ns) (b ∷ bs) h = both_true _ _ (has-found Blob b S n.0 h.0) (blobs-held ns bs h.1)
 
-  blobs-are : (ns : List Name) (bs : List Bytes) → AreBlobs S ns bs → map (changes.blob_object S) (map name_bytes ns) ≡ map blob_object bs
+  pub blobs-are : (ns : List Name) (bs : List Bytes) → AreBlobs S ns bs → map (changes.blob_object S) (map name_bytes ns) ≡ map blob_object bs
   blobs-are [] [] h = refl
   blobs-are [] (b ∷ bs) h = absurd h
   blobs-are (n ∷ ns) [] h = absurd h
@@ -55,14 +56,14 @@ module _ (S : List Object) (s : IsStore S) where
       let body = body-found CommitKind S n (snapshot_object c) s (commit-held S s n c h) h.held in
       λ i. trees i ++ record { kind = CommitKind; body = body i } ∷ []
 
-  commits-are : (ns : List Name) (cs : List Snapshot) → AreSnapshots S ns cs → flat_map (commit_objects S) (map name_bytes ns) ≡ commits_objects cs
+  pub commits-are : (ns : List Name) (cs : List Snapshot) → AreSnapshots S ns cs → flat_map (commit_objects S) (map name_bytes ns) ≡ commits_objects cs
   commits-are [] [] h = refl
   commits-are [] (c ∷ cs) h = absurd h
   commits-are (n ∷ ns) [] h = absurd h
   commits-are (n ∷ ns) (c ∷ cs) h = let one = commit-is n.0 c h.0 in let rest = commits-are ns cs h.1 in λ i. one i ++ rest i
 
   -- each commit's parent is the one before
-  parents-stand : (H : List Object) (t : Flat) (ps : List Bytes) (ss : List Small) (ns : List Name) (done : List Bytes) → AreSnapshots S ns (snapshots_made t ps ss) → list_all (stands H done) ps ≡ true
+  pub parents-stand : (H : List Object) (t : Flat) (ps : List Bytes) (ss : List Small) (ns : List Name) (done : List Bytes) → AreSnapshots S ns (snapshots_made t ps ss) → list_all (stands H done) ps ≡ true
       → has_parents S H done (map name_bytes ns) ≡ true
   parents-stand H t ps ss [] done h g = refl
   parents-stand H t ps [] (n ∷ ns) done h g = absurd h
@@ -73,20 +74,13 @@ module _ (S : List Object) (s : IsStore S) where
       both_true _ _ (ap (λ o. option_map_or (λ (d : Commit). list_all (stands H done) d.parents) o false) (commit-read S s n.0 c h.0) ∙ g)
       (parents-stand H (with_changes t r.changes) (snapshot_name c ∷ []) ss ns (n.0 ∷ done) h.1 (both_true _ _ next refl))
 
-made-is : (ss : List Small) (cs : List Snapshot) → replayed [] [] ss ≡ Some cs → snapshots_made [] [] ss ≡ cs
-made-is ss cs h =
-    elim (are_small (trees_made [] ss)) as (λ b. cond b (Some (snapshots_made [] [] ss)) None ≡ Some cs → snapshots_made [] [] ss ≡ cs) [
-      | true ↦ λ g. same_Some _ _ g
-      | false ↦ λ g. cc
-    ] h
-
 module _ (S : List Object) (ss : List Small) (batch : Batch) (h : IsBrought S ss batch) where
   -- it may be committed to no items
   pub brought-change : IsChange S [] (change_of batch)
   brought-change = record {
     blobs = blobs-held S h.whole batch.blobs.items (contents ss) h.blobs;
     commits = made-held S h.whole batch.commits.items h.snapshots h.commits;
-    parents = parents-stand S h.whole [] [] [] ss batch.commits.items [] (subst (AreSnapshots S batch.commits.items) (sym (made-is ss h.snapshots h.replayed)) h.commits) refl;
+    parents = parents-stand S h.whole [] [] [] ss batch.commits.items [] (subst (AreSnapshots S batch.commits.items) (sym ((made-is [] [] ss h.snapshots h.replayed).1)) h.commits) refl;
     refs = ap (λ (rs : List Setting). are_distinct (map setting rs)) h.refs;
     heads = ap (λ (rs : List Setting). list_all (λ (e : Bytes × Bytes). has CommitKind [] e.1 || list_any (same_bytes e.1) (map name_bytes batch.commits.items)) (map setting rs)) h.refs;
   }

@@ -16,3 +16,12 @@ pub mod Bringing
 pub mod Makes
 pub mod Forms
 pub mod Joins
+pub mod Importing
+pub mod Committing
+pub mod Inputs
+pub mod Imports
+pub mod ImportTrees
+pub mod PutSizes
+pub mod KnownLeaves
+pub mod StreamSizes
+pub mod ImportFits

@@ -18,7 +18,7 @@ use Rattle.proj_cli.specs.declared.streams.Row.{Row}
 use Rattle.proj_cli.specs.declared.streams.SmallCommit.{SmallCommit}
 
 -- what is read leaves fewer bytes than there were
-abbrev Less : {A : Type 0} → Bytes → Read A → Type 0
+abbrev pub Less : {A : Type 0} → Bytes → Read A → Type 0
 Less t None = Unit {0}
 Less t (Some r) = length r.1 < length t
 
@@ -40,7 +40,7 @@ word_less_from : (word t : Bytes) (o : Read Bytes) → Less t o → Less t (opti
 word_less_from word t None h = tt
 word_less_from word t (Some r) h = elim (strip word r.0) as (λ s. Less t (option_map (λ v. (v, r.1)) s)) [ None ↦ tt | Some v ↦ h ]
 
-word_less : (word t : Bytes) → Less t (word_line word t)
+pub word_less : (word t : Bytes) → Less t (word_line word t)
 word_less word t = word_less_from word t (cut_at 10 t) (cut_less 10 t)
 
 skip_no_more : (t : Bytes) → length (skip_lf t) ≤ length t
@@ -200,7 +200,7 @@ message_less_from t (Some m) l =
 message_less : (t : Bytes) → Less t (message t)
 message_less t = message_less_from t (data_block t) (data_less t)
 
-passed_less : (t : Bytes) (test : Bytes → Bool) (o : Read Bytes) → Less t o → Less t (option_and_then (λ r. cond (test r.0) (Some r) None) o)
+pub passed_less : (t : Bytes) (test : Bytes → Bool) (o : Read Bytes) → Less t o → Less t (option_and_then (λ r. cond (test r.0) (Some r) None) o)
 passed_less t test None l = tt
 passed_less t test (Some r) l = elim (test r.0) as (λ b. Less t (cond b (Some r) None)) [ true ↦ l | false ↦ tt ]
 
@@ -217,7 +217,7 @@ head_less_from : (t : Bytes) (o : Read Bytes) → Less t o → Less {A = Head} t
 head_less_from t None l = tt
 head_less_from t (Some r) l = less_along t r.1 _ l (said_less r.1 r.0 (ident_line r.1) (passed_less r.1 is_ident (word_line (codes "committer ") r.1) (word_less (codes "committer ") r.1)))
 
-head_less : (t : Bytes) → Less t (head t)
+pub head_less : (t : Bytes) → Less t (head t)
 unfolding head
 head_less t = head_less_from t (ref_line t) (passed_less t is_ref_name (word_line (codes "commit ") t) (word_less (codes "commit ") t))
 
@@ -226,7 +226,7 @@ unfolding changes
 small_less_from t None l = tt
 small_less_from t (Some h) l = let g = changes_no_more (length h.1) h.1 in omega (arith, g, l)
 
-small_less : (t : Bytes) → Less t (small t)
+pub small_less : (t : Bytes) → Less t (small t)
 unfolding small
 small_less t = small_less_from t (head t) (head_less t)
 

@@ -1,6 +1,7 @@
 -- Two objects of one name.
-use Rattle.std.proofs.Common.{◌≡◌, ◌≢◌, zero, suc, arith, true, false, cond, ◌&&◌, List, [], ◌∷◌, Option, Some, None, Contains, refl, sym, ap, subst, ◌∙◌, true≢false, append-nil}
+use Rattle.std.proofs.Common.{◌≡◌, ◌≢◌, ◌⊎◌, inl, inr, zero, suc, arith, true, false, cond, ◌&&◌, List, [], ◌∷◌, Option, Some, None, Contains, refl, sym, ap, subst, ◌∙◌, true≢false, append-nil}
 use Rattle.std.specs.Cmp.Lexicographic.{bytes_decides}
+use Rattle.std.proofs.lemmas.List.Elements.{Contains-append_cases}
 use Rattle.std.proofs.lemmas.Option.{same_Some}
 use Rattle.git_objects.specs.Paths.{Bytes, same_bytes}
 use Rattle.git_objects.specs.declared.kind.Kind.{Kind}
@@ -47,6 +48,28 @@ clash-is o x n h =
       | false ↦ λ e g. let same : object_name o ≡ n = cc in (same, apart o x e)
     ] refl h
 
+-- a store that grew holds the old objects and such ones, so a clash is one of two of these
+pub twice_upon : (made : Object → Type 0) (S T : List Object) (n : Bytes) → IsGrownBy made S T → IsClash made T n → IsTwice (λ o. Contains S o ⊎ made o) n
+twice_upon made S T n g h = by (find_named T n) refl h.held
+  where
+    there : (o : Object) → Contains T o → Contains S o ⊎ made o
+    there o m = elim (Contains-append_cases g.newer S o (subst (λ (R : List Object). Contains R o) (sym g.above) m)) [ inl a ↦ inr (g.all o a) | inr b ↦ inl b ]
+
+    by : (f : Option Object) → find_named T n ≡ f → collision h.object.kind h.object.body f ≡ Some (Collides n) → IsTwice (λ o. Contains S o ⊎ made o) n
+    by None e c = cc
+    by (Some x) e c =
+        let found = found-is T n x e in
+        let other = clash-is h.object x n c in
+        record {
+          first = h.object;
+          second = x;
+          first_there = inr h.is_made;
+          second_there = there x found.among;
+          apart = other.1;
+          first_named = other.0;
+          second_named = found.named;
+        }
+
 -- a store that began empty holds only such objects, so a clash is one of two of them
 pub twice : (made : Object → Type 0) (T : List Object) (n : Bytes) → IsGrownBy made [] T → IsClash made T n → IsTwice made n
 twice made T n g h = by (find_named T n) refl h.held
@@ -68,3 +91,15 @@ twice made T n g h = by (find_named T n) refl h.held
           first_named = other.0;
           second_named = found.named;
         }
+
+-- two of some are two of more
+pub two_of : (some more : Object → Type 0) (n : Bytes) → ((o : Object) → some o → more o) → IsTwice some n → IsTwice more n
+two_of some more n f t = record {
+  first = t.first;
+  second = t.second;
+  first_there = f t.first t.first_there;
+  second_there = f t.second t.second_there;
+  apart = t.apart;
+  first_named = t.first_named;
+  second_named = t.second_named;
+}

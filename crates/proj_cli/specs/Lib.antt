@@ -13,3 +13,4 @@ pub mod Replays
 pub mod Shown
 pub mod Kept
 pub mod Calls
+pub mod Prepared

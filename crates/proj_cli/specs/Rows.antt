@@ -1,5 +1,5 @@
--- Worked examples: projections by what lies below a path. Names are as Git gives them.
-use Rattle.std.specs.Prelude.{◌≡◌, refl, List, [], ◌∷◌, codes, Option, Some, None}
+-- Worked examples: projections by what lies below a path, and imports. Names are as Git gives them.
+use Rattle.std.specs.Prelude.{◌≡◌, refl, List, [], ◌∷◌, codes, replicate, Option, Some, None}
 use Rattle.std.specs.Fmt.{digits}
 use Rattle.std.specs.Option.{option_map}
 use Rattle.sha1.specs.Sha1.{sha1, first_words, schedule, rounds, compress, hash_after, digest_bytes}
@@ -9,6 +9,10 @@ use Rattle.git_objects.specs.Trees.{FileLeaf}
 use Rattle.git_objects.specs.Names.{name, body, line}
 use Rattle.git_objects.specs.Commits.{Letter, commit_body, commit_name, hex}
 use Rattle.repo_state.specs.Repos.{Snapshot, snapshot_name}
+use Rattle.repo_state.specs.Items.{nothing}
+use Rattle.proj_cli.specs.Streams.{Small}
+use Rattle.proj_cli.specs.Step.{Room, changing, done, import_stream, import_upon, no_change, refused, report_line}
+use Rattle.proj_cli.specs.declared.outcome.Outcome.TheVariants.{NotBuilt}
 use Rattle.proj_cli.specs.Projection.{Shown, distinct, name_line, projection_below}
 
 abbrev a : Bytes
@@ -106,3 +110,34 @@ line_of_none = refl
 pub line_of_a_name : name_line (Some (pair (171 ∷ 1 ∷ []) [])) ≡ codes "ab01\n"
 unfolding encode_with
 line_of_a_name = refl
+
+-- ---- imports
+
+abbrev here : Bytes
+here = codes "refs/heads/main"
+
+abbrev zeros : Bytes
+zeros = replicate 20 0
+
+abbrev empty : Room
+empty = record { number = 0; size = 0 }
+
+-- a stream of no commits changes nothing
+pub nothing_is_imported : import_stream nothing empty (Some []) ≡ done []
+nothing_is_imported = refl
+
+-- a ref that is there wants its commit as the parent, and one that isn't wants none
+pub a_parent_is_missing : (ss : List Small) (l : Letter) → import_upon nothing empty ss (record { refname = here; letter = l; from = None }) (Some zeros) ≡ refused NotBuilt
+a_parent_is_missing ss l = refl
+
+pub a_parent_without_a_ref : (ss : List Small) (l : Letter) → import_upon nothing empty ss (record { refname = here; letter = l; from = Some zeros }) None ≡ refused NotBuilt
+a_parent_without_a_ref ss l = refl
+
+-- the line of a ref
+pub the_line_of_a_ref : report_line here zeros ≡ codes "refs/heads/main 0000000000000000000000000000000000000000\n"
+unfolding encode_with
+the_line_of_a_ref = refl
+
+-- a change that says nothing passes no limit
+pub nothing_passes : changing nothing empty [] no_change ≡ done []
+nothing_passes = refl

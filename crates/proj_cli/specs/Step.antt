@@ -1,19 +1,20 @@
 -- What the words, the items and the input ask for: the outcome, and what is written before it.
-use Rattle.std.specs.Prelude.{ℕ, ◌^◌, Bool, false, cond, ◌&&◌, nat_le, List, [], ◌∷◌, ◌++◌, length, reverse, filter, codes, decimal, Option, Some, None, Result, Ok, Err}
-use Rattle.std.specs.Option.{is_some}
+use Rattle.std.specs.Prelude.{ℕ, ◌^◌, Bool, true, false, cond, ◌&&◌, ◌||◌, nat_le, List, [], ◌∷◌, ◌++◌, length, reverse, filter, sum_by, codes, decimal, Option, Some, None, Result, Ok, Err}
+use Rattle.std.specs.Option.{is_some, is_none, option_to_list}
 use Rattle.std.specs.FinMap.{find}
 use Rattle.git_objects.specs.Paths.{Bytes, Path, same_bytes}
+use Rattle.git_objects.specs.Trees.{Flat}
 use Rattle.git_objects.specs.Commits.{hex}
 use Rattle.object_store.specs.Objects.{Object}
 use Rattle.repo_state.specs.Fields.{BrokenAt, Clash}
 use Rattle.repo_state.specs.Items.{Held, Break, bytes_cmp, is_commit, read_items}
 use Rattle.repo_state.specs.Repos.{Snapshot, repo_of, snapshot_name}
-use Rattle.repo_state.specs.Changes.{fresh}
+use Rattle.repo_state.specs.Changes.{Plan, fresh, is_empty, moved, passed}
 use Rattle.repo_state.specs.declared.state.LoadError.{LoadError}
 use Rattle.repo_state.specs.declared.state.LoadError.TheVariants as load
-use Rattle.proj_cli.specs.Words.{Command, Project, Name, Unknown}
+use Rattle.proj_cli.specs.Words.{Command, Import, Project, Name, Unknown}
 use Rattle.proj_cli.specs.Texts.{filter_path}
-use Rattle.proj_cli.specs.Streams.{Small, stream}
+use Rattle.proj_cli.specs.Streams.{Head, Small, stream}
 use Rattle.proj_cli.specs.Replay.{replayed, stream_objects}
 use Rattle.proj_cli.specs.Projection.{projection_below, name_line}
 use Rattle.proj_cli.specs.declared.outcome.Outcome.{Outcome}
@@ -22,12 +23,31 @@ use Rattle.proj_cli.specs.declared.outcome.Outcome.TheVariants.{Done, OutOfMemor
 pub record Step : Type 0 where
   pub outcome : Outcome
   pub output : Bytes
+  -- what is new in the state
+  pub change : Plan
+
+-- nothing is new
+abbrev pub no_change : Plan
+no_change = record { objects = []; refs = [] }
 
 abbrev pub done : Bytes → Step
-done output = record { outcome = Done; output = output }
+done output = record { outcome = Done; output = output; change = no_change }
 
 abbrev pub refused : Outcome → Step
-refused outcome = record { outcome = outcome; output = [] }
+refused outcome = record { outcome = outcome; output = []; change = no_change }
+
+-- how many items there are, and their bytes together
+pub record Room : Type 0 where
+  pub number : ℕ
+  pub size : ℕ
+
+abbrev pub room_of : List Bytes → Room
+room_of items = record { number = length items; size = sum_by length items }
+
+-- a change that is made; one that would pass a limit isn't built yet
+abbrev pub changing : Held → Room → Bytes → Plan → Step
+changing h room output p =
+    cond (is_empty p || is_none (passed h room.number room.size p)) (record { outcome = Done; output = output; change = p }) (refused NotBuilt)
 
 -- the most bytes of an input that is read whole
 abbrev pub input_max : ℕ
@@ -42,13 +62,61 @@ project_at place h (Some n) = done (name_line (projection_below place (repo_of h
 abbrev pub project_step : Bytes → Path → Held → Step
 project_step refname place h = project_at place h (find bytes_cmp refname h.refs)
 
--- ---- name
+-- ---- commits in order
 
 -- the name of the last commit
 abbrev pub last_name : List Snapshot → Bytes
 last_name [] = []
 last_name (c ∷ []) = snapshot_name c
 last_name (c ∷ d ∷ cs) = last_name (d ∷ cs)
+
+-- ---- import
+
+-- the tree of the commit of that name
+abbrev pub tree_at : List Snapshot → Bytes → Flat
+tree_at [] n = []
+tree_at (c ∷ older) n = cond (same_bytes (snapshot_name c) n) c.tree (tree_at older n)
+
+-- the tree that a stream stands upon: that of a commit, or none
+abbrev pub tree_upon : List Snapshot → Option Bytes → Flat
+tree_upon cs None = []
+tree_upon cs (Some n) = tree_at cs n
+
+-- whether both are none, or both are one name
+abbrev pub is_same_name : Option Bytes → Option Bytes → Bool
+is_same_name None None = true
+is_same_name (Some m) (Some n) = same_bytes m n
+is_same_name _ _ = false
+
+-- the objects of the stream that aren't held, and its ref at its last commit
+abbrev pub import_plan : Held → List Small → Bytes → List Snapshot → Plan
+import_plan h ss refname cs = record { objects = fresh h.objects (stream_objects ss cs); refs = moved h.refs ((refname, last_name cs) ∷ []) }
+
+-- a ref, a space, and the digits of its commit, on a line
+abbrev pub report_line : Bytes → Bytes → Bytes
+report_line refname n = refname ++ 32 ∷ (hex n ++ 10 ∷ [])
+
+abbrev pub import_made : Held → Room → List Small → Bytes → Option (List Snapshot) → Step
+import_made h room ss refname None = refused NotBuilt
+import_made h room ss refname (Some cs) = changing h room (report_line refname (last_name cs)) (import_plan h ss refname cs)
+
+-- upon the commit of the stream's ref, or upon nothing where there is no such ref; the first commit names that very parent
+abbrev pub import_upon : Held → Room → List Small → Head → Option Bytes → Step
+import_upon h room ss first head =
+    cond (is_same_name first.from head) (import_made h room ss first.refname (replayed (tree_upon (repo_of h).commits head) (option_to_list head) ss)) (refused NotBuilt)
+
+abbrev pub import_smalls : Held → Room → List Small → Step
+import_smalls h room [] = done []
+import_smalls h room (s ∷ ss) = import_upon h room (s ∷ ss) s.head (find bytes_cmp s.head.refname h.refs)
+
+abbrev pub import_stream : Held → Room → Option (List Small) → Step
+import_stream h room None = refused NotBuilt
+import_stream h room (Some ss) = import_smalls h room ss
+
+abbrev pub import_step : Room → Bytes → Held → Step
+import_step room input h = cond (nat_le (length input) input_max) (import_stream h room (stream input)) (refused NotBuilt)
+
+-- ---- name
 
 -- at most 2^20 commits and 2^22 objects
 abbrev pub has_few : List Object → Bool
@@ -97,6 +165,7 @@ name_by refname None input = refused NotBuilt
 name_by refname (Some place) input = name_step refname place input
 
 abbrev pub step : Command → List Bytes → Bytes → Step
+step (Import false) items input = by_items (read_items items) (import_step (room_of items) input)
 step (Project refname filter) items input = project_by refname (filter_path filter) items
 step (Name refname filter) items input = name_by refname (filter_path filter) input
 step Unknown items input = refused Usage
@@ -104,13 +173,20 @@ step _ items input = refused NotBuilt
 
 -- whether the input is read
 abbrev pub reads : Command → Bool
+reads (Import false) = true
 reads (Name refname filter) = is_some (filter_path filter)
 reads _ = false
 
 -- whether the items are read
 abbrev pub loads : Command → Bool
+loads (Import false) = true
 loads (Project refname filter) = is_some (filter_path filter)
 loads _ = false
+
+-- whether an item may be appended
+abbrev pub writes : Command → Bool
+writes (Import false) = true
+writes _ = false
 
 -- ---- outcomes
 

@@ -1,6 +1,9 @@
 //! `proj` shows parts of a monorepo as Git repositories of their own.
 #![tactic(auto)]
 
+mod import;
+#[cfg(test)]
+mod import_tests;
 mod name;
 mod outcome;
 mod program;
@@ -9,6 +12,7 @@ mod projection;
 #[cfg(test)]
 mod projection_tests;
 mod replay;
+mod saving;
 mod streams;
 #[cfg(test)]
 mod tests;

@@ -1,10 +1,11 @@
 // The outcomes, their numbers and their texts.
 ghost use Rattle.std.specs.Prelude.{◌≡◌, ◌++◌, codes, decimal, IfOk, OnOk};
 ghost use Rattle.git_objects.specs.Commits.{hex};
-ghost use Rattle.proj_cli.specs.Step.{text_of, code_of};
+ghost use Rattle.proj_cli.specs.Step.{code_of, load_outcome, text_of};
 
 use git_objects::Name;
 use itoa::Buffer;
+use repo_state::LoadError;
 use std::alloc::{AllocError, Global};
 
 /// How a command ended.
@@ -46,6 +47,18 @@ pub fn outcome_code(outcome: &Outcome) -> u8
         Outcome::StoreFault => 24,
         Outcome::Damaged { .. } => 25,
         Outcome::NotBuilt => 90,
+    }
+}
+
+/// The outcome of items that are not loaded.
+pub fn load_outcome(error: LoadError) -> Outcome
+    ensures { result ≡ load_outcome error }
+{
+    match error {
+        LoadError::StoreFault => Outcome::StoreFault,
+        LoadError::Damaged { item, at } => Outcome::Damaged { item, at },
+        LoadError::Collision { name } => Outcome::Collision { name },
+        LoadError::OutOfMemory => Outcome::OutOfMemory,
     }
 }
 

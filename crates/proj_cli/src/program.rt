@@ -10,36 +10,23 @@ ghost use Rattle.proj_io.specs.Views.{source_view, sink_view, keeper_view};
 ghost use Rattle.proj_cli.specs.Words.{command, is_formed};
 ghost use Rattle.proj_cli.specs.Streams.{stream};
 ghost use Rattle.proj_cli.specs.Asked.{command_of};
-ghost use Rattle.proj_cli.specs.Step.{by_items, load_outcome, loads, name_step, name_stream, project_step, reads, step, text_of};
+ghost use Rattle.proj_cli.specs.Step.{by_items, loads, name_step, name_stream, project_step, reads, step, text_of, writes};
 ghost use Rattle.proj_cli.specs.Answer.{GetsText, IsAnswer, IsComplete, IsConcluded, IsIdle, IsInHand, IsInStream, IsMade, IsReport, IsReported, IsSent, NoObject, Plainly, TakesMemory};
 ghost use Rattle.proj_cli.specs.Calls.{devices};
 
 use crate::Outcome;
+use crate::import::import;
 use crate::name::name_text;
-use crate::outcome::outcome_text;
+use crate::outcome::{load_outcome, outcome_text};
 use crate::project::project_line;
-use crate::streams::stream;
+use crate::streams::{INPUT_MAX, stream};
 use crate::texts::filter_path;
 use crate::words::{Asked, read_words};
 use git_objects::Bytes;
 use path_names::{Path, RefFault, RefName};
 use proj_io::{Keeper, ReadError, Sink, SinkError, Source, read_up_to, write_whole};
-use repo_state::{LoadError, State};
+use repo_state::State;
 use std::alloc::Global;
-
-const INPUT_MAX: usize = 65536;
-
-// The outcome of items that are not loaded.
-fn load_outcome(error: LoadError) -> Outcome
-    ensures { result ≡ load_outcome error }
-{
-    match error {
-        LoadError::StoreFault => Outcome::StoreFault,
-        LoadError::Damaged { item, at } => Outcome::Damaged { item, at },
-        LoadError::Collision { name } => Outcome::Collision { name },
-        LoadError::OutOfMemory => Outcome::OutOfMemory,
-    }
-}
 
 // The line with the name of the stored ref's projection, for what was loaded.
 fn project_loaded(
@@ -128,13 +115,19 @@ fn make<S: Source, K: Keeper>(
     requires open { K.is_open store.old }
     requires formed { is_formed (command_of asked) ≡ true }
     ensures made { let seen = source_view S.left S.faults in let kept = keeper_view K.items K.number K.faults in
-        IsMade (IsInHand (command_of asked.entry)) (step (command_of asked.entry)) (loads (command_of asked.entry)) (seen input.old) (seen input.new) (kept store.old) (kept store.new) result }
+        IsMade (IsInHand (command_of asked.entry)) (step (command_of asked.entry)) (loads (command_of asked.entry)) (writes (command_of asked.entry)) (seen input.old) (seen input.new) (kept store.old) (kept store.new) result }
     ensures unread { reads (command_of asked.entry) ≡ false → input.new ≡ input.old }
     ensures unloaded { loads (command_of asked.entry) ≡ false → store.new ≡ store.old }
     ensures idle { reads (command_of asked.entry) ≡ false → loads (command_of asked.entry) ≡ false → IsIdle (step (command_of asked.entry) [] []) result }
-    ensures is_open { K.is_open store.new }
+    ensures is_open { (result ≢ Err Outcome.StoreFault) → K.is_open store.new }
 {
     match asked {
+        Asked::Import(force) => {
+            if force {
+                return Err(Outcome::NotBuilt);
+            }
+            import(alloc, input, store)
+        }
         Asked::Name(refname, filter) => match filter_path(alloc, filter.as_bytes()) {
             Ok(Some(place)) => name(alloc, refname.as_bytes(), &place, input),
             Ok(None) => Err(Outcome::NotBuilt),
@@ -212,11 +205,11 @@ pub fn run<S: Source, O: Sink, E: Sink, K: Keeper>(
     store: &mut K,
 ) -> Outcome
     requires { K.is_open store.old }
-    // The outcome and the output are the step's, each fault has its cause, nothing is written before a refusal, and the items
-    // are as they were.
+    // The outcome, the output and the change of the items are the step's, each fault has its cause, and nothing is written before
+    // a refusal, after which the items are as they were.
     ensures answer { let seen = devices S.left S.faults O.written O.faults O.refusals K.items K.number K.faults in
         let asked = command (map (λ word. string_bytes word) words.now) in
-        IsAnswer (IsInHand asked) (step asked) (loads asked) (seen input.old out.old store.old) (seen input.new out.new store.new) result }
+        IsAnswer (IsInHand asked) (step asked) (loads asked) (writes asked) (seen input.old out.old store.old) (seen input.new out.new store.new) result }
     // Where input and items are told and no device failed, the outcome is the step's, or there was no memory, or two objects
     // have one name.
     ensures complete { let seen = devices S.left S.faults O.written O.faults O.refusals K.items K.number K.faults in
@@ -229,7 +222,8 @@ pub fn run<S: Source, O: Sink, E: Sink, K: Keeper>(
     ensures idle { let asked = command (map (λ word. string_bytes word) words.now) in reads asked ≡ false → loads asked ≡ false →
         (out.new ≡ out.old) × ((result ≡ Outcome.OutOfMemory) ⊎ (result ≡ (step asked [] []).outcome)) }
     ensures text { let seen = sink_view E.written E.faults E.refusals in GetsText (seen err.old) (seen err.new) (text_of result) }
-    ensures is_open { K.is_open store.new }
+    // Only after a fault of the store it may have to be opened again.
+    ensures is_open { result ≢ Outcome.StoreFault → K.is_open store.new }
 {
     let asked = read_words(words);
     let made = make(alloc, asked, input, store);

@@ -12,6 +12,9 @@ use git_objects::{Ident, IdentFault, Name};
 use path_names::{Path, RefFault, RefName};
 use std::alloc::{AllocError, Global};
 
+/// The most bytes of an input that is read whole.
+pub const INPUT_MAX: usize = 65536;
+
 /// A file: its path, and its bytes where the input holds them.
 #[derive(Drop)]
 pub struct Row<'a> {

@@ -8,10 +8,10 @@ use std::alloc::{AllocError, Global};
 use std::process::Abort;
 use std::test::Fail;
 
-const MAIN: &str = "refs/heads/main";
+pub(crate) const MAIN: &str = "refs/heads/main";
 
 // One commit with the file `a/f`.
-const HELLO: &[u8] =
+pub(crate) const HELLO: &[u8] =
     b"commit refs/heads/main\ncommitter A <a@x> 1700000000 +0000\ndata 5\ninit\nM 100644 inline a/f\ndata 6\nhello\n";
 
 // Three commits in line: `a/f`, then `b/g`, then another `a/f`.
@@ -19,7 +19,7 @@ const THREE: &[u8] =
     b"commit refs/heads/main\ncommitter A <a@x> 1700000000 +0000\ndata 4\none\nM 100644 inline a/f\ndata 1\n1\ncommit refs/heads/main\ncommitter A <a@x> 1700000000 +0000\ndata 4\ntwo\nM 100644 inline b/g\ndata 1\n1\ncommit refs/heads/main\ncommitter A <a@x> 1700000000 +0000\ndata 6\nthree\nM 100644 inline a/f\ndata 1\n2\n";
 
 // The item of a store that holds the commit of `HELLO` on refs/heads/main.
-const ITEM: &[u8] = b"\x01\x01\
+pub(crate) const ITEM: &[u8] = b"\x01\x01\
     \x00\x00\x00\x04\
     \x01\x00\x00\x00\x06hello\n\
     \x02\x00\x00\x00\x1d100644 f\x00\xce\x01\x36\x25\x03\x0b\xa8\xdb\xa9\x06\xf7\x56\x96\x7f\x9e\x9c\xa3\x94\x46\x4a\
@@ -32,7 +32,7 @@ const ITEM: &[u8] = b"\x01\x01\
     \x00\x0frefs/heads/main\x59\x90\xba\x61\x63\xd7\x7f\x77\x07\x1c\xa2\xe8\xe9\x89\x9c\x36\x8d\xbc\x6e\xb7";
 
 // The name of the commit that `git commit-tree` makes of a tree with `f` alone, and the ident and message of `HELLO`.
-const SHOWN: &[u8] = b"6a27ff6de5d45a65cc66723c6ae6227ea6004aa6\n";
+pub(crate) const SHOWN: &[u8] = b"6a27ff6de5d45a65cc66723c6ae6227ea6004aa6\n";
 
 const USAGE: &[u8] =
     b"usage: proj STORE (import [--force] | project REF FILTER | push REF FILTER | export REF FILTER | batch), proj name REF FILTER, proj trial N\n";
@@ -50,7 +50,7 @@ struct Row<'a> {
     text: &'a [u8],
 }
 
-fn strings(alloc: Global, words: &[&str]) -> Result<Vec<String>, AllocError> {
+pub(crate) fn strings(alloc: Global, words: &[&str]) -> Result<Vec<String>, AllocError> {
     let mut all = Vec::new(alloc);
     for word in words {
         all.push(String::from_str(alloc, word)?)?;
@@ -58,7 +58,7 @@ fn strings(alloc: Global, words: &[&str]) -> Result<Vec<String>, AllocError> {
     Ok(all)
 }
 
-fn calls(alloc: Global, call: Option<u64>) -> Result<Vec<u64>, AllocError> {
+pub(crate) fn calls(alloc: Global, call: Option<u64>) -> Result<Vec<u64>, AllocError> {
     let mut all = Vec::new(alloc);
     if let Some(call) = call {
         all.push(call)?;
@@ -242,8 +242,7 @@ fn each_form_of_the_words(rt: HostRuntime) -> Result<(), Fail> {
     for words in usage {
         assert_eq!(rt; outcome_of(alloc, words, HELLO)?, Outcome::Usage);
     }
-    let built_later: [&[&str]; 15] = [
-        &["import"],
+    let built_later: [&[&str]; 14] = [
         &["import", "--force"],
         &["batch"],
         &["trial", "1"],
@@ -440,7 +439,12 @@ fn limits_reached_exactly(rt: HostRuntime) -> Result<(), Fail> {
 }
 
 // A keeper with one item, whose call of that number fails.
-fn keeper_of(rt: &impl Abort, alloc: Global, item: &[u8], failing: Vec<Failing>) -> MemKeeper
+pub(crate) fn keeper_of(
+    rt: &impl Abort,
+    alloc: Global,
+    item: &[u8],
+    failing: Vec<Failing>,
+) -> MemKeeper
     ensures { result.broken ≡ false }
 {
     let mut keeper = MemKeeper::new(alloc, failing);

@@ -1,0 +1,39 @@
+use Rattle.std.proofs.Common.{List, Option, map, Some, Err, ◌≡◌, ap, sym, subst, ◌∙◌}
+use Rattle.object_store.specs.Errors.{newest}
+use Rattle.git_objects.specs.Paths.{Bytes}
+use Rattle.proj_io.specs.Views.{keeper_view}
+use Rattle.repo_state.specs.Changes.{IsCurrent, IsWithin}
+use Rattle.repo_state.specs.Commits.{change_of}
+use Rattle.proj_cli.specs.Answer.{IsInImport, IsMadeFrom, IsStreamInHand, NoObject}
+use Rattle.proj_cli.specs.Prepared.{room_in}
+use Rattle.proj_cli.specs.Step.{Step, import_smalls, import_stream}
+use Rattle.proj_cli.specs.Streams.{Small, stream}
+use Rattle.proj_cli.specs.Views.{small_value, smalls_read}
+use Rattle.proj_cli.specs.declared.streams.SmallCommit.{SmallCommit}
+use Rattle.proj_cli.proofs.Committing.{current_same}
+use Rattle.proj_cli.proofs.Inputs.{more_made}
+use Rattle.proj_cli.proofs.Makes.{keeps, made_plain}
+use Rattle.proj_cli.proofs.import.import_text.Goals as goal
+
+pub returns-in-Err-prepare_import-clause-made : goal.returns-in-Err-prepare_import-clause-made
+returns-in-Err-prepare_import-clause-made g c = λ (items : List Bytes) current.
+    let h = c.args.state.held in
+    let ss = map small_value c.deref.result.now in
+    let k = keeper_view g.K.Keeper.items g.K.Keeper.number g.K.Keeper.faults c.args.store.now in
+    let is : Some ss ≡ stream c.args.text.now = ap (λ (v : List SmallCommit). Some (map small_value v)) c.deref.ensures.value ∙ ap smalls_read (sym c.in-Ok-Some.field-0-is) ∙ c.in-Ok-Some.ensures in
+    subst (λ (o : Option (List Small)). IsMadeFrom (IsStreamInHand h o) (import_stream h (room_in c.args.state) o) items k k (Err c.in-Err-prepare_import.outcome)) is
+    (made_plain (IsInImport h ss) (import_smalls h (room_in c.args.state) ss) items k k (Err c.in-Err-prepare_import.outcome) (keeps k) c.in-Err-prepare_import.ensures.err.0)
+
+pub returns-in-Ok-clause-made : goal.returns-in-Ok-clause-made
+returns-in-Ok-clause-made g c = λ (items : List Bytes) current.
+    let h = c.args.state.held in
+    let after = c.prepare_import.new.state in
+    let ss = map small_value c.deref.result.now in
+    let seen = keeper_view g.K.Keeper.items g.K.Keeper.number g.K.Keeper.faults in
+    let is : Some ss ≡ stream c.args.text.now = ap (λ (v : List SmallCommit). Some (map small_value v)) c.deref.ensures.value ∙ ap smalls_read (sym c.in-Ok-Some.field-0-is) ∙ c.in-Ok-Some.ensures in
+    let now : g.K.Keeper.items c.args.store.now ≡ Some items → IsCurrent items after = λ e. current_same c.args.state after items c.prepare_import.ensures.same (current e) in
+    let fits : g.K.Keeper.items c.args.store.now ≡ Some items → IsCurrent items after × IsWithin (newest after.objects) after.held.objects (change_of c.in-Ok.prepared.batch) =
+    λ e. (now e, c.in-Ok.ensures.fits items c.args.text.now (now e).held c.requires.short (sym is)) in
+    subst (λ (o : Option (List Small)). IsMadeFrom (IsStreamInHand h o) (import_stream h (room_in c.args.state) o) items (seen c.args.store.now) (seen c.save.new.store) c.save.result) is
+    (more_made (IsInImport h ss) (import_smalls h (room_in c.args.state) ss) items (seen c.args.store.now) (seen c.save.new.store) c.save.result
+    (subst (λ (s : Step). IsMadeFrom NoObject s items (seen c.args.store.now) (seen c.save.new.store) c.save.result) (sym c.in-Ok.ensures.ok.step_is) (c.save.ensures.made items fits)))

@@ -1,0 +1,51 @@
+// Committing what a command has made.
+ghost use Rattle.std.specs.Prelude.{◌≡◌, ◌≢◌, List, Err, Some};
+ghost use Rattle.git_objects.specs.Paths.{Bytes};
+ghost use Rattle.object_store.specs.Errors.{newest};
+ghost use Rattle.proj_io.specs.Counts.{Counts};
+ghost use Rattle.proj_io.specs.Views.{keeper_view};
+ghost use Rattle.repo_state.specs.Changes.{IsChange, IsCurrent, IsWithin, plan_in};
+ghost use Rattle.repo_state.specs.Commits.{change_of};
+ghost use Rattle.proj_cli.specs.Answer.{IsMadeFrom, NoObject};
+ghost use Rattle.proj_cli.specs.Prepared.{room_in};
+ghost use Rattle.proj_cli.specs.Step.{changing};
+
+use crate::Outcome;
+use git_objects::Bytes;
+use proj_io::Keeper;
+use repo_state::{Batch, CommitError, State};
+use std::alloc::Global;
+
+/// A report, and what is committed before it is written.
+#[derive(Drop)]
+pub struct Prepared {
+    pub report: Bytes,
+    pub batch: Batch,
+}
+
+/// Commits what was made, and hands on its report.
+pub fn save<K: Keeper>(
+    alloc: Global,
+    state: State,
+    store: &mut K,
+    prepared: Prepared,
+) -> Result<Bytes, Outcome>
+    requires open { K.is_open store.old }
+    requires number { state.number ≡ K.number store.old }
+    requires change { IsChange (newest state.objects) state.held.objects (change_of prepared.batch) }
+    ensures made { let kept = keeper_view K.items K.number K.faults in (items : List Bytes) →
+        (K.items store.old ≡ Some items → IsCurrent items state × IsWithin (newest state.objects) state.held.objects (change_of prepared.batch)) →
+        IsMadeFrom NoObject (changing state.held (room_in state) prepared.report (plan_in state (change_of prepared.batch))) items (kept store.old) (kept store.new) result }
+    ensures early { (result ≢ Err Outcome.WriteFault) × (result ≢ Err Outcome.ReadFault) }
+    ensures cause { Counts (K.faults store.old) (K.faults store.new) (result ≡ Err Outcome.StoreFault) }
+    ensures is_open { (result ≢ Err Outcome.StoreFault) → K.is_open store.new }
+{
+    let Prepared { report, batch } = prepared;
+    let mut state = state;
+    match state.commit(alloc, store, batch) {
+        Ok(()) => Ok(report),
+        Err(CommitError::StoreFault) => Err(Outcome::StoreFault),
+        Err(CommitError::Limit { which: _ }) => Err(Outcome::NotBuilt),
+        Err(CommitError::OutOfMemory) => Err(Outcome::OutOfMemory),
+    }
+}
