@@ -23,7 +23,8 @@ use Rattle.repo_state.proofs.HeldFits.{held-fits}
 use Rattle.proj_cli.specs.Replay.{are_small, contents, contents_in, replayed, snapshot, snapshots_made, trees_made, trees_within, with_change, with_changes}
 use Rattle.proj_cli.specs.Replays.{AreBlobs}
 use Rattle.proj_cli.specs.Snapshots.{AreSnapshots, IsSnapshot}
-use Rattle.proj_cli.specs.Step.{input_max, tree_upon}
+use Rattle.proj_cli.specs.Step.{input_max}
+use Rattle.proj_cli.specs.Histories.{tree_upon}
 use Rattle.proj_cli.specs.Streams.{Change, Small, stream}
 use Rattle.proj_cli.proofs.AllCommits.{both_true}
 use Rattle.proj_cli.proofs.Files.{body-found}

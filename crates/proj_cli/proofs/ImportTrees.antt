@@ -23,7 +23,7 @@ use Rattle.repo_state.proofs.Fitting.{flat-part}
 use Rattle.repo_state.proofs.Grows.{AreIn, part-has}
 use Rattle.repo_state.proofs.StoredCommits.{commit-held}
 use Rattle.proj_cli.specs.Replays.{base_tree}
-use Rattle.proj_cli.specs.Step.{tree_at, tree_upon}
+use Rattle.proj_cli.specs.Histories.{tree_at, tree_upon}
 use Rattle.proj_cli.proofs.AllCommits.{snapshot-newer}
 use Rattle.proj_cli.proofs.HeldCommits.{held, some-held}
 

@@ -18,7 +18,8 @@ use Rattle.proj_cli.specs.Prepared.{IsBatchOf}
 use Rattle.proj_cli.specs.Replay.{contents, replayed, stream_objects}
 use Rattle.proj_cli.specs.Replays.{IsReplayed}
 use Rattle.proj_cli.specs.Snapshots.{AreSnapshots}
-use Rattle.proj_cli.specs.Step.{Room, changing, import_made, import_plan, last_name, report_line}
+use Rattle.proj_cli.specs.Step.{Room, changing, import_made, import_plan, report_line}
+use Rattle.proj_cli.specs.Histories.{last_name}
 use Rattle.proj_cli.specs.Streams.{Small}
 use Rattle.proj_cli.specs.declared.replay.Replayed.{Replayed}
 use Rattle.proj_cli.specs.declared.saving.Prepared.{Prepared}

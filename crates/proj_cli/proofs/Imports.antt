@@ -22,7 +22,8 @@ use Rattle.proj_cli.specs.Answer.{IsInImport}
 use Rattle.proj_cli.specs.Prepared.{FitsItems, IsBatchOf, IsPrepared, IsSameBut, room_in}
 use Rattle.proj_cli.specs.Replay.{IsMadeBy, replayed}
 use Rattle.proj_cli.specs.Replays.{IsReplayed, base_tree, parent_of}
-use Rattle.proj_cli.specs.Step.{Room, changing, import_made, import_smalls, import_upon, input_max, is_same_name, refused, tree_upon}
+use Rattle.proj_cli.specs.Step.{Room, changing, import_made, import_smalls, import_upon, input_max, refused}
+use Rattle.proj_cli.specs.Histories.{is_same_name, tree_upon}
 use Rattle.proj_cli.specs.Views.{head_value, small_value}
 use Rattle.proj_cli.specs.declared.outcome.Outcome.TheVariants.{NotBuilt}
 use Rattle.proj_cli.specs.declared.replay.Replayed.{Replayed}

@@ -13,7 +13,7 @@ use Rattle.object_store.specs.Objects.{Object, IsStore, has}
 use Rattle.repo_state.specs.Repos.{Snapshot, snapshot_of, snapshot_commit, snapshot_object}
 use Rattle.repo_state.specs.Changes.{commit_named}
 use Rattle.proj_cli.specs.Snapshots.{AreSnapshots, IsSnapshot, snapshots_at}
-use Rattle.proj_cli.specs.Step.{last_name}
+use Rattle.proj_cli.specs.Histories.{last_name}
 use Rattle.proj_cli.proofs.AllCommits.{both_true}
 use Rattle.proj_cli.proofs.Files.{has-found}
 use Rattle.proj_cli.proofs.HeldCommits.{body-found}

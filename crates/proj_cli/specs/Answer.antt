@@ -4,7 +4,7 @@ use Rattle.std.specs.Option.{option_to_list}
 use Rattle.std.specs.FinMap.{find}
 use Rattle.std.specs.declared.option.Option.{Option}
 use Rattle.std.specs.Io.KnownBytes.{Appends, Keeps}
-use Rattle.git_objects.specs.Paths.{Bytes}
+use Rattle.git_objects.specs.Paths.{Bytes, Path}
 use Rattle.object_store.specs.Objects.{Object, object_name}
 use Rattle.proj_io.specs.Counts.{Counts, Rose}
 use Rattle.proj_io.specs.Views.{SourceView, SinkView, KeeperView}
@@ -12,10 +12,14 @@ use Rattle.repo_state.specs.Items.{Held, Break, bytes_cmp, read_items}
 use Rattle.repo_state.specs.Repos.{is_kept, repo_of}
 use Rattle.repo_state.specs.Changes.{Plan, held_after, is_empty, plan_text}
 use Rattle.repo_state.specs.Commits.{GetsItem, KeepsItems}
-use Rattle.proj_cli.specs.Words.{Command, Import, Name}
+use Rattle.proj_cli.specs.Words.{Command, Import, Push, Name}
 use Rattle.proj_cli.specs.Streams.{Small, stream}
 use Rattle.proj_cli.specs.Replay.{IsMadeBy}
-use Rattle.proj_cli.specs.Step.{Step, done, tree_upon}
+use Rattle.proj_cli.specs.Step.{Step, done, start_below}
+use Rattle.proj_cli.specs.Push.{IsPushMade, Start}
+use Rattle.proj_cli.specs.Texts.{filter_path}
+use Rattle.filter_unapply.specs.Lenses.{below}
+use Rattle.proj_cli.specs.Histories.{tree_upon}
 use Rattle.proj_cli.specs.declared.outcome.Outcome.{Outcome}
 use Rattle.proj_cli.specs.declared.outcome.Outcome.TheVariants.{Done, OutOfMemory, Collision, ReadFault, WriteFault, StoreFault}
 
@@ -44,9 +48,35 @@ abbrev pub IsImported : Result Held Break → Option (List Small) → Object →
 IsImported (Err e) ss o = ⊥
 IsImported (Ok h) ss o = IsStreamInHand h ss o
 
+-- those that are held, and those that come up where a commit is pushed
+abbrev pub IsInPushFrom : Path → Held → Start → Small → Object → Type 0
+IsInPushFrom place h start s o = Contains h.objects o ⊎ IsPushMade (below place) start s o
+
+abbrev pub IsInPush : Path → Held → Bytes → Small → Object → Type 0
+IsInPush place h n s o = IsInPushFrom place h (start_below place h n) s o
+
+abbrev pub IsSmallsInHand : Path → Held → Bytes → List Small → Object → Type 0
+IsSmallsInHand place h n [] o = ⊥
+IsSmallsInHand place h n (s ∷ []) o = IsInPush place h n s o
+IsSmallsInHand place h n (s ∷ r ∷ ss) o = ⊥
+
+abbrev pub IsPushInHand : Path → Held → Option Bytes → Option (List Small) → Object → Type 0
+IsPushInHand place h None ss o = ⊥
+IsPushInHand place h (Some n) None o = ⊥
+IsPushInHand place h (Some n) (Some ss) o = IsSmallsInHand place h n ss o
+
+abbrev pub IsPushOf : Bytes → Path → Result Held Break → Option (List Small) → Object → Type 0
+IsPushOf refname place (Err e) ss o = ⊥
+IsPushOf refname place (Ok h) ss o = IsPushInHand place h (find bytes_cmp refname h.refs) ss o
+
+abbrev pub IsPushedTo : Bytes → Option Path → Result Held Break → Option (List Small) → Object → Type 0
+IsPushedTo refname None held ss o = ⊥
+IsPushedTo refname (Some place) held ss o = IsPushOf refname place held ss o
+
 -- of a command, for items and an input
 abbrev pub IsInHand : Command → List Bytes → Bytes → Object → Type 0
 IsInHand (Import false) items input o = IsImported (read_items items) (stream input) o
+IsInHand (Push refname filter) items input o = IsPushedTo refname (filter_path filter) (read_items items) (stream input) o
 IsInHand (Name refname filter) items input o = IsInStream (stream input) o
 IsInHand _ items input o = NoObject o
 

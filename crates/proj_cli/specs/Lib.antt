@@ -3,8 +3,11 @@ pub mod Words
 pub mod Streams
 pub mod Replay
 pub mod Projection
+pub mod Histories
+pub mod Push
 pub mod Step
 pub mod Answer
+pub mod Pushed
 pub mod Asked
 pub mod Rows
 pub mod Views
@@ -14,3 +17,4 @@ pub mod Shown
 pub mod Kept
 pub mod Calls
 pub mod Prepared
+pub mod Pushes

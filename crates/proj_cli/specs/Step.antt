@@ -1,9 +1,12 @@
 -- What the words, the items and the input ask for: the outcome, and what is written before it.
 use Rattle.std.specs.Prelude.{ℕ, ◌^◌, Bool, true, false, cond, ◌&&◌, ◌||◌, nat_le, List, [], ◌∷◌, ◌++◌, length, reverse, filter, sum_by, codes, decimal, Option, Some, None, Result, Ok, Err}
-use Rattle.std.specs.Option.{is_some, is_none, option_to_list}
+use Rattle.std.specs.Option.{is_some, is_none, option_map, option_to_list}
 use Rattle.std.specs.FinMap.{find}
-use Rattle.git_objects.specs.Paths.{Bytes, Path, same_bytes}
-use Rattle.git_objects.specs.Trees.{Flat}
+use Rattle.git_objects.specs.Paths.{Bytes, Path, same_bytes, text}
+use Rattle.git_objects.specs.Trees.{under}
+use Rattle.git_objects.specs.declared.name.Name.{Name as ObjectName}
+use Rattle.path_names.specs.Quoting.{quote}
+use Rattle.filter_unapply.specs.Lenses.{below}
 use Rattle.git_objects.specs.Commits.{hex}
 use Rattle.object_store.specs.Objects.{Object}
 use Rattle.repo_state.specs.Fields.{BrokenAt, Clash}
@@ -12,13 +15,16 @@ use Rattle.repo_state.specs.Repos.{Snapshot, repo_of, snapshot_name}
 use Rattle.repo_state.specs.Changes.{Plan, fresh, is_empty, moved, passed}
 use Rattle.repo_state.specs.declared.state.LoadError.{LoadError}
 use Rattle.repo_state.specs.declared.state.LoadError.TheVariants as load
-use Rattle.proj_cli.specs.Words.{Command, Import, Project, Name, Unknown}
+use Rattle.proj_cli.specs.Words.{Command, Import, Project, Push, Name, Unknown}
 use Rattle.proj_cli.specs.Texts.{filter_path}
 use Rattle.proj_cli.specs.Streams.{Head, Small, stream}
 use Rattle.proj_cli.specs.Replay.{replayed, stream_objects}
 use Rattle.proj_cli.specs.Projection.{projection_below, name_line}
+use Rattle.proj_cli.specs.Histories.{is_same_name, last_name, tree_upon}
+use Rattle.proj_cli.specs.Push as push
+use Rattle.proj_cli.specs.Push.{Start, Verdict, pushed_commit, start_at, verdict}
 use Rattle.proj_cli.specs.declared.outcome.Outcome.{Outcome}
-use Rattle.proj_cli.specs.declared.outcome.Outcome.TheVariants.{Done, OutOfMemory, Usage, UnknownRef, Collision, ReadFault, WriteFault, StoreFault, Damaged, NotBuilt}
+use Rattle.proj_cli.specs.declared.outcome.Outcome.TheVariants.{Done, OutOfMemory, Usage, UnknownRef, OtherRef, NotAtHead, NoChange, Blocked, Collision, ReadFault, WriteFault, StoreFault, Damaged, NotBuilt}
 
 pub record Step : Type 0 where
   pub outcome : Outcome
@@ -62,31 +68,7 @@ project_at place h (Some n) = done (name_line (projection_below place (repo_of h
 abbrev pub project_step : Bytes → Path → Held → Step
 project_step refname place h = project_at place h (find bytes_cmp refname h.refs)
 
--- ---- commits in order
-
--- the name of the last commit
-abbrev pub last_name : List Snapshot → Bytes
-last_name [] = []
-last_name (c ∷ []) = snapshot_name c
-last_name (c ∷ d ∷ cs) = last_name (d ∷ cs)
-
 -- ---- import
-
--- the tree of the commit of that name
-abbrev pub tree_at : List Snapshot → Bytes → Flat
-tree_at [] n = []
-tree_at (c ∷ older) n = cond (same_bytes (snapshot_name c) n) c.tree (tree_at older n)
-
--- the tree that a stream stands upon: that of a commit, or none
-abbrev pub tree_upon : List Snapshot → Option Bytes → Flat
-tree_upon cs None = []
-tree_upon cs (Some n) = tree_at cs n
-
--- whether both are none, or both are one name
-abbrev pub is_same_name : Option Bytes → Option Bytes → Bool
-is_same_name None None = true
-is_same_name (Some m) (Some n) = same_bytes m n
-is_same_name _ _ = false
 
 -- the objects of the stream that aren't held, and its ref at its last commit
 abbrev pub import_plan : Held → List Small → Bytes → List Snapshot → Plan
@@ -115,6 +97,47 @@ import_stream h room (Some ss) = import_smalls h room ss
 
 abbrev pub import_step : Room → Bytes → Held → Step
 import_step room input h = cond (nat_le (length input) input_max) (import_stream h room (stream input)) (refused NotBuilt)
+
+-- ---- push
+
+abbrev pub named : Bytes → ObjectName
+named n = record { 0 = n }
+
+-- the digits of the pushed and of the original commit, on a line
+abbrev pub push_line : Bytes → Bytes → Bytes
+push_line pushed original = hex pushed ++ 32 ∷ (hex original ++ 10 ∷ [])
+
+-- The only commit has the number 1, and its first line stands at 0. A filter of one place holds every path.
+abbrev pub push_made : Held → Room → Bytes → Start → Small → Verdict → Step
+push_made h room refname start s push.OtherRef = refused (OtherRef 0)
+push_made h room refname start s (push.NotAtHead got) = refused (NotAtHead (option_map named start.end) (option_map named got))
+push_made h room refname start s push.NoChange = refused (NoChange 1)
+push_made h room refname start s (push.NotHeld q) = refused NotBuilt
+push_made h room refname start s (push.Blocked p q) = refused (Blocked 1 p q)
+push_made h room refname start s push.TooLarge = refused NotBuilt
+push_made h room refname start s (push.Accepted c) = changing h room (push_line (snapshot_name (pushed_commit start s)) (snapshot_name c)) (import_plan h (s ∷ []) refname (c ∷ []))
+
+-- upon the ref's commit, as the filter shows it
+abbrev pub start_below : Path → Held → Bytes → Start
+start_below place h n = start_at (λ t. under t place) (repo_of h).commits n
+
+-- of one commit at most
+abbrev pub push_smalls : Bytes → Path → Room → Held → Bytes → List Small → Step
+push_smalls refname place room h n [] = done []
+push_smalls refname place room h n (s ∷ []) = push_made h room refname (start_below place h n) s (verdict (below place) refname (start_below place h n) s)
+push_smalls refname place room h n (s ∷ r ∷ ss) = refused NotBuilt
+
+abbrev pub push_stream : Bytes → Path → Room → Held → Bytes → Option (List Small) → Step
+push_stream refname place room h n None = refused NotBuilt
+push_stream refname place room h n (Some ss) = push_smalls refname place room h n ss
+
+-- the ref is looked for before the input is read
+abbrev pub push_at : Bytes → Path → Room → Bytes → Held → Option Bytes → Step
+push_at refname place room input h None = refused UnknownRef
+push_at refname place room input h (Some n) = cond (nat_le (length input) input_max) (push_stream refname place room h n (stream input)) (refused NotBuilt)
+
+abbrev pub push_step : Bytes → Path → Room → Bytes → Held → Step
+push_step refname place room input h = push_at refname place room input h (find bytes_cmp refname h.refs)
 
 -- ---- name
 
@@ -160,6 +183,10 @@ abbrev pub project_by : Bytes → Option Path → List Bytes → Step
 project_by refname None items = refused NotBuilt
 project_by refname (Some place) items = by_items (read_items items) (project_step refname place)
 
+abbrev pub push_by : Bytes → Option Path → List Bytes → Bytes → Step
+push_by refname None items input = refused NotBuilt
+push_by refname (Some place) items input = by_items (read_items items) (push_step refname place (room_of items) input)
+
 abbrev pub name_by : Bytes → Option Path → Bytes → Step
 name_by refname None input = refused NotBuilt
 name_by refname (Some place) input = name_step refname place input
@@ -167,6 +194,7 @@ name_by refname (Some place) input = name_step refname place input
 abbrev pub step : Command → List Bytes → Bytes → Step
 step (Import false) items input = by_items (read_items items) (import_step (room_of items) input)
 step (Project refname filter) items input = project_by refname (filter_path filter) items
+step (Push refname filter) items input = push_by refname (filter_path filter) items input
 step (Name refname filter) items input = name_by refname (filter_path filter) input
 step Unknown items input = refused Usage
 step _ items input = refused NotBuilt
@@ -174,6 +202,7 @@ step _ items input = refused NotBuilt
 -- whether the input is read
 abbrev pub reads : Command → Bool
 reads (Import false) = true
+reads (Push refname filter) = is_some (filter_path filter)
 reads (Name refname filter) = is_some (filter_path filter)
 reads _ = false
 
@@ -181,14 +210,21 @@ reads _ = false
 abbrev pub loads : Command → Bool
 loads (Import false) = true
 loads (Project refname filter) = is_some (filter_path filter)
+loads (Push refname filter) = is_some (filter_path filter)
 loads _ = false
 
 -- whether an item may be appended
 abbrev pub writes : Command → Bool
 writes (Import false) = true
+writes (Push refname filter) = is_some (filter_path filter)
 writes _ = false
 
 -- ---- outcomes
+
+-- the digits of a name, or `none`
+abbrev pub name_text : Option ObjectName → Bytes
+name_text None = codes "none"
+name_text (Some n) = hex n.0
 
 -- the line for the error stream
 abbrev pub text_of : Outcome → Bytes
@@ -196,6 +232,10 @@ text_of Done = []
 text_of OutOfMemory = codes "out of memory\n"
 text_of Usage = codes "usage: proj STORE (import [--force] | project REF FILTER | push REF FILTER | export REF FILTER | batch), proj name REF FILTER, proj trial N\n"
 text_of UnknownRef = codes "unknown ref\n"
+text_of (OtherRef at) = codes "other ref at " ++ decimal at ++ codes "\n"
+text_of (NotAtHead expected got) = codes "not at head: expected " ++ name_text expected ++ codes ", got " ++ name_text got ++ codes "\n"
+text_of (NoChange n) = codes "no change: commit " ++ decimal n ++ codes "\n"
+text_of (Blocked n p q) = codes "blocked: commit " ++ decimal n ++ codes ": " ++ quote (text p) ++ codes " by " ++ quote (text q) ++ codes "\n"
 text_of (Collision n) = codes "collision: " ++ hex n.0 ++ codes "\n"
 text_of ReadFault = codes "read fault\n"
 text_of WriteFault = codes "write fault\n"
@@ -209,6 +249,10 @@ code_of Done = 0
 code_of OutOfMemory = 1
 code_of Usage = 2
 code_of UnknownRef = 8
+code_of (OtherRef at) = 13
+code_of (NotAtHead expected got) = 14
+code_of (NoChange n) = 16
+code_of (Blocked n p q) = 19
 code_of (Collision n) = 21
 code_of ReadFault = 22
 code_of WriteFault = 23

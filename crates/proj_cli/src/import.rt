@@ -15,7 +15,8 @@ ghost use Rattle.proj_cli.specs.Answer.{IsInHand, IsInImport, IsMadeFrom, IsMade
 ghost use Rattle.proj_cli.specs.Prepared.{FitsItems, IsBatchOf, IsPlainRefusal, IsPrepared, IsSameBut, room_in};
 ghost use Rattle.proj_cli.specs.Replay.{IsMadeBy};
 ghost use Rattle.proj_cli.specs.Replays.{IsGrownBy, IsReplayFault, IsReplayed, base_tree, parent_of};
-ghost use Rattle.proj_cli.specs.Step.{import_smalls, import_step, import_stream, input_max, is_same_name, report_line, step, tree_upon};
+ghost use Rattle.proj_cli.specs.Step.{import_smalls, import_step, import_stream, input_max, report_line, step};
+ghost use Rattle.proj_cli.specs.Histories.{is_same_name, tree_upon};
 ghost use Rattle.proj_cli.specs.Streams.{stream};
 ghost use Rattle.proj_cli.specs.Views.{small_value};
 ghost use Rattle.proj_cli.specs.Words.{Import};
@@ -43,7 +44,7 @@ fn report_line(alloc: Global, refname: &[u8], head: &Name) -> Result<Vec<u8>, Al
 }
 
 // Whether both are none, or both are one name.
-fn is_same_name(a: Option<Name>, b: Option<Name>) -> bool
+pub fn is_same_name(a: Option<Name>, b: Option<Name>) -> bool
     ensures { result ≡ is_same_name (option_map name_bytes a) (option_map name_bytes b) }
 {
     match (a, b) {
@@ -54,7 +55,7 @@ fn is_same_name(a: Option<Name>, b: Option<Name>) -> bool
 }
 
 // Nothing to report and nothing to commit.
-fn nothing(alloc: Global) -> Prepared
+pub fn nothing(alloc: Global) -> Prepared
     ensures report { result.report ≡ [] }
     ensures blobs { result.batch.blobs.items ≡ [] }
     ensures commits { result.batch.commits.items ≡ [] }

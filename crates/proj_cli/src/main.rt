@@ -11,6 +11,8 @@ mod project;
 mod projection;
 #[cfg(test)]
 mod projection_tests;
+mod push;
+mod pushing;
 mod replay;
 mod saving;
 mod streams;

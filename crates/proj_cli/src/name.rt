@@ -12,7 +12,8 @@ ghost use Rattle.proj_cli.specs.Projection.{name_line, projection_below};
 ghost use Rattle.proj_cli.specs.Replay.{IsMadeBy, replayed, stream_objects};
 ghost use Rattle.proj_cli.specs.Replays.{IsBrought};
 ghost use Rattle.proj_cli.specs.Snapshots.{AreSnapshots};
-ghost use Rattle.proj_cli.specs.Step.{has_few, last_name, name_made, name_smalls};
+ghost use Rattle.proj_cli.specs.Step.{has_few, name_made, name_smalls};
+ghost use Rattle.proj_cli.specs.Histories.{last_name};
 ghost use Rattle.proj_cli.specs.Views.{small_value};
 
 use crate::outcome::Outcome;

@@ -1,5 +1,5 @@
 // The top call.
-ghost use Rattle.std.specs.Prelude.{◌≡◌, ◌≢◌, ◌≤◌, ◌⊎◌, List, [], map, string_bytes, Some, Err, true, false, IsErr};
+ghost use Rattle.std.specs.Prelude.{◌≡◌, ◌≢◌, ◌≤◌, ◌⊎◌, List, [], map, string_bytes, Some, Err, true, false, IsErr, IfOk};
 ghost use Rattle.git_objects.specs.Paths.{Bytes};
 ghost use Rattle.path_names.specs.RefNames.{is_ref_name};
 ghost use Rattle.object_store.specs.Errors.{newest};
@@ -12,6 +12,7 @@ ghost use Rattle.proj_cli.specs.Streams.{stream};
 ghost use Rattle.proj_cli.specs.Asked.{command_of};
 ghost use Rattle.proj_cli.specs.Step.{by_items, loads, name_step, name_stream, project_step, reads, step, text_of, writes};
 ghost use Rattle.proj_cli.specs.Answer.{GetsText, IsAnswer, IsComplete, IsConcluded, IsIdle, IsInHand, IsInStream, IsMade, IsReport, IsReported, IsSent, NoObject, Plainly, TakesMemory};
+ghost use Rattle.proj_cli.specs.Pushed.{IsLawful};
 ghost use Rattle.proj_cli.specs.Calls.{devices};
 
 use crate::Outcome;
@@ -19,6 +20,7 @@ use crate::import::import;
 use crate::name::name_text;
 use crate::outcome::{load_outcome, outcome_text};
 use crate::project::project_line;
+use crate::push::push;
 use crate::streams::{INPUT_MAX, stream};
 use crate::texts::filter_path;
 use crate::words::{Asked, read_words};
@@ -116,6 +118,7 @@ fn make<S: Source, K: Keeper>(
     requires formed { is_formed (command_of asked) ≡ true }
     ensures made { let seen = source_view S.left S.faults in let kept = keeper_view K.items K.number K.faults in
         IsMade (IsInHand (command_of asked.entry)) (step (command_of asked.entry)) (loads (command_of asked.entry)) (writes (command_of asked.entry)) (seen input.old) (seen input.new) (kept store.old) (kept store.new) result }
+    ensures lawful { (items : List Bytes) (all : Bytes) → K.items store.old ≡ Some items → S.left input.old ≡ Some all → IfOk result (λ _. IsLawful (command_of asked.entry) items all (step (command_of asked.entry) items all)) }
     ensures unread { reads (command_of asked.entry) ≡ false → input.new ≡ input.old }
     ensures unloaded { loads (command_of asked.entry) ≡ false → store.new ≡ store.old }
     ensures idle { reads (command_of asked.entry) ≡ false → loads (command_of asked.entry) ≡ false → IsIdle (step (command_of asked.entry) [] []) result }
@@ -135,6 +138,11 @@ fn make<S: Source, K: Keeper>(
         },
         Asked::Project(refname, filter) => match filter_path(alloc, filter.as_bytes()) {
             Ok(Some(place)) => project(alloc, refname.as_bytes(), &place, store),
+            Ok(None) => Err(Outcome::NotBuilt),
+            Err(_) => Err(Outcome::OutOfMemory),
+        },
+        Asked::Push(refname, filter) => match filter_path(alloc, filter.as_bytes()) {
+            Ok(Some(place)) => push(alloc, refname.as_bytes(), &place, input, store),
             Ok(None) => Err(Outcome::NotBuilt),
             Err(_) => Err(Outcome::OutOfMemory),
         },
@@ -215,6 +223,10 @@ pub fn run<S: Source, O: Sink, E: Sink, K: Keeper>(
     ensures complete { let seen = devices S.left S.faults O.written O.faults O.refusals K.items K.number K.faults in
         let asked = command (map (λ word. string_bytes word) words.now) in
         IsComplete (IsInHand asked) (step asked) (loads asked) (seen input.old out.old store.old) (seen input.new out.new store.new) result }
+    // A push that is done made an original commit which projects, from scratch in the new state, to exactly the pushed one, and
+    // what the filter doesn't show is as it was.
+    ensures lawful { let asked = command (map (λ word. string_bytes word) words.now) in
+        (items : List Bytes) (all : Bytes) → K.items store.old ≡ Some items → S.left input.old ≡ Some all → result ≡ Outcome.Done → IsLawful asked items all (step asked items all) }
     // A form that doesn't read leaves the input, and one that doesn't load leaves the store.
     ensures unread { reads (command (map (λ word. string_bytes word) words.now)) ≡ false → input.new ≡ input.old }
     ensures unloaded { loads (command (map (λ word. string_bytes word) words.now)) ≡ false → store.new ≡ store.old }

@@ -123,7 +123,7 @@ fn shown_tree(store: &Store, root: Name, place: &Path) -> Option<Name>
 }
 
 // The name of a directory's tree. None: it is a leaf.
-fn directory(found: Found) -> Option<Name>
+pub fn directory(found: Found) -> Option<Name>
     ensures { result ≡ directory_of found }
 {
     if found.mode == Mode::Dir {

@@ -36,10 +36,10 @@ pub enum ReplayFault {
     OutOfMemory,
 }
 
-const FILES: u32 = 1_048_576;
+pub const FILES: u32 = 1_048_576;
 
 // Takes in an object whose children are there.
-fn put(store: &mut Store, kind: Kind, body: &[u8]) -> Result<Name, ReplayFault>
+pub fn put(store: &mut Store, kind: Kind, body: &[u8]) -> Result<Name, ReplayFault>
     requires { of_body (newest store.old) kind body.now None ≡ None }
     ensures ok { IfOk result (λ n. (n.0 ≡ name kind body.now) × (find_named (newest store.new) n.0 ≡ Some (record { kind = kind; body = body.now }))) }
     ensures err { IfErr result (IsPutFault (IsOnly kind body.now) (newest store.new)) }
@@ -134,7 +134,7 @@ fn put_row(
 }
 
 // Puts files into a tree, one after another. Their blobs go behind the others.
-fn put_files(
+pub fn put_files(
     alloc: Global,
     store: &mut Store,
     root: Name,
@@ -162,7 +162,7 @@ fn put_files(
 }
 
 // The body of a commit.
-fn body_of(
+pub fn body_of(
     alloc: Global,
     tree: Name,
     parent: Option<Name>,
@@ -186,7 +186,7 @@ fn body_of(
 }
 
 // Takes in a commit of that tree and that parent.
-fn put_commit(
+pub fn put_commit(
     alloc: Global,
     store: &mut Store,
     tree: Name,
@@ -279,7 +279,7 @@ pub fn replay(
 }
 
 // The tree of a commit of the store.
-fn tree_of(store: &Store, name: &Name) -> Name
+pub fn tree_of(store: &Store, name: &Name) -> Name
     requires { has Commit (newest store.now) name.now.0 ≡ true }
     ensures held { has Tree (newest store.now) result.0 ≡ true }
     ensures tree { base_tree (newest store.now) (Some name.now) ≡ flat (newest store.now) result.0 }

@@ -1,11 +1,12 @@
 // Committing what a command has made.
-ghost use Rattle.std.specs.Prelude.{◌≡◌, ◌≢◌, List, Err, Some};
+ghost use Rattle.std.specs.Prelude.{◌≡◌, ◌≢◌, List, Err, Some, IfOk, OnOk};
 ghost use Rattle.git_objects.specs.Paths.{Bytes};
 ghost use Rattle.object_store.specs.Errors.{newest};
 ghost use Rattle.proj_io.specs.Counts.{Counts};
 ghost use Rattle.proj_io.specs.Views.{keeper_view};
-ghost use Rattle.repo_state.specs.Changes.{IsChange, IsCurrent, IsWithin, plan_in};
+ghost use Rattle.repo_state.specs.Changes.{IsChange, IsCurrent, IsWithin, changed, plan_in};
 ghost use Rattle.repo_state.specs.Commits.{change_of};
+ghost use Rattle.repo_state.specs.Loads.{IsStored};
 ghost use Rattle.proj_cli.specs.Answer.{IsMadeFrom, NoObject};
 ghost use Rattle.proj_cli.specs.Prepared.{room_in};
 ghost use Rattle.proj_cli.specs.Step.{changing};
@@ -36,6 +37,9 @@ pub fn save<K: Keeper>(
     ensures made { let kept = keeper_view K.items K.number K.faults in (items : List Bytes) →
         (K.items store.old ≡ Some items → IsCurrent items state × IsWithin (newest state.objects) state.held.objects (change_of prepared.batch)) →
         IsMadeFrom NoObject (changing state.held (room_in state) prepared.report (plan_in state (change_of prepared.batch))) items (kept store.old) (kept store.new) result }
+    ensures done { IfOk result (λ report. changing state.held (room_in state) prepared.report (plan_in state (change_of prepared.batch))
+        ≡ record { outcome = Outcome.Done; output = report; change = plan_in state (change_of prepared.batch) }) }
+    ensures stored { OnOk result (IsStored (changed state (plan_in state (change_of prepared.batch)))) }
     ensures early { (result ≢ Err Outcome.WriteFault) × (result ≢ Err Outcome.ReadFault) }
     ensures cause { Counts (K.faults store.old) (K.faults store.new) (result ≡ Err Outcome.StoreFault) }
     ensures is_open { (result ≢ Err Outcome.StoreFault) → K.is_open store.new }

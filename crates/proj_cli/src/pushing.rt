@@ -1,0 +1,231 @@
+// Making the original commit of a pushed one, in a store.
+ghost use Rattle.std.specs.Prelude.{◌≡◌, ◌∷◌, [], true, map, IfErr, IfOk, OnOk};
+ghost use Rattle.git_objects.specs.Commits.{commit_name};
+ghost use Rattle.git_objects.specs.Trees.{under};
+ghost use Rattle.git_objects.specs.declared.kind.Kind.TheVariants.{Commit, Tree};
+ghost use Rattle.object_store.specs.Errors.{newest};
+ghost use Rattle.object_store.specs.Objects.{has};
+ghost use Rattle.object_store.specs.Unfolding.{flat};
+ghost use Rattle.filter_unapply.specs.Laying.{laid};
+ghost use Rattle.filter_unapply.specs.Lenses.{below};
+ghost use Rattle.repo_state.specs.Items.{tree_fits};
+ghost use Rattle.proj_cli.specs.Push.{IsLaidMade, IsPushMade};
+ghost use Rattle.proj_cli.specs.Pushes.{IsAccepted, IsCommitFault, IsLaidFault, IsOriginal, IsPushFault, fault_of, start_value};
+ghost use Rattle.proj_cli.specs.Replay.{IsDirectoryOf, IsMadeIn, are_small, contents_in, trees_within, with_changes};
+ghost use Rattle.proj_cli.specs.Replays.{AddsBlobs, IsFilesFault, IsGrownBy, IsOnlyCommit, IsPutFault, StandsFor, parent_of};
+ghost use Rattle.proj_cli.specs.Snapshots.{IsSnapshot};
+ghost use Rattle.proj_cli.specs.Views.{change_of, head_value, small_value};
+
+use crate::projection::directory;
+use crate::replay::{FILES, ReplayFault, body_of, put, put_commit, put_files};
+use crate::streams::{CommitHead, Row, SmallCommit};
+use filter_unapply::{LayFault, laid_below};
+use git_objects::{Kind, Name, name_of};
+use object_store::Store;
+use path_names::Path;
+use path_trees::entry_at;
+use std::alloc::{AllocError, Global};
+
+/// What a push stands upon: the commit of its ref, that commit's tree, and its projection, where it has one.
+#[derive(Clone, Copy, Debug)]
+pub struct Start {
+    pub head: Name,
+    pub tree: Name,
+    pub end: Option<Name>,
+}
+
+/// A pushed commit, and the original commit that was made of it, with the blobs that were read.
+#[derive(Drop)]
+pub struct Pushed {
+    pub blobs: Vec<Name>,
+    pub pushed: Name,
+    pub original: Name,
+}
+
+/// Why no original commit is made.
+#[derive(Debug, Drop)]
+pub enum PushFault {
+    /// A tree passes a limit.
+    TooLarge,
+    /// The pushed tree is the shown one.
+    NoChange,
+    /// Two paths of what would be laid are comparable.
+    Blocked { path: Path, by: Path },
+    /// Another object has the name of one that came up.
+    Collision { name: Name },
+    OutOfMemory,
+}
+
+// The most components of a path of a stored tree.
+const DEPTH: u32 = 1_024;
+
+// The most bytes of such a path.
+const LONGEST: u32 = 16_384;
+
+// The fault of a replay.
+fn fault_of(fault: ReplayFault) -> PushFault
+    ensures { result ≡ fault_of fault }
+{
+    match fault {
+        ReplayFault::TooManyFiles => PushFault::TooLarge,
+        ReplayFault::Collision { name } => PushFault::Collision { name },
+        ReplayFault::OutOfMemory => PushFault::OutOfMemory,
+    }
+}
+
+// The tree of all that lies below a path: the directory there, or the empty tree.
+fn shown_root(store: &mut Store, tree: Name, place: &Path) -> Result<Name, ReplayFault>
+    requires { has Tree (newest store.old) tree.0 ≡ true }
+    ensures ok { IfOk result (λ n. StandsFor (newest store.new) n.0 (under (flat (newest store.old) tree.0) place.now)) }
+    ensures err { IfErr result (IsPutFault (IsDirectoryOf (under (flat (newest store.old) tree.0) place.now)) (newest store.new)) }
+    ensures store { IsGrownBy (IsDirectoryOf (under (flat (newest store.old) tree.0) place.now)) (newest store.old) (newest store.new) }
+{
+    let found = match entry_at(store, tree, place) {
+        None => None,
+        Some(found) => directory(found),
+    };
+    match found {
+        None => put(store, Kind::Tree, &[]),
+        Some(name) => Ok(name),
+    }
+}
+
+// The tree that is shown below a path, and the pushed one, with these files put into it. Their blobs go behind the others.
+fn pushed_trees(
+    alloc: Global,
+    store: &mut Store,
+    tree: Name,
+    place: &Path,
+    rows: &[Row<'_>],
+    blobs: &mut Vec<Name>,
+) -> Result<(Name, Name), ReplayFault>
+    requires { has Tree (newest store.old) tree.0 ≡ true }
+    ensures shown { IfOk result (λ r. StandsFor (newest store.new) r.0.0 (under (flat (newest store.old) tree.0) place.now)) }
+    ensures pushed { IfOk result (λ r. StandsFor (newest store.new) r.1.0 (with_changes (under (flat (newest store.old) tree.0) place.now) (map change_of rows.now))) }
+    ensures small { OnOk result (are_small (trees_within (under (flat (newest store.old) tree.0) place.now) (map change_of rows.now)) ≡ true) }
+    ensures blobs { OnOk result (AddsBlobs (newest store.new) blobs.old.items blobs.new.items (contents_in (map change_of rows.now))) }
+    ensures err { IfErr result (IsFilesFault (IsMadeIn (under (flat (newest store.old) tree.0) place.now) (map change_of rows.now)) (newest store.new)
+        (trees_within (under (flat (newest store.old) tree.0) place.now) (map change_of rows.now))) }
+    ensures store { IsGrownBy (IsMadeIn (under (flat (newest store.old) tree.0) place.now) (map change_of rows.now)) (newest store.old) (newest store.new) }
+{
+    match shown_root(store, tree, place) {
+        Err(fault) => Err(fault),
+        Ok(shown) => match put_files(alloc, store, shown, rows, blobs) {
+            Err(fault) => Err(fault),
+            Ok(pushed) => Ok((shown, pushed)),
+        },
+    }
+}
+
+// Whether a tree is within the limits of stored trees.
+fn fits(store: &Store, root: &Name) -> bool
+    requires { has Tree (newest store.now) root.now.0 ≡ true }
+    ensures { result ≡ tree_fits (flat (newest store.now) root.now.0) }
+{
+    match store.stats(root) {
+        None => false,
+        Some(stats) => stats.files <= FILES && stats.depth <= DEPTH && stats.longest <= LONGEST,
+    }
+}
+
+// The name of a commit that isn't put into the store.
+fn name_of_commit(
+    alloc: Global,
+    tree: Name,
+    parent: Option<Name>,
+    head: &CommitHead<'_>,
+) -> Result<Name, AllocError>
+    ensures { IfOk result (λ n. n.0 ≡ commit_name (record { tree = tree.0; parents = parent_of parent; letter = (head_value head.now).letter })) }
+{
+    let body = body_of(alloc, tree, parent, head)?;
+    Ok(name_of(Kind::Commit, &body))
+}
+
+// Takes in the original commit with that tree, where the tree is within the limits.
+fn put_original(
+    alloc: Global,
+    store: &mut Store,
+    start: &Start,
+    tree: Name,
+    head: &CommitHead<'_>,
+) -> Result<Name, PushFault>
+    requires tree { has Tree (newest store.old) tree.0 ≡ true }
+    requires head { has Commit (newest store.old) start.now.head.0 ≡ true }
+    ensures ok { IfOk result (λ n. IsSnapshot (newest store.new) n.0
+        (record { tree = flat (newest store.old) tree.0; parents = start.now.head.0 ∷ []; letter = (head_value head.now).letter })) }
+    ensures fits { OnOk result (tree_fits (flat (newest store.old) tree.0) ≡ true) }
+    ensures err { IfErr result (IsCommitFault (newest store.new) (flat (newest store.old) tree.0) (start.now.head.0 ∷ []) (head_value head.now).letter) }
+    ensures store { IsGrownBy (IsOnlyCommit (flat (newest store.old) tree.0) (start.now.head.0 ∷ []) (head_value head.now).letter) (newest store.old) (newest store.new) }
+{
+    if !fits(store, &tree) {
+        return Err(PushFault::TooLarge);
+    }
+    match put_commit(alloc, store, tree, Some(start.head), head) {
+        Ok(original) => Ok(original),
+        Err(fault) => Err(fault_of(fault)),
+    }
+}
+
+// Lays the pushed tree, and makes the original commit with it.
+fn lay(
+    alloc: Global,
+    store: &mut Store,
+    place: &Path,
+    start: &Start,
+    pushed: Name,
+    head: &CommitHead<'_>,
+) -> Result<Name, PushFault>
+    requires tree { has Tree (newest store.old) start.now.tree.0 ≡ true }
+    requires pushed { has Tree (newest store.old) pushed.0 ≡ true }
+    requires head { has Commit (newest store.old) start.now.head.0 ≡ true }
+    ensures ok { let l = laid (below place.now) (flat (newest store.old) start.now.tree.0) (flat (newest store.old) pushed.0) in
+        IfOk result (IsOriginal (newest store.new) (start_value (newest store.old) place.now start.now) (head_value head.now).letter l) }
+    ensures err { let l = laid (below place.now) (flat (newest store.old) start.now.tree.0) (flat (newest store.old) pushed.0) in
+        IfErr result (IsLaidFault (newest store.new) (start_value (newest store.old) place.now start.now) (head_value head.now).letter l) }
+    ensures store { let l = laid (below place.now) (flat (newest store.old) start.now.tree.0) (flat (newest store.old) pushed.0) in
+        IsGrownBy (IsLaidMade (start_value (newest store.old) place.now start.now) (head_value head.now).letter l) (newest store.old) (newest store.new) }
+{
+    match laid_below(alloc, store, place, start.tree, pushed) {
+        Ok(tree) => put_original(alloc, store, start, tree, head),
+        Err(LayFault::Blocked { path, by }) => Err(PushFault::Blocked { path, by }),
+        Err(LayFault::Collision { name }) => Err(PushFault::Collision { name }),
+        Err(LayFault::OutOfMemory) => Err(PushFault::OutOfMemory),
+        Err(LayFault::NotHeld { path: _ }) => unreachable!(),
+    }
+}
+
+/// Makes the original commit of a pushed one, which stands upon the projection and what is shown below a path.
+pub fn push_commit(
+    alloc: Global,
+    store: &mut Store,
+    place: &Path,
+    start: &Start,
+    small: &SmallCommit<'_>,
+) -> Result<Pushed, PushFault>
+    requires tree { has Tree (newest store.old) start.now.tree.0 ≡ true }
+    requires head { has Commit (newest store.old) start.now.head.0 ≡ true }
+    ensures ok { IfOk result (IsAccepted (newest store.new) (below place.now) (start_value (newest store.old) place.now start.now) (small_value small.now)) }
+    ensures err { IfErr result (IsPushFault (newest store.new) (below place.now) (start_value (newest store.old) place.now start.now) (small_value small.now)) }
+    ensures store { IsGrownBy (IsPushMade (below place.now) (start_value (newest store.old) place.now start.now) (small_value small.now)) (newest store.old) (newest store.new) }
+{
+    let mut blobs = Vec::new(alloc);
+    match pushed_trees(alloc, store, start.tree, place, &small.rows, &mut blobs) {
+        Err(fault) => Err(fault_of(fault)),
+        Ok((shown, tree)) => {
+            if tree == shown {
+                return Err(PushFault::NoChange);
+            }
+            match lay(alloc, store, place, start, tree, &small.head) {
+                Err(fault) => Err(fault),
+                Ok(original) => match name_of_commit(alloc, tree, start.end, &small.head) {
+                    Err(_) => Err(PushFault::OutOfMemory),
+                    Ok(pushed) => Ok(Pushed {
+                        blobs,
+                        pushed,
+                        original,
+                    }),
+                },
+            }
+        }
+    }
+}
