@@ -37,7 +37,7 @@ use Rattle.proj_cli.proofs.StreamSizes.{IsShort, IsSmall, stream-small}
 abbrev is_small : Flat → Bool
 is_small t = nat_le (length t) (2 ^ 20)
 
-each-front : {A : Type 0} (P : A → Type 0) (xs ys : List A) → Each P (xs ++ ys) → Each P xs
+pub each-front : {A : Type 0} (P : A → Type 0) (xs ys : List A) → Each P (xs ++ ys) → Each P xs
 each-front P [] ys h = tt
 each-front P (x ∷ xs) ys h = (h.0, each-front P xs ys h.1)
 
@@ -112,7 +112,7 @@ contents-short : (m : ℕ) (cs : List Change) (bs : List Bytes) → Each (IsShor
 contents-short m [] bs h g = g
 contents-short m (c ∷ cs) bs h g = (h.0.content, contents-short m cs bs h.1 g)
 
-all-short : (m : ℕ) (ss : List Small) → Each (IsSmall m) ss → Each (λ b. length b ≤ m) (contents ss)
+pub all-short : (m : ℕ) (ss : List Small) → Each (IsSmall m) ss → Each (λ b. length b ≤ m) (contents ss)
 all-short m [] h = tt
 all-short m (s ∷ ss) h = contents-short m s.changes (contents ss) h.0.changes (all-short m ss h.1)
 

@@ -1,4 +1,4 @@
--- What an import makes of its input, and of a store that was loaded.
+-- What a command makes of its input, and of a store that was loaded.
 use Rattle.std.proofs.Common.{◌≡◌, ◌+◌, ◌<◌, ◌≤◌, Bool, true, false, cond, List, [], ◌∷◌, ◌++◌, take, length, sym, ap, subst, ◌∙◌, Some, None, Ok, Err, Result, IfSome, ◌↔◌, inl, inr}
 use Rattle.std.specs.Prelude.{unwrap_or, IsTrue}
 use Rattle.std.specs.declared.option.Option.{Option}
@@ -41,39 +41,36 @@ more_made hand s items k l result h = record { report = more_done hand s result 
 
 -- ---- the input
 
-module _ (h : Held) (room : Room) (left : Option Bytes) (items : List Bytes) (k l : KeeperView) where
-  abbrev pub hand : Bytes → Object → Type 0
-  hand all = IsStreamInHand h (stream all)
-
+module _ (hand : Bytes → Object → Type 0) (rest : Bytes → Step) (left : Option Bytes) (items : List Bytes) (k l : KeeperView) where
+  -- what an input asks for that has at most so many bytes
   abbrev pub asked : Bytes → Step
-  asked all = import_step room all h
+  asked all = cond (nat_le (length all) input_max) (rest all) (refused NotBuilt)
 
   -- too long
   pub input_long : (more : Bool) → IfSome left (λ all. IsTrue more ↔ (input_max < length all)) → more ≡ true → IsMadeOf hand asked left items k k (Err NotBuilt)
   input_long more g e =
       let all = unwrap_or left long in
-      let at : asked all ≡ refused NotBuilt = ap (λ b. cond b (import_stream h room (stream all)) (refused NotBuilt)) (long_input left more g e) in
+      let at : asked all ≡ refused NotBuilt = ap (λ b. cond b (rest all) (refused NotBuilt)) (long_input left more g e) in
       record { all = all; told = told_input left long; made = made_plain (hand all) (asked all) items k k (Err NotBuilt) (keeps k) (ap (λ (s : Step). s.outcome) at) }
 
   -- read whole
   pub input_whole : (given : Bytes) (more : Bool) (result : Result Bytes Outcome) → IfSome left (λ all. given ≡ take input_max all) → IfSome left (λ all. IsTrue more ↔ (input_max < length all)) → length given ≤ input_max → more ≡ false
-      → IsMadeFrom (hand given) (import_stream h room (stream given)) items k l result → IsMadeOf hand asked left items k l result
+      → IsMadeFrom (hand given) (rest given) items k l result → IsMadeOf hand asked left items k l result
   input_whole given more result a b c e made =
       let whole = whole_input left given more input_max a b c e in
       let all = unwrap_or left given in
-      let at : asked all ≡ import_stream h room (stream given) =
-      ap (λ t. cond t (import_stream h room (stream all)) (refused NotBuilt)) whole.1 ∙ ap (λ t. import_stream h room (stream t)) whole.0 in
+      let at : asked all ≡ rest given = ap (λ t. cond t (rest all) (refused NotBuilt)) whole.1 ∙ ap rest whole.0 in
       record {
         all = all;
         told = told_input left given;
-        made = subst (λ (s : Step). IsMadeFrom (hand all) s items k l result) (sym at) (subst (λ (t : Bytes). IsMadeFrom (hand t) (import_stream h room (stream given)) items k l result) (sym whole.0) made);
+        made = subst (λ (s : Step). IsMadeFrom (hand all) s items k l result) (sym at) (subst (λ (t : Bytes). IsMadeFrom (hand t) (rest given) items k l result) (sym whole.0) made);
       }
 
   -- not read at all
-  pub input_none : (outcome : Outcome) → ((f : Object → Type 0) (s : Step) → IsRefusal f outcome s) → IsMadeOf hand asked left items k k (Err outcome)
-  input_none outcome refusal =
+  pub input_none : (step : Bytes → Step) (outcome : Outcome) → ((f : Object → Type 0) (all : Bytes) → IsRefusal f outcome (step all)) → IsMadeOf hand step left items k k (Err outcome)
+  input_none step outcome refusal =
       let all = unwrap_or left long in
-      record { all = all; told = told_input left long; made = made_plain (hand all) (asked all) items k k (Err outcome) (keeps k) (refusal (hand all) (asked all)) }
+      record { all = all; told = told_input left long; made = made_plain (hand all) (step all) items k k (Err outcome) (keeps k) (refusal (hand all) all) }
 
 -- ---- a store that was read before
 
@@ -127,23 +124,23 @@ module _ (k m l : KeeperView) (h : KeepsItems k m) where
 
 -- ---- items that were loaded
 
-module _ (items : List Bytes) (left : Option Bytes) (k l : KeeperView) (result : Result Bytes Outcome) where
-  -- so it answers for the items
-  pub loaded_made : (s : Stored) → IsLoaded items s → IsMadeOf (λ all. IsStreamInHand s.held (stream all)) (λ all. import_step (room_in s) all s.held) left items k l result
-      → IsMadeOf (IsInHand (Import false) items) (step (Import false) items) left items k l result
-  loaded_made s h made =
-      let room : room_in s ≡ room_of items = λ i. record { number = h.number i; size = h.size i } in
-      subst (λ (r : Result Held Break). IsMadeOf (λ all. IsImported r (stream all)) (λ all. by_items r (import_step (room_of items) all)) left items k l result) (sym h.held)
-      (subst (λ (m : Room). IsMadeOf (λ all. IsStreamInHand s.held (stream all)) (λ all. import_step m all s.held) left items k l result) room made)
+-- so it answers for the items
+pub loaded_made : (hand : Result Held Break → Bytes → Object → Type 0) (step : Room → Bytes → Held → Step) (items : List Bytes) (left : Option Bytes) (k l : KeeperView) (result : Result Bytes Outcome) (s : Stored) → IsLoaded items s
+    → IsMadeOf (hand (Ok s.held)) (λ all. step (room_in s) all s.held) left items k l result
+    → IsMadeOf (hand (read_items items)) (λ all. by_items (read_items items) (step (room_of items) all)) left items k l result
+loaded_made hand step items left k l result s h made =
+    let room : room_in s ≡ room_of items = λ i. record { number = h.number i; size = h.size i } in
+    subst (λ (r : Result Held Break). IsMadeOf (hand r) (λ all. by_items r (step (room_of items) all)) left items k l result) (sym h.held)
+    (subst (λ (m : Room). IsMadeOf (hand (Ok s.held)) (λ all. step m all s.held) left items k l result) room made)
 
 -- items that are not
-pub unloaded_made : (items : List Bytes) (left : Option Bytes) (k l : KeeperView) (e : LoadError) → KeepsItems k l → IsLoadFault e (read_items items)
-    → IsMadeOf (IsInHand (Import false) items) (step (Import false) items) left items k l (Err (load_outcome e))
-unloaded_made items left k l e same h =
+pub unloaded_made : (hand : Bytes → Object → Type 0) (step : Bytes → Held → Step) (items : List Bytes) (left : Option Bytes) (k l : KeeperView) (e : LoadError) → KeepsItems k l → IsLoadFault e (read_items items)
+    → IsMadeOf hand (λ all. by_items (read_items items) (step all)) left items k l (Err (load_outcome e))
+unloaded_made hand step items left k l e same h =
     let all = unwrap_or left long in
+    let asks = by_items (read_items items) (step all) in
     record {
       all = all;
       told = told_input left long;
-      made = made_plain (IsInHand (Import false) items all) (step (Import false) items all) items k l (Err (load_outcome e)) same
-          (report_for (IsInHand (Import false) items all) (step (Import false) items all) (Err (load_outcome e)) (load_report (import_step (room_of items) all) e (read_items items) h));
+      made = made_plain (hand all) asks items k l (Err (load_outcome e)) same (report_for (hand all) asks (Err (load_outcome e)) (load_report (step all) e (read_items items) h));
     }

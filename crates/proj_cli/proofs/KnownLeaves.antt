@@ -45,7 +45,7 @@ module _ (H : List Object) (blobs : List Bytes) where
 
   -- ---- edits
 
-  known-entry : (p : Path) (x : Leaf) (t : Flat) → are_known t ≡ true → is_known_leaf x ≡ true → are_known (put_entry path_cmp p x t) ≡ true
+  pub known-entry : (p : Path) (x : Leaf) (t : Flat) → are_known t ≡ true → is_known_leaf x ≡ true → are_known (put_entry path_cmp p x t) ≡ true
   known-entry p x [] h g = ap (λ b. b && true) g
   known-entry p x (e ∷ t) h g =
       let first : is_known_leaf e.1 ≡ true = first_so _ _ h in
@@ -61,7 +61,7 @@ module _ (H : List Object) (blobs : List Bytes) where
   known-all p [] t h g = g
   known-all p (e ∷ es) t h g = known-entry (p ++ e.0) e.1 (put_all p es t) (known-all p es t (second_so (is_known_leaf e.1) _ h) g) (first_so _ _ h)
 
-  known-filter : (q : Path × Leaf → Bool) (t : Flat) → are_known t ≡ true → are_known (filter q t) ≡ true
+  pub known-filter : (q : Path × Leaf → Bool) (t : Flat) → are_known t ≡ true → are_known (filter q t) ≡ true
   known-filter q [] h = refl
   known-filter q (e ∷ t) h =
       let first : is_known_leaf e.1 ≡ true = first_so _ _ h in

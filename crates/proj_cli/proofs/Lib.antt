@@ -25,3 +25,5 @@ pub mod PutSizes
 pub mod KnownLeaves
 pub mod StreamSizes
 pub mod ImportFits
+pub mod PushPlans
+pub mod PushFits

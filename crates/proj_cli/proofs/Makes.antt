@@ -20,13 +20,14 @@ use Rattle.std.specs.Borrow.{Bor}
 use Rattle.proj_cli.specs.Asked.{command_of}
 use Rattle.proj_cli.specs.declared.words.Asked.{Asked}
 use Rattle.proj_cli.specs.declared.words.Asked.TheVariants as asks
-use Rattle.proj_cli.specs.Words.{Command, Import, Project, Name, Unknown}
+use Rattle.proj_cli.specs.Words.{Command, Import, Project, Push, Name, Unknown}
 use Rattle.proj_cli.specs.Texts.{filter_path}
 use Rattle.proj_cli.specs.Streams.{stream}
-use Rattle.proj_cli.specs.Step.{Step, by_items, input_max, load_outcome, loads, name_by, name_step, name_stream, no_change, project_by, project_step, refused, step, writes}
+use Rattle.proj_cli.specs.Step.{Step, by_items, input_max, load_outcome, loads, name_by, name_step, name_stream, no_change, project_by, project_step, push_by, push_step, refused, room_of, step, writes}
 use Rattle.repo_state.specs.Changes.{Plan, is_empty}
 use Rattle.repo_state.specs.Commits.{KeepsItems}
-use Rattle.proj_cli.specs.Answer.{Follows, IsChanged, IsInHand, IsInStream, IsMade, IsMadeFrom, IsMadeOf, IsRefusal, IsReport, IsReported, IsSavedBy, NoObject, Plainly}
+use Rattle.proj_cli.specs.Answer.{Follows, IsChanged, IsInHand, IsInStream, IsMade, IsMadeFrom, IsMadeOf, IsPushOf, IsPushedTo, IsRefusal, IsReport, IsReported, IsSavedBy, NoObject, Plainly}
+use Rattle.proj_cli.specs.Pushed.{IsLawful, IsLawfulBy, IsLawfulRead}
 use Rattle.proj_cli.specs.declared.outcome.Outcome.{Outcome}
 use Rattle.proj_cli.specs.declared.outcome.Outcome.TheVariants.{Done, OutOfMemory, Usage, Collision, ReadFault, StoreFault, WriteFault, NotBuilt}
 
@@ -248,14 +249,37 @@ pub import_made : (i j : SourceView) (k l : KeeperView) (result : Result Bytes O
     → IsMade (IsInHand (Import false)) (step (Import false)) (loads (Import false)) (writes (Import false)) i j k l result
 import_made i j k l result read keep early made = record { read = read; keep = keep; early = early; items = λ e. absurd (true≢false e); reported = λ items g. made items (g refl) }
 
+-- a push
+module _ (r f : Bytes) where
+  pub push_refused : None ≡ filter_path f → (items : List Bytes) (all : Bytes) → step (Push r f) items all ≡ refused NotBuilt
+  push_refused e items all = ap (λ p. push_by r p items all) (sym e)
+
+  pub push_made : (place : Path) (rb : Bytes) (i j : SourceView) (k l : KeeperView) (result : Result Bytes Outcome) → Some place ≡ filter_path f → rb ≡ r → Counts i.faults j.faults (result ≡ Err ReadFault) → Counts k.faults l.faults (result ≡ Err StoreFault)
+      → result ≢ Err WriteFault
+      → ((items : List Bytes) → k.items ≡ Some items → IsMadeOf (λ all. IsPushOf rb place (read_items items) (stream all)) (λ all. by_items (read_items items) (push_step rb place (room_of items) all)) i.left items k l result)
+      → IsMade (IsInHand (Push r f)) (step (Push r f)) (loads (Push r f)) (writes (Push r f)) i j k l result
+  push_made place rb i j k l result e same read keep early made = record {
+    read = read;
+    keep = keep;
+    early = early;
+    items = λ q. absurd (true≢false (ap is_some e ∙ q));
+    reported = λ items g.
+        subst (λ (c : Type 0). c) (λ t. IsMadeOf (λ all. IsPushedTo (same t) (e t) (read_items items) (stream all)) (λ all. push_by (same t) (e t) items all) i.left items k l result) (made items (g (ap is_some (sym e))));
+  }
+
+  -- what it has done
+  pub push_lawful : (place : Path) (rb : Bytes) → Some place ≡ filter_path f → rb ≡ r → (items : List Bytes) (all : Bytes)
+      → IsLawfulRead place rb (read_items items) (stream all) (by_items (read_items items) (push_step rb place (room_of items) all)) → IsLawful (Push r f) items all (step (Push r f) items all)
+  push_lawful place rb e same items all h = subst (λ (c : Type 0). c) (λ t. IsLawfulBy (e t) (same t) (read_items items) (stream all) (push_by (same t) (e t) items all)) h
+
 -- the other words
-pub other_words : (asked : Asked) → ((force : Bool) → asked ≡ asks.Import force → ⊥) → ((r f : Bor Bytes) → asked ≡ asks.Project r f → ⊥) → ((r f : Bor Bytes) → asked ≡ asks.Name r f → ⊥) → (asked ≡ asks.Unknown → ⊥) → (items : List Bytes) (all : Bytes) →
-    step (command_of asked) items all ≡ refused NotBuilt
-other_words (asks.Import force) i p n u items all = absurd (i force refl)
-other_words (asks.Project r f) i p n u items all = absurd (p r f refl)
-other_words (asks.Push r f) i p n u items all = refl
-other_words (asks.Export r f) i p n u items all = refl
-other_words (asks.Name r f) i p n u items all = absurd (n r f refl)
-other_words asks.Batch i p n u items all = refl
-other_words (asks.Trial k) i p n u items all = refl
-other_words asks.Unknown i p n u items all = absurd (u refl)
+pub other_words : (asked : Asked) → ((force : Bool) → asked ≡ asks.Import force → ⊥) → ((r f : Bor Bytes) → asked ≡ asks.Project r f → ⊥) → ((r f : Bor Bytes) → asked ≡ asks.Push r f → ⊥) → ((r f : Bor Bytes) → asked ≡ asks.Name r f → ⊥) → (asked ≡ asks.Unknown → ⊥)
+    → (items : List Bytes) (all : Bytes) → step (command_of asked) items all ≡ refused NotBuilt
+other_words (asks.Import force) i p q n u items all = absurd (i force refl)
+other_words (asks.Project r f) i p q n u items all = absurd (p r f refl)
+other_words (asks.Push r f) i p q n u items all = absurd (q r f refl)
+other_words (asks.Export r f) i p q n u items all = refl
+other_words (asks.Name r f) i p q n u items all = absurd (n r f refl)
+other_words asks.Batch i p q n u items all = refl
+other_words (asks.Trial k) i p q n u items all = refl
+other_words asks.Unknown i p q n u items all = absurd (u refl)

@@ -18,3 +18,4 @@ pub mod Kept
 pub mod Calls
 pub mod Prepared
 pub mod Pushes
+pub mod PushRows

@@ -1,31 +1,31 @@
 // What an import makes of a store, beside what Git makes of the same stream. Names and bodies are those that `git fast-import`,
 // `git cat-file` and `git commit-tree` gave; the items' other bytes are laid out by hand.
 
-use crate::tests::{HELLO, ITEM, MAIN, SHOWN, calls, keeper_of, strings};
-use crate::{Outcome, run};
+use crate::tests::{DAMAGE, DONE, HELLO, ITEM, MAIN, NO_REF, READ, SHOWN, STORE, UNBUILT, WRITE, calls, keeper_of, strings};
+use crate::{outcome_code, run};
 use proj_io::{Failing, MemKeeper, MemSink, MemSource};
 use std::alloc::Global;
 use std::process::Abort;
 use std::test::Fail;
 
-const IMPORT: &[&str] = &["import"];
+pub(crate) const IMPORT: &[&str] = &["import"];
 
-const PROJECT: &[&str] = &["project", MAIN, ":/a"];
+pub(crate) const PROJECT: &[&str] = &["project", MAIN, ":/a"];
 
-const NOT_BUILT: &[u8] = b"not built\n";
+pub(crate) const NOT_BUILT: &[u8] = b"not built\n";
 
-const UNKNOWN_REF: &[u8] = b"unknown ref\n";
+pub(crate) const UNKNOWN_REF: &[u8] = b"unknown ref\n";
 
-const STORE_FAULT: &[u8] = b"store fault\n";
+pub(crate) const STORE_FAULT: &[u8] = b"store fault\n";
 
 const DAMAGED: &[u8] = b"damaged: item 0 at 0\n";
 
 // The reports on the streams.
-const HELLO_LINE: &[u8] = b"refs/heads/main 5990ba6163d77f77071ca2e8e9899c368dbc6eb7\n";
+pub(crate) const HELLO_LINE: &[u8] = b"refs/heads/main 5990ba6163d77f77071ca2e8e9899c368dbc6eb7\n";
 
-const BESIDE_LINE: &[u8] = b"refs/heads/main 09ee0bd35089e81a1a12d60fd04715ebbb9a3510\n";
+pub(crate) const BESIDE_LINE: &[u8] = b"refs/heads/main 09ee0bd35089e81a1a12d60fd04715ebbb9a3510\n";
 
-const WITHIN_LINE: &[u8] = b"refs/heads/main ea26d4343adeb63a6f370b5ef90a426ccababb61\n";
+pub(crate) const WITHIN_LINE: &[u8] = b"refs/heads/main ea26d4343adeb63a6f370b5ef90a426ccababb61\n";
 
 const A_LINE: &[u8] = b"refs/heads/a f633d4fd280d029c6c29522ac692e41f79e8f1c0\n";
 
@@ -34,16 +34,16 @@ const B_LINE: &[u8] = b"refs/heads/b 5990ba6163d77f77071ca2e8e9899c368dbc6eb7\n"
 const C_LINE: &[u8] = b"refs/heads/c 5990ba6163d77f77071ca2e8e9899c368dbc6eb7\n";
 
 // The projections of `WITHIN`'s commit and of `ON_A`'s.
-const SHOWN_WITHIN: &[u8] = b"c2964164ecb0f56f2fd479c8b7de3ec98713428e\n";
+pub(crate) const SHOWN_WITHIN: &[u8] = b"c2964164ecb0f56f2fd479c8b7de3ec98713428e\n";
 
 const SHOWN_ON_A: &[u8] = b"78649abff91db3d157cd5a692166c305a1c8e843\n";
 
 // A commit upon that of `HELLO`, with the file `b/z`.
-const BESIDE: &[u8] =
+pub(crate) const BESIDE: &[u8] =
     b"commit refs/heads/main\ncommitter A <a@x> 1700000000 +0000\ndata 5\nnext\nfrom 5990ba6163d77f77071ca2e8e9899c368dbc6eb7\nM 100644 inline b/z\ndata 2\nz\n";
 
 // The item of it: its blob, the tree `b`, the root and the commit are new.
-const BESIDE_ITEM: &[u8] = b"\x01\x01\
+pub(crate) const BESIDE_ITEM: &[u8] = b"\x01\x01\
     \x00\x00\x00\x04\
     \x01\x00\x00\x00\x02z\n\
     \x02\x00\x00\x00\x1d100644 z\x00\xb6\x80\x25\x34\x5d\x53\x01\xab\xad\x4d\x9e\xc9\x16\x6f\x45\x52\x43\xa0\xd7\x46\
@@ -58,7 +58,7 @@ const BESIDE_ITEM: &[u8] = b"\x01\x01\
     \x00\x0frefs/heads/main\x09\xee\x0b\xd3\x50\x89\xe8\x1a\x1a\x12\xd6\x0f\xd0\x47\x15\xeb\xbb\x9a\x35\x10";
 
 // A commit upon that of `HELLO`, with the file `a/z`.
-const WITHIN: &[u8] =
+pub(crate) const WITHIN: &[u8] =
     b"commit refs/heads/main\ncommitter A <a@x> 1700000000 +0000\ndata 5\nnext\nfrom 5990ba6163d77f77071ca2e8e9899c368dbc6eb7\nM 100644 inline a/z\ndata 2\nz\n";
 
 // The item of it: its blob, the tree `a`, the root and the commit are new.
@@ -117,13 +117,13 @@ const C_ITEM: &[u8] = b"\x01\x01\
     \x00\x0crefs/heads/c\x59\x90\xba\x61\x63\xd7\x7f\x77\x07\x1c\xa2\xe8\xe9\x89\x9c\x36\x8d\xbc\x6e\xb7";
 
 // The items of a store.
-const NONE: &[&[u8]] = &[];
+pub(crate) const NONE: &[&[u8]] = &[];
 
-const FIRST: &[&[u8]] = &[ITEM];
+pub(crate) const FIRST: &[&[u8]] = &[ITEM];
 
-const AND_BESIDE: &[&[u8]] = &[ITEM, BESIDE_ITEM];
+pub(crate) const AND_BESIDE: &[&[u8]] = &[ITEM, BESIDE_ITEM];
 
-const AND_WITHIN: &[&[u8]] = &[ITEM, WITHIN_ITEM];
+pub(crate) const AND_WITHIN: &[&[u8]] = &[ITEM, WITHIN_ITEM];
 
 const ON_ONE: &[&[u8]] = &[B_ITEM];
 
@@ -136,14 +136,14 @@ const BROKEN: &[&[u8]] = &[b"\xff"];
 // A call of the program: its words, its input, which call of the input and of the output fails, what comes of it, and the
 // store's items then.
 #[derive(Drop)]
-struct Turn<'a> {
-    words: &'a [&'a str],
-    input: &'a [u8],
-    failing: [Option<u64>; 2],
-    outcome: Outcome,
-    output: &'a [u8],
-    text: &'a [u8],
-    items: &'a [&'a [u8]],
+pub(crate) struct Turn<'a> {
+    pub(crate) words: &'a [&'a str],
+    pub(crate) input: &'a [u8],
+    pub(crate) failing: [Option<u64>; 2],
+    pub(crate) status: u8,
+    pub(crate) output: &'a [u8],
+    pub(crate) text: &'a [u8],
+    pub(crate) items: &'a [&'a [u8]],
 }
 
 fn check_items(rt: &impl Abort, store: &MemKeeper, items: &[&[u8]]) -> Result<(), Fail> {
@@ -155,7 +155,7 @@ fn check_items(rt: &impl Abort, store: &MemKeeper, items: &[&[u8]]) -> Result<()
 }
 
 // Makes the call on the store, opened again, which goes on to the next call.
-fn check_turn(
+pub(crate) fn check_turn(
     rt: &impl Abort,
     alloc: Global,
     store: MemKeeper,
@@ -168,7 +168,7 @@ fn check_turn(
     let mut out = MemSink::new(alloc, 64, calls(alloc, turn.failing[1])?);
     let mut err = MemSink::new(alloc, 64, Vec::new(alloc));
     let outcome = run(alloc, &words, &mut input, &mut out, &mut err, &mut store);
-    assert_eq!(rt; outcome, turn.outcome);
+    assert_eq!(rt; outcome_code(&outcome), turn.status);
     assert_eq!(rt; out.bytes(), turn.output);
     assert_eq!(rt; err.bytes(), turn.text);
     check_items(rt, &store, turn.items)?;
@@ -176,17 +176,17 @@ fn check_turn(
 }
 
 // The words and the input of a call, its outcome, what it writes to the output and to the error stream, and the items then.
-type Row = (
+pub(crate) type Row = (
     &'static [&'static str],
     &'static [u8],
-    Outcome,
+    u8,
     &'static [u8],
     &'static [u8],
     &'static [&'static [u8]],
 );
 
 // Makes one call after another on the store.
-fn check_rows(
+pub(crate) fn check_rows(
     rt: &impl Abort,
     alloc: Global,
     store: MemKeeper,
@@ -198,7 +198,7 @@ fn check_rows(
             words: row.0,
             input: row.1,
             failing: [None, None],
-            outcome: row.2,
+            status: row.2,
             output: row.3,
             text: row.4,
             items: row.5,
@@ -209,7 +209,7 @@ fn check_rows(
 }
 
 // The keeper's call of that number fails.
-fn failing_at(alloc: Global, call: u64, landed: bool) -> Result<Vec<Failing>, Fail> {
+pub(crate) fn failing_at(alloc: Global, call: u64, landed: bool) -> Result<Vec<Failing>, Fail> {
     let mut failing = Vec::new(alloc);
     failing.push(Failing { call, landed })?;
     Ok(failing)
@@ -218,9 +218,7 @@ fn failing_at(alloc: Global, call: u64, landed: bool) -> Result<Vec<Failing>, Fa
 #[test]
 fn an_import_is_one_item_that_later_calls_see(rt: HostRuntime) -> Result<(), Fail> {
     let alloc = rt.alloc();
-    let done = Outcome::Done;
-    let refused = Outcome::NotBuilt;
-    let unknown = Outcome::UnknownRef;
+    let (done, refused, unknown) = (DONE, UNBUILT, NO_REF);
     let next: &[&str] = &["project", "refs/heads/next", ":/a"];
     let rows: [Row; 12] = [
         // the store is empty: no parent can be named, and there is no ref
@@ -253,7 +251,7 @@ fn an_import_is_one_item_that_later_calls_see(rt: HostRuntime) -> Result<(), Fai
 #[test]
 fn each_ref_has_its_own_commits(rt: HostRuntime) -> Result<(), Fail> {
     let alloc = rt.alloc();
-    let done = Outcome::Done;
+    let done = DONE;
     let on_a: &[&str] = &["project", "refs/heads/a", ":/a"];
     let on_b: &[&str] = &["project", "refs/heads/b", ":/a"];
     let on_c: &[&str] = &["project", "refs/heads/c", ":/a"];
@@ -266,7 +264,7 @@ fn each_ref_has_its_own_commits(rt: HostRuntime) -> Result<(), Fail> {
         (IMPORT, ON_C, done, C_LINE, b"", ON_THREE),
         (on_c, b"", done, SHOWN, b"", ON_THREE),
         // the parent is on other refs than the stream's
-        (IMPORT, BESIDE, Outcome::NotBuilt, b"", NOT_BUILT, ON_THREE),
+        (IMPORT, BESIDE, UNBUILT, b"", NOT_BUILT, ON_THREE),
     ];
     check_rows(&rt, alloc, MemKeeper::new(alloc, Vec::new(alloc)), &rows)?;
     Ok(())
@@ -276,10 +274,10 @@ fn each_ref_has_its_own_commits(rt: HostRuntime) -> Result<(), Fail> {
 #[test]
 fn a_fault_of_the_store_is_answered(rt: HostRuntime) -> Result<(), Fail> {
     let alloc = rt.alloc();
-    let fault = Outcome::StoreFault;
-    let unknown: Row = (PROJECT, b"", Outcome::UnknownRef, b"", UNKNOWN_REF, NONE);
-    let shown: Row = (PROJECT, b"", Outcome::Done, SHOWN, b"", FIRST);
-    let within: Row = (PROJECT, b"", Outcome::Done, SHOWN_WITHIN, b"", AND_WITHIN);
+    let fault = STORE;
+    let unknown: Row = (PROJECT, b"", NO_REF, b"", UNKNOWN_REF, NONE);
+    let shown: Row = (PROJECT, b"", DONE, SHOWN, b"", FIRST);
+    let within: Row = (PROJECT, b"", DONE, SHOWN_WITHIN, b"", AND_WITHIN);
     // the call of the store that fails, whether the item lands, and what comes of `project` then
     let anew: [(u64, bool, Row); 3] = [(0, true, unknown), (1, false, unknown), (1, true, shown)];
     for (call, landed, then) in anew {
@@ -306,8 +304,8 @@ fn a_fault_of_the_store_is_answered(rt: HostRuntime) -> Result<(), Fail> {
 #[test]
 fn a_refusal_leaves_the_items(rt: HostRuntime) -> Result<(), Fail> {
     let alloc = rt.alloc();
-    let refused = Outcome::NotBuilt;
-    let damaged = Outcome::Damaged { item: 0, at: 0 };
+    let refused = UNBUILT;
+    let damaged = DAMAGE;
     let rows: [Row; 5] = [
         // no small stream, more behind one, and two refs
         (
@@ -343,7 +341,7 @@ fn a_refusal_leaves_the_items(rt: HostRuntime) -> Result<(), Fail> {
             NOT_BUILT,
             FIRST,
         ),
-        (PROJECT, b"", Outcome::Done, SHOWN, b"", FIRST),
+        (PROJECT, b"", DONE, SHOWN, b"", FIRST),
     ];
     check_rows(
         &rt,
@@ -371,11 +369,11 @@ fn an_import_has_at_most_so_many_bytes(rt: HostRuntime) -> Result<(), Fail> {
     let rows: [(usize, Row); 2] = [
         (
             65536,
-            (IMPORT, WITHIN, Outcome::Done, WITHIN_LINE, b"", AND_WITHIN),
+            (IMPORT, WITHIN, DONE, WITHIN_LINE, b"", AND_WITHIN),
         ),
         (
             65537,
-            (IMPORT, WITHIN, Outcome::NotBuilt, b"", NOT_BUILT, FIRST),
+            (IMPORT, WITHIN, UNBUILT, b"", NOT_BUILT, FIRST),
         ),
     ];
     for (size, row) in rows {
@@ -385,7 +383,7 @@ fn an_import_has_at_most_so_many_bytes(rt: HostRuntime) -> Result<(), Fail> {
             words: row.0,
             input: &input,
             failing: [None, None],
-            outcome: row.2,
+            status: row.2,
             output: row.3,
             text: row.4,
             items: row.5,
@@ -407,7 +405,7 @@ fn a_fault_of_another_device_is_answered(rt: HostRuntime) -> Result<(), Fail> {
     let read: Row = (
         IMPORT,
         WITHIN,
-        Outcome::ReadFault,
+        READ,
         b"",
         b"read fault\n",
         FIRST,
@@ -415,13 +413,13 @@ fn a_fault_of_another_device_is_answered(rt: HostRuntime) -> Result<(), Fail> {
     let write: Row = (
         IMPORT,
         WITHIN,
-        Outcome::WriteFault,
+        WRITE,
         b"",
         b"write fault\n",
         AND_WITHIN,
     );
-    let shown: Row = (PROJECT, b"", Outcome::Done, SHOWN, b"", FIRST);
-    let within: Row = (PROJECT, b"", Outcome::Done, SHOWN_WITHIN, b"", AND_WITHIN);
+    let shown: Row = (PROJECT, b"", DONE, SHOWN, b"", FIRST);
+    let within: Row = (PROJECT, b"", DONE, SHOWN_WITHIN, b"", AND_WITHIN);
     // the first call of the input fails, the third, or the first of the output
     let rows: [([Option<u64>; 2], Row, Row); 3] = [
         ([Some(0), None], read, shown),
@@ -433,7 +431,7 @@ fn a_fault_of_another_device_is_answered(rt: HostRuntime) -> Result<(), Fail> {
             words: row.0,
             input: row.1,
             failing,
-            outcome: row.2,
+            status: row.2,
             output: row.3,
             text: row.4,
             items: row.5,

@@ -12,6 +12,8 @@ mod projection;
 #[cfg(test)]
 mod projection_tests;
 mod push;
+#[cfg(test)]
+mod push_tests;
 mod pushing;
 mod replay;
 mod saving;

@@ -3,10 +3,36 @@ ghost use Rattle.std.specs.Prelude.{◌≡◌, false};
 
 use crate::{Outcome, outcome_code, outcome_text, run};
 use git_objects::Name;
+use path_names::Path;
 use proj_io::{Failing, Keeper, MemKeeper, MemSink, MemSource};
 use std::alloc::{AllocError, Global};
 use std::process::Abort;
 use std::test::Fail;
+
+// The statuses, as the outcomes' numbers are listed.
+pub(crate) const DONE: u8 = 0;
+
+pub(crate) const USAGE_STATUS: u8 = 2;
+
+pub(crate) const NO_REF: u8 = 8;
+
+pub(crate) const OTHER_REF: u8 = 13;
+
+pub(crate) const NOT_AT_HEAD: u8 = 14;
+
+pub(crate) const SAME: u8 = 16;
+
+pub(crate) const BLOCKED: u8 = 19;
+
+pub(crate) const READ: u8 = 22;
+
+pub(crate) const WRITE: u8 = 23;
+
+pub(crate) const STORE: u8 = 24;
+
+pub(crate) const DAMAGE: u8 = 25;
+
+pub(crate) const UNBUILT: u8 = 90;
 
 pub(crate) const MAIN: &str = "refs/heads/main";
 
@@ -45,7 +71,7 @@ struct Row<'a> {
     input: &'a [u8],
     most: usize,
     failing: [Option<u64>; 3],
-    outcome: Outcome,
+    status: u8,
     output: &'a [u8],
     text: &'a [u8],
 }
@@ -78,7 +104,7 @@ fn check_row(rt: &impl Abort, alloc: Global, row: &Row<'_>) -> Result<(), Fail> 
     let mut err = MemSink::new(alloc, row.most, calls(alloc, row.failing[2])?);
     let mut store = MemKeeper::new(alloc, Vec::new(alloc));
     let outcome = run(alloc, &words, &mut input, &mut out, &mut err, &mut store);
-    assert_eq!(rt; outcome, row.outcome);
+    assert_eq!(rt; outcome_code(&outcome), row.status);
     assert_eq!(rt; out.bytes(), row.output);
     assert_eq!(rt; err.bytes(), row.text);
     assert_eq!(rt; store.items().len(), 0);
@@ -96,7 +122,7 @@ fn faults_of_the_devices_are_answered_where_they_come(rt: HostRuntime) -> Result
             input: b"",
             most: 64,
             failing: [None, None, None],
-            outcome: Outcome::UnknownRef,
+            status: NO_REF,
             output: b"",
             text: b"unknown ref\n",
         },
@@ -105,7 +131,7 @@ fn faults_of_the_devices_are_answered_where_they_come(rt: HostRuntime) -> Result
             input: HELLO,
             most: 64,
             failing: [None, None, None],
-            outcome: Outcome::Done,
+            status: DONE,
             output: SHOWN,
             text: b"",
         },
@@ -114,7 +140,7 @@ fn faults_of_the_devices_are_answered_where_they_come(rt: HostRuntime) -> Result
             input: HELLO,
             most: 1,
             failing: [None, None, None],
-            outcome: Outcome::Done,
+            status: DONE,
             output: SHOWN,
             text: b"",
         },
@@ -123,7 +149,7 @@ fn faults_of_the_devices_are_answered_where_they_come(rt: HostRuntime) -> Result
             input: HELLO,
             most: 64,
             failing: [None, None, None],
-            outcome: Outcome::UnknownRef,
+            status: NO_REF,
             output: b"",
             text: b"unknown ref\n",
         },
@@ -133,7 +159,7 @@ fn faults_of_the_devices_are_answered_where_they_come(rt: HostRuntime) -> Result
             input: HELLO,
             most: 64,
             failing: [Some(0), None, None],
-            outcome: Outcome::ReadFault,
+            status: READ,
             output: b"",
             text: b"read fault\n",
         },
@@ -142,7 +168,7 @@ fn faults_of_the_devices_are_answered_where_they_come(rt: HostRuntime) -> Result
             input: HELLO,
             most: 64,
             failing: [Some(1), None, None],
-            outcome: Outcome::ReadFault,
+            status: READ,
             output: b"",
             text: b"read fault\n",
         },
@@ -152,7 +178,7 @@ fn faults_of_the_devices_are_answered_where_they_come(rt: HostRuntime) -> Result
             input: HELLO,
             most: 64,
             failing: [None, Some(0), None],
-            outcome: Outcome::WriteFault,
+            status: WRITE,
             output: b"",
             text: b"write fault\n",
         },
@@ -161,7 +187,7 @@ fn faults_of_the_devices_are_answered_where_they_come(rt: HostRuntime) -> Result
             input: HELLO,
             most: 4,
             failing: [None, Some(2), None],
-            outcome: Outcome::WriteFault,
+            status: WRITE,
             output: b"6a27ff6d",
             text: b"write fault\n",
         },
@@ -171,7 +197,7 @@ fn faults_of_the_devices_are_answered_where_they_come(rt: HostRuntime) -> Result
             input: HELLO,
             most: 1,
             failing: [None, None, Some(2)],
-            outcome: Outcome::UnknownRef,
+            status: NO_REF,
             output: b"",
             text: b"un",
         },
@@ -180,7 +206,7 @@ fn faults_of_the_devices_are_answered_where_they_come(rt: HostRuntime) -> Result
             input: HELLO,
             most: 64,
             failing: [None, Some(0), Some(0)],
-            outcome: Outcome::WriteFault,
+            status: WRITE,
             output: b"",
             text: b"",
         },
@@ -190,7 +216,7 @@ fn faults_of_the_devices_are_answered_where_they_come(rt: HostRuntime) -> Result
             input: HELLO,
             most: 64,
             failing: [Some(0), None, None],
-            outcome: Outcome::NotBuilt,
+            status: UNBUILT,
             output: b"",
             text: b"not built\n",
         },
@@ -199,7 +225,7 @@ fn faults_of_the_devices_are_answered_where_they_come(rt: HostRuntime) -> Result
             input: HELLO,
             most: 64,
             failing: [Some(0), Some(0), None],
-            outcome: Outcome::Usage,
+            status: USAGE_STATUS,
             output: b"",
             text: USAGE,
         },
@@ -210,14 +236,15 @@ fn faults_of_the_devices_are_answered_where_they_come(rt: HostRuntime) -> Result
     Ok(())
 }
 
-// The outcome of words, with no input.
-fn outcome_of(alloc: Global, words: &[&str], input: &[u8]) -> Result<Outcome, AllocError> {
+// The status of words, with this input and an empty store.
+fn status_of(alloc: Global, words: &[&str], input: &[u8]) -> Result<u8, AllocError> {
     let words = strings(alloc, words)?;
     let mut input = MemSource::new(input.to_vec(alloc)?, 4096, Vec::new(alloc));
     let mut out = MemSink::new(alloc, 4096, Vec::new(alloc));
     let mut err = MemSink::new(alloc, 4096, Vec::new(alloc));
     let mut store = MemKeeper::new(alloc, Vec::new(alloc));
-    Ok(run(alloc, &words, &mut input, &mut out, &mut err, &mut store))
+    let outcome = run(alloc, &words, &mut input, &mut out, &mut err, &mut store);
+    Ok(outcome_code(&outcome))
 }
 
 #[test]
@@ -240,7 +267,7 @@ fn each_form_of_the_words(rt: HostRuntime) -> Result<(), Fail> {
         &["trial", "+1"],
     ];
     for words in usage {
-        assert_eq!(rt; outcome_of(alloc, words, HELLO)?, Outcome::Usage);
+        assert_eq!(rt; status_of(alloc, words, HELLO)?, USAGE_STATUS);
     }
     let built_later: [&[&str]; 14] = [
         &["import", "--force"],
@@ -248,7 +275,7 @@ fn each_form_of_the_words(rt: HostRuntime) -> Result<(), Fail> {
         &["trial", "1"],
         &["trial", "100000"],
         &["project", MAIN, "::a/"],
-        &["push", MAIN, ":/a"],
+        &["push", MAIN, "::a/"],
         &["export", MAIN, ":/a"],
         &["name", MAIN, ":/"],
         &["name", MAIN, ":/a/"],
@@ -259,7 +286,7 @@ fn each_form_of_the_words(rt: HostRuntime) -> Result<(), Fail> {
         &["name", MAIN, ""],
     ];
     for words in built_later {
-        assert_eq!(rt; outcome_of(alloc, words, HELLO)?, Outcome::NotBuilt);
+        assert_eq!(rt; status_of(alloc, words, HELLO)?, UNBUILT);
     }
     Ok(())
 }
@@ -462,15 +489,15 @@ fn stored_refs_are_projected(rt: HostRuntime) -> Result<(), Fail> {
     let other = "refs/heads/other";
     let broken: &[u8] = b"\xff";
     // the item, the call of the store that fails (the append is call 0), the ref, the filter, and what comes of it
-    let rows: [(&[u8], Option<u64>, &str, &str, Outcome, &[u8], &[u8]); 7] = [
-        (ITEM, None, MAIN, ":/a", Outcome::Done, SHOWN, b""),
-        (ITEM, None, MAIN, ":/b", Outcome::Done, b"none\n", b""),
+    let rows: [(&[u8], Option<u64>, &str, &str, u8, &[u8], &[u8]); 7] = [
+        (ITEM, None, MAIN, ":/a", DONE, SHOWN, b""),
+        (ITEM, None, MAIN, ":/b", DONE, b"none\n", b""),
         (
             ITEM,
             None,
             other,
             ":/a",
-            Outcome::UnknownRef,
+            NO_REF,
             b"",
             b"unknown ref\n",
         ),
@@ -479,7 +506,7 @@ fn stored_refs_are_projected(rt: HostRuntime) -> Result<(), Fail> {
             Some(1),
             MAIN,
             ":/a",
-            Outcome::StoreFault,
+            STORE,
             b"",
             b"store fault\n",
         ),
@@ -488,7 +515,7 @@ fn stored_refs_are_projected(rt: HostRuntime) -> Result<(), Fail> {
             Some(3),
             MAIN,
             ":/a",
-            Outcome::StoreFault,
+            STORE,
             b"",
             b"store fault\n",
         ),
@@ -497,7 +524,7 @@ fn stored_refs_are_projected(rt: HostRuntime) -> Result<(), Fail> {
             None,
             MAIN,
             ":/a",
-            Outcome::Damaged { item: 0, at: 0 },
+            DAMAGE,
             b"",
             b"damaged: item 0 at 0\n",
         ),
@@ -506,12 +533,12 @@ fn stored_refs_are_projected(rt: HostRuntime) -> Result<(), Fail> {
             Some(1),
             MAIN,
             "::a/",
-            Outcome::NotBuilt,
+            UNBUILT,
             b"",
             b"not built\n",
         ),
     ];
-    for (item, call, refname, filter, outcome, output, text) in rows {
+    for (item, call, refname, filter, status, output, text) in rows {
         let mut failing = Vec::new(alloc);
         if let Some(call) = call {
             failing.push(Failing {
@@ -525,7 +552,7 @@ fn stored_refs_are_projected(rt: HostRuntime) -> Result<(), Fail> {
         let mut out = MemSink::new(alloc, 64, Vec::new(alloc));
         let mut err = MemSink::new(alloc, 64, Vec::new(alloc));
         let got = run(alloc, &words, &mut input, &mut out, &mut err, &mut store);
-        assert_eq!(rt; got, outcome);
+        assert_eq!(rt; outcome_code(&got), status);
         assert_eq!(rt; out.bytes(), output);
         assert_eq!(rt; err.bytes(), text);
         assert_eq!(rt; store.items().len(), 1);
@@ -537,11 +564,35 @@ fn stored_refs_are_projected(rt: HostRuntime) -> Result<(), Fail> {
 fn each_outcome_has_its_number_and_its_text(rt: HostRuntime) -> Result<(), Fail> {
     let alloc = rt.alloc();
     let name = Name([0xab; 20]);
-    let rows: [(Outcome, u8, &[u8]); 10] = [
+    let (path, by) = (Path::parse(alloc, b"a/f/x")?, Path::parse(alloc, b"a/\tf")?);
+    let rows: [(Outcome, u8, &[u8]); 15] = [
         (Outcome::Done, 0, b""),
         (Outcome::OutOfMemory, 1, b"out of memory\n"),
         (Outcome::Usage, 2, USAGE),
         (Outcome::UnknownRef, 8, b"unknown ref\n"),
+        (Outcome::OtherRef { at: 12 }, 13, b"other ref at 12\n"),
+        (
+            Outcome::NotAtHead {
+                expected: None,
+                got: Some(name),
+            },
+            14,
+            b"not at head: expected none, got abababababababababababababababababababab\n",
+        ),
+        (
+            Outcome::NotAtHead {
+                expected: Some(name),
+                got: None,
+            },
+            14,
+            b"not at head: expected abababababababababababababababababababab, got none\n",
+        ),
+        (Outcome::NoChange { n: 3 }, 16, b"no change: commit 3\n"),
+        (
+            Outcome::Blocked { n: 2, path, by },
+            19,
+            b"blocked: commit 2: a/f/x by \"a/\\tf\"\n",
+        ),
         (
             Outcome::Collision { name },
             21,

@@ -5,8 +5,9 @@ use Rattle.proj_io.specs.Views.{keeper_view}
 use Rattle.repo_state.specs.Changes.{IsCurrent}
 use Rattle.repo_state.specs.Items.{read_items}
 use Rattle.repo_state.specs.Loads.{IsLoaded, IsLoadFault}
-use Rattle.proj_cli.specs.Answer.{IsInHand, IsMadeOf}
-use Rattle.proj_cli.specs.Step.{step}
+use Rattle.proj_cli.specs.Answer.{IsImported, IsInHand, IsMadeOf}
+use Rattle.proj_cli.specs.Step.{import_step, room_of, step}
+use Rattle.proj_cli.specs.Streams.{stream}
 use Rattle.proj_cli.specs.Words.{Import}
 use Rattle.proj_cli.specs.declared.outcome.Outcome.{Outcome}
 use Rattle.proj_cli.proofs.Inputs.{loaded_made, made_then, unloaded_made}
@@ -16,7 +17,7 @@ pub returns-in-Err-clause-made : goal.returns-in-Err-clause-made
 returns-in-Err-clause-made g c = λ (items : List Bytes) told.
     let seen = keeper_view g.K.Keeper.items g.K.Keeper.number g.K.Keeper.faults in
     subst (λ (o : Outcome). IsMadeOf (IsInHand (Import false) items) (step (Import false) items) (g.S.Source.left c.args.input.now) items (seen c.args.store.now) (seen c.load.new.keeper) (Err o)) (sym c.load_outcome.ensures)
-    (unloaded_made items (g.S.Source.left c.args.input.now) (seen c.args.store.now) (seen c.load.new.keeper) c.in-Err.error (c.in-Err.ensures.same, c.in-Err.ensures.items)
+    (unloaded_made (IsInHand (Import false) items) (λ all h. import_step (room_of items) all h) items (g.S.Source.left c.args.input.now) (seen c.args.store.now) (seen c.load.new.keeper) c.in-Err.error (c.in-Err.ensures.same, c.in-Err.ensures.items)
     (subst (λ (o : Option (List Bytes)). IfSome o (λ xs. IsLoadFault c.in-Err.error (read_items xs))) told c.in-Err.ensures.read))
 
 pub returns-in-Ok-clause-made : goal.returns-in-Ok-clause-made
@@ -27,4 +28,4 @@ returns-in-Ok-clause-made g c = λ (items : List Bytes) told.
     let current : IsCurrent items c.in-Ok.state = record { held = loaded.held; number = loaded.number; size = loaded.size } in
     made_then (seen c.args.store.now) (seen c.load.new.keeper) (seen c.import_input.new.store) (c.in-Ok.ensures.same, c.in-Ok.ensures.items)
     (IsInHand (Import false) items) (step (Import false) items) left items c.import_input.result
-    (loaded_made items left (seen c.load.new.keeper) (seen c.import_input.new.store) c.import_input.result c.in-Ok.state loaded (c.import_input.ensures.made items (λ _. current)))
+    (loaded_made (λ r all. IsImported r (stream all)) import_step items left (seen c.load.new.keeper) (seen c.import_input.new.store) c.import_input.result c.in-Ok.state loaded (c.import_input.ensures.made items (λ _. current)))

@@ -3,7 +3,7 @@ use Rattle.git_objects.specs.Paths.{Bytes}
 use Rattle.proj_io.specs.Views.{keeper_view}
 use Rattle.proj_cli.specs.Answer.{IsMadeFrom, IsStreamInHand}
 use Rattle.proj_cli.specs.Prepared.{room_in}
-use Rattle.proj_cli.specs.Step.{import_stream}
+use Rattle.proj_cli.specs.Step.{import_step, import_stream}
 use Rattle.proj_cli.specs.Streams.{stream}
 use Rattle.proj_cli.specs.declared.outcome.Outcome.TheVariants.{OutOfMemory, ReadFault}
 use Rattle.proj_cli.proofs.Inputs.{input_long, input_none, input_whole}
@@ -12,13 +12,13 @@ use Rattle.proj_cli.proofs.import.import_input.Goals as goal
 pub returns-then-taken-clause-made : goal.returns-then-taken-clause-made
 returns-then-taken-clause-made g c = λ (items : List Bytes) current.
     let k = keeper_view g.K.Keeper.items g.K.Keeper.number g.K.Keeper.faults c.args.store.now in
-    input_long c.args.state.held (room_in c.args.state) (g.S.Source.left c.args.input.now) items k k c.in-Ok.taken.more c.in-Ok.ensures.more c.if-taken.true
+    input_long (λ all. IsStreamInHand c.args.state.held (stream all)) (λ all. import_stream c.args.state.held (room_in c.args.state) (stream all)) (g.S.Source.left c.args.input.now) items k k c.in-Ok.taken.more c.in-Ok.ensures.more c.if-taken.true
 
 pub returns-in-Ok-clause-made : goal.returns-in-Ok-clause-made
 returns-in-Ok-clause-made g c = λ (items : List Bytes) current.
     let seen = keeper_view g.K.Keeper.items g.K.Keeper.number g.K.Keeper.faults in
     let h = c.args.state.held in
-    input_whole h (room_in c.args.state) (g.S.Source.left c.args.input.now) items (seen c.args.store.now) (seen c.import_text.new.store) c.in-Ok.taken.bytes c.in-Ok.taken.more c.import_text.result
+    input_whole (λ all. IsStreamInHand c.args.state.held (stream all)) (λ all. import_stream c.args.state.held (room_in c.args.state) (stream all)) (g.S.Source.left c.args.input.now) items (seen c.args.store.now) (seen c.import_text.new.store) c.in-Ok.taken.bytes c.in-Ok.taken.more c.import_text.result
     c.in-Ok.ensures.bytes c.in-Ok.ensures.more c.in-Ok.ensures.within c.if-taken.false
     (subst (λ (t : Bytes). IsMadeFrom (IsStreamInHand h (stream t)) (import_stream h (room_in c.args.state) (stream t)) items (seen c.args.store.now) (seen c.import_text.new.store) c.import_text.result) c.bytes.ensures
     (c.import_text.ensures.made items current))
@@ -26,9 +26,9 @@ returns-in-Ok-clause-made g c = λ (items : List Bytes) current.
 pub returns-in-Err-Fault-clause-made : goal.returns-in-Err-Fault-clause-made
 returns-in-Err-Fault-clause-made g c = λ (items : List Bytes) current.
     let k = keeper_view g.K.Keeper.items g.K.Keeper.number g.K.Keeper.faults c.args.store.now in
-    input_none c.args.state.held (room_in c.args.state) (g.S.Source.left c.args.input.now) items k k ReadFault (λ f s. tt)
+    input_none (λ all. IsStreamInHand c.args.state.held (stream all)) (λ all. import_stream c.args.state.held (room_in c.args.state) (stream all)) (g.S.Source.left c.args.input.now) items k k (λ all. import_step (room_in c.args.state) all c.args.state.held) ReadFault (λ f s. tt)
 
 pub returns-clause-made : goal.returns-clause-made
 returns-clause-made g c = λ (items : List Bytes) current.
     let k = keeper_view g.K.Keeper.items g.K.Keeper.number g.K.Keeper.faults c.args.store.now in
-    input_none c.args.state.held (room_in c.args.state) (g.S.Source.left c.args.input.now) items k k OutOfMemory (λ f s. tt)
+    input_none (λ all. IsStreamInHand c.args.state.held (stream all)) (λ all. import_stream c.args.state.held (room_in c.args.state) (stream all)) (g.S.Source.left c.args.input.now) items k k (λ all. import_step (room_in c.args.state) all c.args.state.held) OutOfMemory (λ f s. tt)

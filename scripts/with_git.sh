@@ -1,0 +1,81 @@
+#!/usr/bin/env bash
+# Makes the same histories with real Git and compares its names with those that `proj` prints and that the tests of pushes expect.
+# Run it at the top of the repository, after the program was built.
+set -u
+cd "$(dirname "$0")/.." || exit 1
+proj=${PROJ:-$PWD/crates/proj_cli/out/proj_cli}
+work=$(mktemp -d) || exit 1
+trap 'rm -rf "$work"' EXIT
+export GIT_DIR=$work/repo GIT_INDEX_FILE=$work/index
+export GIT_CONFIG_NOSYSTEM=1 GIT_CONFIG_GLOBAL=/dev/null HOME=$work
+export GIT_AUTHOR_NAME=A GIT_AUTHOR_EMAIL=a@x GIT_AUTHOR_DATE='@1700000000 +0000'
+export GIT_COMMITTER_NAME=A GIT_COMMITTER_EMAIL=a@x GIT_COMMITTER_DATE='@1700000000 +0000'
+git init -q --bare "$GIT_DIR" || exit 1
+passed=0
+failed=0
+
+# what is compared, what Git says, what is said here
+same() {
+    if [ -n "$2" ] && [ "$2" = "$3" ]; then
+        passed=$((passed + 1))
+    else
+        failed=$((failed + 1))
+        printf 'git: %s: %s, but here: %s\n' "$1" "$2" "$3"
+    fi
+}
+
+# one commit of a stream: message, path, content, and the line of its parent or nothing
+commit() {
+    printf 'commit refs/heads/main\ncommitter A <a@x> 1700000000 +0000\ndata %d\n%s\n%s' $((${#1} + 1)) "$1" "$4"
+    printf 'M 100644 inline %s\ndata %d\n%s\n' "$2" $((${#3} + 1)) "$3"
+}
+
+# the tree of a commit (or of nothing) with one file more
+with_file() {
+    rm -f "$GIT_INDEX_FILE"
+    [ -z "$1" ] || git read-tree "$1"
+    git update-index --add --cacheinfo "100644,$(printf '%s\n' "$3" | git hash-object -w --stdin),$2"
+    git write-tree
+}
+
+# the commit of a tree, upon these parents
+upon() {
+    message=$1
+    tree=$2
+    shift 2
+    printf '%s\n' "$message" | git commit-tree "$tree" "$@"
+}
+
+# the expected line of a test
+expected() {
+    sed -n "/^const $1: /,/;\$/s/.*b\"\\(.*\\)\\\\n\";\$/\\1/p" crates/proj_cli/src/push_tests.rt
+}
+
+# ---- a history, and what is shown of it
+
+{ commit init a/f hello ''; commit beside b/g 1 ''; commit within a/f again ''; } >"$work/history"
+git fast-import --quiet <"$work/history"
+same 'the last commit of an import' "refs/heads/main $(git rev-parse main)" "$("$proj" "$work/store" import <"$work/history")"
+first=$(upon init "$(git rev-parse main~2:a)")
+last=$(upon within "$(git rev-parse main:a)" -p "$first")
+same 'a projection of three commits' "$last" "$("$proj" name refs/heads/main :/a <"$work/history")"
+same 'a projection of one of them' "$(upon beside "$(git rev-parse main:b)")" "$("$proj" name refs/heads/main :/b <"$work/history")"
+
+# ---- a commit that is pushed, and the original one
+
+commit init a/f hello '' | git fast-import --quiet --force
+head=$(git rev-parse main)
+projected=$(upon init "$(git rev-parse main:a)")
+pushed=$(upon push "$(with_file "$projected" g 1)" -p "$projected")
+original=$(upon push "$(with_file "$head" a/g 1)" -p "$head")
+same 'a push into a directory' "$pushed $original" "$(expected G_LINE)"
+{ commit init a/f hello ''; commit push a/g 1 ''; } >"$work/history"
+same 'the original commit' "refs/heads/main $original" "$("$proj" "$work/store" import <"$work/history")"
+same 'the projection of the original commit' "$pushed" "$("$proj" name refs/heads/main :/a <"$work/history")"
+again=$(upon push "$(with_file "$pushed" g 2)" -p "$pushed")
+same 'a push upon the first' "$again $(upon push "$(with_file "$original" a/g 2)" -p "$original")" "$(expected SECOND_LINE)"
+anew=$(upon push "$(with_file '' x x)")
+same 'a push of a new directory' "$anew $(upon push "$(with_file "$head" new/x x)" -p "$head")" "$(expected X_LINE)"
+
+printf 'git: %d passed, %d failed\n' "$passed" "$failed"
+[ "$failed" -eq 0 ]
