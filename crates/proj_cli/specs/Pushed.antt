@@ -1,5 +1,5 @@
 -- What an accepted push has done, seen from scratch in the new state.
-use Rattle.std.specs.Prelude.{◌≡◌, ⊤, ⊥, List, [], ◌∷◌, Option, Some, None, Result, Ok, Err}
+use Rattle.std.specs.Prelude.{◌≡◌, ⊤, List, [], ◌∷◌, Option, Some, None, Result, Ok, Err}
 use Rattle.std.specs.Option.{option_map}
 use Rattle.std.specs.FinMap.{find}
 use Rattle.git_objects.specs.Paths.{Bytes, Path}
