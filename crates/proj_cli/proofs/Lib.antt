@@ -25,3 +25,7 @@ pub mod PutSizes
 pub mod KnownLeaves
 pub mod StreamSizes
 pub mod ImportFits
+pub mod ProjectedCommits
+pub mod ProjectedNames
+pub mod SetRefs
+pub mod PushLaws
