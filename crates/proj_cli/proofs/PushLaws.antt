@@ -148,10 +148,11 @@ by-law place refname head s' s r p v was k w a b c =
       unseen = λ q e. ap (λ (t : Flat). at t q) commit.at ∙ laid.kept q e;
     }
 
--- by what the code stands upon
+-- by what the code stands upon; the commit of a ref is held
 pub push-law : (place : Path) (refname head : Bytes) (s' : Stored) (start : push.Start) (s : Small) (r : Pushed) (p : Prepared) → is_path place ≡ true →
-    find bytes_cmp refname s'.held.refs ≡ Some head → has CommitKind s'.held.objects head ≡ true → start ≡ start_below place s'.held head → IsStored s' →
+    find bytes_cmp refname s'.held.refs ≡ Some head → start ≡ start_below place s'.held head → IsStored s' →
     IsAccepted (newest s'.objects) (below place) start s r → IsPushBatch refname r p → IsStored (changed s' (plan_in s' (change_of p.batch))) →
     IsPushed place refname s'.held (held_after s'.held (plan_in s' (change_of p.batch))) s p.report
-push-law place refname head s' start s r p v was k same w a b c =
-    by-law place refname head s' s r p v was k w (subst (λ (t : push.Start). IsAccepted (newest s'.objects) (below place) t s r) same a) b c
+push-law place refname head s' start s r p v was same w a b c =
+    let there = find-there s'.held.refs refname head was in
+    by-law place refname head s' s r p v was (w.heads there.0 head there.1) w (subst (λ (t : push.Start). IsAccepted (newest s'.objects) (below place) t s r) same a) b c
