@@ -58,7 +58,7 @@ module _ (b : Bytes) (H : List Object) (s : IsStore (record { kind = CommitKind;
   unfolding body_of
   own-named = ap (λ t. commit_from (cond t b (body_of CommitKind H (object_name self)))) (same_bytes-self (object_name self))
 
-  own-name : (d : Commit) → commit_from b ≡ Some d → has Tree H d.tree ≡ true → snapshot_name (snapshot_of H d) ≡ object_name self
+  pub own-name : (d : Commit) → commit_from b ≡ Some d → has Tree H d.tree ≡ true → snapshot_name (snapshot_of H d) ≡ object_name self
   own-name d r t = ap snapshot_name (sym (snapshot-newer self H s d t)) ∙ (held (self ∷ H) (object_name self) d s own-has (own-named ∙ r)).named
 
   first-at : (d : Commit) (n : Bytes) → commit_from b ≡ Some d → has Tree H d.tree ≡ true →
@@ -85,7 +85,7 @@ step CommitKind b H n c s h e older =
       | false ↦ λ g r. older g r ∙ sym (flat-newer o H s n c g r)
     ] h e
 
-tree-held : (H : List Object) (n : Bytes) (c : Commit) → IsStore H → has CommitKind H n ≡ true → commit_named H n ≡ Some c → tree_at (snapshots_in H) n ≡ flat H c.tree
+pub tree-held : (H : List Object) (n : Bytes) (c : Commit) → IsStore H → has CommitKind H n ≡ true → commit_named H n ≡ Some c → tree_at (snapshots_in H) n ≡ flat H c.tree
 unfolding has
 tree-held [] n c s h e = absurd (true≢false (sym h))
 tree-held (o ∷ H) n c s h e = step o.kind o.body H n c s h e (tree-held H n c s.2)
