@@ -27,3 +27,7 @@ pub mod StreamSizes
 pub mod ImportFits
 pub mod PushPlans
 pub mod PushFits
+pub mod ProjectedCommits
+pub mod ProjectedNames
+pub mod SetRefs
+pub mod PushLaws
