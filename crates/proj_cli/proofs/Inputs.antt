@@ -1,6 +1,6 @@
 -- What a command makes of its input, and of a store that was loaded.
 use Rattle.std.proofs.Common.{◌≡◌, ◌+◌, ◌<◌, ◌≤◌, Bool, true, false, cond, List, [], ◌∷◌, ◌++◌, take, length, sym, ap, subst, ◌∙◌, Some, None, Ok, Err, Result, IfSome, ◌↔◌, inl, inr}
-use Rattle.std.specs.Prelude.{unwrap_or, IsTrue}
+use Rattle.std.specs.Prelude.{unwrap_or, nat_le, IsTrue}
 use Rattle.std.specs.declared.option.Option.{Option}
 use Rattle.git_objects.specs.Paths.{Bytes}
 use Rattle.object_store.specs.Objects.{Object}

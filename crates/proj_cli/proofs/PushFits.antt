@@ -1,12 +1,13 @@
 -- The change that a push makes is within the limits.
 use Rattle.std.proofs.Common.{◌≡◌, ℕ, ◌≤◌, ◌^◌, Bool, true, false, cond, ◌&&◌, List, [], ◌∷◌, length, map, Option, Some, None, Ok, IfSome, refl, sym, ap, subst, ◌∙◌, arith}
 use Rattle.std.specs.Option.{is_none}
+use Rattle.std.specs.Cmp.{first_so, second_so}
 use Rattle.std.specs.List.{list_all}
 use Rattle.std.specs.Option.{option_map_or}
 use Rattle.std.specs.Prelude.{nat_le}
 use Rattle.git_objects.specs.Paths.{Bytes, Path}
 use Rattle.git_objects.specs.Parts.{name_bytes}
-use Rattle.git_objects.specs.Trees.{Flat, FileLeaf}
+use Rattle.git_objects.specs.Trees.{Flat, FileLeaf, Leaf}
 use Rattle.git_objects.specs.declared.kind.Kind.TheVariants.{Blob, Commit as CommitKind}
 use Rattle.git_objects.specs.declared.name.Name.{Name}
 use Rattle.git_objects.proofs.Basics.{Each}
@@ -43,20 +44,13 @@ laid_is None (Some b) v u e = cc
 laid_is None None v u e = cc
 
 module _ (H : List Object) (blobs : List Bytes) where
+  known-entered : (o : Option Path) (x : Leaf) (t : Flat) → list_all (changes.is_known H blobs) (leaf_objects x) ≡ true → are_known H blobs t ≡ true → are_known H blobs (entered o x t) ≡ true
+  known-entered None x t h g = g
+  known-entered (Some p) x t h g = known-entry H blobs p x t g h
+
   known-carried : (to : Path → Option Path) (s t : Flat) → are_known H blobs s ≡ true → are_known H blobs t ≡ true → are_known H blobs (carried to s t) ≡ true
   known-carried to [] t h g = g
-  known-carried to (e ∷ s) t h g = by (to e.0)
-    where
-      both : (x y : Bool) → (x && y) ≡ true → (x ≡ true) × (y ≡ true)
-      both true y k = (refl, k)
-      both false y k = cc
-
-      parts : (list_all (changes.is_known H blobs) (leaf_objects e.1) ≡ true) × (are_known H blobs s ≡ true)
-      parts = both _ _ h
-
-      by : (o : Option Path) → are_known H blobs (entered o e.1 (carried to s t)) ≡ true
-      by None = known-carried to s t parts.1 g
-      by (Some p) = known-entry H blobs p e.1 (carried to s t) (known-carried to s t parts.1 g) parts.0
+  known-carried to (e ∷ s) t h g = known-entered (to e.0) e.1 (carried to s t) (first_so _ _ h) (known-carried to s t (second_so (list_all (changes.is_known H blobs) (leaf_objects e.1)) _ h) g)
 
   -- the leaves of what is laid are those of the two trees
   known-laid : (f : Lens) (t n u : Flat) → laid f t n ≡ LaidTree u → are_known H blobs t ≡ true → are_known H blobs n ≡ true → are_known H blobs u ≡ true

@@ -81,6 +81,6 @@ module _ (S : List Object) (s : IsStore S) (h : Held) (f : Lens) (start : push.S
     -- and is the change of the step
     pub push-step : (room : Room) → push_made h room refname start m (judged f start m) ≡ changing h room p.report (plan S h (change_of p.batch))
     push-step room =
-        let report : push_line (snapshot_name (pushed_commit start m)) (snapshot_name original) ≡ p.report = (λ i. push_line (a.pushed (~ i)) (head-is (~ i))) ∙ sym b.report in
+        let report : push_line (snapshot_name (pushed_commit start m)) (snapshot_name original) ≡ p.report = (let q = sym a.pushed in let o = sym head-is in λ i. push_line (q i) (o i)) ∙ sym b.report in
         let says = sym plan-is in
         ap (push_made h room refname start m) judged-is ∙ (λ i. changing h room (report i) (says i))

@@ -4,7 +4,7 @@ use Rattle.sha1.specs.Sha1.{sha1, first_words, schedule, rounds, compress, hash_
 use Rattle.std.specs.Fmt.{digits}
 use Rattle.hex.specs.Hex.{encode_with}
 use Rattle.git_objects.specs.Paths.{Bytes}
-use Rattle.git_objects.specs.Trees.{Flat, FileLeaf, under}
+use Rattle.git_objects.specs.Trees.{Flat, FileLeaf, put, under}
 use Rattle.git_objects.specs.Names.{name, body, line}
 use Rattle.git_objects.specs.Commits.{Letter}
 use Rattle.filter_unapply.specs.Lenses.{below}
@@ -81,20 +81,23 @@ pub pushed_file : by_laid start letter (laid (below (a ∷ [])) tree (pushed_com
       parents = zeros ∷ [];
       letter = letter;
     })
+unfolding put
 pushed_file = refl
 
 -- the pushed commit stands upon the projection, the original one upon the ref's commit
 pub pushed_is : pushed_commit start (upon_ones ((g ∷ [], codes "4") ∷ []))
     ≡ record { tree = (f ∷ [], FileLeaf (codes "1")) ∷ (g ∷ [], FileLeaf (codes "4")) ∷ []; parents = ones ∷ []; letter = letter }
+unfolding put
 pushed_is = refl
 
 -- a file in the place of a directory that is pushed
 pub in_the_way : by_laid start_anew letter (laid (below (x ∷ [])) tree (pushed_commit start_anew (upon_nothing ((f ∷ [], codes "4") ∷ []))).tree) ≡ Blocked (x ∷ f ∷ []) (x ∷ [])
+unfolding put
 in_the_way = refl
 
 -- the same content again
 pub no_change : judged (below (a ∷ [])) start (upon_ones ((f ∷ [], codes "1") ∷ [])) ≡ NoChange
-unfolding body line name digits first_words schedule rounds compress hash_after digest_bytes sha1
+unfolding put body line name digits first_words schedule rounds compress hash_after digest_bytes sha1
 no_change = refl
 
 -- ---- steps
