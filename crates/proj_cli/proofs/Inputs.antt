@@ -1,6 +1,6 @@
 -- What a command makes of its input, and of a store that was loaded.
 use Rattle.std.proofs.Common.{◌≡◌, ◌+◌, ◌<◌, ◌≤◌, Bool, true, false, cond, List, [], ◌∷◌, ◌++◌, take, length, sym, ap, subst, ◌∙◌, Some, None, Ok, Err, Result, IfSome, ◌↔◌, inl, inr}
-use Rattle.std.specs.Prelude.{unwrap_or, nat_le, IsTrue}
+use Rattle.std.specs.Prelude.{unwrap_or, nat_le, IfOk, IsTrue}
 use Rattle.std.specs.declared.option.Option.{Option}
 use Rattle.git_objects.specs.Paths.{Bytes}
 use Rattle.object_store.specs.Objects.{Object}
@@ -71,6 +71,15 @@ module _ (hand : Bytes → Object → Type 0) (rest : Bytes → Step) (left : Op
   input_none step outcome refusal =
       let all = unwrap_or left long in
       record { all = all; told = told_input left long; made = made_plain (hand all) (step all) items k k (Err outcome) (keeps k) (refusal (hand all) all) }
+
+-- what holds of the step of an input that was read whole
+pub input_lawful : (rest : Bytes → Step) (law : Bytes → Step → Type 0) (left : Option Bytes) (given : Bytes) (more : Bool) (result : Result Bytes Outcome) → IfSome left (λ all. given ≡ take input_max all) → IfSome left (λ all. IsTrue more ↔ (input_max < length all))
+    → length given ≤ input_max → more ≡ false → IfOk result (λ _. law given (rest given)) → IfSome left (λ all. IfOk result (λ _. law all (cond (nat_le (length all) input_max) (rest all) (refused NotBuilt))))
+input_lawful rest law None given more result a b c e h = tt
+input_lawful rest law (Some all) given more result a b c e h =
+    let whole = whole_input (Some all) given more input_max a b c e in
+    let at : cond (nat_le (length all) input_max) (rest all) (refused NotBuilt) ≡ rest given = ap (λ t. cond t (rest all) (refused NotBuilt)) whole.1 ∙ ap rest whole.0 in
+    subst (λ (s : Step). IfOk result (λ _. law all s)) (sym at) (subst (λ (t : Bytes). IfOk result (λ _. law t (rest given))) (sym whole.0) h)
 
 -- ---- a store that was read before
 

@@ -31,3 +31,6 @@ pub mod ProjectedCommits
 pub mod ProjectedNames
 pub mod SetRefs
 pub mod PushLaws
+pub mod PushStarts
+pub mod PushAnswers
+pub mod PushStreams

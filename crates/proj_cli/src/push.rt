@@ -1,24 +1,29 @@
 // Taking a pushed commit back into the original history.
-ghost use Rattle.std.specs.Prelude.{◌≡◌, ◌≢◌, ◌≤◌, ◌∷◌, [], List, length, map, true, Err, Ok, Some, IfErr, IfOk, IfSome};
+ghost use Rattle.std.specs.Prelude.{◌≡◌, ◌≢◌, ◌≤◌, ◌∷◌, [], List, filter, length, map, reverse, true, Err, Ok, Some, IfErr, IfOk, IfSome};
 ghost use Rattle.std.specs.FinMap.{find};
+ghost use Rattle.std.specs.Option.{option_map};
+ghost use Rattle.git_objects.specs.Parts.{name_bytes};
 ghost use Rattle.git_objects.specs.Paths.{Bytes};
+ghost use Rattle.git_objects.specs.Trees.{under};
 ghost use Rattle.path_names.specs.RefNames.{is_ref_name};
 ghost use Rattle.git_objects.specs.declared.kind.Kind.TheVariants.{Commit, Tree};
 ghost use Rattle.object_store.specs.Errors.{newest};
-ghost use Rattle.object_store.specs.Objects.{has};
+ghost use Rattle.object_store.specs.Objects.{has, object_name};
 ghost use Rattle.proj_io.specs.Counts.{Counts};
 ghost use Rattle.proj_io.specs.Views.{keeper_view};
 ghost use Rattle.filter_unapply.specs.Lenses.{below};
 ghost use Rattle.repo_state.specs.Changes.{IsCurrent, changed, held_after, plan_in};
 ghost use Rattle.repo_state.specs.Commits.{change_of};
-ghost use Rattle.repo_state.specs.Items.{bytes_cmp, read_items};
+ghost use Rattle.repo_state.specs.Items.{bytes_cmp, is_commit, read_items};
+ghost use Rattle.repo_state.specs.Repos.{snapshots_in};
 ghost use Rattle.repo_state.specs.Loads.{IsStored};
 ghost use Rattle.proj_cli.specs.Answer.{IsInPush, IsInPushFrom, IsMadeFrom, IsMadeOf, IsPushInHand, IsPushOf, IsSmallsInHand};
 ghost use Rattle.proj_cli.specs.Prepared.{FitsItems, IsPlainRefusal, IsPrepared, IsSameBut, room_in};
-ghost use Rattle.proj_cli.specs.Push.{IsPushMade, judged};
+ghost use Rattle.proj_cli.specs.Push.{IsPushMade, judged, start_at};
 ghost use Rattle.proj_cli.specs.Pushed.{IsLawfulRead, IsLawfulStream, IsPushedAll};
 ghost use Rattle.proj_cli.specs.Pushes.{IsAccepted, IsPreparedPush, IsPushBatch, IsPushFault, start_value};
 ghost use Rattle.proj_cli.specs.Replays.{IsGrownBy};
+ghost use Rattle.proj_cli.specs.Shown.{shown_value};
 ghost use Rattle.proj_cli.specs.Step.{by_items, input_max, push_at, push_line, push_made, push_smalls, push_step, push_stream, room_of, start_below};
 ghost use Rattle.proj_cli.specs.Streams.{stream};
 ghost use Rattle.proj_cli.specs.Views.{small_value};
@@ -26,12 +31,13 @@ ghost use Rattle.proj_cli.specs.Views.{small_value};
 use crate::Outcome;
 use crate::import::{is_same_name, nothing};
 use crate::outcome::load_outcome;
-use crate::projection::projection;
+use crate::projection::{Shown, projection};
 use crate::pushing::{PushFault, Pushed, Start, push_commit};
 use crate::replay::tree_of;
 use crate::saving::{Prepared, save};
 use crate::streams::{INPUT_MAX, SmallCommit, stream};
 use git_objects::{Bytes, Name};
+use object_store::Store;
 use path_names::{Path, RefFault, RefName};
 use proj_io::{Keeper, ReadError, Source, read_up_to};
 use repo_state::{Batch, Setting, State};
@@ -48,6 +54,40 @@ fn push_line(alloc: Global, pushed: &Name, original: &Name) -> Result<Vec<u8>, A
     Ok(line)
 }
 
+// The name of a projection, where there is one.
+fn commit_of(shown: Option<Shown>) -> Option<Name>
+    ensures { option_map name_bytes result ≡ option_map (λ p. p.commit) (option_map shown_value shown) }
+{
+    match shown {
+        None => None,
+        Some(shown) => Some(shown.commit),
+    }
+}
+
+// What a push upon a commit of a store stands upon, where these are all commits in order of arrival.
+fn start_in(
+    alloc: Global,
+    store: &Store,
+    commits: &[Name],
+    place: &Path,
+    head: Name,
+) -> Result<Start, AllocError>
+    requires commits { map name_bytes commits.now ≡ reverse (map object_name (filter is_commit (newest store.now))) }
+    requires head { has Commit (newest store.now) head.0 ≡ true }
+    ensures value { IfOk result (λ s. start_value (newest store.now) place.now s ≡ start_at (λ t. under t place.now) (snapshots_in (newest store.now)) head.0) }
+    ensures tree { IfOk result (λ s. has Tree (newest store.now) s.tree.0 ≡ true) }
+    ensures head { IfOk result (λ s. has Commit (newest store.now) s.head.0 ≡ true) }
+{
+    // The outcome rests on what the store keeps.
+    let _ = store.get(&head);
+    let end = projection(alloc, store, commits, place, &head)?;
+    Ok(Start {
+        head,
+        tree: tree_of(store, &head),
+        end: commit_of(end),
+    })
+}
+
 // What a push to a ref stands upon, which names this commit.
 fn start(alloc: Global, state: &State, place: &Path, head: Name) -> Result<Start, AllocError>
     requires whole { newest state.now.objects ≡ state.now.held.objects }
@@ -57,12 +97,7 @@ fn start(alloc: Global, state: &State, place: &Path, head: Name) -> Result<Start
     ensures head { IfOk result (λ s. has Commit (newest state.now.objects) s.head.0 ≡ true) }
 {
     let commits = state.commits(alloc)?;
-    let end = projection(alloc, &state.store, &commits, place, &head)?;
-    Ok(Start {
-        head,
-        tree: tree_of(&state.store, &head),
-        end: end.map(|shown| shown.commit),
-    })
+    start_in(alloc, &state.store, &commits, place, head)
 }
 
 // Makes the original commit of a pushed one, in the state's store.
@@ -156,6 +191,8 @@ fn push_small(
     ensures err { IfErr result (IsPlainRefusal (IsInPush place.now state.old.held head.0 (small_value small.now))
         (push_smalls refname.now place.now (room_in state.old) state.old.held head.0 (small_value small.now ∷ []))) }
 {
+    // What was not shown stays, since the place is a path.
+    let _ = place.components();
     if small.head.refname.text() != refname {
         return Err(Outcome::OtherRef { at: 0 });
     }

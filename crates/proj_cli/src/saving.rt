@@ -1,5 +1,5 @@
 // Committing what a command has made.
-ghost use Rattle.std.specs.Prelude.{◌≡◌, ◌≢◌, List, Err, Some, IfOk, OnOk};
+ghost use Rattle.std.specs.Prelude.{◌≡◌, ◌≢◌, List, Err, Some, OnOk};
 ghost use Rattle.git_objects.specs.Paths.{Bytes};
 ghost use Rattle.object_store.specs.Errors.{newest};
 ghost use Rattle.proj_io.specs.Counts.{Counts};
@@ -37,8 +37,8 @@ pub fn save<K: Keeper>(
     ensures made { let kept = keeper_view K.items K.number K.faults in (items : List Bytes) →
         (K.items store.old ≡ Some items → IsCurrent items state × IsWithin (newest state.objects) state.held.objects (change_of prepared.batch)) →
         IsMadeFrom NoObject (changing state.held (room_in state) prepared.report (plan_in state (change_of prepared.batch))) items (kept store.old) (kept store.new) result }
-    ensures done { IfOk result (λ report. changing state.held (room_in state) prepared.report (plan_in state (change_of prepared.batch))
-        ≡ record { outcome = Outcome.Done; output = report; change = plan_in state (change_of prepared.batch) }) }
+    ensures done { OnOk result (changing state.held (room_in state) prepared.report (plan_in state (change_of prepared.batch))
+        ≡ record { outcome = Outcome.Done; output = prepared.report; change = plan_in state (change_of prepared.batch) }) }
     ensures stored { OnOk result (IsStored (changed state (plan_in state (change_of prepared.batch)))) }
     ensures early { (result ≢ Err Outcome.WriteFault) × (result ≢ Err Outcome.ReadFault) }
     ensures cause { Counts (K.faults store.old) (K.faults store.new) (result ≡ Err Outcome.StoreFault) }

@@ -1,0 +1,62 @@
+use Rattle.std.proofs.Common.{List, Option, map, Some, Err, ◌≡◌, ap, sym, subst, ◌∙◌}
+use Rattle.std.specs.Prelude.{IfOk}
+use Rattle.object_store.specs.Errors.{newest}
+use Rattle.git_objects.specs.Paths.{Bytes}
+use Rattle.proj_io.specs.Views.{keeper_view}
+use Rattle.repo_state.specs.Changes.{IsCurrent, IsWithin}
+use Rattle.repo_state.specs.Commits.{change_of}
+use Rattle.proj_cli.specs.Answer.{IsMadeFrom, IsPushInHand, IsSmallsInHand, NoObject}
+use Rattle.proj_cli.specs.Prepared.{room_in}
+use Rattle.proj_cli.specs.Pushed.{IsLawfulStream}
+use Rattle.proj_cli.specs.Step.{Step, push_smalls, push_stream}
+use Rattle.proj_cli.specs.Streams.{Small, stream}
+use Rattle.proj_cli.specs.Views.{small_value, smalls_read}
+use Rattle.proj_cli.specs.declared.streams.SmallCommit.{SmallCommit}
+use Rattle.proj_cli.proofs.Committing.{current_same}
+use Rattle.proj_cli.proofs.Inputs.{more_made}
+use Rattle.proj_cli.proofs.Makes.{keeps, made_plain}
+use Rattle.proj_cli.proofs.PushStreams.{saved-lawful}
+use Rattle.proj_cli.proofs.push.push_text.Goals as goal
+
+pub returns-in-Err-prepare_push-clause-made : goal.returns-in-Err-prepare_push-clause-made
+returns-in-Err-prepare_push-clause-made g c = λ (items : List Bytes) current.
+    let h = c.args.state.held in
+    let room = room_in c.args.state in
+    let refname = c.args.refname.now in
+    let place = c.args.place.now in
+    let n = c.args.head.0 in
+    let ss = map small_value c.deref.result.now in
+    let k = keeper_view g.K.Keeper.items g.K.Keeper.number g.K.Keeper.faults c.args.store.now in
+    let is : Some ss ≡ stream c.args.text.now = ap (λ (v : List SmallCommit). Some (map small_value v)) c.deref.ensures.value ∙ ap smalls_read (sym c.in-Ok-Some.field-0-is) ∙ c.in-Ok-Some.ensures in
+    subst (λ (o : Option (List Small)). IsMadeFrom (IsPushInHand place h (Some n) o) (push_stream refname place room h n o) items k k (Err c.in-Err-prepare_push.outcome)) is
+    (made_plain (IsSmallsInHand place h n ss) (push_smalls refname place room h n ss) items k k (Err c.in-Err-prepare_push.outcome) (keeps k) c.in-Err-prepare_push.ensures.err.0)
+
+pub returns-in-Ok-clause-made : goal.returns-in-Ok-clause-made
+returns-in-Ok-clause-made g c = λ (items : List Bytes) current.
+    let h = c.args.state.held in
+    let room = room_in c.args.state in
+    let refname = c.args.refname.now in
+    let place = c.args.place.now in
+    let n = c.args.head.0 in
+    let after = c.prepare_push.new.state in
+    let ss = map small_value c.deref.result.now in
+    let seen = keeper_view g.K.Keeper.items g.K.Keeper.number g.K.Keeper.faults in
+    let is : Some ss ≡ stream c.args.text.now = ap (λ (v : List SmallCommit). Some (map small_value v)) c.deref.ensures.value ∙ ap smalls_read (sym c.in-Ok-Some.field-0-is) ∙ c.in-Ok-Some.ensures in
+    let now : g.K.Keeper.items c.args.store.now ≡ Some items → IsCurrent items after = λ e. current_same c.args.state after items c.prepare_push.ensures.same (current e) in
+    let fits : g.K.Keeper.items c.args.store.now ≡ Some items → IsCurrent items after × IsWithin (newest after.objects) after.held.objects (change_of c.in-Ok.prepared.batch) =
+    λ e. (now e, c.in-Ok.ensures.fits items c.args.text.now (now e).held c.requires.short (sym is)) in
+    subst (λ (o : Option (List Small)). IsMadeFrom (IsPushInHand place h (Some n) o) (push_stream refname place room h n o) items (seen c.args.store.now) (seen c.save.new.store) c.save.result) is
+    (more_made (IsSmallsInHand place h n ss) (push_smalls refname place room h n ss) items (seen c.args.store.now) (seen c.save.new.store) c.save.result
+    (subst (λ (s : Step). IsMadeFrom NoObject s items (seen c.args.store.now) (seen c.save.new.store) c.save.result) (sym c.in-Ok.ensures.ok.step_is) (c.save.ensures.made items fits)))
+
+pub returns-in-Ok-clause-lawful : goal.returns-in-Ok-clause-lawful
+returns-in-Ok-clause-lawful g c =
+    let h = c.args.state.held in
+    let room = room_in c.args.state in
+    let refname = c.args.refname.now in
+    let place = c.args.place.now in
+    let n = c.args.head.0 in
+    let ss = map small_value c.deref.result.now in
+    let is : Some ss ≡ stream c.args.text.now = ap (λ (v : List SmallCommit). Some (map small_value v)) c.deref.ensures.value ∙ ap smalls_read (sym c.in-Ok-Some.field-0-is) ∙ c.in-Ok-Some.ensures in
+    subst (λ (o : Option (List Small)). IfOk c.save.result (λ _. IsLawfulStream place refname h o (push_stream refname place room h n o))) is
+    (saved-lawful place refname h ss c.prepare_push.new.state c.in-Ok.prepared (push_smalls refname place room h n ss) c.save.result c.in-Ok.ensures.ok.step_is c.save.ensures.done c.save.ensures.stored c.in-Ok.ensures.lawful)
