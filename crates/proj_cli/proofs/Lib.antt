@@ -25,3 +25,6 @@ pub mod PutSizes
 pub mod KnownLeaves
 pub mod StreamSizes
 pub mod ImportFits
+pub mod ShownRoots
+pub mod LaidCommits
+pub mod PushedCommits
