@@ -1,8 +1,8 @@
 -- A tree laid in a store, and the commit with it.
-use Rattle.std.proofs.Common.{◌≡◌, inl, inr, true, false, List, [], ◌∷◌, Option, Some, None, refl, sym, ap, subst, ◌∙◌}
+use Rattle.std.proofs.Common.{◌≡◌, inl, inr, true, false, List, [], ◌∷◌, Some, None, refl, sym, ap, subst, ◌∙◌}
 use Rattle.std.proofs.lemmas.Option.{none-some}
 use Rattle.git_objects.specs.Paths.{Bytes, Path}
-use Rattle.git_objects.specs.Trees.{Flat, under}
+use Rattle.git_objects.specs.Trees.{Flat}
 use Rattle.git_objects.specs.Commits.{Letter}
 use Rattle.git_objects.specs.declared.kind.Kind.TheVariants.{Tree, Commit}
 use Rattle.git_objects.specs.declared.name.Name.{Name}

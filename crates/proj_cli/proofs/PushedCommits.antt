@@ -1,28 +1,27 @@
 -- What is pushed, and the original commit made of it, in a store.
-use Rattle.std.proofs.Common.{◌≡◌, inl, inr, true, false, cond, List, [], ◌∷◌, ◌++◌, Option, Some, None, refl, sym, ap, subst, ◌∙◌}
+use Rattle.std.proofs.Common.{◌≡◌, inl, inr, true, false, cond, List, [], ◌++◌, sym, ap, subst, ◌∙◌}
 use Rattle.std.specs.Prelude.{not}
-use Rattle.std.specs.Option.{option_map, option_to_list}
+use Rattle.std.specs.Option.{option_map}
 use Rattle.git_objects.specs.Paths.{Bytes, Path, same_bytes}
 use Rattle.git_objects.specs.Parts.{name_bytes}
 use Rattle.git_objects.specs.Trees.{Flat, IsTree, under}
-use Rattle.git_objects.specs.Names.{body, tree_name}
-use Rattle.git_objects.specs.Commits.{Letter, commit_name}
+use Rattle.git_objects.specs.Names.{tree_name}
+use Rattle.git_objects.specs.Commits.{commit_name}
 use Rattle.git_objects.specs.declared.kind.Kind.TheVariants.{Tree}
 use Rattle.git_objects.specs.declared.name.Name.{Name}
-use Rattle.object_store.specs.Objects.{Object, IsStore, find_named, has}
+use Rattle.object_store.specs.Objects.{Object, has}
 use Rattle.object_store.specs.Unfolding.{flat}
 use Rattle.object_store.proofs.Unfolding.{unfolding_law}
 use Rattle.filter_unapply.specs.Lenses.{Lens, below}
 use Rattle.filter_unapply.specs.Laying as laying
 use Rattle.filter_unapply.specs.Laying.{Laid, laid}
-use Rattle.repo_state.specs.Items.{tree_fits}
 use Rattle.repo_state.specs.Repos.{snapshot_name}
 use Rattle.proj_cli.specs.Streams.{Change, Small}
 use Rattle.proj_cli.specs.Replay.{IsDirectoryOf, IsMadeIn, are_small, contents_in, trees_within, with_changes}
-use Rattle.proj_cli.specs.Replays.{AddsBlobs, AreBlobs, IsClash, IsFilesFault, IsGrownBy, IsOnly, IsPutFault, StandsFor, parent_of}
+use Rattle.proj_cli.specs.Replays.{AddsBlobs, AreBlobs, IsFilesFault, IsGrownBy, IsPutFault, StandsFor, parent_of}
 use Rattle.proj_cli.specs.Push as push
 use Rattle.proj_cli.specs.Push.{IsLaidMade, IsPushMade, accepted, by_laid, judged, pushed_commit}
-use Rattle.proj_cli.specs.Pushes.{IsAccepted, IsLaidFault, IsOriginal, IsPushFault, fault_of, start_value}
+use Rattle.proj_cli.specs.Pushes.{IsAccepted, IsLaidFault, IsOriginal, IsPushFault, start_value}
 use Rattle.proj_cli.specs.declared.pushing.Pushed.{Pushed}
 use Rattle.proj_cli.specs.declared.pushing.PushFault.{PushFault}
 use Rattle.proj_cli.specs.declared.pushing.PushFault.TheVariants.{TooLarge, NoChange, Blocked, Collision, OutOfMemory}
@@ -68,23 +67,10 @@ module _ (f : Lens) (start : push.Start) (s : Small) where
   all_grown : (S T R : List Object) → IsGrownBy made_in S T → IsGrownBy made_laid T R → IsGrownBy all S R
   all_grown S T R g h = grown_then all S T R (pushed_grown S T g) (grown_as made_laid all T R (λ o m. inr m) h)
 
-  -- a tree within has too many files
-  too_many : are_small (trees_within start.shown s.changes) ≡ false → judged f start s ≡ push.TooLarge
-  too_many e =
-      ap (λ b. cond (not b) push.TooLarge (cond (same_bytes (tree_name (pushed_commit start s).tree) (tree_name start.shown)) push.NoChange (by_laid start s.head.letter (laid f start.tree (pushed_commit start s).tree)))) e
-
-  pub files_fault : (T : List Object) (e : ReplayFault) → IsFilesFault made_in T (trees_within start.shown s.changes) e → IsPushFault T f start s (fault_of e)
-  files_fault T replay.TooManyFiles h = too_many h
-  files_fault T (replay.Collision n) h = clash_as made_in all T n.0 (λ o m. inl m) h
-  files_fault T replay.OutOfMemory h = tt
-
   module _ (small : are_small (trees_within start.shown s.changes) ≡ true) where
     asked : judged f start s ≡ cond (same_bytes (tree_name (pushed_commit start s).tree) (tree_name start.shown)) push.NoChange (by_laid start s.head.letter (laid f start.tree (pushed_commit start s).tree))
     asked =
         ap (λ b. cond (not b) push.TooLarge (cond (same_bytes (tree_name (pushed_commit start s).tree) (tree_name start.shown)) push.NoChange (by_laid start s.head.letter (laid f start.tree (pushed_commit start s).tree)))) small
-
-    no_change : same_bytes (tree_name (pushed_commit start s).tree) (tree_name start.shown) ≡ true → judged f start s ≡ push.NoChange
-    no_change e = asked ∙ ap (λ b. cond b push.NoChange (by_laid start s.head.letter (laid f start.tree (pushed_commit start s).tree))) e
 
     module _ (differs : same_bytes (tree_name (pushed_commit start s).tree) (tree_name start.shown) ≡ false) where
       laid_next : (l : Laid) → laid f start.tree (pushed_commit start s).tree ≡ l → judged f start s ≡ by_laid start s.head.letter l
@@ -137,9 +123,6 @@ module _ (S T : List Object) (place : Path) (start : Start) (s : Small) (shown t
 
   names_test : same_bytes (tree_name (pushed_commit from s).tree) (tree_name from.shown) ≡ same_bytes tree.0 shown.0
   names_test = λ i. same_bytes (tree_named i) (shown_named i)
-
-  pub same_trees : same_bytes tree.0 shown.0 ≡ true → judged (below place) from s ≡ push.NoChange
-  same_trees e = no_change (below place) from s trees.small (names_test ∙ e)
 
   -- what came of laying
   laid_grown : (R : List Object) → IsGrownBy (IsLaidMade (start_value T place start) s.head.letter there) T R → IsGrownBy (IsLaidMade from s.head.letter becomes) T R

@@ -1,5 +1,5 @@
 -- The tree of all that lies below a path, in a store.
-use Rattle.std.proofs.Common.{◌≡◌, true, cond, List, [], ◌∷◌, Option, Some, None, Result, Ok, Err, IfErr, IfOk, refl, sym, ap, ◌∙◌}
+use Rattle.std.proofs.Common.{◌≡◌, true, cond, List, [], ◌∷◌, Some, None, Result, Ok, Err, IfErr, IfOk, refl, sym, ap, ◌∙◌}
 use Rattle.std.specs.Cmp.{first_so}
 use Rattle.git_objects.specs.Paths.{Bytes, Path, is_nil}
 use Rattle.git_objects.specs.Trees.{Flat, IsTree, at, under}
