@@ -62,7 +62,7 @@ module _ (k : Kind) (b : Bytes) where
 
 -- ---- trees that an edit makes
 
-all_made : (made : Bytes → Type 0) (os : List Object) (o : Object) → AreMade made os → Contains os o → (o.kind ≡ Tree) × made o.body
+pub all_made : (made : Bytes → Type 0) (os : List Object) (o : Object) → AreMade made os → Contains os o → (o.kind ≡ Tree) × made o.body
 all_made made [] o h m = absurd (omega (arith, m.1))
 all_made made (x ∷ os) o h (zero, l, e) = subst (λ (y : Object). (y.kind ≡ Tree) × made y.body) e (h.0, h.1)
 all_made made (x ∷ os) o h (suc i, l, e) = all_made made os o h.2 (i, omega (arith, l), e)
@@ -73,7 +73,7 @@ collides_at R b n None e = cc
 collides_at R b n (Some x) e =
     elim (same_object Tree b x) as (λ t. cond t None (Some (Collides (name Tree b))) ≡ Some (Collides n) → name Tree b ≡ n) [ true ↦ λ g. cc | false ↦ λ g. cc ] e
 
-clash_name : (R : List Object) (n b : Bytes) → collision Tree b (find_named R (name Tree b)) ≡ Some (Collides n) → collision Tree b (find_named R n) ≡ Some (Collides n)
+pub clash_name : (R : List Object) (n b : Bytes) → collision Tree b (find_named R (name Tree b)) ≡ Some (Collides n) → collision Tree b (find_named R n) ≡ Some (Collides n)
 clash_name R n b e = subst (λ (m : Bytes). collision Tree b (find_named R m) ≡ Some (Collides n)) (collides_at R b n (find_named R (name Tree b)) e) e
 
 -- ---- a file

@@ -46,14 +46,14 @@ no-tree : (u : Flat) (y : Leaf) → Some (LeafNode y) ≡ if_full u → is_nil u
 no-tree [] y e = refl
 no-tree (d ∷ u) y e = cc
 
-shown-leaf : (t : Flat) (p : Path) (y : Leaf) → IsTree t → Some (LeafNode y) ≡ standing t p → is_nil (under t p) ≡ true
+pub shown-leaf : (t : Flat) (p : Path) (y : Leaf) → IsTree t → Some (LeafNode y) ≡ standing t p → is_nil (under t p) ≡ true
 shown-leaf t p y h e = by (at t p) refl
   where
     by : (o : Option Leaf) → at t p ≡ o → is_nil (under t p) ≡ true
     by None g = no-tree (under t p) y (e ∙ ap (λ o. option_or (option_map LeafNode o) (if_full (under t p))) g)
     by (Some x) g = ap is_nil (below-leaf t p x h g)
 
-tree-node : (o : Option Leaf) (v u : Flat) → Some (TreeNode u) ≡ option_or (option_map LeafNode o) (if_full v) → (is_nil v ≡ false) × (v ≡ u)
+pub tree-node : (o : Option Leaf) (v u : Flat) → Some (TreeNode u) ≡ option_or (option_map LeafNode o) (if_full v) → (is_nil v ≡ false) × (v ≡ u)
 tree-node None [] u e = cc
 tree-node None (d ∷ v) u e = let same : d ∷ v ≡ u = cc in (refl, same)
 tree-node (Some x) v u e = cc

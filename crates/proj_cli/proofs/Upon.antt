@@ -42,7 +42,7 @@ pub nothing_fits : (S : List Object) → of_tree S (tree_entries []) None ≡ No
 unfolding tree_entries
 nothing_fits S = refl
 
-in_first : (t : Flat) (cs : List Change) (o : Object) → IsDirectoryOf t o → IsMadeIn t cs o
+pub in_first : (t : Flat) (cs : List Change) (o : Object) → IsDirectoryOf t o → IsMadeIn t cs o
 in_first t [] o m = m
 in_first t (c ∷ cs) o m = inl m
 

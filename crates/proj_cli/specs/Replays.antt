@@ -41,6 +41,11 @@ pub record StandsFor (S : List Object) (n : Bytes) (t : Flat) : Type 0 where
   pub held : has Tree S n ≡ true
   pub map : flat S n ≡ t
 
+-- or there is none, and the map is empty
+abbrev pub StandsOrNone : List Object → Flat → Option Name → Type 0
+StandsOrNone S t None = t ≡ []
+StandsOrNone S t (Some n) = StandsFor S n.0 t
+
 -- another object has the name of such an object
 pub record IsClash (made : Object → Type 0) (S : List Object) (n : Bytes) : Type 0 where
   pub object : Object

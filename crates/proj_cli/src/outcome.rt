@@ -22,7 +22,9 @@ pub enum Outcome {
     /// The ref is not there.
     UnknownRef,
     /// A pushed commit is on another ref, in the line that begins at this byte of the input.
-    OtherRef { at: u64 },
+    OtherRef {
+        at: u64,
+    },
     /// A pushed commit stands upon `got`, and not upon the projection of the ref's commit or the pushed commit before it, which is
     /// `expected`. Each may be none.
     NotAtHead {
@@ -30,12 +32,20 @@ pub enum Outcome {
         got: Option<Name>,
     },
     /// The pushed commit of that number, counted from 1, has the tree of the one before it.
-    NoChange { n: u32 },
+    NoChange {
+        n: u32,
+    },
     /// The tree of the pushed commit of that number can't be laid into the original one: of two comparable paths `path`, in path
     /// order, is the first that is pushed, and `by` the first other one. Both are original paths.
-    Blocked { n: u32, path: Path, by: Path },
+    Blocked {
+        n: u32,
+        path: Path,
+        by: Path,
+    },
     /// Two different objects have this name.
-    Collision { name: Name },
+    Collision {
+        name: Name,
+    },
     /// The input failed.
     ReadFault,
     /// The output failed.
@@ -43,7 +53,10 @@ pub enum Outcome {
     /// The store failed.
     StoreFault,
     /// The first item, numbered from 0, that breaks a rule of the store, and the first byte that breaks it.
-    Damaged { item: u32, at: u64 },
+    Damaged {
+        item: u32,
+        at: u64,
+    },
     /// A form, a filter or an input that this version doesn't take.
     NotBuilt,
 }

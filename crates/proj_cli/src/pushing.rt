@@ -1,10 +1,10 @@
 // Making the original commit of a pushed one, in a store.
-ghost use Rattle.std.specs.Prelude.{◌≡◌, ◌∷◌, [], true, map, IfErr, IfOk, OnOk};
+ghost use Rattle.std.specs.Prelude.{◌≡◌, ◌^◌, ◌&&◌, ◌∷◌, [], true, map, nat_le, IfErr, IfOk, OnOk};
 ghost use Rattle.git_objects.specs.Commits.{commit_name};
 ghost use Rattle.git_objects.specs.Trees.{under};
 ghost use Rattle.git_objects.specs.declared.kind.Kind.TheVariants.{Commit, Tree};
 ghost use Rattle.object_store.specs.Errors.{newest};
-ghost use Rattle.object_store.specs.Objects.{has};
+ghost use Rattle.object_store.specs.Objects.{has, IsStore};
 ghost use Rattle.object_store.specs.Unfolding.{flat};
 ghost use Rattle.filter_unapply.specs.Laying.{laid};
 ghost use Rattle.filter_unapply.specs.Lenses.{below};
@@ -12,7 +12,7 @@ ghost use Rattle.repo_state.specs.Items.{tree_fits};
 ghost use Rattle.proj_cli.specs.Push.{IsLaidMade, IsPushMade};
 ghost use Rattle.proj_cli.specs.Pushes.{IsAccepted, IsCommitFault, IsLaidFault, IsOriginal, IsPushFault, fault_of, start_value};
 ghost use Rattle.proj_cli.specs.Replay.{IsDirectoryOf, IsMadeIn, are_small, contents_in, trees_within, with_changes};
-ghost use Rattle.proj_cli.specs.Replays.{AddsBlobs, IsFilesFault, IsGrownBy, IsOnlyCommit, IsPutFault, StandsFor, parent_of};
+ghost use Rattle.proj_cli.specs.Replays.{AddsBlobs, IsFilesFault, IsGrownBy, IsOnlyCommit, IsPutFault, StandsFor, StandsOrNone, parent_of};
 ghost use Rattle.proj_cli.specs.Snapshots.{IsSnapshot};
 ghost use Rattle.proj_cli.specs.Views.{change_of, head_value, small_value};
 
@@ -21,7 +21,7 @@ use crate::replay::{FILES, ReplayFault, body_of, put, put_commit, put_files};
 use crate::streams::{CommitHead, Row, SmallCommit};
 use filter_unapply::{LayFault, laid_below};
 use git_objects::{Kind, Name, name_of};
-use object_store::Store;
+use object_store::{Store, TreeStats};
 use path_names::Path;
 use path_trees::entry_at;
 use std::alloc::{AllocError, Global};
@@ -73,6 +73,18 @@ fn fault_of(fault: ReplayFault) -> PushFault
     }
 }
 
+// The directory at a path of a tree. None: nothing lies below the path.
+fn directory_at(store: &Store, tree: Name, place: &Path) -> Option<Name>
+    requires tree { has Tree (newest store.now) tree.0 ≡ true }
+    requires store { IsStore (newest store.now) }
+    ensures { StandsOrNone (newest store.now) (under (flat (newest store.now) tree.0) place.now) result }
+{
+    match entry_at(store, tree, place) {
+        None => None,
+        Some(found) => directory(found),
+    }
+}
+
 // The tree of all that lies below a path: the directory there, or the empty tree.
 fn shown_root(store: &mut Store, tree: Name, place: &Path) -> Result<Name, ReplayFault>
     requires { has Tree (newest store.old) tree.0 ≡ true }
@@ -80,11 +92,9 @@ fn shown_root(store: &mut Store, tree: Name, place: &Path) -> Result<Name, Repla
     ensures err { IfErr result (IsPutFault (IsDirectoryOf (under (flat (newest store.old) tree.0) place.now)) (newest store.new)) }
     ensures store { IsGrownBy (IsDirectoryOf (under (flat (newest store.old) tree.0) place.now)) (newest store.old) (newest store.new) }
 {
-    let found = match entry_at(store, tree, place) {
-        None => None,
-        Some(found) => directory(found),
-    };
-    match found {
+    // Every outcome rests on what the store keeps.
+    let _ = store.get(&tree);
+    match directory_at(store, tree, place) {
         None => put(store, Kind::Tree, &[]),
         Some(name) => Ok(name),
     }
@@ -117,14 +127,21 @@ fn pushed_trees(
     }
 }
 
-// Whether a tree is within the limits of stored trees.
+// Whether a tree of that size is within the limits of stored trees.
+fn within(stats: TreeStats) -> bool
+    ensures { result ≡ (nat_le stats.files (2 ^ 20) && nat_le stats.depth 1024 && nat_le stats.longest 16384) }
+{
+    stats.files <= FILES && stats.depth <= DEPTH && stats.longest <= LONGEST
+}
+
+// Whether a stored tree is within the limits.
 fn fits(store: &Store, root: &Name) -> bool
     requires { has Tree (newest store.now) root.now.0 ≡ true }
     ensures { result ≡ tree_fits (flat (newest store.now) root.now.0) }
 {
     match store.stats(root) {
         None => false,
-        Some(stats) => stats.files <= FILES && stats.depth <= DEPTH && stats.longest <= LONGEST,
+        Some(stats) => within(stats),
     }
 }
 
@@ -157,6 +174,8 @@ fn put_original(
     ensures err { IfErr result (IsCommitFault (newest store.new) (flat (newest store.old) tree.0) (start.now.head.0 ∷ []) (head_value head.now).letter) }
     ensures store { IsGrownBy (IsOnlyCommit (flat (newest store.old) tree.0) (start.now.head.0 ∷ []) (head_value head.now).letter) (newest store.old) (newest store.new) }
 {
+    // Every outcome rests on what the store keeps.
+    let _ = store.get(&tree);
     if !fits(store, &tree) {
         return Err(PushFault::TooLarge);
     }
