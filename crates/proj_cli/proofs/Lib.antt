@@ -34,3 +34,7 @@ pub mod PushLaws
 pub mod PushStarts
 pub mod PushAnswers
 pub mod PushStreams
+pub mod LaidCommits
+pub mod PushedCommits
+pub mod ShownRoots
+pub mod Laws

@@ -27,7 +27,6 @@ use Rattle.proj_cli.specs.Step.{Step, by_items, input_max, load_outcome, loads, 
 use Rattle.repo_state.specs.Changes.{Plan, is_empty}
 use Rattle.repo_state.specs.Commits.{KeepsItems}
 use Rattle.proj_cli.specs.Answer.{Follows, IsChanged, IsInHand, IsInStream, IsMade, IsMadeFrom, IsMadeOf, IsPushOf, IsPushedTo, IsRefusal, IsReport, IsReported, IsSavedBy, NoObject, Plainly}
-use Rattle.proj_cli.specs.Pushed.{IsLawful, IsLawfulBy, IsLawfulRead}
 use Rattle.proj_cli.specs.declared.outcome.Outcome.{Outcome}
 use Rattle.proj_cli.specs.declared.outcome.Outcome.TheVariants.{Done, OutOfMemory, Usage, Collision, ReadFault, StoreFault, WriteFault, NotBuilt}
 
@@ -266,11 +265,6 @@ module _ (r f : Bytes) where
     reported = λ items g.
         subst (λ (c : Type 0). c) (λ t. IsMadeOf (λ all. IsPushedTo (same t) (e t) (read_items items) (stream all)) (λ all. push_by (same t) (e t) items all) i.left items k l result) (made items (g (ap is_some (sym e))));
   }
-
-  -- what it has done
-  pub push_lawful : (place : Path) (rb : Bytes) → Some place ≡ filter_path f → rb ≡ r → (items : List Bytes) (all : Bytes)
-      → IsLawfulRead place rb (read_items items) (stream all) (by_items (read_items items) (push_step rb place (room_of items) all)) → IsLawful (Push r f) items all (step (Push r f) items all)
-  push_lawful place rb e same items all h = subst (λ (c : Type 0). c) (λ t. IsLawfulBy (e t) (same t) (read_items items) (stream all) (push_by (same t) (e t) items all)) h
 
 -- the other words
 pub other_words : (asked : Asked) → ((force : Bool) → asked ≡ asks.Import force → ⊥) → ((r f : Bor Bytes) → asked ≡ asks.Project r f → ⊥) → ((r f : Bor Bytes) → asked ≡ asks.Push r f → ⊥) → ((r f : Bor Bytes) → asked ≡ asks.Name r f → ⊥) → (asked ≡ asks.Unknown → ⊥)

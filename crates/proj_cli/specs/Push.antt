@@ -1,5 +1,5 @@
 -- A push of one commit through a filter: why it is refused, or the original commit that it makes.
-use Rattle.std.specs.Prelude.{◌≡◌, ◌⊎◌, Bool, cond, not, List, [], ◌∷◌, Option, Some, None}
+use Rattle.std.specs.Prelude.{◌≡◌, ◌⊎◌, cond, not, List, [], ◌∷◌, Option}
 use Rattle.std.specs.Option.{option_map, option_to_list}
 use Rattle.git_objects.specs.Paths.{Bytes, Path, same_bytes}
 use Rattle.git_objects.specs.Trees.{Flat}

@@ -1,12 +1,16 @@
-use Rattle.std.proofs.Common.{true, Err, ap, sym, subst, ◌∙◌, refl, inr}
+use Rattle.std.proofs.Common.{List, true, Err, ap, sym, subst, ◌∙◌, refl, inr}
+use Rattle.std.specs.Prelude.{IfOk}
+use Rattle.git_objects.specs.Paths.{Bytes}
 use Rattle.proj_io.specs.Views.{source_view, keeper_view}
 use Rattle.proj_cli.specs.Answer.{IsInHand, IsMade}
 use Rattle.proj_cli.specs.Asked.{command_of}
+use Rattle.proj_cli.specs.Pushed.{IsLawful}
 use Rattle.proj_cli.specs.Step.{loads, step, writes}
 use Rattle.proj_cli.specs.Texts.{filter_path}
-use Rattle.proj_cli.specs.Words.{Command, Import, Name, Project}
+use Rattle.proj_cli.specs.Words.{Command, Import, Name, Project, Push}
 use Rattle.proj_cli.specs.declared.outcome.Outcome.TheVariants.{NotBuilt, Usage}
-use Rattle.proj_cli.proofs.Makes.{import_made, name_made, name_refused, no_form, no_memory, not_built, other_words, project_made, project_refused}
+use Rattle.proj_cli.proofs.Makes.{import_made, name_made, name_refused, no_form, no_memory, not_built, other_words, project_made, project_refused, push_made, push_refused}
+use Rattle.proj_cli.proofs.Laws.{done_lawful}
 use Rattle.proj_cli.proofs.program.make.Goals as goal
 
 pub returns-in-Ok-None-clause-made : goal.returns-in-Ok-None-clause-made
@@ -39,7 +43,8 @@ returns-in-Unknown-clause-made g c =
 
 pub returns-in_default : goal.returns-in_default
 returns-in_default g c =
-    let all = other_words c.args.asked c.in_default.not-Import c.in_default.not-Project c.in_default.not-Name c.in_default.not-Unknown in record {
+    let all = other_words c.args.asked c.in_default.not-Import c.in_default.not-Project c.in_default.not-Push c.in_default.not-Name c.in_default.not-Unknown in record {
+      lawful = λ (items : List Bytes) (all : Bytes) told left. tt;
       made = not_built (command_of c.args.asked) (source_view g.S.Source.left g.S.Source.faults c.args.input.now) (keeper_view g.K.Keeper.items g.K.Keeper.number g.K.Keeper.faults c.args.store.now) all;
       unread = λ _. refl;
       unloaded = λ _. refl;
@@ -68,3 +73,29 @@ returns-in-Ok-Some-clause-made g c =
     subst (λ (a : Command). IsMade (IsInHand a) (step a) (loads a) (writes a) (seen c.args.input.now) (seen c.name.new.input) k k c.name.result) (sym (ap command_of c.in-Name.is))
     (name_made c.in-Name.refname.now c.in-Name.filter.now _ c.as_bytes-in-Ok-Some.result.now (seen c.args.input.now) (seen c.name.new.input) k c.name.result
     (sym c.in-Ok-Some.field-0-is ∙ c.in-Ok-Some.ensures ∙ ap filter_path c.as_bytes.ensures.value) c.as_bytes-in-Ok-Some.ensures.value c.name.ensures.cause c.name.ensures.early c.name.ensures.report)
+
+pub returns-in-Ok-Some-filter_path-2-clause-made : goal.returns-in-Ok-Some-filter_path-2-clause-made
+returns-in-Ok-Some-filter_path-2-clause-made g c =
+    let seen = source_view g.S.Source.left g.S.Source.faults in
+    let kept = keeper_view g.K.Keeper.items g.K.Keeper.number g.K.Keeper.faults in
+    subst (λ (a : Command). IsMade (IsInHand a) (step a) (loads a) (writes a) (seen c.args.input.now) (seen c.push.new.input) (kept c.args.store.now) (kept c.push.new.store) c.push.result) (sym (ap command_of c.in-Push.is))
+    (push_made c.in-Push.refname.now c.in-Push.filter.now _ c.as_bytes-in-Ok-Some-filter_path-2.result.now (seen c.args.input.now) (seen c.push.new.input) (kept c.args.store.now) (kept c.push.new.store) c.push.result
+    (sym c.in-Ok-Some-filter_path-2.field-0-is ∙ c.in-Ok-Some-filter_path-2.ensures ∙ ap filter_path c.as_bytes-in-Push.ensures.value) c.as_bytes-in-Ok-Some-filter_path-2.ensures.value
+    c.push.ensures.read c.push.ensures.cause c.push.ensures.early c.push.ensures.made)
+
+pub returns-in-Ok-Some-filter_path-2-clause-lawful : goal.returns-in-Ok-Some-filter_path-2-clause-lawful
+returns-in-Ok-Some-filter_path-2-clause-lawful g c = λ (items : List Bytes) (all : Bytes) told left.
+    subst (λ (a : Command). IfOk c.push.result (λ _. IsLawful a items all (step a items all))) (sym (ap command_of c.in-Push.is))
+    (done_lawful c.push.result c.in-Push.refname.now c.in-Push.filter.now _ c.as_bytes-in-Ok-Some-filter_path-2.result.now
+    (sym c.in-Ok-Some-filter_path-2.field-0-is ∙ c.in-Ok-Some-filter_path-2.ensures ∙ ap filter_path c.as_bytes-in-Push.ensures.value) c.as_bytes-in-Ok-Some-filter_path-2.ensures.value
+    (g.S.Source.left c.args.input.now) items all left (c.push.ensures.lawful items told))
+
+pub returns-in-Ok-None-filter_path-2-clause-made : goal.returns-in-Ok-None-filter_path-2-clause-made
+returns-in-Ok-None-filter_path-2-clause-made g c =
+    let i = source_view g.S.Source.left g.S.Source.faults c.args.input.now in
+    let k = keeper_view g.K.Keeper.items g.K.Keeper.number g.K.Keeper.faults c.args.store.now in
+    subst (λ (a : Command). IsMade (IsInHand a) (step a) (loads a) (writes a) i i k k (Err NotBuilt)) (sym (ap command_of c.in-Push.is))
+    (not_built (Push c.in-Push.refname.now c.in-Push.filter.now) i k (push_refused c.in-Push.refname.now c.in-Push.filter.now (sym c.in-Ok-None-filter_path-2.field-0-is ∙ c.in-Ok-None-filter_path-2.ensures ∙ ap filter_path c.as_bytes-in-Push.ensures.value)))
+
+pub returns-in-Err-filter_path-2-clause-made : goal.returns-in-Err-filter_path-2-clause-made
+returns-in-Err-filter_path-2-clause-made g c = no_memory (command_of c.args.asked) (source_view g.S.Source.left g.S.Source.faults c.args.input.now) (keeper_view g.K.Keeper.items g.K.Keeper.number g.K.Keeper.faults c.args.store.now)

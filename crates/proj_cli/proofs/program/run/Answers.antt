@@ -1,10 +1,15 @@
-use Rattle.std.proofs.Common.{ap, subst, ◌∙◌, map, string_bytes}
+use Rattle.std.proofs.Common.{List, Result, ap, subst, ◌∙◌, map, string_bytes}
+use Rattle.std.specs.Prelude.{IfOk}
+use Rattle.git_objects.specs.Paths.{Bytes}
 use Rattle.proj_io.specs.Views.{source_view, sink_view, keeper_view}
-use Rattle.proj_cli.specs.Answer.{IsInHand, IsMade}
+use Rattle.proj_cli.specs.Answer.{IsDone, IsInHand, IsMade}
+use Rattle.proj_cli.specs.Pushed.{IsLawful}
 use Rattle.proj_cli.specs.Step.{loads, step, writes}
 use Rattle.proj_cli.specs.Words.{command, is_formed}
 use Rattle.proj_cli.proofs.Forms.{formed}
+use Rattle.proj_cli.specs.declared.outcome.Outcome.{Outcome}
 use Rattle.proj_cli.proofs.Joins.{answers, complete}
+use Rattle.proj_cli.proofs.Laws.{run_lawful}
 use Rattle.proj_cli.proofs.program.run.Goals as goal
 
 pub make-made-requires-clause-formed : goal.make-made-requires-clause-formed
@@ -25,3 +30,16 @@ pub returns-clause-complete : goal.returns-clause-complete
 returns-clause-complete g c =
     let asked = command (map (λ word. string_bytes word) c.args.words.now) in
     complete (IsInHand asked) (step asked) (loads asked) (writes asked) _ _ c.finish.result (returns-clause-answer g c)
+
+pub returns-clause-lawful : goal.returns-clause-lawful
+returns-clause-lawful g c = λ (items : List Bytes) (all : Bytes) told left done.
+    let asked = command (map (λ word. string_bytes word) c.args.words.now) in
+    let seen = source_view g.S.Source.left g.S.Source.faults in
+    let kept = keeper_view g.K.Keeper.items g.K.Keeper.number g.K.Keeper.faults in
+    let shown = sink_view g.O.Sink.written g.O.Sink.faults g.O.Sink.refusals in
+    let made : IsMade (IsInHand asked) (step asked) (loads asked) (writes asked) (seen c.args.input.now) (seen c.make-made.new.input) (kept c.args.store.now) (kept c.make-made.new.store) c.make-made.result =
+    subst (λ a. IsMade (IsInHand a) (step a) (loads a) (writes a) (seen c.args.input.now) (seen c.make-made.new.input) (kept c.args.store.now) (kept c.make-made.new.store) c.make-made.result) c.read_words-asked.ensures c.make-made.ensures.made in
+    let r = made.reported items (λ _. told) in
+    run_lawful c.make-made.result c.conclude-outcome.result c.finish.result (shown c.args.out.now) (shown c.conclude-outcome.new.out) (IsLawful asked items all (step asked items all)) c.conclude-outcome.ensures.concluded c.finish.ensures.outcome
+    (λ e. subst (λ (x : Result Bytes Outcome). IsDone (IsInHand asked items r.all) (step asked items r.all) x) e r.made.report) done
+    (subst (λ a. IfOk c.make-made.result (λ _. IsLawful a items all (step a items all))) c.read_words-asked.ensures (c.make-made.ensures.lawful items all told left))
