@@ -78,7 +78,7 @@ module _ (s' : Stored) (place : Path) (n : Bytes) (f : Lens) (m : Small) (refnam
       let known = brought-known S H r.blobs.items (contents (m ∷ [])) new in
       let base = (upon-fine items s'.held S read s w i all (Some n) k).known in
       let tree = known-laid H all f start.tree (pushed_commit start m).tree a.original.tree a.original.laid base
-          (known-changes H all start.shown m.changes (known-under H all start.tree place base) (each-front (λ (c : Bytes). changes.is_known H all (record { kind = Blob; body = c }) ≡ true) (contents_in m.changes) [] known)) in
+      (known-changes H all start.shown m.changes (known-under H all start.tree place base) (each-front (λ (c : Bytes). changes.is_known H all (record { kind = Blob; body = c }) ≡ true) (contents_in m.changes) [] known)) in
       let fine : IsFine H all mx (original S s s'.held f start m refname r p a) = record { tree = record { fits = a.original.fits; known = tree }; message = small.message } in
       record {
         blobs = ap (λ (ns : List Name). list_all (λ q. nat_le (length (body_of Blob S q)) (2 ^ 24)) (map name_bytes ns)) b.blobs ∙ blobs-within S mx r.blobs.items (contents (m ∷ [])) (omega arith) new (all-short mx (m ∷ []) (small, tt));

@@ -1,7 +1,10 @@
 // What an import makes of a store, beside what Git makes of the same stream. Names and bodies are those that `git fast-import`,
 // `git cat-file` and `git commit-tree` gave; the items' other bytes are laid out by hand.
 
-use crate::tests::{DAMAGE, DONE, HELLO, ITEM, MAIN, NO_REF, READ, SHOWN, STORE, UNBUILT, WRITE, calls, keeper_of, strings};
+use crate::tests::{
+    DAMAGE, DONE, HELLO, ITEM, MAIN, NO_REF, READ, SHOWN, STORE, UNBUILT, WRITE, calls, keeper_of,
+    strings,
+};
 use crate::{outcome_code, run};
 use proj_io::{Failing, MemKeeper, MemSink, MemSource};
 use std::alloc::Global;
@@ -367,14 +370,8 @@ fn a_refusal_leaves_the_items(rt: HostRuntime) -> Result<(), Fail> {
 fn an_import_has_at_most_so_many_bytes(rt: HostRuntime) -> Result<(), Fail> {
     let alloc = rt.alloc();
     let rows: [(usize, Row); 2] = [
-        (
-            65536,
-            (IMPORT, WITHIN, DONE, WITHIN_LINE, b"", AND_WITHIN),
-        ),
-        (
-            65537,
-            (IMPORT, WITHIN, UNBUILT, b"", NOT_BUILT, FIRST),
-        ),
+        (65536, (IMPORT, WITHIN, DONE, WITHIN_LINE, b"", AND_WITHIN)),
+        (65537, (IMPORT, WITHIN, UNBUILT, b"", NOT_BUILT, FIRST)),
     ];
     for (size, row) in rows {
         let mut input = row.1.to_vec(alloc)?;
@@ -402,22 +399,8 @@ fn an_import_has_at_most_so_many_bytes(rt: HostRuntime) -> Result<(), Fail> {
 #[test]
 fn a_fault_of_another_device_is_answered(rt: HostRuntime) -> Result<(), Fail> {
     let alloc = rt.alloc();
-    let read: Row = (
-        IMPORT,
-        WITHIN,
-        READ,
-        b"",
-        b"read fault\n",
-        FIRST,
-    );
-    let write: Row = (
-        IMPORT,
-        WITHIN,
-        WRITE,
-        b"",
-        b"write fault\n",
-        AND_WITHIN,
-    );
+    let read: Row = (IMPORT, WITHIN, READ, b"", b"read fault\n", FIRST);
+    let write: Row = (IMPORT, WITHIN, WRITE, b"", b"write fault\n", AND_WITHIN);
     let shown: Row = (PROJECT, b"", DONE, SHOWN, b"", FIRST);
     let within: Row = (PROJECT, b"", DONE, SHOWN_WITHIN, b"", AND_WITHIN);
     // the first call of the input fails, the third, or the first of the output

@@ -301,7 +301,15 @@ fn push_input<S: Source, K: Keeper>(
             if taken.more {
                 return Err(Outcome::NotBuilt);
             }
-            push_text(alloc, state, refname, place, head, taken.bytes.bytes(), store)
+            push_text(
+                alloc,
+                state,
+                refname,
+                place,
+                head,
+                taken.bytes.bytes(),
+                store,
+            )
         }
         Err(ReadError::Fault) => Err(Outcome::ReadFault),
         Err(ReadError::OutOfMemory) => Err(Outcome::OutOfMemory),

@@ -3,10 +3,12 @@
 
 use crate::import_tests::{
     AND_BESIDE, AND_WITHIN, BESIDE, BESIDE_ITEM, BESIDE_LINE, FIRST, HELLO_LINE, IMPORT, NONE,
-    NOT_BUILT, PROJECT, Row, STORE_FAULT, SHOWN_WITHIN, UNKNOWN_REF, WITHIN, WITHIN_LINE, check_rows, check_turn, failing_at, Turn,
+    NOT_BUILT, PROJECT, Row, SHOWN_WITHIN, STORE_FAULT, Turn, UNKNOWN_REF, WITHIN, WITHIN_LINE,
+    check_rows, check_turn, failing_at,
 };
 use crate::tests::{
-    BLOCKED, DAMAGE, DONE, HELLO, ITEM, MAIN, NO_REF, NOT_AT_HEAD, OTHER_REF, READ, SAME, SHOWN, STORE, UNBUILT, WRITE, keeper_of,
+    BLOCKED, DAMAGE, DONE, HELLO, ITEM, MAIN, NO_REF, NOT_AT_HEAD, OTHER_REF, READ, SAME, SHOWN,
+    STORE, UNBUILT, WRITE, keeper_of,
 };
 use proj_io::MemKeeper;
 use std::test::Fail;
@@ -238,7 +240,12 @@ fn a_refused_push_leaves_the_items(rt: HostRuntime) -> Result<(), Fail> {
     ];
     check_rows(&rt, alloc, MemKeeper::new(alloc, Vec::new(alloc)), &rows)?;
     let rows: [Row; 1] = [(PUSH, G, DAMAGE, b"", b"damaged: item 0 at 0\n", &[b"\xff"])];
-    check_rows(&rt, alloc, keeper_of(&rt, alloc, b"\xff", Vec::new(alloc)), &rows)?;
+    check_rows(
+        &rt,
+        alloc,
+        keeper_of(&rt, alloc, b"\xff", Vec::new(alloc)),
+        &rows,
+    )?;
     Ok(())
 }
 

@@ -492,33 +492,9 @@ fn stored_refs_are_projected(rt: HostRuntime) -> Result<(), Fail> {
     let rows: [(&[u8], Option<u64>, &str, &str, u8, &[u8], &[u8]); 7] = [
         (ITEM, None, MAIN, ":/a", DONE, SHOWN, b""),
         (ITEM, None, MAIN, ":/b", DONE, b"none\n", b""),
-        (
-            ITEM,
-            None,
-            other,
-            ":/a",
-            NO_REF,
-            b"",
-            b"unknown ref\n",
-        ),
-        (
-            ITEM,
-            Some(1),
-            MAIN,
-            ":/a",
-            STORE,
-            b"",
-            b"store fault\n",
-        ),
-        (
-            ITEM,
-            Some(3),
-            MAIN,
-            ":/a",
-            STORE,
-            b"",
-            b"store fault\n",
-        ),
+        (ITEM, None, other, ":/a", NO_REF, b"", b"unknown ref\n"),
+        (ITEM, Some(1), MAIN, ":/a", STORE, b"", b"store fault\n"),
+        (ITEM, Some(3), MAIN, ":/a", STORE, b"", b"store fault\n"),
         (
             broken,
             None,
@@ -528,15 +504,7 @@ fn stored_refs_are_projected(rt: HostRuntime) -> Result<(), Fail> {
             b"",
             b"damaged: item 0 at 0\n",
         ),
-        (
-            broken,
-            Some(1),
-            MAIN,
-            "::a/",
-            UNBUILT,
-            b"",
-            b"not built\n",
-        ),
+        (broken, Some(1), MAIN, "::a/", UNBUILT, b"", b"not built\n"),
     ];
     for (item, call, refname, filter, status, output, text) in rows {
         let mut failing = Vec::new(alloc);
