@@ -16,3 +16,5 @@ pub mod Admitting
 pub mod Members
 pub mod Locating
 pub mod Walking
+pub mod Finding
+pub mod Sounds
