@@ -1,15 +1,16 @@
 -- What the search for the first overlap finds.
 use Rattle.std.specs.Prelude.{◌≡◌, refl, ℕ, ◌+◌, ◌<◌, suc, zero, List, [], ◌∷◌, ◌++◌, length, slice_get, Option, Some, None, Bool, true, false, Result, Ok, Err, IfOk}
 use Rattle.std.specs.Global.{Vec}
-use Rattle.std.proofs.Common.{ap, ap₂, ◌∙◌, sym, arith, append_assoc, length-append, subst, true≢false}
+use Rattle.std.proofs.Common.{ap, ap₂, ◌∙◌, sym, arith, append_assoc, append-nil, length-append, subst, true≢false}
 use Rattle.std.proofs.lemmas.Option.{none-some, same_Some}
 use Rattle.filter_text.specs.Filters.{Filter, Filters, nop, sub, onto, dir, file, exclude, join, chain, workspace, no_more, more, only, append, pieces, pieces_in}
 use Rattle.filter_routes.specs.Entries.{Entry}
 use Rattle.filter_routes.specs.Lists.{IsListOf}
 use Rattle.filter_routes.specs.Faults.{Piece, nodes, nodes_all, member, PairAt, IsBefore}
-use Rattle.filter_routes.specs.Searching.{AreListsOf, clash_of, clash_at, FirstClash, NoPairAt, FirstPairOf, NoPair, FirstPair, Refused, Searched}
+use Rattle.filter_routes.specs.Searching.{AreListsOf, ClashBehind, clash_of, clash_at, FirstClash, NoPairAt, FirstPairOf, NoPair, FirstPair, Refused, Searched}
 use Rattle.filter_routes.specs.declared.fault.RouteFault.{RouteFault}
 use Rattle.filter_routes.specs.declared.fault.RouteFault.TheVariants.{NotKeeping, Overlap, OutOfMemory}
+use Rattle.filter_routes.proofs.Clash.{split}
 use Rattle.filter_routes.proofs.ListLaws.{clash-told, clash-seen}
 use Rattle.filter_routes.proofs.Walking.{nodes-count}
 
@@ -214,6 +215,10 @@ pub nodes-append : (i : Bool) (fs gs : Filters) → nodes_all i (append fs gs) �
 nodes-append i no_more gs = refl
 nodes-append i (more f fs) gs = ap (λ vs. nodes i f ++ vs) (nodes-append i fs gs) ∙ sym (append_assoc (nodes i f) (nodes_all i fs) (nodes_all i gs))
 
+-- the members up to a place, and one more
+pub nodes-next : (i : Bool) (fs : Filters) (f : Filter) → nodes_all i (append fs (only f)) ≡ nodes_all i fs ++ nodes i f
+nodes-next i fs f = nodes-append i fs (only f) ∙ ap (λ vs. nodes_all i fs ++ vs) (append-nil (nodes i f))
+
 -- ---- the members' lists
 
 lists-get : (fs : Filters) (vs : List (Vec Entry)) → AreListsOf fs vs → (a : ℕ) (f : Filter) → member fs a ≡ Some f
@@ -255,6 +260,10 @@ pair-seen fs vs l a b p =
     let v = lists-get fs vs l a p.f p.is_f in
     let w = lists-get fs vs l b p.g p.is_g in
     ap₂ clash_of v.1 w.1 ∙ clash-seen p.f p.g v.0.items w.0.items v.2 w.2 p.clash
+
+pub first-pair : (vs : List (Vec Entry)) (a b : ℕ) → ((c : ℕ) → c < a → (d : ℕ) → c < d → clash_at vs c d ≡ false) → ClashBehind vs a (Some b) → FirstClash vs (Some (a, b))
+first-pair vs a b h k =
+    (k.0, k.1, k.2, λ c d l o. split (λ (x : c < a). h c x d l) (λ (x : (c ≡ a) × (d < b)). subst (λ y. clash_at vs y d ≡ false) (sym x.0) (k.3 d (subst (λ y. y < d) x.0 l) x.1)) o)
 
 pub none-clash : (fs : Filters) (vs : List (Vec Entry)) → AreListsOf fs vs → FirstClash vs None → NoPairAt fs
 none-clash fs vs l h a b p = true≢false (sym (pair-seen fs vs l a b p) ∙ h a b p.ordered)

@@ -18,3 +18,4 @@ pub mod Locating
 pub mod Walking
 pub mod Finding
 pub mod Sounds
+pub mod Interning

@@ -147,8 +147,10 @@ fn first_overlap(
         Filter::Exclude(inner) => Ok(past_pieces(inner, number + 1)),
         Filter::Join(members) => {
             let members = members.as_slice();
-            are_apart(alloc, most, members, number as u32)?;
-            first_overlap_in(alloc, most, members, number + 1)
+            match are_apart(alloc, most, members, number as u32) {
+                Err(fault) => Err(fault),
+                Ok(()) => first_overlap_in(alloc, most, members, number + 1),
+            }
         }
         Filter::Chain(members) => first_overlap_in(alloc, most, members.as_slice(), number),
         Filter::Workspace(_) => Ok(number + 1),
@@ -167,7 +169,10 @@ fn first_overlap_in(
 {
     let mut number = number;
     for m in members {
-        number = first_overlap(alloc, most, m, number)?;
+        match first_overlap(alloc, most, m, number) {
+            Err(fault) => return Err(fault),
+            Ok(next) => number = next,
+        }
     }
     Ok(number)
 }

@@ -144,7 +144,7 @@ impl Tables {
     fn find(&self, filter: &Filter) -> Option<usize>
         ensures { NumberOf self.now (shape filter.now) result }
     {
-        for i in 0..self.tables.len() {
+        for i in 0..self.tables.as_slice().len() {
             if same(self.tables[i].filter(), filter) {
                 return Some(i);
             }
@@ -160,7 +160,7 @@ impl Tables {
         ensures ok { OnOk result (self.new ≡ self.old ++ table ∷ []) }
         ensures err { OnErr result (self.new ≡ self.old) }
     {
-        let number = self.tables.len();
+        let number = self.tables.as_slice().len();
         self.tables.reserve(1)?;
         self.numbers.insert(text, number)?;
         self.tables.push(table).unwrap();

@@ -4,4 +4,4 @@ use Rattle.filter_routes.proofs.search.first_clash.Given as goal
 
 abbrev pub invariant-loop-first : goal.invariant-loop-first
 invariant-loop-first l =
-    (a b : ℕ) → a < l.first → a < b → clash_at l.lists a b ≡ false
+    (a : ℕ) → a < l.first → (b : ℕ) → a < b → clash_at l.lists a b ≡ false
