@@ -1,7 +1,7 @@
 -- Tables that were made, each once.
 use Rattle.std.specs.Prelude.{◌≡◌, refl, ℕ, ◌+◌, ◌<◌, ◌≤◌, suc, zero, List, [], ◌∷◌, ◌++◌, length, slice_get, Option, Some, None, Bool, true, false, cond, nat_eq, ◌⊎◌}
 use Rattle.std.specs.Cmp.Lexicographic.{pointwise}
-use Rattle.std.proofs.Common.{ap, ◌∙◌, sym, subst, arith, inl, inr, true≢false, get_or, length-append}
+use Rattle.std.proofs.Common.{ap, ◌∙◌, sym, subst, arith, inl, inr, true≢false, length-append}
 use Rattle.std.proofs.lemmas.Option.{none-some, same_Some}
 use Rattle.git_objects.specs.Paths.{Bytes}
 use Rattle.filter_text.specs.Filters.{Filter, same_filter}
@@ -19,11 +19,6 @@ pub there-within : (ts : List Table) (n : ℕ) (t : Table) → slice_get ts n �
 there-within [] n t e = absurd (none-some t e)
 there-within (x ∷ ts) zero t e = omega arith
 there-within (x ∷ ts) (suc n) t e = omega (arith, there-within ts n t e)
-
-pub at-index : (ts : List Table) (n : ℕ) (t : Table) → n < length ts → slice_get ts n ≡ Some (get_or ts n t)
-at-index [] n t l = absurd (omega (arith, l))
-at-index (x ∷ ts) zero t l = refl
-at-index (x ∷ ts) (suc n) t l = at-index ts n t (omega (arith, l))
 
 at-last : (ts : List Table) (n : ℕ) (t : Table) → n ≡ length ts → slice_get (ts ++ t ∷ []) n ≡ Some t
 at-last [] zero t e = refl

@@ -1,14 +1,14 @@
 -- Sound filters are those without a fault.
-use Rattle.std.specs.Prelude.{◌≡◌, refl, ℕ, ◌+◌, ◌<◌, suc, zero, List, [], ◌∷◌, ◌++◌, slice_get, Option, Some, None, Bool, true, false, ◌&&◌, ◌⊎◌, ⊤}
+use Rattle.std.specs.Prelude.{◌≡◌, refl, ℕ, ◌+◌, ◌<◌, suc, zero, List, [], ◌∷◌, ◌++◌, slice_get, Some, true, false}
 use Rattle.std.proofs.Common.{ap, ◌∙◌, sym, arith, subst, inl, inr, true≢false}
 use Rattle.std.proofs.lemmas.Bool.{and_parts, and_from}
 use Rattle.std.proofs.lemmas.Option.{none-some, same_Some}
 use Rattle.filter_text.specs.Filters.{Filter, Filters, nop, sub, onto, dir, file, exclude, join, chain, workspace, no_more, more, pieces}
 use Rattle.filter_routes.specs.Soundness.{Clash, is_keeping, are_keeping, IsApart, AreApart, IsSound, AreSound}
-use Rattle.filter_routes.specs.Faults.{Piece, nodes, nodes_all, member, keeps, PairAt, IsNotKeeping, IsBefore, IsOverlap}
+use Rattle.filter_routes.specs.Faults.{Piece, nodes, nodes_all, member, keeps, PairAt, IsNotKeeping, IsOverlap}
 use Rattle.filter_routes.specs.Laws.{FaultLaw}
 use Rattle.filter_routes.specs.RouteFaults.{IsRouteFault}
-use Rattle.filter_routes.specs.Searching.{NoPairAt, NoPair, FirstPair, Refused}
+use Rattle.filter_routes.specs.Searching.{NoPairAt, NoPair, Refused}
 use Rattle.filter_routes.specs.declared.fault.RouteFault.{RouteFault}
 use Rattle.filter_routes.specs.declared.fault.RouteFault.TheVariants.{NotKeeping, Overlap, OutOfMemory}
 use Rattle.filter_routes.proofs.Finding.{branches_of, get-front, list-clear, no-pair-app, no-pair-more, searched-dir, searched-exclude, searched-file, searched-none, searched-nop, searched-onto, searched-sub, searched-workspace}

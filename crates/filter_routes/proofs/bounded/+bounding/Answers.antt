@@ -1,4 +1,4 @@
-use Rattle.std.proofs.Common.{rules, ◌≡◌, ◌+◌, sym, ap, ap₂, ◌∙◌, subst, [], ◌∷◌, drop, take, Some, IfOk}
+use Rattle.std.proofs.Common.{rules, ◌≡◌, sym, ap, ap₂, ◌∙◌, subst, [], ◌∷◌, take, Some, IfOk}
 use Rattle.filter_text.specs.Filters as plain
 use Rattle.filter_text.specs.Shapes.{shape, shapes}
 use Rattle.filter_text.proofs.RowLists.{shape-join, shape-chain}
@@ -8,7 +8,7 @@ use Rattle.filter_routes.specs.Operations.{turned, after_left, either_left}
 use Rattle.filter_routes.specs.Lists.{IsListOf}
 use Rattle.filter_routes.proofs.ListLaws.{list-dir, list-file, list-exclude, list-chain, list-join}
 use Rattle.filter_routes.proofs.Finding.{one-list}
-use Rattle.filter_routes.proofs.Members.{members-split, members-next}
+use Rattle.filter_routes.proofs.Members.{members-next}
 use Rattle.filter_routes.proofs.bounded.+bounding.Goals as goal
 
 pub list_within-returns-in-Dir : goal.list_within-returns-in-Dir

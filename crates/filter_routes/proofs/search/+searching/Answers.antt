@@ -1,4 +1,4 @@
-use Rattle.std.proofs.Common.{rules, arith, ◌≡◌, ◌<◌, ◌+◌, ◌^◌, ◌∷◌, ◌++◌, sym, ap, ◌∙◌, subst, drop, take, false, Ok, Err, IfErr, OnOk}
+use Rattle.std.proofs.Common.{rules, arith, ◌≡◌, ◌<◌, ◌+◌, ◌^◌, ◌∷◌, ◌++◌, sym, ap, ◌∙◌, subst, drop, take, false, Ok, Err}
 use Rattle.std.proofs.lemmas.List.{drop_more, take_all}
 use Rattle.filter_text.specs.Filters as plain
 use Rattle.filter_text.specs.Filters.{pieces, pieces_in}
@@ -6,7 +6,7 @@ use Rattle.filter_text.specs.Shapes.{shape, shapes}
 use Rattle.filter_text.proofs.RowLists.{shape-join, shape-chain, row-list}
 use Rattle.filter_text.specs.declared.filter.Filter.TheViews.{the_lemmas}
 use Rattle.filter_routes.specs.Faults.{nodes, nodes_all}
-use Rattle.filter_routes.specs.Searching.{Searched, FirstPairOf, NoPairAt}
+use Rattle.filter_routes.specs.Searching.{Searched}
 use Rattle.filter_routes.proofs.Finding.{searched-exclude, searched-join, searched-pair, searched-app, searched-front, nodes-append, nodes-next}
 use Rattle.filter_routes.proofs.Members.{members-split, members-next}
 use Rattle.filter_routes.proofs.Walking.{nodes-count}

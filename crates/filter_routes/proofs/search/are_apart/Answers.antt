@@ -1,4 +1,4 @@
-use Rattle.std.proofs.Common.{ap, sym, subst, None}
+use Rattle.std.proofs.Common.{sym, subst}
 use Rattle.filter_text.specs.Shapes.{shapes}
 use Rattle.filter_routes.specs.Searching.{AreListsOf, FirstClash}
 use Rattle.filter_routes.proofs.Finding.{none-clash, first-clash}
