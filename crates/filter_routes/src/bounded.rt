@@ -67,11 +67,7 @@ fn after_within(
 // The decision list of a filter, sound or not. Where a list on the way becomes longer than `most`, there is none for want
 // of memory.
 #[cycle(bounding)]
-pub fn list_within(
-    alloc: Global,
-    most: usize,
-    filter: &Filter,
-) -> Result<Vec<Entry>, AllocError>
+pub fn list_within(alloc: Global, most: usize, filter: &Filter) -> Result<Vec<Entry>, AllocError>
     ensures { IfOk result (λ v. IsListOf (shape filter.now) v.items) }
 {
     match filter {
@@ -97,11 +93,7 @@ pub fn list_within(
 }
 
 #[cycle(bounding)]
-fn join_within(
-    alloc: Global,
-    most: usize,
-    members: &[Filter],
-) -> Result<Vec<Entry>, AllocError>
+fn join_within(alloc: Global, most: usize, members: &[Filter]) -> Result<Vec<Entry>, AllocError>
     ensures { IfOk result (λ v. IsListOf (join (shapes members.now)) v.items) }
 {
     let mut list = Vec::new(alloc);
@@ -116,11 +108,7 @@ fn join_within(
 }
 
 #[cycle(bounding)]
-fn chain_within(
-    alloc: Global,
-    most: usize,
-    members: &[Filter],
-) -> Result<Vec<Entry>, AllocError>
+fn chain_within(alloc: Global, most: usize, members: &[Filter]) -> Result<Vec<Entry>, AllocError>
     ensures { IfOk result (λ v. IsListOf (chain (shapes members.now)) v.items) }
 {
     let mut list = one_entry(alloc, false, &[], &[])?;

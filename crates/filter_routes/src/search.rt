@@ -16,9 +16,9 @@ use crate::lists::is_sound;
 use filter_text::Filter;
 use std::alloc::{AllocError, Global};
 
-// The most entries that a decision list may have while a fault is looked for, where twice the pieces aren't more. The
-// lists of a sound filter have at most as many entries as the filter has pieces. Those of an unsound one can grow with
-// each member of a chain, without end in practice: `:[:/a,:/b]` doubles them.
+// The most entries that a decision list may have while a fault is looked for, where twice the pieces aren't more. The list
+// of a sound filter has at most one entry for each piece and each chain, so none is refused for it. Those of an unsound one
+// can double with each member of a chain, as by `:[:/a,:/b]`, and would fill any memory.
 const MOST_ENTRIES: usize = 65536;
 
 // The number behind the filter's pieces.
@@ -85,10 +85,7 @@ fn clash_behind(
 }
 
 // The first two lists that clash: the first list against the later ones, then the second, and so on.
-fn first_clash(
-    alloc: Global,
-    lists: &[Vec<Entry>],
-) -> Result<Option<(usize, usize)>, AllocError>
+fn first_clash(alloc: Global, lists: &[Vec<Entry>]) -> Result<Option<(usize, usize)>, AllocError>
     ensures { IfOk result (FirstClash lists.now) }
 {
     for first in 0..lists.len() {
@@ -100,12 +97,7 @@ fn first_clash(
 }
 
 // Refuses a list with two branches that clash by its number and the first two.
-fn are_apart(
-    alloc: Global,
-    most: usize,
-    members: &[Filter],
-    number: u32,
-) -> Result<(), RouteFault>
+fn are_apart(alloc: Global, most: usize, members: &[Filter], number: u32) -> Result<(), RouteFault>
     ensures apart { OnOk result (NoPairAt (shapes members.now)) }
     ensures pair { IfErr result (FirstPairOf number (shapes members.now)) }
 {

@@ -9,8 +9,8 @@ ghost use Rattle.filter_text.specs.Filters.{pieces};
 ghost use Rattle.filter_text.specs.Printing.{printed};
 ghost use Rattle.filter_text.specs.Shapes.{shape};
 
-use crate::table::Table;
 use crate::RouteFault;
+use crate::table::Table;
 use filter_text::{Filter, print, same};
 use indexmap::IndexMap;
 use std::alloc::{AllocError, Global};

@@ -1,9 +1,21 @@
+ghost use Rattle.std.specs.Prelude.{◌≤◌, IfOk};
+ghost use Rattle.filter_text.specs.Filters.{pieces};
+ghost use Rattle.filter_text.specs.Shapes.{shape};
+
+use crate::bounded::list_within;
 use crate::{RouteFault, Table, Tables, check, is_sound};
-use filter_text::{parse, same};
+use filter_text::{Filter, parse, same};
 use git_objects::Component;
 use path_names::Path;
 use std::alloc::{AllocError, Global};
 use std::test::Fail;
+
+// The filter of a text.
+fn filter_of(alloc: Global, text: &[u8]) -> Result<Filter, Fail>
+    ensures { IfOk result (λ f. pieces (shape f) ≤ 1024) }
+{
+    Ok(parse(alloc, text)?)
+}
 
 #[test]
 fn filters_are_sound_or_not(rt: HostRuntime) -> Result<(), Fail> {
@@ -34,7 +46,7 @@ fn filters_are_sound_or_not(rt: HostRuntime) -> Result<(), Fail> {
         (b":[:exclude[::a/],b=:/a]", false),
         (b":[::a/b,::a:prefix=x]", true),
     ] {
-        let filter = parse(alloc, text)?;
+        let filter = filter_of(alloc, text)?;
         assert_eq!(rt; is_sound(alloc, &filter)?, sound, "of {text:?}");
         assert_eq!(rt; check(alloc, &filter).is_ok(), sound, "of {text:?}");
         assert_eq!(rt;
@@ -85,7 +97,7 @@ fn faults_have_their_places(rt: HostRuntime) -> Result<(), Fail> {
         (b":[x=::a,y=:/b,z=:/c,z=:/d,y=:/e]", overlap(0, 1, 4)),
         (b":[x=::a,y=:/b,y=:/c,y=:/d]", overlap(0, 1, 2)),
     ] {
-        let filter = parse(alloc, text)?;
+        let filter = filter_of(alloc, text)?;
         assert_eq!(rt; check(alloc, &filter), Err(fault), "of {text:?}");
         assert_eq!(rt;
             Table::compile(alloc, &filter).err(),
@@ -116,17 +128,32 @@ fn chains_of_lists_that_overlap(rt: HostRuntime) -> Result<(), Fail> {
         // The outer list comes first, and its branches are apart.
         (b":[", 8, b":prefix=y,::z:prefix=x]", overlap(1, 0, 1)),
         (b":[", 8, b":prefix=y,::z:prefix=y]", overlap(0, 0, 1)),
-        (
-            b":[",
-            100,
-            b":prefix=y,::z:prefix=x]",
-            RouteFault::OutOfMemory,
-        ),
     ] {
         let text = chain_text(alloc, before, count, behind)?;
-        let filter = parse(alloc, text.as_slice())?;
+        let filter = filter_of(alloc, text.as_slice())?;
         assert!(rt; !is_sound(alloc, &filter)?, "{count} lists");
         assert_eq!(rt; check(alloc, &filter), Err(fault), "{count} lists");
+    }
+    Ok(())
+}
+
+// The list of `:[:/a,:/b]` has two entries. In a chain each entry with a target becomes two and a last one without, so
+// each further member leaves one entry more than twice as many.
+#[test]
+fn lists_of_unsound_filters_end(rt: HostRuntime) -> Result<(), Fail> {
+    let alloc = rt.alloc();
+    for (count, most, len) in [
+        (1, 2, Some(2)),
+        (2, 7, Some(7)),
+        (3, 15, Some(15)),
+        (3, 14, None),
+        (8, 511, Some(511)),
+        (100, 1000, None),
+    ] {
+        let text = chain_text(alloc, b"", count, b"")?;
+        let filter = filter_of(alloc, text.as_slice())?;
+        let list = list_within(alloc, most, &filter).ok();
+        assert_eq!(rt; list.map(|v| v.len()), len, "{count} lists");
     }
     Ok(())
 }
@@ -145,7 +172,7 @@ fn each_filter_has_one_table(rt: HostRuntime) -> Result<(), Fail> {
         (b":exclude[:/a]", Err(RouteFault::NotKeeping { piece: 1 })),
         (b":/b", Ok(3)),
     ] {
-        let filter = parse(alloc, text)?;
+        let filter = filter_of(alloc, text)?;
         let before = tables.len();
         assert_eq!(rt; tables.intern(alloc, &filter), answer, "of {text:?}");
         match answer {
@@ -201,7 +228,7 @@ fn origin_text(alloc: Global, table: &Table, image: &Path) -> Result<Option<Vec<
 
 // The table of a sound filter text.
 fn table_of(alloc: Global, text: &[u8]) -> Result<Option<Table>, Fail> {
-    let filter = parse(alloc, text)?;
+    let filter = filter_of(alloc, text)?;
     Ok(Table::compile(alloc, &filter).ok())
 }
 
