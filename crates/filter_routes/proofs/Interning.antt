@@ -1,4 +1,4 @@
--- Tables that were made, each once.
+-- Tables that were made, each once, and the texts that they are found by.
 use Rattle.std.specs.Prelude.{◌≡◌, refl, ℕ, ◌+◌, ◌<◌, ◌≤◌, suc, zero, List, [], ◌∷◌, ◌++◌, length, slice_get, Option, Some, None, Bool, true, false, cond, nat_eq, ◌⊎◌}
 use Rattle.std.specs.Cmp.Lexicographic.{pointwise}
 use Rattle.std.proofs.Common.{ap, ◌∙◌, sym, subst, arith, inl, inr, true≢false, length-append}
@@ -6,9 +6,15 @@ use Rattle.std.proofs.lemmas.Option.{none-some, same_Some}
 use Rattle.git_objects.specs.Paths.{Bytes}
 use Rattle.filter_text.specs.Filters.{Filter, same_filter}
 use Rattle.filter_text.specs.Printing.{printed}
+use Rattle.filter_text.specs.Reading.{filter_of}
 use Rattle.filter_text.specs.Shapes.{shape}
+use Rattle.filter_text.specs.Spelling.{SpellsFilter}
 use Rattle.filter_text.proofs.Equals.{filter-same}
+use Rattle.filter_text.proofs.Goods.{filter-good}
+use Rattle.filter_text.proofs.Grammar.{filter_read}
+use Rattle.filter_text.proofs.Printable.{filter_spelt}
 use Rattle.filter_routes.specs.Interned.{HasAt, HasNone, AreDistinct, Interns, number_at, AreNumbered, IsStored}
+use Rattle.filter_routes.specs.Laws.{TablesLaw}
 use Rattle.filter_routes.specs.TableValues.{Table}
 use Rattle.filter_routes.proofs.Clash.{split}
 use Rattle.filter_routes.proofs.Strip.{eq-self}
@@ -110,3 +116,17 @@ interns-fresh ts us t f n h e k u = record {
   known = λ m a. absurd (h m a);
   fresh = λ a. (k, (t, u));
 }
+
+-- ---- canonical texts
+
+-- a filter that a text spells is read of its canonical text
+read-again : (s : Bytes) (f : Filter) → SpellsFilter s f → filter_of (printed f) ≡ Some f
+read-again s f h =
+    let g = filter-good s f h in
+    filter_read (printed f) f (filter_spelt f g.links g.paths)
+
+pub tables-law : TablesLaw
+tables-law s t f g h k = (
+  λ e. same_Some f g (sym (read-again s f h) ∙ ap filter_of e ∙ read-again t g k),
+  λ e. ap printed e,
+)

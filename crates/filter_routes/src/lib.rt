@@ -20,7 +20,7 @@ mod tests;
 pub use fault::RouteFault;
 pub use faults::first_not_keeping;
 pub use hit::RouteHit;
-pub use laws::{fault_law, route_law};
+pub use laws::{fault_law, route_law, tables_law};
 pub use lists::is_sound;
 pub use search::check;
 pub use table::Table;
