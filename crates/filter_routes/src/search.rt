@@ -121,7 +121,7 @@ fn are_apart(alloc: Global, most: usize, members: &[Filter], number: u32) -> Res
 // The number behind the filter's pieces where no two branches of a list outside of excludes clash, else the first that do.
 // The lists come in their order, so the search ends at the first.
 #[cycle(searching)]
-fn first_overlap(
+pub fn first_overlap(
     alloc: Global,
     most: usize,
     filter: &Filter,

@@ -3,6 +3,8 @@ ghost use Rattle.std.specs.Prelude.{◌≡◌, ◌≤◌, ◌<◌, ◌^◌, true
 ghost use Rattle.filter_text.specs.Filters.{pieces};
 ghost use Rattle.filter_text.specs.Shapes.{shape};
 ghost use Rattle.filter_routes.specs.Images.{image};
+ghost use Rattle.filter_routes.specs.Laws.{has_paths};
+ghost use Rattle.filter_routes.specs.Soundness.{IsSound};
 
 use crate::entry::Entry;
 use crate::lists::list_of;
@@ -57,7 +59,9 @@ impl Table {
 
     /// The filter whose table it is.
     pub fn filter(&self) -> &Filter
-        ensures { result.now ≡ self.now.filter }
+        ensures filter { result.now ≡ self.now.filter }
+        ensures sound { IsSound (shape self.now.filter) }
+        ensures paths { has_paths (shape self.now.filter) ≡ true }
     {
         &self.filter
     }

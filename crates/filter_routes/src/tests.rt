@@ -3,6 +3,7 @@ ghost use Rattle.filter_text.specs.Filters.{pieces};
 ghost use Rattle.filter_text.specs.Shapes.{shape};
 
 use crate::bounded::list_within;
+use crate::search::first_overlap;
 use crate::{RouteFault, Table, Tables, check, is_sound};
 use filter_text::{Filter, parse, same};
 use git_objects::Component;
@@ -155,6 +156,12 @@ fn lists_of_unsound_filters_end(rt: HostRuntime) -> Result<(), Fail> {
         let list = list_within(alloc, most, &filter).ok();
         assert_eq!(rt; list.map(|v| v.len()), len, "{count} lists");
     }
+    let text = chain_text(alloc, b":[", 100, b":prefix=y,::z:prefix=x]")?;
+    let filter = filter_of(alloc, text.as_slice())?;
+    assert_eq!(rt;
+        first_overlap(alloc, 1000, &filter, 0),
+        Err(RouteFault::OutOfMemory)
+    );
     Ok(())
 }
 
@@ -162,6 +169,7 @@ fn lists_of_unsound_filters_end(rt: HostRuntime) -> Result<(), Fail> {
 fn each_filter_has_one_table(rt: HostRuntime) -> Result<(), Fail> {
     let alloc = rt.alloc();
     let mut tables = Tables::new(alloc);
+    assert!(rt; tables.is_empty());
     for (text, answer) in [
         (b":/a".as_slice(), Ok(0)),
         (b":[::b,::a]", Ok(1)),

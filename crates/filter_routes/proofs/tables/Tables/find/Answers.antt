@@ -19,7 +19,7 @@ returns-then-same c =
     subst (λ xs. HasAt xs f i) c.self.view_is (
       t,
       slice_get-get_or ts i t l ∙ ap Some (sym c.index.ensures),
-      ap shape (sym c.filter.ensures) ∙ filter-equal (shape c.filter.result.now) f (sym c.same.ensures.test ∙ c.if-same.true),
+      ap shape (sym c.filter.ensures.filter) ∙ filter-equal (shape c.filter.result.now) f (sym c.same.ensures.test ∙ c.if-same.true),
     )
 
 pub loop-i-preserved : goal.loop-i-preserved
@@ -31,7 +31,7 @@ loop-i-preserved c =
     let l : i < length ts = omega arith in
     below_more (λ n. HasAt c.args.self.now f n → ⊥) i c.loop-i.invariant
     (other-at c.args.self.now i t f (ap (λ xs. slice_get xs i) (sym c.self.view_is) ∙ slice_get-get_or ts i t l ∙ ap Some (sym c.index.ensures))
-    (ap (λ g. same_filter (shape g) f) (sym c.filter.ensures) ∙ sym c.same.ensures.test ∙ c.if-same.false))
+    (ap (λ g. same_filter (shape g) f) (sym c.filter.ensures.filter) ∙ sym c.same.ensures.test ∙ c.if-same.false))
 
 pub returns : goal.returns
 returns c =

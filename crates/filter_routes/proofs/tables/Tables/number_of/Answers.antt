@@ -15,7 +15,7 @@ returns-then-same c =
     subst (λ xs. HasAt xs f i) c.self.view_is (
       t,
       slice_get-get_or ts i t l ∙ ap Some (sym c.index.ensures),
-      ap shape (sym c.filter.ensures) ∙ filter-equal (shape c.filter.result.now) f (sym c.same.ensures.test ∙ c.if-same.true),
+      ap shape (sym c.filter.ensures.filter) ∙ filter-equal (shape c.filter.result.now) f (sym c.same.ensures.test ∙ c.if-same.true),
     )
 
 pub returns-in-None : goal.returns-in-None
