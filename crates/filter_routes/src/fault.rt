@@ -15,6 +15,7 @@ pub enum RouteFault {
     /// Each piece may stand where it does, `list` is the first list outside of excludes with two branches that clash, and
     /// these are its first two: they have a path in common, or paths with comparable images.
     Overlap { list: u32, first: u32, second: u32 },
+    /// Memory ran out, or the filter isn't sound and its lists grow too long for the place of its fault to be found.
     OutOfMemory,
 }
 
