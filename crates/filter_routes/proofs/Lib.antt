@@ -16,3 +16,6 @@ pub mod Admitting
 pub mod Members
 pub mod Locating
 pub mod Walking
+pub mod Finding
+pub mod Sounds
+pub mod Interning

@@ -9,3 +9,6 @@ pub mod Rows
 pub mod Lists
 pub mod Tables
 pub mod TableValues
+pub mod RouteFaults
+pub mod Searching
+pub mod Interned

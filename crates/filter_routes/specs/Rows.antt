@@ -1,11 +1,14 @@
 -- Worked examples.
-use Rattle.std.specs.Prelude.{◌≡◌, refl, List, [], ◌∷◌, ◌++◌, codes, Some, None, true, false, slice_get}
-use Rattle.std.proofs.Common.{inr}
+use Rattle.std.specs.Prelude.{◌≡◌, ℕ, ◌<◌, suc, zero, refl, List, [], ◌∷◌, ◌++◌, codes, Some, None, true, false, slice_get}
+use Rattle.std.proofs.Common.{inl, inr, subst, arith}
+use Rattle.std.proofs.lemmas.Option.{none-some, same_Some}
 use Rattle.git_objects.specs.Paths.{Path}
 use Rattle.filter_text.specs.Filters.{Filter, Filters, nop, sub, onto, dir, file, exclude, join, chain, workspace, no_more, more, only}
 use Rattle.filter_routes.specs.Images.{image}
 use Rattle.filter_routes.specs.Soundness.{Clash}
-use Rattle.filter_routes.specs.Faults.{nodes, keeps}
+use Rattle.filter_routes.specs.Faults.{Piece, nodes, keeps, IsBefore}
+use Rattle.filter_routes.specs.RouteFaults.{IsRouteFault}
+use Rattle.filter_routes.specs.declared.fault.RouteFault.TheVariants.{NotKeeping, Overlap}
 use Rattle.filter_routes.specs.Entries.{at, below, Entry}
 use Rattle.filter_routes.specs.Operations.{either_left, after_left, turned}
 use Rattle.filter_routes.specs.Cells.{cells, any_clash}
@@ -129,3 +132,34 @@ apart_by_holes = refl
 pub not_apart_by_a_file :
     any_clash (cells [] (turned [] (either_left ((below a, Some a) ∷ []) ((below b, Some b) ∷ [])))) (cells [] (moved a b)) ≡ true
 not_apart_by_a_file = refl
+
+-- ---- faults
+
+-- `:exclude[:/a]`
+pub a_sub_does_not_keep : IsRouteFault (exclude (sub a)) (NotKeeping 1)
+a_sub_does_not_keep = record { piece = (true, sub a); is_piece = refl; fails = refl; before = only_the_first }
+  where
+    only_the_first : (m : ℕ) (v : Piece) → m < 1 → slice_get (nodes false (exclude (sub a))) m ≡ Some v → keeps v ≡ true
+    only_the_first zero v l e = subst (λ x. keeps x ≡ true) (same_Some (false, exclude (sub a)) v e) refl
+    only_the_first (suc m) v l e = absurd (omega (arith, l))
+
+-- `:[:/a,:/b]`
+pub two_fronts_overlap : IsRouteFault (join (two (sub a) (sub b))) (Overlap 0 0 1)
+two_fronts_overlap = record {
+  keeping = all_keep;
+  branches = two (sub a) (sub b);
+  is_list = refl;
+  pair = record { f = sub a; g = sub b; ordered = omega arith; is_f = refl; is_g = refl; clash = overlapping };
+  first_list = λ m c d fs l. absurd (omega (arith, l));
+  first_pair = λ c d o p. smallest c d o p.ordered;
+}
+  where
+    all_keep : (m : ℕ) (v : Piece) → slice_get (nodes false (join (two (sub a) (sub b)))) m ≡ Some v → keeps v ≡ true
+    all_keep zero v e = subst (λ x. keeps x ≡ true) (same_Some (false, join (two (sub a) (sub b))) v e) refl
+    all_keep (suc zero) v e = subst (λ x. keeps x ≡ true) (same_Some (false, sub a) v e) refl
+    all_keep (suc (suc zero)) v e = subst (λ x. keeps x ≡ true) (same_Some (false, sub b) v e) refl
+    all_keep (suc (suc (suc m))) v e = absurd (none-some v e)
+
+    smallest : (c d : ℕ) → IsBefore c d 0 1 → c < d → ⊥
+    smallest c d (inl l) o = omega (arith, l)
+    smallest c d (inr l) o = omega (arith, l.0, l.1, o)

@@ -178,7 +178,7 @@ fn push_alive(alloc: Global, out: &mut Vec<Entry>, entry: &Entry) -> Result<(), 
 }
 
 // Adds the entries that no earlier one hides.
-fn push_thin(alloc: Global, out: &mut Vec<Entry>, entries: &[Entry]) -> Result<(), AllocError>
+pub fn push_thin(alloc: Global, out: &mut Vec<Entry>, entries: &[Entry]) -> Result<(), AllocError>
     ensures { OnOk result (out.new.items ≡ out.old.items ++ thin (heads out.old.items []) entries.now) }
 {
     for e in entries {
@@ -188,7 +188,7 @@ fn push_thin(alloc: Global, out: &mut Vec<Entry>, entries: &[Entry]) -> Result<(
 }
 
 // Adds what becomes of an entry: a list keeps an entry with a target, a chain one without; of the other come its parts.
-fn push_grown(
+pub fn push_grown(
     alloc: Global,
     out: &mut Vec<Entry>,
     is_list: bool,
@@ -234,7 +234,7 @@ fn either_grown(
 }
 
 // Whether each entry has a target.
-fn are_live(entries: &[Entry]) -> bool
+pub fn are_live(entries: &[Entry]) -> bool
     ensures { result ≡ are_live entries.now }
 {
     for e in entries {
