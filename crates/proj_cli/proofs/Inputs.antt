@@ -15,7 +15,7 @@ use Rattle.proj_cli.specs.Answer.{IsChanged, IsDone, IsImported, IsInHand, IsLan
 use Rattle.proj_cli.specs.Prepared.{room_in}
 use Rattle.proj_cli.specs.Step.{Room, Step, by_items, import_step, import_stream, input_max, load_outcome, refused, room_of, step}
 use Rattle.proj_cli.specs.Words.{Import}
-use Rattle.proj_cli.specs.Streams.{stream}
+use Rattle.small_streams.specs.Streams.{stream}
 use Rattle.proj_cli.specs.declared.outcome.Outcome.{Outcome}
 use Rattle.proj_cli.specs.declared.outcome.Outcome.TheVariants.{Done, OutOfMemory, Collision, NotBuilt, ReadFault, StoreFault, WriteFault}
 use Rattle.proj_cli.proofs.Makes.{keeps, load_report, long, long_input, made_plain, report_for, told_input, whole_input}

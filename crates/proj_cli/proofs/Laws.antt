@@ -7,7 +7,7 @@ use Rattle.proj_io.specs.Views.{SinkView}
 use Rattle.proj_cli.specs.Answer.{IsConcluded, TakesMemory}
 use Rattle.proj_cli.specs.Pushed.{IsLawful, IsLawfulBy, IsLawfulRead}
 use Rattle.proj_cli.specs.Step.{by_items, push_by, push_step, room_of, step}
-use Rattle.proj_cli.specs.Streams.{stream}
+use Rattle.small_streams.specs.Streams.{stream}
 use Rattle.proj_cli.specs.Texts.{filter_path}
 use Rattle.proj_cli.specs.Words.{Push}
 use Rattle.proj_cli.specs.declared.outcome.Outcome.{Outcome}

@@ -15,14 +15,14 @@ use Rattle.repo_state.specs.Commits.{change_of}
 use Rattle.repo_state.specs.Items.{Held, bytes_cmp}
 use Rattle.repo_state.specs.Loads.{IsStored, Stored}
 use Rattle.proj_cli.specs.Answer.{IsInPush, IsInPushFrom, IsRefusal}
-use Rattle.proj_cli.specs.Histories.{is_same_name}
+use Rattle.history_project.specs.Histories.{is_same_name}
 use Rattle.proj_cli.specs.Prepared.{FitsItems, IsPlainRefusal, IsPrepared, IsSameBut, room_in}
 use Rattle.proj_cli.specs.Push as push
 use Rattle.proj_cli.specs.Push.{judged, verdict}
 use Rattle.proj_cli.specs.Pushed.{IsPushed}
 use Rattle.proj_cli.specs.Pushes.{IsAccepted, IsPreparedPush}
 use Rattle.proj_cli.specs.Step.{Room, Step, changing, named, push_made, push_smalls, refused, start_below}
-use Rattle.proj_cli.specs.Streams.{Small}
+use Rattle.small_streams.specs.Streams.{Small}
 use Rattle.proj_cli.specs.declared.outcome.Outcome.{Outcome}
 use Rattle.proj_cli.specs.declared.outcome.Outcome.TheVariants.{NotAtHead, OtherRef}
 use Rattle.proj_cli.specs.declared.saving.Prepared.{Prepared}

@@ -25,16 +25,16 @@ use Rattle.proj_cli.specs.Prepared.{FitsItems}
 use Rattle.proj_cli.specs.Push as push
 use Rattle.proj_cli.specs.Push.{pushed_commit}
 use Rattle.proj_cli.specs.Pushes.{IsAccepted, IsPushBatch}
-use Rattle.proj_cli.specs.Replay.{contents, contents_in, with_change, with_changes}
+use Rattle.small_streams.specs.Replay.{contents, contents_in, with_change, with_changes}
 use Rattle.proj_cli.specs.Step.{input_max, start_below}
-use Rattle.proj_cli.specs.Streams.{Change, Small, stream}
+use Rattle.small_streams.specs.Streams.{Change, Small, stream}
 use Rattle.proj_cli.specs.declared.pushing.Pushed.{Pushed}
 use Rattle.proj_cli.specs.declared.saving.Prepared.{Prepared}
 use Rattle.proj_cli.proofs.ImportFits.{IsFine, IsFineTree, all-short, blobs-within, commits-within, each-front, upon-fine}
-use Rattle.proj_cli.proofs.ImportTrees.{AreWithin}
-use Rattle.proj_cli.proofs.KnownLeaves.{AreBrought, are_known, brought-known, known-entry, known-filter, known-put, known-under}
+use Rattle.history_project.proofs.HeldTrees.{AreWithin}
+use Rattle.small_streams.proofs.KnownLeaves.{AreBrought, are_known, brought-known, known-entry, known-filter, known-put, known-under}
 use Rattle.proj_cli.proofs.PushPlans.{brought, made, original}
-use Rattle.proj_cli.proofs.StreamSizes.{IsSmall, stream-small}
+use Rattle.small_streams.proofs.StreamSizes.{IsSmall, stream-small}
 
 -- ---- what is laid
 

@@ -12,12 +12,12 @@ use Rattle.proj_cli.specs.Answer.{IsInPush, IsSmallsInHand}
 use Rattle.proj_cli.specs.Prepared.{IsPlainRefusal, IsPrepared, room_in}
 use Rattle.proj_cli.specs.Pushed.{IsPushedAll}
 use Rattle.proj_cli.specs.Step.{Room, Step, changing, no_change, push_smalls}
-use Rattle.proj_cli.specs.Streams.{Small}
-use Rattle.proj_cli.specs.Views.{small_value}
+use Rattle.small_streams.specs.Streams.{Small}
+use Rattle.small_streams.specs.Views.{small_value}
 use Rattle.proj_cli.specs.declared.outcome.Outcome.{Outcome}
 use Rattle.proj_cli.specs.declared.outcome.Outcome.TheVariants.{Done}
 use Rattle.proj_cli.specs.declared.saving.Prepared.{Prepared}
-use Rattle.proj_cli.specs.declared.streams.SmallCommit.{SmallCommit}
+use Rattle.small_streams.specs.declared.streams.SmallCommit.{SmallCommit}
 use Rattle.proj_cli.proofs.Imports.{nothing-prepared}
 
 -- ---- no commit

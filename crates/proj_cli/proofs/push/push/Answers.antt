@@ -9,7 +9,7 @@ use Rattle.repo_state.specs.Loads.{IsLoaded, IsLoadFault}
 use Rattle.proj_cli.specs.Answer.{IsMadeOf, IsPushOf}
 use Rattle.proj_cli.specs.Prepared.{room_in}
 use Rattle.proj_cli.specs.Step.{by_items, push_step, refused, room_of}
-use Rattle.proj_cli.specs.Streams.{stream}
+use Rattle.small_streams.specs.Streams.{stream}
 use Rattle.proj_cli.specs.declared.outcome.Outcome.{Outcome}
 use Rattle.proj_cli.specs.declared.outcome.Outcome.TheVariants.{NotBuilt, OutOfMemory}
 use Rattle.proj_cli.proofs.Inputs.{input_none, loaded_made, made_then, unloaded_made}

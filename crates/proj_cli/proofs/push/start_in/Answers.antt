@@ -6,8 +6,8 @@ use Rattle.git_objects.specs.Trees.{Flat, under}
 use Rattle.object_store.specs.Errors.{newest}
 use Rattle.repo_state.specs.Repos.{Snapshot}
 use Rattle.proj_cli.specs.Push.{Start}
-use Rattle.proj_cli.specs.Projection.{Shown, projection_below}
-use Rattle.proj_cli.proofs.AllCommits.{each-held, snapshots-arrived}
+use Rattle.history_project.specs.Projection.{Shown, projection_below}
+use Rattle.history_project.proofs.AllCommits.{each-held, snapshots-arrived}
 use Rattle.proj_cli.proofs.PushStarts.{tree-here}
 use Rattle.proj_cli.proofs.push.start_in.Goals as goal
 
