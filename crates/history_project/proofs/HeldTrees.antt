@@ -1,4 +1,4 @@
--- The trees of held commits, which streams stand upon.
+-- The trees of held commits, upon which commits are made.
 use Rattle.std.proofs.Common.{◌≡◌, suc, ◌<◌, true, false, cond, ◌||◌, List, [], ◌∷◌, ◌++◌, length, Option, Some, None, IfSome, Contains, refl, sym, ap, ◌∙◌, arith, true≢false}
 use Rattle.std.specs.Option.{option_map, option_map_or, option_to_list}
 use Rattle.std.proofs.lemmas.List.Elements.{Contains-get_or}

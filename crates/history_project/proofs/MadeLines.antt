@@ -1,4 +1,4 @@
--- Commits that a stream made, by their names.
+-- Commits in order of arrival, by their names.
 use Rattle.std.proofs.Common.{◌≡◌, suc, arith, ◌-◌, length, slice_get, true, List, [], ◌∷◌, ◌++◌, map, reverse, Option, Some, None, refl, sym, ap, ◌∙◌}
 use Rattle.std.specs.List.{cons_option, list_all}
 use Rattle.std.specs.Option.{option_map}

@@ -279,7 +279,7 @@ fn replay(
     Ok(replayed)
 }
 
-// The tree of a commit of the store.
+/// The tree of a commit of the store.
 pub fn tree_of(store: &Store, name: &Name) -> Name
     requires { has Commit (newest store.now) name.now.0 ≡ true }
     ensures held { has Tree (newest store.now) result.0 ≡ true }
@@ -313,7 +313,7 @@ fn replay_anew(
     }
 }
 
-/// The same upon a commit of the store, or upon nothing.
+/// Makes the commits of a stream, each upon the one before, the first upon a commit of the store or upon nothing.
 pub fn replay_upon(
     alloc: Global,
     store: &mut Store,
