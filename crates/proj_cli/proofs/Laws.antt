@@ -1,5 +1,5 @@
 -- What a push that is done has done, by its words.
-use Rattle.std.proofs.Common.{◌≡◌, ◌⊎◌, inl, inr, List, Option, Some, None, Ok, Err, Result, IfSome, ap, sym, subst, ◌∙◌}
+use Rattle.std.proofs.Common.{◌≡◌, ◌⊎◌, inl, inr, List, Option, Some, Ok, Err, Result, IfSome, ap, sym, subst, ◌∙◌}
 use Rattle.std.specs.Prelude.{IfOk}
 use Rattle.git_objects.specs.Paths.{Bytes, Path}
 use Rattle.repo_state.specs.Items.{read_items}

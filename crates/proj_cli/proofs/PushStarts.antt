@@ -1,5 +1,5 @@
 -- What a push stands upon, by the trees of a store.
-use Rattle.std.proofs.Common.{◌≡◌, true, List, [], Option, Some, None, refl, sym, ap, ◌∙◌}
+use Rattle.std.proofs.Common.{◌≡◌, true, List, [], Some, sym, ap, ◌∙◌}
 use Rattle.std.specs.Option.{option_map_or}
 use Rattle.git_objects.specs.Paths.{Bytes}
 use Rattle.git_objects.specs.Commits.{Commit as CommitValue}

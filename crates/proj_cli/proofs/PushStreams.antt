@@ -1,5 +1,5 @@
 -- What a push answers to the commits of a stream.
-use Rattle.std.proofs.Common.{◌≡◌, ◌≤◌, ◌<◌, Bool, true, List, [], ◌∷◌, length, map, slice_index_or, Ok, Err, Result, refl, sym, ap, subst, ◌∙◌, arith}
+use Rattle.std.proofs.Common.{◌≡◌, ◌≤◌, ◌<◌, List, [], ◌∷◌, length, map, slice_index_or, Ok, Err, Result, refl, sym, ap, subst, ◌∙◌, arith}
 use Rattle.std.specs.Prelude.{IfErr, IfOk, OnOk}
 use Rattle.git_objects.specs.Paths.{Bytes, Path}
 use Rattle.git_objects.specs.Parts.{name_bytes}

@@ -1,4 +1,4 @@
-use Rattle.std.proofs.Common.{List, Option, Some, None, Ok, ◌≡◌, ap, sym, subst}
+use Rattle.std.proofs.Common.{List, Option, Some, Ok, ap, sym, subst}
 use Rattle.git_objects.specs.Paths.{Bytes}
 use Rattle.proj_io.specs.Views.{keeper_view}
 use Rattle.proj_cli.specs.Answer.{IsMadeOf, IsPushInHand, IsPushOf}
