@@ -20,15 +20,15 @@ use Rattle.repo_state.specs.Changes.{IsChange, are_distinct, commit_named, commi
 use Rattle.repo_state.specs.Commits.{change_of, setting}
 use Rattle.repo_state.specs.declared.commit.Batch.{Batch}
 use Rattle.repo_state.specs.declared.commit.Setting.{Setting}
-use Rattle.proj_cli.specs.Streams.{Small}
-use Rattle.proj_cli.specs.Replay.{blob_object, commits_objects, contents, replayed, snapshot, snapshots_made, stream_objects, with_changes}
-use Rattle.proj_cli.specs.Replays.{AreBlobs, IsBrought}
-use Rattle.proj_cli.specs.Snapshots.{AreSnapshots, IsSnapshot}
-use Rattle.proj_cli.proofs.AllCommits.{both_true}
-use Rattle.proj_cli.proofs.Files.{has-found}
-use Rattle.proj_cli.proofs.HeldCommits.{body-found}
+use Rattle.small_streams.specs.Streams.{Small}
+use Rattle.small_streams.specs.Replay.{blob_object, commits_objects, contents, replayed, snapshot, snapshots_made, stream_objects, with_changes}
+use Rattle.small_streams.specs.Replays.{AreBlobs, IsBrought}
+use Rattle.history_project.specs.Snapshots.{AreSnapshots, IsSnapshot}
+use Rattle.history_project.proofs.AllCommits.{both_true}
+use Rattle.history_project.proofs.FoundObjects.{has-found}
+use Rattle.history_project.proofs.HeldCommits.{body-found}
 use Rattle.proj_cli.proofs.ImportFits.{made-is}
-use Rattle.proj_cli.proofs.MadeLines.{commit-held, commit-read, made-held}
+use Rattle.history_project.proofs.MadeLines.{commit-held, commit-read, made-held}
 
 -- whether a name is held or stands before
 abbrev pub stands : List Object → List Bytes → Bytes → Bool

@@ -20,19 +20,19 @@ use Rattle.repo_state.specs.Changes.{IsWithin, commit_fits, commit_named}
 use Rattle.repo_state.specs.Items.{Held, read_items, tree_fits}
 use Rattle.repo_state.specs.Repos.{Snapshot, repo_of, snapshot_name}
 use Rattle.repo_state.proofs.HeldFits.{held-fits}
-use Rattle.proj_cli.specs.Replay.{are_small, contents, contents_in, replayed, snapshot, snapshots_made, trees_made, trees_within, with_change, with_changes}
-use Rattle.proj_cli.specs.Replays.{AreBlobs}
-use Rattle.proj_cli.specs.Snapshots.{AreSnapshots, IsSnapshot}
+use Rattle.small_streams.specs.Replay.{are_small, contents, contents_in, replayed, snapshot, snapshots_made, trees_made, trees_within, with_change, with_changes}
+use Rattle.small_streams.specs.Replays.{AreBlobs}
+use Rattle.history_project.specs.Snapshots.{AreSnapshots, IsSnapshot}
 use Rattle.proj_cli.specs.Step.{input_max}
-use Rattle.proj_cli.specs.Histories.{tree_upon}
-use Rattle.proj_cli.specs.Streams.{Change, Small, stream}
-use Rattle.proj_cli.proofs.AllCommits.{both_true}
-use Rattle.proj_cli.proofs.Files.{body-found}
-use Rattle.proj_cli.proofs.ImportTrees.{AreWithin, held-tree, within-in}
-use Rattle.proj_cli.proofs.KnownLeaves.{AreBrought, are_known, brought-known, held-known, known-put}
-use Rattle.proj_cli.proofs.MadeLines.{commit-read}
-use Rattle.proj_cli.proofs.PutSizes.{put-fits}
-use Rattle.proj_cli.proofs.StreamSizes.{IsShort, IsSmall, stream-small}
+use Rattle.history_project.specs.Histories.{tree_upon}
+use Rattle.small_streams.specs.Streams.{Change, Small, stream}
+use Rattle.history_project.proofs.AllCommits.{both_true}
+use Rattle.history_project.proofs.FoundObjects.{body-found}
+use Rattle.history_project.proofs.HeldTrees.{AreWithin, held-tree, within-in}
+use Rattle.small_streams.proofs.KnownLeaves.{AreBrought, are_known, brought-known, held-known, known-put}
+use Rattle.history_project.proofs.MadeLines.{commit-read}
+use Rattle.small_streams.proofs.PutSizes.{put-fits}
+use Rattle.small_streams.proofs.StreamSizes.{IsShort, IsSmall, stream-small}
 
 abbrev is_small : Flat → Bool
 is_small t = nat_le (length t) (2 ^ 20)

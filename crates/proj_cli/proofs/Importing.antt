@@ -15,18 +15,18 @@ use Rattle.repo_state.specs.Changes as changes
 use Rattle.repo_state.specs.Changes.{IsChange, are_distinct, fresh, has_parents, moved, objects_of, plan}
 use Rattle.repo_state.specs.Commits.{change_of}
 use Rattle.proj_cli.specs.Prepared.{IsBatchOf}
-use Rattle.proj_cli.specs.Replay.{contents, replayed, stream_objects}
-use Rattle.proj_cli.specs.Replays.{IsReplayed}
-use Rattle.proj_cli.specs.Snapshots.{AreSnapshots}
+use Rattle.small_streams.specs.Replay.{contents, replayed, stream_objects}
+use Rattle.small_streams.specs.Replays.{IsReplayed}
+use Rattle.history_project.specs.Snapshots.{AreSnapshots}
 use Rattle.proj_cli.specs.Step.{Room, changing, import_made, import_plan, report_line}
-use Rattle.proj_cli.specs.Histories.{last_name}
-use Rattle.proj_cli.specs.Streams.{Small}
-use Rattle.proj_cli.specs.declared.replay.Replayed.{Replayed}
+use Rattle.history_project.specs.Histories.{last_name}
+use Rattle.small_streams.specs.Streams.{Small}
+use Rattle.small_streams.specs.declared.replay.Replayed.{Replayed}
 use Rattle.proj_cli.specs.declared.saving.Prepared.{Prepared}
-use Rattle.proj_cli.proofs.AllCommits.{both_true}
+use Rattle.history_project.proofs.AllCommits.{both_true}
 use Rattle.proj_cli.proofs.Bringing.{blobs-are, blobs-held, commits-are, parents-stand, stands}
 use Rattle.proj_cli.proofs.ImportFits.{made-is}
-use Rattle.proj_cli.proofs.MadeLines.{last-named, made-held}
+use Rattle.history_project.proofs.MadeLines.{last-named, made-held}
 
 -- a name that stands in a list is one of them
 among : (ns : List Name) (k : ℕ) (n : Name) → slice_get ns k ≡ Some n → list_any (same_bytes n.0) (map name_bytes ns) ≡ true

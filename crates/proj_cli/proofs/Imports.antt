@@ -20,16 +20,17 @@ use Rattle.repo_state.specs.declared.commit.Setting.{Setting}
 use Rattle.repo_state.specs.Commits.{change_of, setting}
 use Rattle.proj_cli.specs.Answer.{IsInImport}
 use Rattle.proj_cli.specs.Prepared.{FitsItems, IsBatchOf, IsPrepared, IsSameBut, room_in}
-use Rattle.proj_cli.specs.Replay.{IsMadeBy, replayed}
-use Rattle.proj_cli.specs.Replays.{IsReplayed, base_tree, parent_of}
+use Rattle.small_streams.specs.Replay.{IsMadeBy, replayed}
+use Rattle.small_streams.specs.Replays.{IsReplayed, parent_of}
+use Rattle.history_project.specs.Snapshots.{base_tree}
 use Rattle.proj_cli.specs.Step.{Room, changing, import_made, import_smalls, import_upon, input_max, refused}
-use Rattle.proj_cli.specs.Histories.{is_same_name, tree_upon}
-use Rattle.proj_cli.specs.Views.{head_value, small_value}
+use Rattle.history_project.specs.Histories.{is_same_name, tree_upon}
+use Rattle.small_streams.specs.Views.{head_value, small_value}
 use Rattle.proj_cli.specs.declared.outcome.Outcome.TheVariants.{NotBuilt}
-use Rattle.proj_cli.specs.declared.replay.Replayed.{Replayed}
+use Rattle.small_streams.specs.declared.replay.Replayed.{Replayed}
 use Rattle.proj_cli.specs.declared.saving.Prepared.{Prepared}
-use Rattle.proj_cli.specs.declared.streams.SmallCommit.{SmallCommit}
-use Rattle.proj_cli.proofs.AllCommits.{both_true}
+use Rattle.small_streams.specs.declared.streams.SmallCommit.{SmallCommit}
+use Rattle.history_project.proofs.AllCommits.{both_true}
 use Rattle.proj_cli.proofs.ImportFits.{import-within}
 use Rattle.proj_cli.proofs.Importing.{import-change, import-step}
 

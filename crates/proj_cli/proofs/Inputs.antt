@@ -11,11 +11,9 @@ use Rattle.repo_state.specs.Loads.{IsLoaded, IsLoadFault, Stored}
 use Rattle.repo_state.specs.declared.state.LoadError.{LoadError}
 use Rattle.repo_state.specs.Changes.{Plan, plan_text}
 use Rattle.repo_state.specs.Commits.{GetsItem, KeepsItems}
-use Rattle.proj_cli.specs.Answer.{IsChanged, IsDone, IsImported, IsInHand, IsLanded, IsMadeFrom, IsMadeOf, IsRefusal, IsSavedBy, IsStreamInHand, NoObject}
+use Rattle.proj_cli.specs.Answer.{IsChanged, IsDone, IsLanded, IsMadeFrom, IsMadeOf, IsRefusal, IsSavedBy, NoObject}
 use Rattle.proj_cli.specs.Prepared.{room_in}
-use Rattle.proj_cli.specs.Step.{Room, Step, by_items, import_step, import_stream, input_max, load_outcome, refused, room_of, step}
-use Rattle.proj_cli.specs.Words.{Import}
-use Rattle.proj_cli.specs.Streams.{stream}
+use Rattle.proj_cli.specs.Step.{Room, Step, by_items, input_max, load_outcome, refused, room_of, step}
 use Rattle.proj_cli.specs.declared.outcome.Outcome.{Outcome}
 use Rattle.proj_cli.specs.declared.outcome.Outcome.TheVariants.{Done, OutOfMemory, Collision, NotBuilt, ReadFault, StoreFault, WriteFault}
 use Rattle.proj_cli.proofs.Makes.{keeps, load_report, long, long_input, made_plain, report_for, told_input, whole_input}

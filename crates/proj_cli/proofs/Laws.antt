@@ -1,5 +1,5 @@
 -- What a push that is done has done, by its words.
-use Rattle.std.proofs.Common.{◌≡◌, ◌⊎◌, inl, inr, List, Option, Some, None, Ok, Err, Result, IfSome, ap, sym, subst, ◌∙◌}
+use Rattle.std.proofs.Common.{◌≡◌, ◌⊎◌, inl, inr, List, Option, Some, Ok, Err, Result, IfSome, ap, sym, subst, ◌∙◌}
 use Rattle.std.specs.Prelude.{IfOk}
 use Rattle.git_objects.specs.Paths.{Bytes, Path}
 use Rattle.repo_state.specs.Items.{read_items}
@@ -7,7 +7,7 @@ use Rattle.proj_io.specs.Views.{SinkView}
 use Rattle.proj_cli.specs.Answer.{IsConcluded, TakesMemory}
 use Rattle.proj_cli.specs.Pushed.{IsLawful, IsLawfulBy, IsLawfulRead}
 use Rattle.proj_cli.specs.Step.{by_items, push_by, push_step, room_of, step}
-use Rattle.proj_cli.specs.Streams.{stream}
+use Rattle.small_streams.specs.Streams.{stream}
 use Rattle.proj_cli.specs.Texts.{filter_path}
 use Rattle.proj_cli.specs.Words.{Push}
 use Rattle.proj_cli.specs.declared.outcome.Outcome.{Outcome}

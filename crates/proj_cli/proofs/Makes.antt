@@ -22,7 +22,7 @@ use Rattle.proj_cli.specs.declared.words.Asked.{Asked}
 use Rattle.proj_cli.specs.declared.words.Asked.TheVariants as asks
 use Rattle.proj_cli.specs.Words.{Command, Import, Project, Push, Name, Unknown}
 use Rattle.proj_cli.specs.Texts.{filter_path}
-use Rattle.proj_cli.specs.Streams.{stream}
+use Rattle.small_streams.specs.Streams.{stream}
 use Rattle.proj_cli.specs.Step.{Step, by_items, input_max, load_outcome, loads, name_by, name_step, name_stream, no_change, project_by, project_step, push_by, push_step, refused, room_of, step, writes}
 use Rattle.repo_state.specs.Changes.{Plan, is_empty}
 use Rattle.repo_state.specs.Commits.{KeepsItems}

@@ -1,30 +1,29 @@
 -- What a push answers stands on what is held and on the commit.
-use Rattle.std.proofs.Common.{◌≡◌, Bool, true, false, not, cond, List, [], ◌∷◌, Option, Some, None, Ok, Err, Result, sym, ap, subst, ◌∙◌}
+use Rattle.std.proofs.Common.{◌≡◌, Bool, true, false, not, cond, [], ◌∷◌, Some, Ok, Err, Result, sym, ap, subst, ◌∙◌}
 use Rattle.std.specs.Result.{IfOk, IfErr}
 use Rattle.std.specs.FinMap.{find}
 use Rattle.std.specs.Cmp.Lexicographic.{bytes_decides}
 use Rattle.git_objects.specs.Paths.{Bytes, Path, is_path, same_bytes}
-use Rattle.git_objects.specs.declared.kind.Kind.TheVariants.{Blob, Commit as CommitKind}
-use Rattle.git_objects.specs.declared.name.Name.{Name}
+use Rattle.git_objects.specs.declared.kind.Kind.TheVariants.{Commit as CommitKind}
 use Rattle.git_objects.proofs.Basics.{same_bytes-self}
 use Rattle.object_store.specs.Errors.{newest}
-use Rattle.object_store.specs.Objects.{Object, has}
+use Rattle.object_store.specs.Objects.{has}
 use Rattle.filter_unapply.specs.Lenses.{below}
-use Rattle.repo_state.specs.Changes.{IsChange, changed, held_after, plan, plan_in}
+use Rattle.repo_state.specs.Changes.{changed, held_after, plan_in}
 use Rattle.repo_state.specs.Commits.{change_of}
 use Rattle.repo_state.specs.Items.{Held, bytes_cmp}
 use Rattle.repo_state.specs.Loads.{IsStored, Stored}
-use Rattle.proj_cli.specs.Answer.{IsInPush, IsInPushFrom, IsRefusal}
-use Rattle.proj_cli.specs.Histories.{is_same_name}
+use Rattle.proj_cli.specs.Answer.{IsInPush, IsInPushFrom}
+use Rattle.history_project.specs.Histories.{is_same_name}
 use Rattle.proj_cli.specs.Prepared.{FitsItems, IsPlainRefusal, IsPrepared, IsSameBut, room_in}
 use Rattle.proj_cli.specs.Push as push
 use Rattle.proj_cli.specs.Push.{judged, verdict}
 use Rattle.proj_cli.specs.Pushed.{IsPushed}
 use Rattle.proj_cli.specs.Pushes.{IsAccepted, IsPreparedPush}
-use Rattle.proj_cli.specs.Step.{Room, Step, changing, named, push_made, push_smalls, refused, start_below}
-use Rattle.proj_cli.specs.Streams.{Small}
+use Rattle.proj_cli.specs.Step.{Room, Step, push_made, push_smalls, refused, start_below}
+use Rattle.small_streams.specs.Streams.{Small}
 use Rattle.proj_cli.specs.declared.outcome.Outcome.{Outcome}
-use Rattle.proj_cli.specs.declared.outcome.Outcome.TheVariants.{NotAtHead, OtherRef}
+use Rattle.proj_cli.specs.declared.outcome.Outcome.TheVariants.{OtherRef}
 use Rattle.proj_cli.specs.declared.saving.Prepared.{Prepared}
 use Rattle.proj_cli.proofs.PushFits.{push-fits}
 use Rattle.proj_cli.proofs.PushLaws.{push-law}

@@ -1,5 +1,5 @@
 -- The change that a push makes is within the limits.
-use Rattle.std.proofs.Common.{◌≡◌, ℕ, ◌≤◌, ◌^◌, Bool, true, false, cond, ◌&&◌, List, [], ◌∷◌, length, map, Option, Some, None, Ok, IfSome, refl, sym, ap, subst, ◌∙◌, arith}
+use Rattle.std.proofs.Common.{◌≡◌, ◌^◌, true, false, ◌&&◌, List, [], ◌∷◌, length, map, Option, Some, None, ap, subst, ◌∙◌, arith}
 use Rattle.std.specs.Option.{is_none}
 use Rattle.std.specs.Cmp.{first_so, second_so}
 use Rattle.std.specs.List.{list_all}
@@ -10,31 +10,27 @@ use Rattle.git_objects.specs.Parts.{name_bytes}
 use Rattle.git_objects.specs.Trees.{Flat, FileLeaf, Leaf}
 use Rattle.git_objects.specs.declared.kind.Kind.TheVariants.{Blob, Commit as CommitKind}
 use Rattle.git_objects.specs.declared.name.Name.{Name}
-use Rattle.git_objects.proofs.Basics.{Each}
 use Rattle.object_store.specs.Objects.{Object, IsStore, body_of, has}
 use Rattle.object_store.specs.Errors.{newest}
 use Rattle.repo_state.specs.TreeObjects.{leaf_objects}
 use Rattle.filter_unapply.specs.Lenses.{Lens}
-use Rattle.filter_unapply.specs.Laying.{Laid, NotHeld, Blocked, LaidTree, carried, entered, first_blocked, first_lost, laid, laid_from, pre, unseen}
+use Rattle.filter_unapply.specs.Laying.{LaidTree, carried, entered, first_blocked, first_lost, laid, laid_from, pre, unseen}
 use Rattle.repo_state.specs.Changes as changes
 use Rattle.repo_state.specs.Changes.{IsWithin, commit_fits, commit_named}
-use Rattle.repo_state.specs.Commits.{change_of}
-use Rattle.repo_state.specs.Items.{Held, read_items}
 use Rattle.repo_state.specs.Loads.{Stored}
 use Rattle.proj_cli.specs.Prepared.{FitsItems}
-use Rattle.proj_cli.specs.Push as push
 use Rattle.proj_cli.specs.Push.{pushed_commit}
 use Rattle.proj_cli.specs.Pushes.{IsAccepted, IsPushBatch}
-use Rattle.proj_cli.specs.Replay.{contents, contents_in, with_change, with_changes}
+use Rattle.small_streams.specs.Replay.{contents, contents_in, with_change, with_changes}
 use Rattle.proj_cli.specs.Step.{input_max, start_below}
-use Rattle.proj_cli.specs.Streams.{Change, Small, stream}
+use Rattle.small_streams.specs.Streams.{Change, Small}
 use Rattle.proj_cli.specs.declared.pushing.Pushed.{Pushed}
 use Rattle.proj_cli.specs.declared.saving.Prepared.{Prepared}
-use Rattle.proj_cli.proofs.ImportFits.{IsFine, IsFineTree, all-short, blobs-within, commits-within, each-front, upon-fine}
-use Rattle.proj_cli.proofs.ImportTrees.{AreWithin}
-use Rattle.proj_cli.proofs.KnownLeaves.{AreBrought, are_known, brought-known, known-entry, known-filter, known-put, known-under}
+use Rattle.proj_cli.proofs.ImportFits.{IsFine, all-short, blobs-within, commits-within, each-front, upon-fine}
+use Rattle.history_project.proofs.HeldTrees.{AreWithin}
+use Rattle.small_streams.proofs.KnownLeaves.{AreBrought, are_known, brought-known, known-entry, known-filter, known-put, known-under}
 use Rattle.proj_cli.proofs.PushPlans.{brought, made, original}
-use Rattle.proj_cli.proofs.StreamSizes.{IsSmall, stream-small}
+use Rattle.small_streams.proofs.StreamSizes.{IsSmall, stream-small}
 
 -- ---- what is laid
 

@@ -26,22 +26,22 @@ use Rattle.repo_state.specs.Repos.{Snapshot, snapshot_commit, snapshots_in}
 use Rattle.repo_state.proofs.Fitting.{flat-part}
 use Rattle.repo_state.proofs.Grows.{AreIn, part-has}
 use Rattle.repo_state.proofs.Heads.{find-there}
-use Rattle.proj_cli.specs.Streams.{Small}
-use Rattle.proj_cli.specs.Histories.{tree_at}
-use Rattle.proj_cli.specs.Projection.{Shown, distinct, projected, projection}
+use Rattle.small_streams.specs.Streams.{Small}
+use Rattle.history_project.specs.Histories.{tree_at}
+use Rattle.history_project.specs.Projection.{Shown, distinct, projected, projection}
 use Rattle.proj_cli.specs.Push as push
 use Rattle.proj_cli.specs.Push.{original_commit, pushed_commit}
 use Rattle.proj_cli.specs.Pushed.{IsPushed}
 use Rattle.proj_cli.specs.Pushes.{IsAccepted, IsPushBatch}
-use Rattle.proj_cli.specs.Snapshots.{IsSnapshot}
+use Rattle.history_project.specs.Snapshots.{IsSnapshot}
 use Rattle.proj_cli.specs.Step.{push_line, start_below}
 use Rattle.proj_cli.specs.declared.pushing.Pushed.{Pushed}
 use Rattle.proj_cli.specs.declared.saving.Prepared.{Prepared}
-use Rattle.proj_cli.proofs.HeldCommits.{held, some-held}
-use Rattle.proj_cli.proofs.ImportTrees.{tree-held, within-in}
-use Rattle.proj_cli.proofs.MadeLines.{commit-read}
-use Rattle.proj_cli.proofs.ProjectedCommits.{projection-grown, projection-upon}
-use Rattle.proj_cli.proofs.ProjectedNames.{projected-other, projection-of}
+use Rattle.history_project.proofs.HeldCommits.{held, some-held}
+use Rattle.history_project.proofs.HeldTrees.{tree-held, within-in}
+use Rattle.history_project.proofs.MadeLines.{commit-read}
+use Rattle.history_project.proofs.ProjectedCommits.{projection-grown, projection-upon}
+use Rattle.history_project.proofs.ProjectedNames.{projected-other, projection-of}
 use Rattle.proj_cli.proofs.SetRefs.{set-ref}
 
 -- ---- the state after a change

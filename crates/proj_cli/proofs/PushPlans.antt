@@ -1,5 +1,5 @@
 -- What an accepted push commits is the change that its verdict asks for.
-use Rattle.std.proofs.Common.{◌≡◌, Bool, true, false, not, cond, ◌||◌, ◌&&◌, List, [], ◌∷◌, ◌++◌, map, Option, Some, None, refl, sym, ap, subst, ◌∙◌, append-nil}
+use Rattle.std.proofs.Common.{◌≡◌, true, false, not, cond, ◌||◌, ◌&&◌, List, [], ◌∷◌, ◌++◌, map, refl, sym, ap, subst, ◌∙◌, append-nil}
 use Rattle.std.specs.List.{flat_map, list_all, list_any}
 use Rattle.std.specs.Option.{option_map_or}
 use Rattle.std.proofs.lemmas.Bool.{or_left, or_right}
@@ -16,19 +16,19 @@ use Rattle.repo_state.specs.Repos.{Snapshot, snapshot_name}
 use Rattle.repo_state.specs.Changes as changes
 use Rattle.repo_state.specs.Changes.{IsChange, are_distinct, commit_named, fresh, has_parents, moved, objects_of, plan}
 use Rattle.repo_state.specs.Commits.{change_of}
-use Rattle.proj_cli.specs.Replay.{contents, contents_in, stream_objects}
-use Rattle.proj_cli.specs.Replays.{AreBlobs}
-use Rattle.proj_cli.specs.Snapshots.{AreSnapshots}
+use Rattle.small_streams.specs.Replay.{contents, contents_in, stream_objects}
+use Rattle.small_streams.specs.Replays.{AreBlobs}
+use Rattle.history_project.specs.Snapshots.{AreSnapshots}
 use Rattle.proj_cli.specs.Push as push
 use Rattle.proj_cli.specs.Push.{by_laid, judged, original_commit, pushed_commit}
 use Rattle.proj_cli.specs.Pushes.{IsAccepted, IsPushBatch}
 use Rattle.proj_cli.specs.Step.{Room, changing, import_plan, push_line, push_made}
-use Rattle.proj_cli.specs.Streams.{Small}
+use Rattle.small_streams.specs.Streams.{Small}
 use Rattle.proj_cli.specs.declared.pushing.Pushed.{Pushed}
 use Rattle.proj_cli.specs.declared.saving.Prepared.{Prepared}
-use Rattle.proj_cli.proofs.AllCommits.{both_true}
+use Rattle.history_project.proofs.AllCommits.{both_true}
 use Rattle.proj_cli.proofs.Bringing.{blobs-are, blobs-held, commits-are, stands}
-use Rattle.proj_cli.proofs.MadeLines.{commit-read, made-held}
+use Rattle.history_project.proofs.MadeLines.{commit-read, made-held}
 
 module _ (S : List Object) (s : IsStore S) (h : Held) (f : Lens) (start : push.Start) (m : Small) (refname : Bytes) (r : Pushed) (p : Prepared) (a : IsAccepted S f start m r) where
   -- the original commit

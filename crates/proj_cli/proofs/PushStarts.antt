@@ -1,5 +1,5 @@
 -- What a push stands upon, by the trees of a store.
-use Rattle.std.proofs.Common.{◌≡◌, true, List, [], Option, Some, None, refl, sym, ap, ◌∙◌}
+use Rattle.std.proofs.Common.{◌≡◌, true, List, [], Some, sym, ap, ◌∙◌}
 use Rattle.std.specs.Option.{option_map_or}
 use Rattle.git_objects.specs.Paths.{Bytes}
 use Rattle.git_objects.specs.Commits.{Commit as CommitValue}
@@ -8,10 +8,10 @@ use Rattle.git_objects.specs.declared.name.Name.{Name}
 use Rattle.object_store.specs.Objects.{Object, IsStore, has}
 use Rattle.object_store.specs.Unfolding.{flat}
 use Rattle.repo_state.specs.Repos.{snapshots_in}
-use Rattle.proj_cli.specs.Histories.{tree_at}
-use Rattle.proj_cli.specs.Replays.{base_tree}
-use Rattle.proj_cli.proofs.HeldCommits.{some-held}
-use Rattle.proj_cli.proofs.ImportTrees.{tree-held}
+use Rattle.history_project.specs.Histories.{tree_at}
+use Rattle.history_project.specs.Snapshots.{base_tree}
+use Rattle.history_project.proofs.HeldCommits.{some-held}
+use Rattle.history_project.proofs.HeldTrees.{tree-held}
 
 -- the tree of a commit of the store
 pub tree-here : (S : List Object) (n : Name) (t : Bytes) → IsStore S → has Commit S n.0 ≡ true → base_tree S (Some n) ≡ flat S t → flat S t ≡ tree_at (snapshots_in S) n.0

@@ -1,5 +1,5 @@
 -- What a push answers to the commits of a stream.
-use Rattle.std.proofs.Common.{◌≡◌, ◌≤◌, ◌<◌, Bool, true, List, [], ◌∷◌, length, map, slice_index_or, Ok, Err, Result, refl, sym, ap, subst, ◌∙◌, arith}
+use Rattle.std.proofs.Common.{◌≡◌, ◌≤◌, ◌<◌, List, [], ◌∷◌, length, map, slice_index_or, Ok, Err, Result, refl, sym, ap, subst, ◌∙◌, arith}
 use Rattle.std.specs.Prelude.{IfErr, IfOk, OnOk}
 use Rattle.git_objects.specs.Paths.{Bytes, Path}
 use Rattle.git_objects.specs.Parts.{name_bytes}
@@ -12,12 +12,12 @@ use Rattle.proj_cli.specs.Answer.{IsInPush, IsSmallsInHand}
 use Rattle.proj_cli.specs.Prepared.{IsPlainRefusal, IsPrepared, room_in}
 use Rattle.proj_cli.specs.Pushed.{IsPushedAll}
 use Rattle.proj_cli.specs.Step.{Room, Step, changing, no_change, push_smalls}
-use Rattle.proj_cli.specs.Streams.{Small}
-use Rattle.proj_cli.specs.Views.{small_value}
+use Rattle.small_streams.specs.Streams.{Small}
+use Rattle.small_streams.specs.Views.{small_value}
 use Rattle.proj_cli.specs.declared.outcome.Outcome.{Outcome}
 use Rattle.proj_cli.specs.declared.outcome.Outcome.TheVariants.{Done}
 use Rattle.proj_cli.specs.declared.saving.Prepared.{Prepared}
-use Rattle.proj_cli.specs.declared.streams.SmallCommit.{SmallCommit}
+use Rattle.small_streams.specs.declared.streams.SmallCommit.{SmallCommit}
 use Rattle.proj_cli.proofs.Imports.{nothing-prepared}
 
 -- ---- no commit

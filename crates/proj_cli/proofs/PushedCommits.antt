@@ -16,9 +16,9 @@ use Rattle.filter_unapply.specs.Lenses.{Lens, below}
 use Rattle.filter_unapply.specs.Laying as laying
 use Rattle.filter_unapply.specs.Laying.{Laid, laid}
 use Rattle.repo_state.specs.Repos.{snapshot_name}
-use Rattle.proj_cli.specs.Streams.{Change, Small}
-use Rattle.proj_cli.specs.Replay.{IsDirectoryOf, IsMadeIn, are_small, contents_in, trees_within, with_changes}
-use Rattle.proj_cli.specs.Replays.{AddsBlobs, AreBlobs, IsFilesFault, IsGrownBy, IsPutFault, StandsFor, parent_of}
+use Rattle.small_streams.specs.Streams.{Change, Small}
+use Rattle.small_streams.specs.Replay.{IsDirectoryOf, IsMadeIn, are_small, contents_in, trees_within, with_changes}
+use Rattle.small_streams.specs.Replays.{AddsBlobs, AreBlobs, IsFilesFault, IsGrownBy, IsPutFault, StandsFor, parent_of}
 use Rattle.proj_cli.specs.Push as push
 use Rattle.proj_cli.specs.Push.{IsLaidMade, IsPushMade, accepted, by_laid, judged, pushed_commit}
 use Rattle.proj_cli.specs.Pushes.{IsAccepted, IsLaidFault, IsOriginal, IsPushFault, start_value}
@@ -26,12 +26,12 @@ use Rattle.proj_cli.specs.declared.pushing.Pushed.{Pushed}
 use Rattle.proj_cli.specs.declared.pushing.PushFault.{PushFault}
 use Rattle.proj_cli.specs.declared.pushing.PushFault.TheVariants.{TooLarge, NoChange, Blocked, Collision, OutOfMemory}
 use Rattle.proj_cli.specs.declared.pushing.Start.{Start}
-use Rattle.proj_cli.specs.declared.replay.ReplayFault.{ReplayFault}
-use Rattle.proj_cli.specs.declared.replay.ReplayFault.TheVariants as replay
-use Rattle.proj_cli.proofs.Grows.{clash_as, flat-grown, grown_as, grown_then}
+use Rattle.small_streams.specs.declared.replay.ReplayFault.{ReplayFault}
+use Rattle.small_streams.specs.declared.replay.ReplayFault.TheVariants as replay
+use Rattle.small_streams.proofs.Grows.{clash_as, flat-grown, grown_as, grown_then}
 use Rattle.proj_cli.proofs.Imports.{parents-are}
-use Rattle.proj_cli.proofs.Replaying.{blobs-grown}
-use Rattle.proj_cli.proofs.Upon.{in_first}
+use Rattle.small_streams.proofs.Replaying.{blobs-grown}
+use Rattle.small_streams.proofs.Upon.{in_first}
 
 -- ---- upon what is shown
 

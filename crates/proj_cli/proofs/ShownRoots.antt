@@ -15,14 +15,14 @@ use Rattle.object_store.proofs.Unfolding.{unfolding_law}
 use Rattle.path_trees.specs.Standing.{node, standing}
 use Rattle.path_trees.specs.Listed.{directory_of}
 use Rattle.path_trees.specs.declared.found.Found.{Found}
-use Rattle.proj_cli.specs.Replay.{IsDirectoryOf}
-use Rattle.proj_cli.specs.Replays.{IsGrownBy, IsOnly, IsPutFault, StandsFor, StandsOrNone}
-use Rattle.proj_cli.specs.declared.replay.ReplayFault.{ReplayFault}
-use Rattle.proj_cli.specs.declared.replay.ReplayFault.TheVariants.{TooManyFiles, Collision, OutOfMemory}
-use Rattle.proj_cli.proofs.Files.{has-found}
-use Rattle.proj_cli.proofs.Grows.{clash_as, grown_as}
-use Rattle.proj_cli.proofs.ShownTrees.{shown-leaf, shown-none, tree-node}
-use Rattle.proj_cli.proofs.Upon.{empty-flat}
+use Rattle.small_streams.specs.Replay.{IsDirectoryOf}
+use Rattle.small_streams.specs.Replays.{IsGrownBy, IsOnly, IsPutFault, StandsFor, StandsOrNone}
+use Rattle.small_streams.specs.declared.replay.ReplayFault.{ReplayFault}
+use Rattle.small_streams.specs.declared.replay.ReplayFault.TheVariants.{TooManyFiles, Collision, OutOfMemory}
+use Rattle.history_project.proofs.FoundObjects.{has-found}
+use Rattle.small_streams.proofs.Grows.{clash_as, grown_as}
+use Rattle.history_project.proofs.ShownTrees.{shown-leaf, shown-none, tree-node}
+use Rattle.small_streams.proofs.Upon.{empty-flat}
 
 is-none : (t : Flat) → is_nil t ≡ true → t ≡ []
 is-none [] e = refl

@@ -8,12 +8,12 @@ use Rattle.repo_state.specs.Loads.{Stored}
 use Rattle.repo_state.specs.Changes.{IsChange, IsWithin, plan_in}
 use Rattle.repo_state.specs.Commits.{change_of, setting}
 use Rattle.git_objects.specs.declared.name.Name.{Name}
-use Rattle.proj_cli.specs.Streams.{Small, stream}
+use Rattle.small_streams.specs.Streams.{Small, stream}
 use Rattle.proj_cli.specs.Step.{Room, Step, changing, input_max, report_line}
 use Rattle.proj_cli.specs.Answer.{IsRefusal}
 use Rattle.proj_cli.specs.declared.outcome.Outcome.{Outcome}
 use Rattle.proj_cli.specs.declared.outcome.Outcome.TheVariants.{ReadFault, StoreFault}
-use Rattle.proj_cli.specs.declared.replay.Replayed.{Replayed}
+use Rattle.small_streams.specs.declared.replay.Replayed.{Replayed}
 use Rattle.proj_cli.specs.declared.saving.Prepared.{Prepared}
 
 abbrev pub room_in : Stored → Room

@@ -11,10 +11,10 @@ use Rattle.filter_unapply.specs.Laying as laying
 use Rattle.filter_unapply.specs.Laying.{Laid, laid}
 use Rattle.repo_state.specs.Items.{tree_fits}
 use Rattle.repo_state.specs.Repos.{Snapshot, snapshot_object}
-use Rattle.proj_cli.specs.Streams.{Small}
-use Rattle.proj_cli.specs.Replay.{IsDirectoryOf, IsMadeIn, are_small, snapshot, trees_within}
-use Rattle.proj_cli.specs.Projection.{projection}
-use Rattle.proj_cli.specs.Histories.{is_same_name, tree_at}
+use Rattle.small_streams.specs.Streams.{Small}
+use Rattle.small_streams.specs.Replay.{IsDirectoryOf, IsMadeIn, are_small, snapshot, trees_within}
+use Rattle.history_project.specs.Projection.{projection}
+use Rattle.history_project.specs.Histories.{is_same_name, tree_at}
 
 -- What a push stands upon: the commit of its ref and that commit's tree, what is shown of the tree, and the name of the commit's
 -- projection, where it has one.

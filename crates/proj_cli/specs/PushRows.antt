@@ -10,10 +10,9 @@ use Rattle.git_objects.specs.Commits.{Letter}
 use Rattle.filter_unapply.specs.Lenses.{below}
 use Rattle.filter_unapply.specs.Laying.{laid}
 use Rattle.repo_state.specs.Items.{nothing}
-use Rattle.repo_state.specs.Repos.{Snapshot}
-use Rattle.proj_cli.specs.Push.{Start, OtherRef, NotAtHead, NoChange, Blocked, Accepted, by_laid, judged, pushed_commit, start_at, verdict}
+use Rattle.proj_cli.specs.Push.{Start, OtherRef, NotAtHead, NoChange, Blocked, Accepted, by_laid, judged, pushed_commit, verdict}
 use Rattle.proj_cli.specs.Step.{Room, done, push_line, push_made, push_smalls, refused}
-use Rattle.proj_cli.specs.Streams.{Change, Small}
+use Rattle.small_streams.specs.Streams.{Change, Small}
 use Rattle.proj_cli.specs.declared.outcome.Outcome.TheVariants as outcome
 
 abbrev a : Bytes

@@ -7,11 +7,11 @@ use Rattle.git_objects.specs.Trees.{at, rest_below}
 use Rattle.repo_state.specs.Items.{Break, Held, bytes_cmp, read_items}
 use Rattle.repo_state.specs.Repos.{repo_of, snapshot_name}
 use Rattle.repo_state.specs.Changes.{held_after}
-use Rattle.proj_cli.specs.Histories.{tree_at}
-use Rattle.proj_cli.specs.Projection.{projection_below}
+use Rattle.history_project.specs.Histories.{tree_at}
+use Rattle.history_project.specs.Projection.{projection_below}
 use Rattle.proj_cli.specs.Push.{pushed_commit}
 use Rattle.proj_cli.specs.Step.{Step, push_line, start_below}
-use Rattle.proj_cli.specs.Streams.{Small, stream}
+use Rattle.small_streams.specs.Streams.{Small, stream}
 use Rattle.proj_cli.specs.Texts.{filter_path}
 use Rattle.proj_cli.specs.Words.{Command, Push}
 

@@ -17,10 +17,10 @@ use Rattle.repo_state.specs.Items.{tree_fits}
 use Rattle.repo_state.specs.Repos.{snapshot_name}
 use Rattle.repo_state.specs.Commits.{setting}
 use Rattle.git_objects.specs.declared.name.Name.{Name}
-use Rattle.proj_cli.specs.Streams.{Small}
-use Rattle.proj_cli.specs.Replay.{are_small, contents_in, trees_within}
-use Rattle.proj_cli.specs.Replays.{AreBlobs, IsClash, IsOnlyCommit}
-use Rattle.proj_cli.specs.Snapshots.{IsSnapshot}
+use Rattle.small_streams.specs.Streams.{Small}
+use Rattle.small_streams.specs.Replay.{are_small, contents_in, trees_within}
+use Rattle.small_streams.specs.Replays.{AreBlobs, IsClash, IsOnlyCommit}
+use Rattle.history_project.specs.Snapshots.{IsSnapshot}
 use Rattle.proj_cli.specs.Step.{push_line}
 use Rattle.proj_cli.specs.Push as push
 use Rattle.proj_cli.specs.Push.{IsLaidMade, IsPushMade, judged, original_commit, pushed_commit}
@@ -28,8 +28,8 @@ use Rattle.proj_cli.specs.declared.pushing.Start.{Start}
 use Rattle.proj_cli.specs.declared.pushing.Pushed.{Pushed}
 use Rattle.proj_cli.specs.declared.pushing.PushFault.{PushFault}
 use Rattle.proj_cli.specs.declared.pushing.PushFault.TheVariants.{TooLarge, NoChange, Blocked, Collision, OutOfMemory}
-use Rattle.proj_cli.specs.declared.replay.ReplayFault.{ReplayFault}
-use Rattle.proj_cli.specs.declared.replay.ReplayFault.TheVariants as replay
+use Rattle.small_streams.specs.declared.replay.ReplayFault.{ReplayFault}
+use Rattle.small_streams.specs.declared.replay.ReplayFault.TheVariants as replay
 use Rattle.proj_cli.specs.declared.saving.Prepared.{Prepared}
 
 -- what a push stands upon, by the trees of a store

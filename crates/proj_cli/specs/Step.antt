@@ -17,10 +17,10 @@ use Rattle.repo_state.specs.declared.state.LoadError.{LoadError}
 use Rattle.repo_state.specs.declared.state.LoadError.TheVariants as load
 use Rattle.proj_cli.specs.Words.{Command, Import, Project, Push, Name, Unknown}
 use Rattle.proj_cli.specs.Texts.{filter_path}
-use Rattle.proj_cli.specs.Streams.{Head, Small, stream}
-use Rattle.proj_cli.specs.Replay.{replayed, stream_objects}
-use Rattle.proj_cli.specs.Projection.{projection_below, name_line}
-use Rattle.proj_cli.specs.Histories.{is_same_name, last_name, tree_upon}
+use Rattle.small_streams.specs.Streams.{Head, Small, stream}
+use Rattle.small_streams.specs.Replay.{replayed, stream_objects}
+use Rattle.history_project.specs.Projection.{projection_below, name_line}
+use Rattle.history_project.specs.Histories.{is_same_name, last_name, tree_upon}
 use Rattle.proj_cli.specs.Push as push
 use Rattle.proj_cli.specs.Push.{Start, Verdict, pushed_commit, start_at, verdict}
 use Rattle.proj_cli.specs.declared.outcome.Outcome.{Outcome}

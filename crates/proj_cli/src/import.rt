@@ -13,24 +13,27 @@ ghost use Rattle.repo_state.specs.Loads.{IsStored};
 ghost use Rattle.repo_state.specs.Repos.{repo_of};
 ghost use Rattle.proj_cli.specs.Answer.{IsInHand, IsInImport, IsMadeFrom, IsMadeOf, IsStreamInHand};
 ghost use Rattle.proj_cli.specs.Prepared.{FitsItems, IsBatchOf, IsPlainRefusal, IsPrepared, IsSameBut, room_in};
-ghost use Rattle.proj_cli.specs.Replay.{IsMadeBy};
-ghost use Rattle.proj_cli.specs.Replays.{IsGrownBy, IsReplayFault, IsReplayed, base_tree, parent_of};
+ghost use Rattle.small_streams.specs.Replay.{IsMadeBy};
+ghost use Rattle.small_streams.specs.Replays.{IsGrownBy, IsReplayFault, IsReplayed, parent_of};
+ghost use Rattle.history_project.specs.Snapshots.{base_tree};
 ghost use Rattle.proj_cli.specs.Step.{import_smalls, import_step, import_stream, input_max, report_line, step};
-ghost use Rattle.proj_cli.specs.Histories.{is_same_name, tree_upon};
-ghost use Rattle.proj_cli.specs.Streams.{stream};
-ghost use Rattle.proj_cli.specs.Views.{small_value};
+ghost use Rattle.history_project.specs.Histories.{is_same_name, tree_upon};
+ghost use Rattle.small_streams.specs.Streams.{stream};
+ghost use Rattle.small_streams.specs.Views.{small_value};
 ghost use Rattle.proj_cli.specs.Words.{Import};
 
 use crate::Outcome;
 use crate::outcome::load_outcome;
-use crate::replay::{ReplayFault, Replayed, replay_upon};
 use crate::saving::{Prepared, save};
-use crate::streams::{INPUT_MAX, SmallCommit, stream};
 use git_objects::{Bytes, Name};
 use path_names::RefName;
 use proj_io::{Keeper, ReadError, Source, read_up_to};
 use repo_state::{Batch, Setting, State};
+use small_streams::{ReplayFault, Replayed, SmallCommit, replay_upon, stream};
 use std::alloc::{AllocError, Global};
+
+/// The most bytes of an input that is read whole.
+pub const INPUT_MAX: usize = 65536;
 
 // The line of a ref and its commit.
 fn report_line(alloc: Global, refname: &[u8], head: &Name) -> Result<Vec<u8>, AllocError>

@@ -8,16 +8,11 @@ mod name;
 mod outcome;
 mod program;
 mod project;
-mod projection;
-#[cfg(test)]
-mod projection_tests;
 mod push;
 #[cfg(test)]
 mod push_tests;
 mod pushing;
-mod replay;
 mod saving;
-mod streams;
 #[cfg(test)]
 mod tests;
 mod texts;

@@ -8,7 +8,7 @@ ghost use Rattle.repo_state.specs.Items.{read_items};
 ghost use Rattle.proj_io.specs.Counts.{Counts};
 ghost use Rattle.proj_io.specs.Views.{source_view, sink_view, keeper_view};
 ghost use Rattle.proj_cli.specs.Words.{command, is_formed};
-ghost use Rattle.proj_cli.specs.Streams.{stream};
+ghost use Rattle.small_streams.specs.Streams.{stream};
 ghost use Rattle.proj_cli.specs.Asked.{command_of};
 ghost use Rattle.proj_cli.specs.Step.{by_items, loads, name_step, name_stream, project_step, reads, step, text_of, writes};
 ghost use Rattle.proj_cli.specs.Answer.{GetsText, IsAnswer, IsComplete, IsConcluded, IsIdle, IsInHand, IsInStream, IsMade, IsReport, IsReported, IsSent, NoObject, Plainly, TakesMemory};
@@ -16,18 +16,18 @@ ghost use Rattle.proj_cli.specs.Pushed.{IsLawful};
 ghost use Rattle.proj_cli.specs.Calls.{devices};
 
 use crate::Outcome;
-use crate::import::import;
+use crate::import::{INPUT_MAX, import};
 use crate::name::name_text;
 use crate::outcome::{load_outcome, outcome_text};
 use crate::project::project_line;
 use crate::push::push;
-use crate::streams::{INPUT_MAX, stream};
 use crate::texts::filter_path;
 use crate::words::{Asked, read_words};
 use git_objects::Bytes;
 use path_names::{Path, RefFault, RefName};
 use proj_io::{Keeper, ReadError, Sink, SinkError, Source, read_up_to, write_whole};
 use repo_state::State;
+use small_streams::stream;
 use std::alloc::Global;
 
 // The line with the name of the stored ref's projection, for what was loaded.

@@ -6,12 +6,12 @@ ghost use Rattle.object_store.specs.Objects.{object_name};
 ghost use Rattle.repo_state.specs.Items.{is_commit};
 ghost use Rattle.repo_state.specs.Repos.{snapshots_in};
 ghost use Rattle.proj_cli.specs.Answer.{NoObject, Plainly};
-ghost use Rattle.proj_cli.specs.Projection.{name_line, projection_below};
+ghost use Rattle.history_project.specs.Projection.{name_line, projection_below};
 ghost use Rattle.proj_cli.specs.Step.{done, project_step};
 
 use crate::outcome::Outcome;
-use crate::projection::projection_line;
 use git_objects::{Bytes, Name};
+use history_project::projection_line;
 use object_store::Store;
 use path_names::{Path, RefName};
 use repo_state::State;

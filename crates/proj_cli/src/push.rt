@@ -22,25 +22,24 @@ ghost use Rattle.proj_cli.specs.Prepared.{FitsItems, IsPlainRefusal, IsPrepared,
 ghost use Rattle.proj_cli.specs.Push.{IsPushMade, judged, start_at};
 ghost use Rattle.proj_cli.specs.Pushed.{IsLawfulRead, IsLawfulStream, IsPushedAll};
 ghost use Rattle.proj_cli.specs.Pushes.{IsAccepted, IsPreparedPush, IsPushBatch, IsPushFault, start_value};
-ghost use Rattle.proj_cli.specs.Replays.{IsGrownBy};
-ghost use Rattle.proj_cli.specs.Shown.{shown_value};
+ghost use Rattle.small_streams.specs.Replays.{IsGrownBy};
+ghost use Rattle.history_project.specs.Shown.{shown_value};
 ghost use Rattle.proj_cli.specs.Step.{by_items, input_max, push_at, push_line, push_made, push_smalls, push_step, push_stream, room_of, start_below};
-ghost use Rattle.proj_cli.specs.Streams.{stream};
-ghost use Rattle.proj_cli.specs.Views.{small_value};
+ghost use Rattle.small_streams.specs.Streams.{stream};
+ghost use Rattle.small_streams.specs.Views.{small_value};
 
 use crate::Outcome;
-use crate::import::{is_same_name, nothing};
+use crate::import::{INPUT_MAX, is_same_name, nothing};
 use crate::outcome::load_outcome;
-use crate::projection::{Shown, projection};
 use crate::pushing::{PushFault, Pushed, Start, push_commit};
-use crate::replay::tree_of;
 use crate::saving::{Prepared, save};
-use crate::streams::{INPUT_MAX, SmallCommit, stream};
 use git_objects::{Bytes, Name};
+use history_project::{Shown, projection};
 use object_store::Store;
 use path_names::{Path, RefFault, RefName};
 use proj_io::{Keeper, ReadError, Source, read_up_to};
 use repo_state::{Batch, Setting, State};
+use small_streams::{SmallCommit, stream, tree_of};
 use std::alloc::{AllocError, Global};
 
 // The line of a pushed commit and its original.

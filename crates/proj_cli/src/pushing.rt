@@ -11,19 +11,20 @@ ghost use Rattle.filter_unapply.specs.Lenses.{below};
 ghost use Rattle.repo_state.specs.Items.{tree_fits};
 ghost use Rattle.proj_cli.specs.Push.{IsLaidMade, IsPushMade};
 ghost use Rattle.proj_cli.specs.Pushes.{IsAccepted, IsCommitFault, IsLaidFault, IsOriginal, IsPushFault, fault_of, start_value};
-ghost use Rattle.proj_cli.specs.Replay.{IsDirectoryOf, IsMadeIn, are_small, contents_in, trees_within, with_changes};
-ghost use Rattle.proj_cli.specs.Replays.{AddsBlobs, IsFilesFault, IsGrownBy, IsOnlyCommit, IsPutFault, StandsFor, StandsOrNone, parent_of};
-ghost use Rattle.proj_cli.specs.Snapshots.{IsSnapshot};
-ghost use Rattle.proj_cli.specs.Views.{change_of, head_value, small_value};
+ghost use Rattle.small_streams.specs.Replay.{IsDirectoryOf, IsMadeIn, are_small, contents_in, trees_within, with_changes};
+ghost use Rattle.small_streams.specs.Replays.{AddsBlobs, IsFilesFault, IsGrownBy, IsOnlyCommit, IsPutFault, StandsFor, StandsOrNone, parent_of};
+ghost use Rattle.history_project.specs.Snapshots.{IsSnapshot};
+ghost use Rattle.small_streams.specs.Views.{change_of, head_value, small_value};
 
-use crate::projection::directory;
-use crate::replay::{FILES, ReplayFault, body_of, put, put_commit, put_files};
-use crate::streams::{CommitHead, Row, SmallCommit};
 use filter_unapply::{LayFault, laid_below};
 use git_objects::{Kind, Name, name_of};
+use history_project::directory;
 use object_store::{Store, TreeStats};
 use path_names::Path;
 use path_trees::entry_at;
+use small_streams::{
+    CommitHead, FILES, ReplayFault, Row, SmallCommit, body_of, put, put_commit, put_files,
+};
 use std::alloc::{AllocError, Global};
 
 /// What a push stands upon: the commit of its ref, that commit's tree, and its projection, where it has one.

@@ -7,7 +7,7 @@ use Rattle.repo_state.specs.Items.{read_items}
 use Rattle.repo_state.specs.Loads.{IsLoaded, IsLoadFault}
 use Rattle.proj_cli.specs.Answer.{IsImported, IsInHand, IsMadeOf}
 use Rattle.proj_cli.specs.Step.{import_step, room_of, step}
-use Rattle.proj_cli.specs.Streams.{stream}
+use Rattle.small_streams.specs.Streams.{stream}
 use Rattle.proj_cli.specs.Words.{Import}
 use Rattle.proj_cli.specs.declared.outcome.Outcome.{Outcome}
 use Rattle.proj_cli.proofs.Inputs.{loaded_made, made_then, unloaded_made}

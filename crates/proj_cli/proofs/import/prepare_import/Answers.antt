@@ -5,10 +5,11 @@ use Rattle.object_store.specs.Errors.{newest}
 use Rattle.object_store.specs.Objects.{Object}
 use Rattle.proj_cli.specs.Answer.{IsInImport, IsTwice}
 use Rattle.proj_cli.specs.Prepared.{room_in}
-use Rattle.proj_cli.specs.Replay.{IsMadeBy}
-use Rattle.proj_cli.specs.Replays.{IsReplayFault, base_tree, parent_of}
+use Rattle.small_streams.specs.Replay.{IsMadeBy}
+use Rattle.small_streams.specs.Replays.{IsReplayFault, parent_of}
+use Rattle.history_project.specs.Snapshots.{base_tree}
 use Rattle.proj_cli.specs.Step.{Step}
-use Rattle.proj_cli.specs.Views.{small_value}
+use Rattle.small_streams.specs.Views.{small_value}
 use Rattle.proj_cli.proofs.Imports.{first-none, in-hand, nothing-fits, nothing-prepared, other-parent, stream-fits, stream-prepared, too-many}
 use Rattle.proj_cli.proofs.Twice.{two_of, twice_upon}
 use Rattle.proj_cli.proofs.import.prepare_import.Goals as goal

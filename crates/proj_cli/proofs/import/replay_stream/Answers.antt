@@ -4,8 +4,8 @@ use Rattle.object_store.specs.Objects.{Object}
 use Rattle.repo_state.specs.Items.{held_with}
 use Rattle.repo_state.specs.Loads.{IsStored, Stored}
 use Rattle.repo_state.proofs.Growth.{held-grown, stored-grown}
-use Rattle.proj_cli.specs.Replays.{base_tree}
-use Rattle.proj_cli.proofs.ImportTrees.{stored-upon}
+use Rattle.history_project.specs.Snapshots.{base_tree}
+use Rattle.history_project.proofs.HeldTrees.{stored-upon}
 use Rattle.proj_cli.proofs.import.replay_stream.Goals as goal
 
 pub invariant_of-state : goal.invariant_of-state

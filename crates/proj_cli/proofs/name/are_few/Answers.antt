@@ -8,7 +8,7 @@ use Rattle.repo_state.specs.Changes.{objects_of}
 use Rattle.repo_state.specs.Items.{is_commit}
 use Rattle.repo_state.specs.Repos.{Snapshot}
 use Rattle.proj_cli.specs.Step.{has_few}
-use Rattle.proj_cli.specs.Views.{small_value}
+use Rattle.small_streams.specs.Views.{small_value}
 use Rattle.proj_cli.proofs.Bringing.{brought-change, brought-objects}
 use Rattle.proj_cli.proofs.name.are_few.Goals as goal
 

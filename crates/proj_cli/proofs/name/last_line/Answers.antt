@@ -2,8 +2,8 @@ use Rattle.std.proofs.Common.{◌≡◌, List, IfOk, sym, subst}
 use Rattle.git_objects.specs.Paths.{Bytes}
 use Rattle.object_store.specs.Errors.{newest}
 use Rattle.repo_state.specs.Repos.{Snapshot}
-use Rattle.proj_cli.specs.Projection.{name_line, projection_below}
-use Rattle.proj_cli.proofs.MadeLines.{last-named, made-reversed}
+use Rattle.history_project.specs.Projection.{name_line, projection_below}
+use Rattle.history_project.proofs.MadeLines.{last-named, made-reversed}
 use Rattle.proj_cli.proofs.name.last_line.Goals as goal
 
 pub returns-in-Some : goal.returns-in-Some

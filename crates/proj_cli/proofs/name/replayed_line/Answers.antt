@@ -5,7 +5,7 @@ use Rattle.git_objects.specs.declared.kind.Kind.TheVariants.{Commit}
 use Rattle.git_objects.specs.declared.name.Name.{Name}
 use Rattle.object_store.specs.Errors.{newest}
 use Rattle.object_store.specs.Objects.{has}
-use Rattle.proj_cli.proofs.MadeLines.{made-held}
+use Rattle.history_project.proofs.MadeLines.{made-held}
 use Rattle.proj_cli.proofs.name.replayed_line.Goals as goal
 
 pub last_line-requires-clause-held : goal.last_line-requires-clause-held

@@ -1,9 +1,9 @@
 use Rattle.std.proofs.Common.{List, ap, sym, ◌∙◌}
 use Rattle.object_store.specs.Errors.{newest}
-use Rattle.proj_cli.specs.Projection.{name_line, projection_below}
+use Rattle.history_project.specs.Projection.{name_line, projection_below}
 use Rattle.repo_state.specs.Repos.{Snapshot}
 use Rattle.proj_cli.specs.Step.{done}
-use Rattle.proj_cli.proofs.AllCommits.{each-held, snapshots-arrived}
+use Rattle.history_project.proofs.AllCommits.{each-held, snapshots-arrived}
 use Rattle.proj_cli.proofs.project.line_of.Goals as goal
 
 pub projection_line-requires : goal.projection_line-requires

@@ -1,4 +1,4 @@
-use Rattle.std.proofs.Common.{List, Option, Some, None, Ok, Err, ◌≡◌, sym, subst}
+use Rattle.std.proofs.Common.{List, Option, Err, sym, subst}
 use Rattle.std.specs.Prelude.{IfSome}
 use Rattle.git_objects.specs.Paths.{Bytes}
 use Rattle.object_store.specs.Objects.{Object}
@@ -7,9 +7,8 @@ use Rattle.repo_state.specs.Changes.{IsCurrent}
 use Rattle.repo_state.specs.Items.{read_items}
 use Rattle.repo_state.specs.Loads.{IsLoaded, IsLoadFault}
 use Rattle.proj_cli.specs.Answer.{IsMadeOf, IsPushOf}
-use Rattle.proj_cli.specs.Prepared.{room_in}
 use Rattle.proj_cli.specs.Step.{by_items, push_step, refused, room_of}
-use Rattle.proj_cli.specs.Streams.{stream}
+use Rattle.small_streams.specs.Streams.{stream}
 use Rattle.proj_cli.specs.declared.outcome.Outcome.{Outcome}
 use Rattle.proj_cli.specs.declared.outcome.Outcome.TheVariants.{NotBuilt, OutOfMemory}
 use Rattle.proj_cli.proofs.Inputs.{input_none, loaded_made, made_then, unloaded_made}

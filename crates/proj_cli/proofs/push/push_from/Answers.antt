@@ -1,11 +1,11 @@
-use Rattle.std.proofs.Common.{◌⊎◌, inr, sym, subst}
+use Rattle.std.proofs.Common.{inr, sym, subst}
 use Rattle.git_objects.specs.declared.name.Name.{Name}
 use Rattle.object_store.specs.Errors.{newest}
 use Rattle.filter_unapply.specs.Lenses.{below}
 use Rattle.proj_cli.specs.Answer.{IsInPushFrom, IsTwice}
 use Rattle.proj_cli.specs.Push.{IsPushMade}
 use Rattle.proj_cli.specs.Pushes.{IsPushFault, start_value}
-use Rattle.proj_cli.specs.Views.{small_value}
+use Rattle.small_streams.specs.Views.{small_value}
 use Rattle.proj_cli.proofs.Twice.{twice_upon}
 use Rattle.proj_cli.proofs.push.push_from.Goals as goal
 

@@ -1,10 +1,10 @@
-use Rattle.std.proofs.Common.{List, Option, Some, None, Ok, ◌≡◌, ap, sym, subst}
+use Rattle.std.proofs.Common.{List, Option, Some, Ok, ap, sym, subst}
 use Rattle.git_objects.specs.Paths.{Bytes}
 use Rattle.proj_io.specs.Views.{keeper_view}
 use Rattle.proj_cli.specs.Answer.{IsMadeOf, IsPushInHand, IsPushOf}
 use Rattle.proj_cli.specs.Prepared.{room_in}
 use Rattle.proj_cli.specs.Step.{push_at, push_step, refused}
-use Rattle.proj_cli.specs.Streams.{stream}
+use Rattle.small_streams.specs.Streams.{stream}
 use Rattle.proj_cli.specs.declared.outcome.Outcome.TheVariants.{NotBuilt, UnknownRef}
 use Rattle.proj_cli.proofs.Inputs.{input_none}
 use Rattle.proj_cli.proofs.push.push_loaded.Goals as goal

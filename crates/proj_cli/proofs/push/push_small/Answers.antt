@@ -1,5 +1,5 @@
 use Rattle.std.proofs.Common.{sym, ◌∙◌}
-use Rattle.proj_cli.specs.Views.{small_value}
+use Rattle.small_streams.specs.Views.{small_value}
 use Rattle.object_store.specs.Errors.{newest}
 use Rattle.proj_cli.specs.Pushes.{start_value}
 use Rattle.proj_cli.proofs.PushAnswers.{err-refused, ok-fits, ok-lawful, ok-prepared, same-of}

@@ -9,9 +9,9 @@ use Rattle.proj_cli.specs.Answer.{IsMadeFrom, IsPushInHand, IsSmallsInHand, NoOb
 use Rattle.proj_cli.specs.Prepared.{room_in}
 use Rattle.proj_cli.specs.Pushed.{IsLawfulStream}
 use Rattle.proj_cli.specs.Step.{Step, push_smalls, push_stream}
-use Rattle.proj_cli.specs.Streams.{Small, stream}
-use Rattle.proj_cli.specs.Views.{small_value, smalls_read}
-use Rattle.proj_cli.specs.declared.streams.SmallCommit.{SmallCommit}
+use Rattle.small_streams.specs.Streams.{Small, stream}
+use Rattle.small_streams.specs.Views.{small_value, smalls_read}
+use Rattle.small_streams.specs.declared.streams.SmallCommit.{SmallCommit}
 use Rattle.proj_cli.proofs.Committing.{current_same}
 use Rattle.proj_cli.proofs.Inputs.{more_made}
 use Rattle.proj_cli.proofs.Makes.{keeps, made_plain}

@@ -1,13 +1,10 @@
-use Rattle.std.proofs.Common.{◌≡◌, List, Option, Some, None, refl, sym, ap, ◌∙◌}
+use Rattle.std.proofs.Common.{List, ap, ◌∙◌}
 use Rattle.std.specs.Option.{option_map}
-use Rattle.git_objects.specs.Paths.{Bytes}
-use Rattle.git_objects.specs.Parts.{name_bytes}
-use Rattle.git_objects.specs.Trees.{Flat, under}
+use Rattle.git_objects.specs.Trees.{under}
 use Rattle.object_store.specs.Errors.{newest}
 use Rattle.repo_state.specs.Repos.{Snapshot}
-use Rattle.proj_cli.specs.Push.{Start}
-use Rattle.proj_cli.specs.Projection.{Shown, projection_below}
-use Rattle.proj_cli.proofs.AllCommits.{each-held, snapshots-arrived}
+use Rattle.history_project.specs.Projection.{Shown, projection_below}
+use Rattle.history_project.proofs.AllCommits.{each-held, snapshots-arrived}
 use Rattle.proj_cli.proofs.PushStarts.{tree-here}
 use Rattle.proj_cli.proofs.push.start_in.Goals as goal
 

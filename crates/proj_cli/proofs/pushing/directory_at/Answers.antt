@@ -2,7 +2,7 @@ use Rattle.std.proofs.Common.{sym, subst}
 use Rattle.git_objects.specs.Trees.{under}
 use Rattle.object_store.specs.Errors.{newest}
 use Rattle.object_store.specs.Unfolding.{flat}
-use Rattle.proj_cli.specs.Replays.{StandsOrNone}
+use Rattle.small_streams.specs.Replays.{StandsOrNone}
 use Rattle.proj_cli.proofs.ShownRoots.{none-stands, found-stands}
 use Rattle.proj_cli.proofs.pushing.directory_at.Goals as goal
 

@@ -3,7 +3,7 @@ use Rattle.object_store.specs.Unfolding.{flat}
 use Rattle.filter_unapply.specs.Laying.{laid}
 use Rattle.filter_unapply.specs.Lenses.{below}
 use Rattle.proj_cli.specs.Pushes.{start_value}
-use Rattle.proj_cli.specs.Views.{head_value}
+use Rattle.small_streams.specs.Views.{head_value}
 use Rattle.proj_cli.proofs.LaidCommits.{clash_told, head_still, laid-held, laid_grown, never-told, original_grown}
 use Rattle.proj_cli.proofs.pushing.lay.Goals as goal
 

@@ -1,8 +1,8 @@
 use Rattle.std.proofs.Common.{sym}
 use Rattle.git_objects.specs.declared.kind.Kind.TheVariants.{Tree, Commit}
 use Rattle.object_store.specs.Errors.{newest}
-use Rattle.proj_cli.specs.Views.{small_value}
-use Rattle.proj_cli.proofs.Grows.{has-grown}
+use Rattle.small_streams.specs.Views.{small_value}
+use Rattle.small_streams.proofs.Grows.{has-grown}
 use Rattle.proj_cli.proofs.PushedCommits.{AreTrees, accepted_is, push_fault, push_grown}
 use Rattle.proj_cli.proofs.pushing.push_commit.Goals as goal
 

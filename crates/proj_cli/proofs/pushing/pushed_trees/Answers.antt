@@ -2,10 +2,10 @@ use Rattle.std.proofs.Common.{◌≡◌, true, map, subst}
 use Rattle.git_objects.specs.Trees.{under}
 use Rattle.object_store.specs.Errors.{newest}
 use Rattle.object_store.specs.Unfolding.{flat}
-use Rattle.proj_cli.specs.Replay.{IsMadeIn, are_small, trees_within, with_changes}
-use Rattle.proj_cli.specs.Replays.{IsFilesFault, StandsFor}
-use Rattle.proj_cli.specs.Views.{change_of}
-use Rattle.proj_cli.proofs.Grows.{stands-grown}
+use Rattle.small_streams.specs.Replay.{IsMadeIn, are_small, trees_within, with_changes}
+use Rattle.small_streams.specs.Replays.{IsFilesFault, StandsFor}
+use Rattle.small_streams.specs.Views.{change_of}
+use Rattle.small_streams.proofs.Grows.{stands-grown}
 use Rattle.proj_cli.proofs.PushedCommits.{files_grown, shown_fault, shown_grown}
 use Rattle.proj_cli.proofs.pushing.pushed_trees.Goals as goal
 

@@ -1,10 +1,10 @@
 use Rattle.git_objects.specs.Trees.{under}
 use Rattle.object_store.specs.Errors.{newest}
 use Rattle.object_store.specs.Unfolding.{flat}
-use Rattle.proj_cli.proofs.Grows.{grown_self}
+use Rattle.small_streams.proofs.Grows.{grown_self}
 use Rattle.proj_cli.proofs.ShownRoots.{empty_fault, empty_grown, empty_stands}
-use Rattle.proj_cli.proofs.Upon.{nothing_fits}
-use Rattle.proj_cli.specs.Replay.{IsDirectoryOf}
+use Rattle.small_streams.proofs.Upon.{nothing_fits}
+use Rattle.small_streams.specs.Replay.{IsDirectoryOf}
 use Rattle.proj_cli.proofs.pushing.shown_root.Goals as goal
 
 pub put-requires : goal.put-requires

@@ -1,0 +1,9 @@
+pub mod FoundObjects
+pub mod Gathering
+pub mod HeldCommits
+pub mod ShownTrees
+pub mod AllCommits
+pub mod MadeLines
+pub mod HeldTrees
+pub mod ProjectedCommits
+pub mod ProjectedNames

@@ -1,0 +1,8 @@
+//! Projections of a store's commits.
+#![tactic(auto)]
+
+mod projections;
+#[cfg(test)]
+mod tests;
+
+pub use projections::{Shown, directory, name_line, projection, projection_line};

@@ -1,8 +1,0 @@
-use Rattle.std.proofs.Common.{take}
-use Rattle.object_store.specs.Errors.{newest}
-use Rattle.proj_cli.proofs.HeldCommits.{HoldsProjections}
-use Rattle.proj_cli.proofs.projection.projection.Given as goal
-
--- the map has the projections of the commits so far
-abbrev pub invariant-loop-name : goal.invariant-loop-name
-invariant-loop-name l = HoldsProjections l.made.entries l.place (newest l.store) (take l.name-index l.commits)

@@ -1,0 +1,152 @@
+-- What a store that has grown still holds, and what is put into it.
+use Rattle.std.proofs.Common.{◌≡◌, ◌⊎◌, inl, inr, zero, suc, arith, true, false, cond, List, [], ◌∷◌, ◌++◌, Option, Some, None, Contains, refl, sym, ap, subst, ◌∙◌, append_assoc, true≢false}
+use Rattle.std.specs.Option.{is_some}
+use Rattle.std.specs.Cmp.{first_so, second_so}
+use Rattle.std.specs.Cmp.Lexicographic.{bytes_decides}
+use Rattle.std.proofs.lemmas.List.Elements.{Contains-append_cases}
+use Rattle.git_objects.specs.Paths.{Bytes, same_bytes}
+use Rattle.git_objects.specs.Trees.{Flat}
+use Rattle.git_objects.specs.Names.{name}
+use Rattle.git_objects.specs.Bodies.{tree_entries}
+use Rattle.git_objects.specs.CommitBodies.{commit_from}
+use Rattle.git_objects.specs.Commits.{Commit}
+use Rattle.git_objects.specs.declared.entry.Entry.{Entry}
+use Rattle.git_objects.specs.declared.kind.Kind.{Kind}
+use Rattle.git_objects.specs.declared.kind.Kind.TheVariants.{Blob, Tree, Commit as CommitKind}
+use Rattle.git_objects.proofs.Basics.{same_bytes-self}
+use Rattle.object_store.specs.Objects.{Object, object_name, find_named, has, has_name, missing_entry, missing_of_commit, IsStore}
+use Rattle.object_store.specs.Puts.{Refusal, Collides, collision, same_object, if_missing, of_tree, of_commit, of_body, refusal, with_object}
+use Rattle.object_store.specs.Unfolding.{flat}
+use Rattle.object_store.proofs.Finding.{found_name}
+use Rattle.object_store.proofs.Held.{kind_is, has-above}
+use Rattle.object_store.proofs.Unfolding.{growing_law}
+use Rattle.small_streams.specs.Replays.{IsGrownBy, IsClash, IsOnly, IsPutFault, StandsFor}
+use Rattle.small_streams.specs.declared.replay.ReplayFault.{ReplayFault}
+use Rattle.small_streams.specs.declared.replay.ReplayFault.TheVariants.{TooManyFiles, Collision, OutOfMemory}
+
+-- ---- what is held stays
+
+other_name : (o x : Object) (T : List Object) (n : Bytes) → has_name T (object_name x) ≡ false → find_named T n ≡ Some o → same_bytes (object_name x) n ≡ false
+other_name o x T n apart h =
+    elim (same_bytes (object_name x) n) as (λ b. same_bytes (object_name x) n ≡ b → b ≡ false) [
+      | true ↦ λ e. absurd (true≢false (sym (found_name T n ∙ ap is_some h) ∙ ap (has_name T) (sym ((bytes_decides (object_name x) n).0 e)) ∙ apart))
+      | false ↦ λ e. refl
+    ] refl
+
+pub found-above : (newer S : List Object) (n : Bytes) (o : Object) → IsStore (newer ++ S) → find_named S n ≡ Some o → find_named (newer ++ S) n ≡ Some o
+unfolding find_named
+found-above [] S n o s h = h
+found-above (x ∷ newer) S n o s h =
+    let below = found-above newer S n o s.2 h in
+    ap (λ b. cond b (Some x) (find_named (newer ++ S) n)) (other_name o x (newer ++ S) n s.1 below) ∙ below
+
+-- ---- growing
+
+pub grown_self : (made : Object → Type 0) (S : List Object) → IsStore S → IsGrownBy made S S
+grown_self made S s = record { store = s; newer = []; above = refl; all = λ o m. none o m }
+  where
+    none : (o : Object) → Contains [] o → made o
+    none o m = absurd (omega (arith, m.1))
+
+pub grown_then : (made : Object → Type 0) (S T R : List Object) → IsGrownBy made S T → IsGrownBy made T R → IsGrownBy made S R
+grown_then made S T R g h = record {
+  store = h.store;
+  newer = h.newer ++ g.newer;
+  above = append_assoc h.newer g.newer S ∙ ap (λ (q : List Object). h.newer ++ q) g.above ∙ h.above;
+  all = λ o m. by o (Contains-append_cases h.newer g.newer o m);
+}
+  where
+    by : (o : Object) → Contains h.newer o ⊎ Contains g.newer o → made o
+    by o (inl m) = h.all o m
+    by o (inr m) = g.all o m
+
+pub grown_as : (made more : Object → Type 0) (S T : List Object) → ((o : Object) → made o → more o) → IsGrownBy made S T → IsGrownBy more S T
+grown_as made more S T f g = record { store = g.store; newer = g.newer; above = g.above; all = λ o m. f o (g.all o m) }
+
+pub found-grown : {made : Object → Type 0} (S T : List Object) (n : Bytes) (o : Object) → IsGrownBy made S T → find_named S n ≡ Some o → find_named T n ≡ Some o
+found-grown S T n o g h =
+    subst (λ (R : List Object). find_named R n ≡ Some o) g.above (found-above g.newer S n o (subst IsStore (sym g.above) g.store) h)
+
+pub has-grown : {made : Object → Type 0} (S T : List Object) (k : Kind) (n : Bytes) → IsGrownBy made S T → has k S n ≡ true → has k T n ≡ true
+has-grown S T k n g h = subst (λ (R : List Object). has k R n ≡ true) g.above (has-above g.newer S k n h)
+
+pub flat-grown : {made : Object → Type 0} (S T : List Object) (n : Bytes) → IsGrownBy made S T → has Tree S n ≡ true → flat T n ≡ flat S n
+flat-grown S T n g h = subst (λ (R : List Object). flat R n ≡ flat S n) g.above (growing_law g.newer S n (subst IsStore (sym g.above) g.store) h)
+
+pub stands-grown : {made : Object → Type 0} (S T : List Object) (n : Bytes) (t : Flat) → IsGrownBy made S T → StandsFor S n t → StandsFor T n t
+stands-grown S T n t g h = record { held = has-grown S T Tree n g h.held; map = flat-grown S T n g h.held ∙ h.map }
+
+pub clash_as : (made more : Object → Type 0) (S : List Object) (n : Bytes) → ((o : Object) → made o → more o) → IsClash made S n → IsClash more S n
+clash_as made more S n f h = record { object = h.object; is_made = f h.object h.is_made; held = h.held }
+
+pub fault_as : (made more : Object → Type 0) (S : List Object) (e : ReplayFault) → ((o : Object) → made o → more o) → IsPutFault made S e → IsPutFault more S e
+fault_as made more S TooManyFiles f h = h
+fault_as made more S (Collision n) f h = clash_as made more S n.0 f h
+fault_as made more S OutOfMemory f h = h
+
+-- ---- an object that is put
+
+module _ (S : List Object) (k : Kind) (b : Bytes) where
+  abbrev pub new : Object
+  new = record { kind = k; body = b }
+
+  tree_passes : (o : Option (List Entry)) (later : Option Refusal) → of_tree S o None ≡ None → of_tree S o later ≡ later
+  tree_passes None later h = cc
+  tree_passes (Some es) later h = by (missing_entry S es) h
+    where
+      by : (m : Option Bytes) → if_missing m None ≡ None → if_missing m later ≡ later
+      by None g = refl
+      by (Some n) g = cc
+
+  commit_passes : (o : Option Commit) (later : Option Refusal) → of_commit S o None ≡ None → of_commit S o later ≡ later
+  commit_passes None later h = cc
+  commit_passes (Some c) later h = by (missing_of_commit S c) h
+    where
+      by : (m : Option Bytes) → if_missing m None ≡ None → if_missing m later ≡ later
+      by None g = refl
+      by (Some n) g = cc
+
+  passes : (j : Kind) (later : Option Refusal) → of_body S j b None ≡ None → of_body S j b later ≡ later
+  passes Blob later h = refl
+  passes Tree later h = tree_passes (tree_entries b) later h
+  passes CommitKind later h = commit_passes (commit_from b) later h
+
+  same_object_is : (o : Object) → same_object k b o ≡ true → o ≡ new
+  same_object_is o h = λ i. record { kind = kind_is k o.kind (first_so _ _ h) i; body = sym ((bytes_decides b o.body).0 (second_so _ _ h)) i }
+
+  no_collision : (o : Option Object) → collision k b o ≡ None → (o ≡ None) ⊎ (o ≡ Some new)
+  no_collision None h = inl refl
+  no_collision (Some o) h =
+      elim (same_object k b o) as (λ t. same_object k b o ≡ t → cond t None (Some (Collides (name k b))) ≡ None → (Some o ≡ None) ⊎ (Some o ≡ Some new)) [
+        | true ↦ λ e g. inr (ap Some (same_object_is o e))
+        | false ↦ λ e g. cc
+      ] refl h
+
+  -- the store that put left
+  pub record IsPut (T : List Object) : Type 0 where
+    pub found : find_named T (name k b) ≡ Some new
+    pub grown : IsGrownBy (IsOnly k b) S T
+
+  one_more : (T : List Object) → IsStore T → T ≡ new ∷ S → IsPut T
+  unfolding find_named
+  one_more T s e = record {
+    found = ap (λ (R : List Object). find_named R (name k b)) e ∙ ap (λ t. cond t (Some new) (find_named S (name k b))) (same_bytes-self (name k b));
+    grown = record { store = s; newer = new ∷ []; above = sym e; all = λ o m. only o m };
+  }
+    where
+      only : (o : Object) → Contains (new ∷ []) o → o ≡ new
+      only o (zero, l, e) = sym e
+      only o (suc i, l, e) = absurd (omega (arith, l))
+
+  put_by : (T : List Object) (o : Option Object) → o ≡ find_named S (name k b) → IsStore T → T ≡ cond (is_some o) S (new ∷ S) → (o ≡ None) ⊎ (o ≡ Some new) → IsPut T
+  put_by T None at s e h = one_more T s e
+  put_by T (Some o) at s e (inl h) = cc
+  put_by T (Some o) at s e (inr h) = record {
+    found = ap (λ (R : List Object). find_named R (name k b)) e ∙ sym at ∙ h;
+    grown = record { store = s; newer = []; above = sym e; all = λ o m. absurd (omega (arith, m.1)) };
+  }
+
+  pub put_is : (T : List Object) → of_body S k b None ≡ None → refusal S k b ≡ None → IsStore T → T ≡ with_object S k b → IsPut T
+  put_is T fine taken s e =
+      put_by T (find_named S (name k b)) refl s (e ∙ ap (λ t. cond t S (new ∷ S)) (found_name S (name k b)))
+      (no_collision (find_named S (name k b)) (sym (passes k (collision k b (find_named S (name k b))) fine) ∙ taken))

@@ -1,0 +1,11 @@
+pub mod FrontTexts
+pub mod SmallStreams
+pub mod StreamSizes
+pub mod Grows
+pub mod Files
+pub mod Replaying
+pub mod CommitPuts
+pub mod SmallPuts
+pub mod Upon
+pub mod PutSizes
+pub mod KnownLeaves

@@ -1,0 +1,5 @@
+pub mod Texts
+pub mod Streams
+pub mod Views
+pub mod Replay
+pub mod Replays

@@ -1,0 +1,12 @@
+//! Small streams, read and replayed into a store.
+#![tactic(auto)]
+
+mod replay;
+mod streams;
+mod texts;
+
+pub use replay::{
+    FILES, ReplayFault, Replayed, body_of, put, put_commit, put_files, replay_upon, tree_of,
+};
+pub use streams::{CommitHead, Row, SmallCommit, stream};
+pub use texts::{number, path_in, strip};
