@@ -16,3 +16,4 @@ pub mod Admitting
 pub mod Members
 pub mod Locating
 pub mod Walking
+pub mod Indexing

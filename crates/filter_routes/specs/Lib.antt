@@ -9,3 +9,4 @@ pub mod Rows
 pub mod Lists
 pub mod Tables
 pub mod TableValues
+pub mod Index

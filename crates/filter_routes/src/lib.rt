@@ -5,6 +5,7 @@ mod clashing;
 mod entry;
 mod faults;
 mod hit;
+mod index;
 mod laws;
 mod lists;
 mod locate;
