@@ -7,8 +7,8 @@ use Rattle.git_objects.proofs.Order.{path_decides}
 use Rattle.git_objects.specs.Paths.{Path, same_bytes, same_path}
 use Rattle.filter_routes.specs.Entries.{Cone, Entry, at, below, cone_of}
 use Rattle.filter_routes.specs.Images.{proper, strip, whole}
-use Rattle.filter_routes.specs.Index.{code, code_from, first_of, is_cone, IsIndex, mixed, place_at, same_cone, stepped}
-use Rattle.filter_routes.specs.Operations.{alive_in, covers}
+use Rattle.filter_routes.specs.Index.{code, code_from, Finds, first_of, is_cone, IsIndex, mixed, place_at, same_cone, stepped}
+use Rattle.filter_routes.specs.Operations.{alive_in, are_live, covers}
 
 -- ---- fronts
 
@@ -183,7 +183,7 @@ pub add-new : (f g : ℕ → Option ℕ) (clean : Bool) (es : List Entry) (e : E
     → ((q : ℕ) → nat_eq k q ≡ false → g q ≡ f q) → IsIndex g clean (es ++ e ∷ [])
 add-new f g clean es e k x is none here others = record {
   finds = λ h d. ⊎_elim (λ p. equal h d p) (λ p. apart h d p) (cases_eq k (code d));
-  within = λ q j w. ⊎_elim (λ p. last q j w p) (λ p. longer es e j (x.within q j (sym (others q (ne_eqb k q p)) ∙ w))) (cases_eq k q)
+  within = λ h q j w. ⊎_elim (λ p. last q j w p) (λ p. longer es e j (x.within h q j (sym (others q (ne_eqb k q p)) ∙ w))) (cases_eq k q)
 }
   where
     last : (q j : ℕ) → g q ≡ Some j → k ≡ q → j < length (es ++ e ∷ [])
@@ -201,7 +201,7 @@ add-new f g clean es e k x is none here others = record {
     apart : clean ≡ true → (d : Cone) → (k ≡ code d → ⊥) → place_at (es ++ e ∷ []) d (g (code d)) ≡ first_of (es ++ e ∷ []) d
     apart h d p =
         ap (place_at (es ++ e ∷ []) d) (others (code d) (ne_eqb k (code d) p))
-        ∙ place-more es e d (f (code d)) (λ j w. x.within (code d) j w)
+        ∙ place-more es e d (f (code d)) (λ j w. x.within h (code d) j w)
         ∙ x.finds h d
         ∙ sym (first-other es e d (not-true (same_cone e.0 d) (λ t. p (is ∙ ap code (cone-is e.0 d t)))))
 
@@ -209,8 +209,8 @@ add-new f g clean es e k x is none here others = record {
 pub add-known : (f : ℕ → Option ℕ) (clean : Bool) (es : List Entry) (e : Entry) (k j : ℕ) → IsIndex f clean es → k ≡ code e.0 → f k ≡ Some j
     → is_cone (slice_get es j) e.0 ≡ true → IsIndex f clean (es ++ e ∷ [])
 add-known f clean es e k j x is some stands = record {
-  finds = λ h d. place-more es e d (f (code d)) (λ i w. x.within (code d) i w) ∙ x.finds h d ∙ sym (known-at h d (same_cone e.0 d) refl);
-  within = λ q i w. longer es e i (x.within q i w)
+  finds = λ h d. place-more es e d (f (code d)) (λ i w. x.within h (code d) i w) ∙ x.finds h d ∙ sym (known-at h d (same_cone e.0 d) refl);
+  within = λ h q i w. longer es e i (x.within h q i w)
 }
   where
     known-at : clean ≡ true → (d : Cone) (b : Bool) → same_cone e.0 d ≡ b → first_of (es ++ e ∷ []) d ≡ first_of es d
@@ -222,12 +222,86 @@ add-known f clean es e k j x is some stands = record {
           ∙ ap (place_at es d) (sym some ∙ ap f (is ∙ ap code p)) ∙ x.finds h d in
         first-more es e d ∙ ap (λ o. or_later o (cond (same_cone e.0 d) (Some (length es)) None)) (sym found) ∙ found
 
--- another cone has its number
-pub add-unclean : (f : ℕ → Option ℕ) (clean : Bool) (es : List Entry) (e : Entry) → IsIndex f clean es → IsIndex f false (es ++ e ∷ [])
-add-unclean f clean es e x = record {
+-- what is found without a promise
+pub unclean : (f : ℕ → Option ℕ) (es : List Entry) → IsIndex f false es
+unclean f es = record {
   finds = λ h d. absurd (true≢false (sym h));
-  within = λ q i w. longer es e i (x.within q i w)
+  within = λ h q i w. absurd (true≢false (sym h))
 }
+
+pub live-more : (es : List Entry) (e : Entry) → are_live (es ++ e ∷ []) ≡ (are_live es && is_some e.1)
+live-more [] e = and-comm-true (is_some e.1)
+  where
+    and-comm-true : (b : Bool) → (b && true) ≡ (true && b)
+    and-comm-true true = refl
+    and-comm-true false = refl
+live-more (x ∷ es) e = ap (λ b. is_some x.1 && b) (live-more es e) ∙ and-turn (is_some x.1) (are_live es) (is_some e.1)
+  where
+    and-turn : (a b c : Bool) → (a && (b && c)) ≡ ((a && b) && c)
+    and-turn true b c = refl
+    and-turn false b c = refl
+
+-- ---- a front of the list
+
+abbrev pub less : ℕ → ℕ → Bool
+less j zero = false
+less zero (suc n) = true
+less (suc j) (suc n) = less j n
+
+abbrev pub in_front : ℕ → Option ℕ → Option ℕ
+in_front n None = None
+in_front n (Some j) = cond (less j n) (Some j) None
+
+front-suc : (n : ℕ) (o : Option ℕ) → option_map suc (in_front n o) ≡ in_front (suc n) (option_map suc o)
+front-suc n None = refl
+front-suc n (Some j) = suc-at (less j n)
+  where
+    suc-at : (b : Bool) → option_map suc (cond b (Some j) None) ≡ cond b (Some (suc j)) None
+    suc-at true = refl
+    suc-at false = refl
+
+none-in-front : (o : Option ℕ) → None ≡ in_front 0 o
+none-in-front None = refl
+none-in-front (Some j) = refl
+
+first-take : (es : List Entry) (n : ℕ) (d : Cone) → first_of (take n es) d ≡ in_front n (first_of es d)
+first-take es zero d = none-in-front (first_of es d)
+first-take [] (suc n) d = refl
+first-take (e ∷ es) (suc n) d = ap (λ o. cond (same_cone e.0 d) (Some 0) (option_map suc o)) (first-take es n d) ∙ take-at (same_cone e.0 d)
+  where
+    take-at : (b : Bool) → cond b (Some 0) (option_map suc (in_front n (first_of es d))) ≡ in_front (suc n) (cond b (Some 0) (option_map suc (first_of es d)))
+    take-at true = refl
+    take-at false = front-suc n (first_of es d)
+
+cone-take : (es : List Entry) (n j : ℕ) (d : Cone) → is_cone (slice_get (take n es) j) d ≡ (less j n && is_cone (slice_get es j) d)
+cone-take es zero j d = refl
+cone-take [] (suc n) j d = nothing (less j (suc n))
+  where
+    nothing : (b : Bool) → false ≡ (b && false)
+    nothing true = refl
+    nothing false = refl
+cone-take (e ∷ es) (suc n) zero d = refl
+cone-take (e ∷ es) (suc n) (suc j) d = cone-take es n j d
+
+place-take : (es : List Entry) (n : ℕ) (d : Cone) (o : Option ℕ) → place_at (take n es) d o ≡ in_front n (place_at es d o)
+place-take es n d None = refl
+place-take es n d (Some j) = ap (λ b. cond b (Some j) None) (cone-take es n j d) ∙ both-at (is_cone (slice_get es j) d) (less j n) refl
+  where
+    both-at : (b b' : Bool) → less j n ≡ b' → cond (b' && b) (Some j) None ≡ in_front n (cond b (Some j) None)
+    both-at true b' e = and-true b' ∙ ap (λ x. cond x (Some j) None) (sym e)
+      where
+        and-true : (x : Bool) → cond (x && true) (Some j) None ≡ cond x (Some j) None
+        and-true true = refl
+        and-true false = refl
+    both-at false b' e = and-false b'
+      where
+        and-false : (x : Bool) → cond (x && false) (Some j) None ≡ None
+        and-false true = refl
+        and-false false = refl
+
+-- the index of a list serves for a front of it
+pub finds-take : (f : ℕ → Option ℕ) (clean : Bool) (es : List Entry) (n : ℕ) → Finds f clean es → Finds f clean (take n es)
+finds-take f clean es n x h d = place-take es n d (f (code d)) ∙ ap (in_front n) (x h d) ∙ sym (first-take es n d)
 
 -- ---- answers
 

@@ -2,6 +2,7 @@
 use Rattle.std.specs.Prelude.{◌≡◌, ℕ, ◌+◌, ◌*◌, ◌^◌, ◌%◌, ◌<◌, suc, List, [], ◌∷◌, length, slice_get, Option, Some, None, option_map, Bool, true, false, cond}
 use Rattle.git_objects.specs.Paths.{Path, same_path}
 use Rattle.filter_routes.specs.Entries.{Cone, at, below, Entry}
+use Rattle.filter_routes.specs.Operations.{are_live}
 
 -- a number, and one byte more
 unfoldable pub stepped : ℕ → ℕ → ℕ
@@ -49,4 +50,9 @@ Finds f clean es = clean ≡ true → (d : Cone) → place_at es d (f (code d)) 
 -- and all places lie in the list
 pub record IsIndex (f : ℕ → Option ℕ) (clean : Bool) (es : List Entry) : Type 0 where
   pub finds : Finds f clean es
-  pub within : (k j : ℕ) → f k ≡ Some j → j < length es
+  pub within : clean ≡ true → (k j : ℕ) → f k ≡ Some j → j < length es
+
+-- a list with its index, and whether all its entries have targets
+pub record IsIndexed (f : ℕ → Option ℕ) (clean live : Bool) (es : List Entry) : Type 0 where
+  pub index : IsIndex f clean es
+  pub targets : live ≡ are_live es

@@ -1,5 +1,5 @@
 // Where each cone of a decision list first stands, found by a number of the cone in place of a walk through the list.
-ghost use Rattle.std.specs.Prelude.{◌≡◌, ◌++◌, [], ◌∷◌, true, cond, is_some, nat_eq, slice_get, IfOk, OnOk};
+ghost use Rattle.std.specs.Prelude.{◌≡◌, ◌++◌, [], ◌∷◌, true, false, cond, is_some, nat_eq, slice_get, IfOk, OnOk};
 ghost use Rattle.std.specs.HashMap.{get};
 ghost use Rattle.git_objects.specs.Paths.{same_path};
 ghost use Rattle.filter_routes.specs.Entries.{cone_of};
@@ -154,6 +154,13 @@ impl Index {
                 Ok(())
             }
         }
+    }
+
+    // Makes the index one that promises nothing, and so serves for any list.
+    pub fn spoil(&mut self)
+        ensures { self.new.clean ≡ false }
+    {
+        self.clean = false;
     }
 
     // The index of a list.

@@ -6,6 +6,7 @@ mod entry;
 mod faults;
 mod hit;
 mod index;
+mod indexed;
 mod laws;
 mod lists;
 mod locate;

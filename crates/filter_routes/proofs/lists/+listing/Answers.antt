@@ -93,9 +93,9 @@ list_of_join-returns-in-None-2 t c =
     let i = c.loop-m.m-index in
     let m = c.m-item.result in
     let a = c.args.apart in
-    let es = c.loop-m.list.items in
+    let es = c.loop-m.list in
     subst (λ fs. Listed a (plain.join fs) None) (sym (members-split ms i m c.loop-m-test.true c.m-item.is))
-    (subst (λ o. Grown a (shapes (take i ms)) (shape m) (shapes (drop (i + 1) ms)) (entries_of o)) c.in-None-2.is
+    (subst (λ o. Grown a (shapes (take i ms)) (shape m) (shapes (drop (i + 1) ms)) o) c.in-None-2.is
     (join-grown a (shapes (take i ms)) (shapes (drop (i + 1) ms)) (shape m) es c.in-Some.branch.items _ c.loop-m.invariant
     (subst (λ o. Listed a (shape m) (entries_of o)) c.in-Some.is c.in_ok-list_of.ensures)
     (c.in_ok-with_branch-in-Some.ensures
@@ -107,9 +107,9 @@ list_of_join-loop-m-preserved t c =
     let i = c.loop-m.m-index in
     let m = c.m-item.result in
     let a = c.args.apart in
-    let es = c.loop-m.list.items in
-    subst (λ fs. Listed a (plain.join fs) (Some c.in-Some-2.longer.items)) (sym (members-next ms i m c.loop-m-test.true c.m-item.is))
-    (subst (λ o. Grown a (shapes (take i ms)) (shape m) (shapes (drop (i + 1) ms)) (entries_of o)) c.in-Some-2.is
+    let es = c.loop-m.list in
+    subst (λ fs. Listed a (plain.join fs) (Some c.in-Some-2.longer)) (sym (members-next ms i m c.loop-m-test.true c.m-item.is))
+    (subst (λ o. Grown a (shapes (take i ms)) (shape m) (shapes (drop (i + 1) ms)) o) c.in-Some-2.is
     (join-grown a (shapes (take i ms)) (shapes (drop (i + 1) ms)) (shape m) es c.in-Some.branch.items _ c.loop-m.invariant
     (subst (λ o. Listed a (shape m) (entries_of o)) c.in-Some.is c.in_ok-list_of.ensures)
     (c.in_ok-with_branch-in-Some.ensures

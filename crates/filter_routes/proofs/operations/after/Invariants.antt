@@ -4,4 +4,4 @@ use Rattle.filter_routes.proofs.operations.after.Given as goal
 
 abbrev pub invariant-loop-e : goal.invariant-loop-e
 invariant-loop-e l =
-    l.out.items ++ refine (after_how l.others) [] (heads l.out.items []) (drop l.e-index l.entries) ≡ after_left l.entries l.others
+    l.out ++ refine (after_how l.others) [] (heads l.out []) (drop l.e-index l.entries) ≡ after_left l.entries l.others

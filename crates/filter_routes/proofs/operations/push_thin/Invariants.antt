@@ -4,4 +4,4 @@ use Rattle.filter_routes.proofs.operations.push_thin.Given as goal
 
 abbrev pub invariant-loop-e : goal.invariant-loop-e
 invariant-loop-e l =
-    l.out.items ++ thin (heads l.out.items []) (drop l.e-index l.entries) ≡ l.initial.out.items ++ thin (heads l.initial.out.items []) l.entries
+    l.out ++ thin (heads l.out []) (drop l.e-index l.entries) ≡ l.initial.out ++ thin (heads l.initial.out []) l.entries
