@@ -135,7 +135,7 @@ fn list_of_chain(
     for m in members {
         match list_of(alloc, m, apart)? {
             None => return Ok(None),
-            Some(next) => list = after(alloc, list.as_slice(), next.as_slice())?,
+            Some(next) => list = after(alloc, list, next.as_slice())?,
         }
     }
     Ok(Some(list))

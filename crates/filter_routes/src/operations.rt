@@ -192,27 +192,32 @@ fn push_grown(
     alloc: Global,
     out: &mut Indexed,
     is_list: bool,
-    entry: &Entry,
+    entry: Entry,
     others: &[Entry],
 ) -> Result<(), AllocError>
     ensures { OnOk result (out.new ≡ out.old
-        ++ grown (heads out.old []) entry.now.0 entry.now.1 (how is_list others.now entry.now.0 entry.now.1)) }
+        ++ grown (heads out.old []) entry.0 entry.1 (how is_list others.now entry.0 entry.1)) }
 {
-    let base = entry.base.as_slice();
     match &entry.target {
         None => {
             if is_list {
+                let base = entry.base.as_slice();
                 return push_block(alloc, out, entry.point, base, base, others);
             }
-            out.push(entry.copy(alloc)?)?;
-            Ok(())
+            out.push(entry)
         }
         Some(target) => {
             if is_list {
-                out.push(entry.copy(alloc)?)?;
-                return Ok(());
+                return out.push(entry);
             }
-            push_block(alloc, out, entry.point, base, target.as_slice(), others)
+            push_block(
+                alloc,
+                out,
+                entry.point,
+                entry.base.as_slice(),
+                target.as_slice(),
+                others,
+            )
         }
     }
 }
@@ -220,10 +225,10 @@ fn push_grown(
 // A list's decision list with one branch more.
 fn either_grown(
     alloc: Global,
-    entries: &[Entry],
+    entries: Vec<Entry>,
     others: &[Entry],
 ) -> Result<Indexed, AllocError>
-    ensures { IfOk result (λ v. v ≡ either_left entries.now others.now) }
+    ensures { IfOk result (λ v. v ≡ either_left entries.items others.now) }
 {
     let mut out = Indexed::new(alloc);
     for e in entries {
@@ -242,7 +247,7 @@ pub fn either(
     ensures { IfOk result (λ v. v ≡ either_left entries others.now) }
 {
     if !entries.is_live() {
-        return either_grown(alloc, entries.entries(), others);
+        return either_grown(alloc, entries.into_entries(), others);
     }
     let mut out = entries;
     push_thin(alloc, &mut out, others)?;
@@ -250,8 +255,8 @@ pub fn either(
 }
 
 // A chain's decision list with one member more.
-pub fn after(alloc: Global, entries: &[Entry], others: &[Entry]) -> Result<Vec<Entry>, AllocError>
-    ensures { IfOk result (λ v. v.items ≡ after_left entries.now others.now) }
+pub fn after(alloc: Global, entries: Vec<Entry>, others: &[Entry]) -> Result<Vec<Entry>, AllocError>
+    ensures { IfOk result (λ v. v.items ≡ after_left entries.items others.now) }
 {
     let mut out = Indexed::new(alloc);
     for e in entries {
