@@ -101,27 +101,22 @@ impl Entry {
         !self.point && begins(self.base.as_slice(), base)
     }
 
-    pub fn copy(&self, alloc: Global) -> Result<Entry, AllocError>
-        ensures { IfOk result (λ e. e ≡ self.now) }
-    {
-        Ok(Entry {
-            point: self.point,
-            base: joined(alloc, self.base.as_slice(), &[])?,
-            target: onward(alloc, &self.target, &[])?,
-        })
-    }
-
     // The entry that keeps its cone where this one gives nothing, and gives nothing where this one gives something.
-    pub fn flipped(&self, alloc: Global) -> Result<Entry, AllocError>
-        ensures { IfOk result (λ e. e ≡ (self.now.0, flip_act (base self.now.0) self.now.1)) }
+    pub fn flipped(self, alloc: Global) -> Result<Entry, AllocError>
+        ensures { IfOk result (λ e. e ≡ (self.0, flip_act (base self.0) self.1)) }
     {
-        let target = match &self.target {
-            None => Some(joined(alloc, self.base.as_slice(), &[])?),
+        let Entry {
+            point,
+            base,
+            target,
+        } = self;
+        let target = match target {
+            None => Some(joined(alloc, base.as_slice(), &[])?),
             Some(_) => None,
         };
         Ok(Entry {
-            point: self.point,
-            base: joined(alloc, self.base.as_slice(), &[])?,
+            point,
+            base,
             target,
         })
     }

@@ -77,7 +77,7 @@ pub fn list_of(
             }
             match list_of(alloc, inner, false)? {
                 None => Ok(None),
-                Some(list) => Ok(Some(turned(alloc, list.as_slice())?)),
+                Some(list) => Ok(Some(turned(alloc, list)?)),
             }
         }
         Filter::Join(members) => list_of_join(alloc, members.as_slice(), apart),
@@ -90,13 +90,13 @@ pub fn list_of(
 fn with_branch(
     alloc: Global,
     list: Indexed,
-    branch: &[Entry],
+    branch: Vec<Entry>,
     apart: bool,
 ) -> Result<Option<Indexed>, AllocError>
     ensures { IfOk result (λ o. o ≡
-        cond (apart && any_clash (cells [] list) (cells [] branch.now)) None (Some (either_left list branch.now))) }
+        cond (apart && any_clash (cells [] list) (cells [] branch.items)) None (Some (either_left list branch.items))) }
 {
-    if apart && clashes_with_list(alloc, &list, branch)? {
+    if apart && clashes_with_list(alloc, &list, branch.as_slice())? {
         return Ok(None);
     }
     Ok(Some(either(alloc, list, branch)?))
@@ -114,7 +114,7 @@ fn list_of_join(
     for m in members {
         match list_of(alloc, m, apart)? {
             None => return Ok(None),
-            Some(branch) => match with_branch(alloc, list, branch.as_slice(), apart)? {
+            Some(branch) => match with_branch(alloc, list, branch, apart)? {
                 None => return Ok(None),
                 Some(longer) => list = longer,
             },

@@ -168,21 +168,21 @@ fn push_block(
 }
 
 // Adds the entry if no earlier one hides it.
-fn push_alive(alloc: Global, out: &mut Indexed, entry: &Entry) -> Result<(), AllocError>
-    ensures { OnOk result (out.new ≡ out.old ++ thin (heads out.old []) (entry.now ∷ [])) }
+fn push_alive(out: &mut Indexed, entry: Entry) -> Result<(), AllocError>
+    ensures { OnOk result (out.new ≡ out.old ++ thin (heads out.old []) (entry ∷ [])) }
 {
     if out.is_alive(entry.point, entry.base.as_slice()) {
-        out.push(entry.copy(alloc)?)?;
+        out.push(entry)?;
     }
     Ok(())
 }
 
 // Adds the entries that no earlier one hides.
-fn push_thin(alloc: Global, out: &mut Indexed, entries: &[Entry]) -> Result<(), AllocError>
-    ensures { OnOk result (out.new ≡ out.old ++ thin (heads out.old []) entries.now) }
+fn push_thin(out: &mut Indexed, entries: Vec<Entry>) -> Result<(), AllocError>
+    ensures { OnOk result (out.new ≡ out.old ++ thin (heads out.old []) entries.items) }
 {
     for e in entries {
-        push_alive(alloc, out, e)?;
+        push_alive(out, e)?;
     }
     Ok(())
 }
@@ -226,31 +226,27 @@ fn push_grown(
 fn either_grown(
     alloc: Global,
     entries: Vec<Entry>,
-    others: &[Entry],
+    others: Vec<Entry>,
 ) -> Result<Indexed, AllocError>
-    ensures { IfOk result (λ v. v ≡ either_left entries.items others.now) }
+    ensures { IfOk result (λ v. v ≡ either_left entries.items others.items) }
 {
     let mut out = Indexed::new(alloc);
     for e in entries {
-        push_grown(alloc, &mut out, true, e, others)?;
+        push_grown(alloc, &mut out, true, e, others.as_slice())?;
     }
-    push_thin(alloc, &mut out, others)?;
+    push_thin(&mut out, others)?;
     Ok(out)
 }
 
 // A list's decision list with one branch more.
-pub fn either(
-    alloc: Global,
-    entries: Indexed,
-    others: &[Entry],
-) -> Result<Indexed, AllocError>
-    ensures { IfOk result (λ v. v ≡ either_left entries others.now) }
+pub fn either(alloc: Global, entries: Indexed, others: Vec<Entry>) -> Result<Indexed, AllocError>
+    ensures { IfOk result (λ v. v ≡ either_left entries others.items) }
 {
     if !entries.is_live() {
         return either_grown(alloc, entries.into_entries(), others);
     }
     let mut out = entries;
-    push_thin(alloc, &mut out, others)?;
+    push_thin(&mut out, others)?;
     Ok(out)
 }
 
@@ -266,8 +262,8 @@ pub fn after(alloc: Global, entries: Vec<Entry>, others: &[Entry]) -> Result<Vec
 }
 
 // All but what a decision list gives an image.
-pub fn turned(alloc: Global, entries: &[Entry]) -> Result<Vec<Entry>, AllocError>
-    ensures { IfOk result (λ v. v.items ≡ turned [] entries.now) }
+pub fn turned(alloc: Global, entries: Vec<Entry>) -> Result<Vec<Entry>, AllocError>
+    ensures { IfOk result (λ v. v.items ≡ turned [] entries.items) }
 {
     let mut out = Indexed::new(alloc);
     for e in entries {
@@ -278,6 +274,6 @@ pub fn turned(alloc: Global, entries: &[Entry]) -> Result<Vec<Entry>, AllocError
         base: Vec::new(alloc),
         target: Some(Vec::new(alloc)),
     };
-    push_alive(alloc, &mut out, &all)?;
+    push_alive(&mut out, all)?;
     Ok(out.into_entries())
 }

@@ -1,4 +1,4 @@
-use Rattle.std.proofs.Common.{◌++◌, sym, ap, ◌∙◌, true, false, [], ◌∷◌, append-nil}
+use Rattle.std.proofs.Common.{◌++◌, sym, ap, ◌∙◌, true, false, append-nil}
 use Rattle.filter_routes.specs.Entries.{cone_of}
 use Rattle.filter_routes.specs.Operations.{alive_in}
 use Rattle.filter_routes.proofs.Making.{thin-alive}
@@ -6,9 +6,9 @@ use Rattle.filter_routes.proofs.operations.push_alive.Goals as goal
 
 pub returns-in_ok-push : goal.returns-in_ok-push
 returns-in_ok-push c =
-    let e = c.args.entry.now in
+    let e = c.args.entry in
     let out = c.args.out.now in
-    c.in_ok-push.ensures ∙ ap (λ x. out ++ x ∷ []) c.in_ok-copy.ensures
+    c.in_ok-push.ensures
     ∙ ap (λ x. out ++ x)
     (thin-alive out e true
     (sym c.if-is_alive.true ∙ c.is_alive.ensures
@@ -17,7 +17,7 @@ returns-in_ok-push c =
 
 pub returns-else-is_alive : goal.returns-else-is_alive
 returns-else-is_alive c =
-    let e = c.args.entry.now in
+    let e = c.args.entry in
     let out = c.args.out.now in
     sym (append-nil out)
     ∙ ap (λ x. out ++ x)
