@@ -36,9 +36,7 @@ fn place(alloc: Global, letters: &[Component], number: usize, is_common: bool) -
 fn branch(alloc: Global, place: &Path, number: usize) -> Option<Filter> {
     let from = named(alloc, "s", number)?;
     let place = place.copy(alloc).ok()?;
-    Some(Filter::Chain(
-        vec![in alloc; Filter::Sub(from), Filter::Prefix(place)].ok()?,
-    ))
+    Some(Filter::Chain(vec![in alloc; Filter::Sub(from), Filter::Prefix(place)].ok()?))
 }
 
 // Adds a file for each front of the place, then its paths and itself.
@@ -52,7 +50,16 @@ fn leave_out(alloc: Global, members: &mut Vec<Filter>, place: &Path) -> Option<(
     members.push(Filter::File(place.copy(alloc).ok()?)).ok()
 }
 
-// A branch for each item, and what else stands below the workspace's place.
+// What else stands below the workspace's place.
+fn others(alloc: Global, members: Vec<Filter>) -> Option<Filter> {
+    let inner = Box::new(alloc, Filter::Join(members)).ok()?;
+    let place = Path::parse(alloc, b"w").ok()?;
+    let chain = vec![in alloc; Filter::Sub(place), Filter::Exclude(inner)].ok()?;
+    Some(Filter::Chain(chain))
+}
+
+// A branch for each item, and one for what else stands below the workspace's place. The letters of all places together are
+// as many as a file of 65,536 bytes has room for.
 fn workspace(alloc: Global, count: usize, is_common: bool) -> Option<Filter> {
     let letters = repeated(alloc, (32_768 / count.max(1)).clamp(1, 255) - 1)?;
     let mut branches = Vec::new(alloc);
@@ -62,10 +69,7 @@ fn workspace(alloc: Global, count: usize, is_common: bool) -> Option<Filter> {
         branches.push(branch(alloc, &place, number)?).ok()?;
         leave_out(alloc, &mut members, &place)?;
     }
-    let inner = Box::new(alloc, Filter::Join(members)).ok()?;
-    let place = Path::parse(alloc, b"w").ok()?;
-    let others = vec![in alloc; Filter::Sub(place), Filter::Exclude(inner)].ok()?;
-    branches.push(Filter::Chain(others)).ok()?;
+    branches.push(others(alloc, members)?).ok()?;
     Some(Filter::Join(branches))
 }
 

@@ -25,6 +25,7 @@ fn member(alloc: Global, mode: &str, number: usize) -> Result<String, AllocError
         "nops" => format!(in alloc; ":nop"),
         "chain" => format!(in alloc; ":/{name}"),
         "lists" => format!(in alloc; ":[:/a,:/b]"),
+        "swaps" => format!(in alloc; ":[a=:/b,b=:/a]"),
         _ => format!(in alloc; "::{name}"),
     }
 }
@@ -34,7 +35,7 @@ fn frame(mode: &str) -> Option<(&'static str, &'static str, &'static str)> {
     match mode {
         "dirs" | "targets" | "deep" => Some((":[", ",", "]")),
         "exclude" | "nops" => Some((":exclude[", ",", "]")),
-        "chain" | "lists" => Some(("", "", "")),
+        "chain" | "lists" | "swaps" => Some(("", "", "")),
         _ => None,
     }
 }

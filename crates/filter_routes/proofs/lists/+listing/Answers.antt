@@ -1,14 +1,13 @@
-use Rattle.std.proofs.Common.{rules, ◌≡◌, ◌+◌, sym, ap, ap₂, ◌∙◌, subst, false, [], ◌∷◌, drop, take, Some, None, IfOk, ◌&&◌, cond}
+use Rattle.std.proofs.Common.{rules, ◌≡◌, ◌+◌, sym, ap, ◌∙◌, subst, false, [], ◌∷◌, drop, take, Some, None, IfOk}
 use Rattle.filter_text.specs.Filters as plain
 use Rattle.filter_text.specs.Shapes.{shape, shapes}
 use Rattle.filter_text.proofs.RowLists.{shape-join, shape-chain}
 use Rattle.filter_text.specs.declared.filter.Filter.TheViews.{the_lemmas}
 use Rattle.filter_routes.specs.Entries.{at, below}
-use Rattle.filter_routes.specs.Operations.{turned, after_left, either_left}
+use Rattle.filter_routes.specs.Operations.{after_left}
 use Rattle.filter_routes.specs.Lists.{Listed, entries_of}
 use Rattle.filter_routes.proofs.Admitting.{listed-dir, listed-file, listed-exclude, chain-member, chain-more, join-member, join-grown, Grown}
 use Rattle.filter_routes.proofs.Members.{members-split, members-next}
-use Rattle.filter_routes.specs.Cells.{any_clash, cells}
 use Rattle.filter_routes.proofs.lists.+listing.Goals as goal
 
 pub list_of-returns-in_ok-one_entry-in-Dir : goal.list_of-returns-in_ok-one_entry-in-Dir

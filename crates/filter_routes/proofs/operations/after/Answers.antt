@@ -1,4 +1,4 @@
-use Rattle.std.proofs.Common.{arith, ◌++◌, sym, ap, ◌∙◌, refl, [], length}
+use Rattle.std.proofs.Common.{arith, ◌++◌, ap, ◌∙◌, refl, [], length}
 use Rattle.std.specs.Vec.Iter.{into_iter_items}
 use Rattle.filter_routes.specs.Operations.{refine, after_how, heads}
 use Rattle.filter_routes.proofs.Making.{step}

@@ -1,4 +1,4 @@
-use Rattle.std.proofs.Common.{nat_eq, ◌≡◌, sym, ap, ◌∙◌, None, Some}
+use Rattle.std.proofs.Common.{nat_eq, ◌≡◌, sym, ap, ◌∙◌}
 use Rattle.std.specs.HashMap.{get}
 use Rattle.filter_routes.specs.Index.{code, code_from, is_cone}
 use Rattle.std.specs.List.{slice_get}
