@@ -183,7 +183,7 @@ pub add-new : (f g : ℕ → Option ℕ) (clean : Bool) (es : List Entry) (e : E
     → ((q : ℕ) → nat_eq k q ≡ false → g q ≡ f q) → IsIndex g clean (es ++ e ∷ [])
 add-new f g clean es e k x is none here others = record {
   finds = λ h d. ⊎_elim (λ p. equal h d p) (λ p. apart h d p) (cases_eq k (code d));
-  within = λ h q j w. ⊎_elim (λ p. last q j w p) (λ p. longer es e j (x.within h q j (sym (others q (ne_eqb k q p)) ∙ w))) (cases_eq k q)
+  within = λ h q j w. ⊎_elim (λ p. last q j w p) (λ p. longer es e j (x.within h q j (sym (others q (ne_eqb k q p)) ∙ w))) (cases_eq k q);
 }
   where
     last : (q j : ℕ) → g q ≡ Some j → k ≡ q → j < length (es ++ e ∷ [])
@@ -210,7 +210,7 @@ pub add-known : (f : ℕ → Option ℕ) (clean : Bool) (es : List Entry) (e : E
     → is_cone (slice_get es j) e.0 ≡ true → IsIndex f clean (es ++ e ∷ [])
 add-known f clean es e k j x is some stands = record {
   finds = λ h d. place-more es e d (f (code d)) (λ i w. x.within h (code d) i w) ∙ x.finds h d ∙ sym (known-at h d (same_cone e.0 d) refl);
-  within = λ h q i w. longer es e i (x.within h q i w)
+  within = λ h q i w. longer es e i (x.within h q i w);
 }
   where
     known-at : clean ≡ true → (d : Cone) (b : Bool) → same_cone e.0 d ≡ b → first_of (es ++ e ∷ []) d ≡ first_of es d
@@ -218,15 +218,15 @@ add-known f clean es e k j x is some stands = record {
     known-at h d true t =
         let p : e.0 ≡ d = cone-is e.0 d t in
         let found : Some j ≡ first_of es d =
-          ap (λ b. cond b (Some j) None) (sym (sym (ap (is_cone (slice_get es j)) p) ∙ stands))
-          ∙ ap (place_at es d) (sym some ∙ ap f (is ∙ ap code p)) ∙ x.finds h d in
+        ap (λ b. cond b (Some j) None) (sym (sym (ap (is_cone (slice_get es j)) p) ∙ stands))
+        ∙ ap (place_at es d) (sym some ∙ ap f (is ∙ ap code p)) ∙ x.finds h d in
         first-more es e d ∙ ap (λ o. or_later o (cond (same_cone e.0 d) (Some (length es)) None)) (sym found) ∙ found
 
 -- what is found without a promise
 pub unclean : (f : ℕ → Option ℕ) (es : List Entry) → IsIndex f false es
 unclean f es = record {
   finds = λ h d. absurd (true≢false (sym h));
-  within = λ h q i w. absurd (true≢false (sym h))
+  within = λ h q i w. absurd (true≢false (sym h));
 }
 
 pub live-more : (es : List Entry) (e : Entry) → are_live (es ++ e ∷ []) ≡ (are_live es && is_some e.1)

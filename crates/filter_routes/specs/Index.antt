@@ -1,12 +1,16 @@
 -- Where a cone first stands in a decision list, and how an index of numbers finds it.
-use Rattle.std.specs.Prelude.{◌≡◌, ℕ, ◌+◌, ◌*◌, ◌^◌, ◌%◌, ◌<◌, suc, List, [], ◌∷◌, length, slice_get, Option, Some, None, option_map, Bool, true, false, cond}
+use Rattle.std.specs.Prelude.{◌≡◌, ℕ, ◌+◌, ◌*◌, ◌^◌, ◌%◌, ◌/◌, bit_xor, ◌<◌, suc, List, [], ◌∷◌, length, slice_get, Option, Some, None, option_map, Bool, true, false, cond}
 use Rattle.git_objects.specs.Paths.{Path, same_path}
 use Rattle.filter_routes.specs.Entries.{Cone, at, below, Entry}
 use Rattle.filter_routes.specs.Operations.{are_live}
 
 -- a number, and one byte more
+unfoldable pub with_byte : ℕ → ℕ → ℕ
+with_byte h x = ((h * 6364136223846793005) % 2 ^ 64 + x) % 2 ^ 64
+
+-- the same with its upper half put over the lower one, so that texts with one number are hard to find
 unfoldable pub stepped : ℕ → ℕ → ℕ
-stepped h x = ((h * 6364136223846793005) % 2 ^ 64 + x) % 2 ^ 64
+stepped h x = bit_xor (with_byte h x) (with_byte h x / 2 ^ 32)
 
 -- a number, and one component more
 abbrev pub mixed : ℕ → List ℕ → ℕ

@@ -22,8 +22,10 @@ pub struct Index {
 fn stepped(code: u64, byte: u64) -> u64
     ensures { result ≡ stepped code byte }
 {
-    code.wrapping_mul(6_364_136_223_846_793_005)
-        .wrapping_add(byte)
+    let longer = code
+        .wrapping_mul(6_364_136_223_846_793_005)
+        .wrapping_add(byte);
+    longer ^ (longer >> 32)
 }
 
 // A number, and one component more.

@@ -87,6 +87,12 @@ impl Indexed {
         self.entries.as_slice()
     }
 
+    pub fn len(&self) -> usize
+        ensures { result ≡ length self.now }
+    {
+        self.entries.len()
+    }
+
     pub fn into_entries(self) -> Vec<Entry>
         ensures { result.items ≡ self }
     {

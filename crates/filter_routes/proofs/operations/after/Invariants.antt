@@ -6,5 +6,5 @@ use Rattle.filter_routes.proofs.operations.after.Given as goal
 abbrev pub invariant-loop-e : goal.invariant-loop-e
 invariant-loop-e l = record {
   list : l.out ++ refine (after_how l.others) [] (heads l.out []) (into_iter_items l.e-iterator) ≡ after_left l.fn.entries.items l.others;
-  len : into_iter_len l.e-iterator ≡ length (into_iter_items l.e-iterator)
+  len : into_iter_len l.e-iterator ≡ length (into_iter_items l.e-iterator);
 }

@@ -6,5 +6,5 @@ use Rattle.filter_routes.proofs.operations.either_grown.Given as goal
 abbrev pub invariant-loop-e : goal.invariant-loop-e
 invariant-loop-e l = record {
   list : l.out ++ refine (either_how l.others.items) l.others.items (heads l.out []) (into_iter_items l.e-iterator) ≡ either_left l.fn.entries.items l.others.items;
-  len : into_iter_len l.e-iterator ≡ length (into_iter_items l.e-iterator)
+  len : into_iter_len l.e-iterator ≡ length (into_iter_items l.e-iterator);
 }

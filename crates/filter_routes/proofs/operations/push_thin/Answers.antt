@@ -10,7 +10,7 @@ loop-e-init c =
     let out = c.args.out.now in
     record {
       list = ap (λ es. out ++ thin (heads out []) es) h.0;
-      len = omega (arith, h.1, ap length h.0)
+      len = omega (arith, h.1, ap length h.0);
     }
 
 pub loop-e-preserved : goal.loop-e-preserved
@@ -19,6 +19,6 @@ loop-e-preserved c =
     let es = into_iter_items c.next.new.self in
     record {
       list = step (λ hs es. thin hs es) c.loop-e.out c.push_alive.new.out _ es (into_iter_items c.loop-e.e-iterator) c.in-Some.e
-        c.in_ok-push_alive.ensures (thin-next _ c.in-Some.e es) h.0 ∙ c.loop-e.invariant.list;
-      len = omega (arith, h.1, ap length h.0, c.loop-e.invariant.len)
+          c.in_ok-push_alive.ensures (thin-next _ c.in-Some.e es) h.0 ∙ c.loop-e.invariant.list;
+      len = omega (arith, h.1, ap length h.0, c.loop-e.invariant.len);
     }

@@ -6,5 +6,5 @@ use Rattle.filter_routes.proofs.operations.push_thin.Given as goal
 abbrev pub invariant-loop-e : goal.invariant-loop-e
 invariant-loop-e l = record {
   list : l.out ++ thin (heads l.out []) (into_iter_items l.e-iterator) ≡ l.initial.out ++ thin (heads l.initial.out []) l.fn.entries.items;
-  len : into_iter_len l.e-iterator ≡ length (into_iter_items l.e-iterator)
+  len : into_iter_len l.e-iterator ≡ length (into_iter_items l.e-iterator);
 }

@@ -9,7 +9,7 @@ loop-e-init c =
     let h = c.into_iter-e-iterator.ensures.into_iter_gives in
     record {
       list = ap (λ out. out ++ turned (heads out []) (into_iter_items c.into_iter-e-iterator.result)) c.new-out.ensures ∙ ap (turned []) h.0;
-      len = omega (arith, h.1, ap length h.0)
+      len = omega (arith, h.1, ap length h.0);
     }
 
 pub loop-e-preserved : goal.loop-e-preserved
@@ -17,6 +17,6 @@ loop-e-preserved c =
     let h = c.in-Some.ensures.steps in
     record {
       list = step (λ hs es. turned hs es) c.loop-e.out c.push.new.self _ (into_iter_items c.next.new.self) (into_iter_items c.loop-e.e-iterator) c.in-Some.e
-        (c.in_ok-push.ensures ∙ ap (λ x. c.loop-e.out ++ x ∷ []) c.in_ok-flipped.ensures) refl h.0 ∙ c.loop-e.invariant.list;
-      len = omega (arith, h.1, ap length h.0, c.loop-e.invariant.len)
+          (c.in_ok-push.ensures ∙ ap (λ x. c.loop-e.out ++ x ∷ []) c.in_ok-flipped.ensures) refl h.0 ∙ c.loop-e.invariant.list;
+      len = omega (arith, h.1, ap length h.0, c.loop-e.invariant.len);
     }

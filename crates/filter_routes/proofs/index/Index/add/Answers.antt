@@ -12,7 +12,7 @@ returns-in-Ok c =
     let e = c.args.entry.now in
     let k = c.cone_code-code.result in
     let is : k ≡ code e.0 = code-is e c.entry.inside.point c.entry.inside.base.items c.path_code.result k (ap (λ v. v.0) c.entry.view_is)
-      (c.path_code.ensures ∙ ap (code_from 1) c.as_slice-base.ensures.value) c.cone_code-code.ensures in
+    (c.path_code.ensures ∙ ap (code_from 1) c.as_slice-base.ensures.value) c.cone_code-code.ensures in
     add-new (get nat_eq m.places) (get nat_eq c.insert.new.self) m.clean c.args.entries.now e k c.requires is
     (sym c.get.ensures.value ∙ sym c.copied.ensures ∙ c.in-None.is)
     c.in-Ok.ensures.updates.1 (λ q n. c.in-Ok.ensures.updates.2 q n)
@@ -23,7 +23,7 @@ returns-else-not-stands c =
     let e = c.args.entry.now in
     let k = c.cone_code-code.result in
     let is : k ≡ code e.0 = code-is e c.entry.inside.point c.entry.inside.base.items c.path_code.result k (ap (λ v. v.0) c.entry.view_is)
-      (c.path_code.ensures ∙ ap (code_from 1) c.as_slice-base.ensures.value) c.cone_code-code.ensures in
+    (c.path_code.ensures ∙ ap (code_from 1) c.as_slice-base.ensures.value) c.cone_code-code.ensures in
     add-known (get nat_eq m.places) m.clean c.args.entries.now e k c.in-Some.place c.requires is
     (sym c.get.ensures.value ∙ sym c.copied.ensures ∙ c.in-Some.is)
     (sym (ap (λ s. is_cone (slice_get c.args.entries.now c.in-Some.place) (cone_of c.entry.inside.point s)) c.as_slice-base.ensures.value

@@ -21,9 +21,9 @@ loop-i-preserved c =
     let more = take_more s i x c.loop-i-test.true ∙ ap (λ y. take i s ++ y ∷ []) (sym c.index-base-i.is) in
     record {
       code = c.mixed-code.ensures ∙ ap (mixed c.loop-i.code) c.bytes.ensures.bytes ∙ ap (λ h. mixed h x) c.loop-i.invariant.code
-        ∙ sym (code-more 1 (take i s) x) ∙ ap (code_from 1) (sym more);
+          ∙ sym (code-more 1 (take i s) x) ∙ ap (code_from 1) (sym more);
       fronts = front-step es s i x (drop_more s i x c.loop-i-test.true ∙ ap (λ y. y ∷ drop (i + 1) s) (sym c.index-base-i.is)) more
-        (sym c.if-has.false ∙ c.has.ensures) ∙ c.loop-i.invariant.fronts
+          (sym c.if-has.false ∙ c.has.ensures) ∙ c.loop-i.invariant.fronts;
     }
 
 pub returns : goal.returns

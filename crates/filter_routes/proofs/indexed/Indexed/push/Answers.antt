@@ -11,7 +11,7 @@ invariant_of-self-in-Ok-push c =
     let y = c.add.new.self in
     record {
       index = subst (λ es. IsIndex (get nat_eq y.places) y.clean es)
-        (ap (λ es. es ++ c.args.entry ∷ []) c.as_slice.ensures.value ∙ sym c.in-Ok-push.ensures.items) c.in-Ok.ensures;
+          (ap (λ es. es ++ c.args.entry ∷ []) c.as_slice.ensures.value ∙ sym c.in-Ok-push.ensures.items) c.in-Ok.ensures;
       targets = c.stays_live-live.ensures ∙ ap (λ b. b && is_some c.args.entry.1) c.self.invariant.targets
-        ∙ sym (live-more x.entries.items c.args.entry) ∙ ap are_live (sym c.in-Ok-push.ensures.items)
+          ∙ sym (live-more x.entries.items c.args.entry) ∙ ap are_live (sym c.in-Ok-push.ensures.items);
     }
