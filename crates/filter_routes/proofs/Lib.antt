@@ -17,3 +17,6 @@ pub mod Members
 pub mod Locating
 pub mod Walking
 pub mod Indexing
+pub mod Finding
+pub mod Sounds
+pub mod Interning

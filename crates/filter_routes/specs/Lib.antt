@@ -10,3 +10,6 @@ pub mod Lists
 pub mod Tables
 pub mod TableValues
 pub mod Index
+pub mod RouteFaults
+pub mod Searching
+pub mod Interned

@@ -55,7 +55,6 @@ abbrev pub IsOrigin : Filter → Path → Option Path → Type 0
 IsOrigin f q None = (p : Path) → is_path p ≡ true → image f p ≡ Some q → ⊥
 IsOrigin f q (Some p) = (is_path p ≡ true) × (image f p ≡ Some q)
 
--- the filter's table, or none where the filter isn't sound
-abbrev pub OfFilter : Filter → Option Table → Type 0
-OfFilter f None = IsSound f → ⊥
-OfFilter f (Some t) = (shape t.filter ≡ f) × IsSound f
+-- a table of the filter, which is sound
+abbrev pub IsTableOf : Table → Filter → Type 0
+IsTableOf t f = (shape t.filter ≡ f) × IsSound f

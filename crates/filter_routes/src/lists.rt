@@ -17,7 +17,7 @@ use git_objects::Component;
 use std::alloc::{AllocError, Global};
 
 // The list of one entry with a target.
-fn one_entry(
+pub fn one_entry(
     alloc: Global,
     point: bool,
     base: &[Component],

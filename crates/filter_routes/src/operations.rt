@@ -178,7 +178,7 @@ fn push_alive(out: &mut Indexed, entry: Entry) -> Result<(), AllocError>
 }
 
 // Adds the entries that no earlier one hides.
-fn push_thin(out: &mut Indexed, entries: Vec<Entry>) -> Result<(), AllocError>
+pub fn push_thin(out: &mut Indexed, entries: Vec<Entry>) -> Result<(), AllocError>
     ensures { OnOk result (out.new ≡ out.old ++ thin (heads out.old []) entries.items) }
 {
     for e in entries {
@@ -188,7 +188,7 @@ fn push_thin(out: &mut Indexed, entries: Vec<Entry>) -> Result<(), AllocError>
 }
 
 // Adds what becomes of an entry: a list keeps an entry with a target, a chain one without; of the other come its parts.
-fn push_grown(
+pub fn push_grown(
     alloc: Global,
     out: &mut Indexed,
     is_list: bool,

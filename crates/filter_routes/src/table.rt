@@ -1,16 +1,18 @@
 // Tables of routes.
-ghost use Rattle.std.specs.Prelude.{◌≡◌, ◌≤◌, true, is_some, length, Some, IfOk, IfSome};
+ghost use Rattle.std.specs.Prelude.{◌≡◌, ◌≤◌, ◌<◌, ◌^◌, true, is_some, length, Some, IfOk, IfErr, IfSome};
+ghost use Rattle.filter_text.specs.Filters.{pieces};
 ghost use Rattle.filter_text.specs.Shapes.{shape};
 ghost use Rattle.filter_routes.specs.Images.{image};
 
-use crate::RouteHit;
 use crate::entry::Entry;
 use crate::lists::list_of;
 use crate::locate::{locate, locate_origin};
+use crate::search::fault_of;
+use crate::{RouteFault, RouteHit};
 use filter_text::{Filter, copy};
 use git_objects::Component;
 use path_names::Path;
-use std::alloc::{AllocError, Global};
+use std::alloc::Global;
 use std::marker::Model;
 
 /// The routes of a sound filter: where each path goes, and where each image comes from.
@@ -35,19 +37,29 @@ impl Model for Table {
 }
 
 impl Table {
-    ghost use Rattle.filter_routes.specs.Tables.{image_at, source_hit, target, source, IsOrigin, OfFilter};
+    ghost use Rattle.filter_routes.specs.Tables.{image_at, source_hit, target, source, IsOrigin, IsTableOf};
+    ghost use Rattle.filter_routes.specs.RouteFaults.{IsRouteFault};
 
     /// The filter's table, if the filter is sound. A workspace is read as the paths below its place.
-    pub fn of_sound(alloc: Global, filter: &Filter) -> Result<Option<Table>, AllocError>
-        ensures { IfOk result (OfFilter (shape filter.now)) }
+    pub fn compile(alloc: Global, filter: &Filter) -> Result<Table, RouteFault>
+        requires { pieces (shape filter.now) < 2 ^ 32 }
+        ensures table { IfOk result (λ t. IsTableOf t (shape filter.now)) }
+        ensures fault { IfErr result (IsRouteFault (shape filter.now)) }
     {
         match list_of(alloc, filter, true)? {
-            None => Ok(None),
-            Some(entries) => Ok(Some(Table {
+            None => Err(fault_of(alloc, filter)),
+            Some(entries) => Ok(Table {
                 filter: copy(alloc, filter)?,
                 entries,
-            })),
+            }),
         }
+    }
+
+    /// The filter whose table it is.
+    pub fn filter(&self) -> &Filter
+        ensures { result.now ≡ self.now.filter }
+    {
+        &self.filter
     }
 
     /// The route that takes a path to its image, if it has one. Needs no memory.

@@ -1,9 +1,21 @@
-use crate::{Table, is_sound};
-use filter_text::parse;
+ghost use Rattle.std.specs.Prelude.{◌≤◌, IfOk};
+ghost use Rattle.filter_text.specs.Filters.{pieces};
+ghost use Rattle.filter_text.specs.Shapes.{shape};
+
+use crate::bounded::list_within;
+use crate::{RouteFault, Table, Tables, check, is_sound};
+use filter_text::{Filter, parse, same};
 use git_objects::Component;
 use path_names::Path;
 use std::alloc::{AllocError, Global};
 use std::test::Fail;
+
+// The filter of a text.
+fn filter_of(alloc: Global, text: &[u8]) -> Result<Filter, Fail>
+    ensures { IfOk result (λ f. pieces (shape f) ≤ 1024) }
+{
+    Ok(parse(alloc, text)?)
+}
 
 #[test]
 fn filters_are_sound_or_not(rt: HostRuntime) -> Result<(), Fail> {
@@ -34,14 +46,147 @@ fn filters_are_sound_or_not(rt: HostRuntime) -> Result<(), Fail> {
         (b":[:exclude[::a/],b=:/a]", false),
         (b":[::a/b,::a:prefix=x]", true),
     ] {
-        let filter = parse(alloc, text)?;
+        let filter = filter_of(alloc, text)?;
         assert_eq!(rt; is_sound(alloc, &filter)?, sound, "of {text:?}");
+        assert_eq!(rt; check(alloc, &filter).is_ok(), sound, "of {text:?}");
         assert_eq!(rt;
-            Table::of_sound(alloc, &filter)?.is_some(),
+            Table::compile(alloc, &filter).is_ok(),
             sound,
             "of {text:?}"
         );
     }
+    Ok(())
+}
+
+const fn overlap(list: u32, first: u32, second: u32) -> RouteFault {
+    RouteFault::Overlap {
+        list,
+        first,
+        second,
+    }
+}
+
+#[test]
+fn faults_have_their_places(rt: HostRuntime) -> Result<(), Fail> {
+    let alloc = rt.alloc();
+    for (text, fault) in [
+        (b":[:/a,:/b]".as_slice(), overlap(0, 0, 1)),
+        (b":[::a,::a/]", overlap(0, 0, 1)),
+        (b":exclude[:/a]", RouteFault::NotKeeping { piece: 1 }),
+        (
+            b":exclude[:exclude[::a]]",
+            RouteFault::NotKeeping { piece: 1 },
+        ),
+        // Excludes are looked at before any list.
+        (
+            b":[:/a,:/b,:exclude[:/c]]",
+            RouteFault::NotKeeping { piece: 4 },
+        ),
+        // Chains have no number.
+        (b":/a:[:/c,:/d]", overlap(1, 0, 1)),
+        (b":/a:/b:[:/c,:/d]", overlap(2, 0, 1)),
+        (b":[x=:/a:/b,y=:[:/c,:/d]]", overlap(4, 0, 1)),
+        // A list, and one in a later branch.
+        (b":[x=:[::a,::b],y=:[:/c,:/d]]", overlap(5, 0, 1)),
+        (b":[x=:[:/a,:/b],y=:[:/c,:/d]]", overlap(1, 0, 1)),
+        (b":[:[:/a,:/b],:[:/c,:/d]]", overlap(0, 0, 1)),
+        // A list inside of an exclude may overlap.
+        (b":exclude[::a,::a]:[:/c,:/d]", overlap(4, 0, 1)),
+        // The smallest pair: the first branch decides, then the second.
+        (b":[x=::a,y=:/b,z=:/c,y=:/d,z=:/e]", overlap(0, 1, 3)),
+        (b":[x=::a,y=:/b,z=:/c,z=:/d,y=:/e]", overlap(0, 1, 4)),
+        (b":[x=::a,y=:/b,y=:/c,y=:/d]", overlap(0, 1, 2)),
+    ] {
+        let filter = filter_of(alloc, text)?;
+        assert_eq!(rt; check(alloc, &filter), Err(fault), "of {text:?}");
+        assert_eq!(rt;
+            Table::compile(alloc, &filter).err(),
+            Some(fault),
+            "of {text:?}"
+        );
+    }
+    Ok(())
+}
+
+// `:[:/a,:/b]` so many times, and what stands before and behind.
+fn chain_text(alloc: Global, before: &[u8], count: u32, behind: &[u8]) -> Result<Vec<u8>, Fail> {
+    let mut text = Vec::new(alloc);
+    text.extend_from_slice(before)?;
+    for _ in 0..count {
+        text.extend_from_slice(b":[:/a,:/b]")?;
+    }
+    text.extend_from_slice(behind)?;
+    Ok(text)
+}
+
+#[test]
+fn chains_of_lists_that_overlap(rt: HostRuntime) -> Result<(), Fail> {
+    let alloc = rt.alloc();
+    for (before, count, behind, fault) in [
+        // The first list decides.
+        (b"".as_slice(), 100, b"".as_slice(), overlap(0, 0, 1)),
+        // The outer list comes first, and its branches are apart.
+        (b":[", 8, b":prefix=y,::z:prefix=x]", overlap(1, 0, 1)),
+        (b":[", 8, b":prefix=y,::z:prefix=y]", overlap(0, 0, 1)),
+    ] {
+        let text = chain_text(alloc, before, count, behind)?;
+        let filter = filter_of(alloc, text.as_slice())?;
+        assert!(rt; !is_sound(alloc, &filter)?, "{count} lists");
+        assert_eq!(rt; check(alloc, &filter), Err(fault), "{count} lists");
+    }
+    Ok(())
+}
+
+// The list of `:[:/a,:/b]` has two entries. In a chain each entry with a target becomes two and a last one without, so
+// each further member leaves one entry more than twice as many.
+#[test]
+fn lists_of_unsound_filters_end(rt: HostRuntime) -> Result<(), Fail> {
+    let alloc = rt.alloc();
+    for (count, most, len) in [
+        (1, 2, Some(2)),
+        (2, 7, Some(7)),
+        (3, 15, Some(15)),
+        (3, 14, None),
+        (8, 511, Some(511)),
+        (100, 1000, None),
+    ] {
+        let text = chain_text(alloc, b"", count, b"")?;
+        let filter = filter_of(alloc, text.as_slice())?;
+        let list = list_within(alloc, most, &filter).ok();
+        assert_eq!(rt; list.map(|v| v.len()), len, "{count} lists");
+    }
+    Ok(())
+}
+
+#[test]
+fn each_filter_has_one_table(rt: HostRuntime) -> Result<(), Fail> {
+    let alloc = rt.alloc();
+    let mut tables = Tables::new(alloc);
+    for (text, answer) in [
+        (b":/a".as_slice(), Ok(0)),
+        (b":[::b,::a]", Ok(1)),
+        (b":/a", Ok(0)),
+        (b":[::a,::b]", Ok(2)),
+        (b":[ ::b, ::a ]", Ok(1)),
+        (b":[:/a,:/b]", Err(overlap(0, 0, 1))),
+        (b":exclude[:/a]", Err(RouteFault::NotKeeping { piece: 1 })),
+        (b":/b", Ok(3)),
+    ] {
+        let filter = filter_of(alloc, text)?;
+        let before = tables.len();
+        assert_eq!(rt; tables.intern(alloc, &filter), answer, "of {text:?}");
+        match answer {
+            Err(_) => assert_eq!(rt; tables.len(), before, "of {text:?}"),
+            Ok(number) => match tables.get(number) {
+                None => assert!(rt; false, "of {text:?}"),
+                Some(table) => {
+                    assert!(rt; same(table.filter(), &filter), "of {text:?}");
+                }
+            },
+        }
+    }
+    assert_eq!(rt; tables.len(), 4);
+    assert!(rt; tables.get(4).is_none());
     Ok(())
 }
 
@@ -83,8 +228,8 @@ fn origin_text(alloc: Global, table: &Table, image: &Path) -> Result<Option<Vec<
 
 // The table of a sound filter text.
 fn table_of(alloc: Global, text: &[u8]) -> Result<Option<Table>, Fail> {
-    let filter = parse(alloc, text)?;
-    Ok(Table::of_sound(alloc, &filter)?)
+    let filter = filter_of(alloc, text)?;
+    Ok(Table::compile(alloc, &filter).ok())
 }
 
 #[test]

@@ -137,7 +137,7 @@ mutual
   piece_spelt (chain fs) c l r = absurd (true≢false c)
   piece_spelt (workspace p) c l r = a_workspace (path_text p) p (name_spelt p r)
 
-  filter_spelt : (f : Filter) → is_linked f ≡ true → HasReadable f → SpellsFilter (printed f) f
+  pub filter_spelt : (f : Filter) → is_linked f ≡ true → HasReadable f → SpellsFilter (printed f) f
   filter_spelt nop l r = one_piece nop a_nop
   filter_spelt (sub p) l r = one_piece (sub p) (a_sub (path_text p) p (name_spelt p r))
   filter_spelt (onto p) l r = one_piece (onto p) (a_prefix (path_text p) p (name_spelt p r))

@@ -1,0 +1,17 @@
+use Rattle.std.proofs.Common.{sym, subst}
+use Rattle.filter_text.specs.Shapes.{shapes}
+use Rattle.filter_routes.specs.Searching.{AreListsOf, FirstClash}
+use Rattle.filter_routes.proofs.Finding.{none-clash, first-clash}
+use Rattle.filter_routes.proofs.search.are_apart.Goals as goal
+
+pub returns-in-None-clause-apart : goal.returns-in-None-clause-apart
+returns-in-None-clause-apart c =
+    none-clash (shapes c.args.members.now) c.as_slice.result.now
+    (subst (AreListsOf (shapes c.args.members.now)) (sym c.as_slice.ensures.value) c.in_ok-lists.ensures)
+    (subst (FirstClash c.as_slice.result.now) c.in-None.is c.in_ok-first_clash.ensures)
+
+pub returns-clause-pair : goal.returns-clause-pair
+returns-clause-pair c =
+    first-clash c.args.number (shapes c.args.members.now) c.as_slice.result.now c.in-Some.first c.in-Some.second
+    (subst (AreListsOf (shapes c.args.members.now)) (sym c.as_slice.ensures.value) c.in_ok-lists.ensures)
+    (subst (FirstClash c.as_slice.result.now) c.in-Some.is c.in_ok-first_clash.ensures)

@@ -1,0 +1,198 @@
+// Where a filter that is refused has its fault.
+ghost use Rattle.std.specs.Prelude.{◌≡◌, ◌+◌, ◌<◌, ◌^◌, length, false, IfOk, IfErr, OnOk};
+ghost use Rattle.filter_text.specs.Filters.{pieces, pieces_in};
+ghost use Rattle.filter_text.specs.Shapes.{shape, shapes};
+ghost use Rattle.filter_routes.specs.Faults.{nodes, nodes_all};
+ghost use Rattle.filter_routes.specs.RouteFaults.{IsRouteFault};
+ghost use Rattle.filter_routes.specs.Searching.{AreListsOf, ClashBehind, FirstClash, FirstPairOf, NoPairAt, Searched};
+ghost use Rattle.filter_routes.specs.Soundness.{IsSound};
+
+use crate::RouteFault;
+use crate::bounded::list_within;
+use crate::clashing::any_clash;
+use crate::entry::Entry;
+use crate::faults::first_not_keeping;
+use crate::lists::is_sound;
+use filter_text::Filter;
+use std::alloc::{AllocError, Global};
+
+// The most entries that a decision list may have while a fault is looked for, where twice the pieces aren't more. The list
+// of a sound filter has at most one entry for each piece and each chain, so none is refused for it. Those of an unsound one
+// can double with each member of a chain, as by `:[:/a,:/b]`, and would fill any memory.
+const MOST_ENTRIES: usize = 65536;
+
+// The number behind the filter's pieces.
+#[cycle(counting)]
+fn past_pieces(filter: &Filter, number: usize) -> usize
+    requires { number + pieces (shape filter.now) < 2 ^ 64 }
+    ensures { result ≡ number + pieces (shape filter.now) }
+{
+    match filter {
+        Filter::Nop => number + 1,
+        Filter::Sub(_) => number + 1,
+        Filter::Prefix(_) => number + 1,
+        Filter::Dir(_) => number + 1,
+        Filter::File(_) => number + 1,
+        Filter::Exclude(inner) => past_pieces(inner, number + 1),
+        Filter::Join(members) => past_pieces_in(members.as_slice(), number + 1),
+        Filter::Chain(members) => past_pieces_in(members.as_slice(), number),
+        Filter::Workspace(_) => number + 1,
+    }
+}
+
+#[cycle(counting)]
+fn past_pieces_in(members: &[Filter], number: usize) -> usize
+    requires { number + pieces_in (shapes members.now) < 2 ^ 64 }
+    ensures { result ≡ number + pieces_in (shapes members.now) }
+{
+    let mut number = number;
+    for m in members {
+        number = past_pieces(m, number);
+    }
+    number
+}
+
+// The decision lists of the members.
+fn lists_within(
+    alloc: Global,
+    most: usize,
+    members: &[Filter],
+) -> Result<Vec<Vec<Entry>>, AllocError>
+    ensures { IfOk result (λ v. AreListsOf (shapes members.now) v.items) }
+{
+    let mut lists = Vec::with_capacity(alloc, members.len())?;
+    for m in members {
+        lists.push(list_within(alloc, most, m)?)?;
+    }
+    Ok(lists)
+}
+
+// The first list behind a place that clashes with the one there.
+fn clash_behind(
+    alloc: Global,
+    lists: &[Vec<Entry>],
+    first: usize,
+) -> Result<Option<usize>, AllocError>
+    requires { first < length lists.now }
+    ensures { IfOk result (ClashBehind lists.now first) }
+{
+    for second in first + 1..lists.len() {
+        if any_clash(alloc, lists[first].as_slice(), lists[second].as_slice())? {
+            return Ok(Some(second));
+        }
+    }
+    Ok(None)
+}
+
+// The first two lists that clash: the first list against the later ones, then the second, and so on.
+fn first_clash(alloc: Global, lists: &[Vec<Entry>]) -> Result<Option<(usize, usize)>, AllocError>
+    ensures { IfOk result (FirstClash lists.now) }
+{
+    for first in 0..lists.len() {
+        if let Some(second) = clash_behind(alloc, lists, first)? {
+            return Ok(Some((first, second)));
+        }
+    }
+    Ok(None)
+}
+
+// Refuses a list with two branches that clash by its number and the first two.
+fn are_apart(alloc: Global, most: usize, members: &[Filter], number: u32) -> Result<(), RouteFault>
+    ensures apart { OnOk result (NoPairAt (shapes members.now)) }
+    ensures pair { IfErr result (FirstPairOf number (shapes members.now)) }
+{
+    let lists = lists_within(alloc, most, members)?;
+    match first_clash(alloc, lists.as_slice())? {
+        None => Ok(()),
+        Some((first, second)) => {
+            // So many branches that their numbers don't fit can't be held.
+            if second > u32::MAX as usize {
+                return Err(RouteFault::OutOfMemory);
+            }
+            Err(RouteFault::Overlap {
+                list: number,
+                first: first as u32,
+                second: second as u32,
+            })
+        }
+    }
+}
+
+// The number behind the filter's pieces where no two branches of a list outside of excludes clash, else the first that do.
+// The lists come in their order, so the search ends at the first.
+#[cycle(searching)]
+fn first_overlap(
+    alloc: Global,
+    most: usize,
+    filter: &Filter,
+    number: usize,
+) -> Result<usize, RouteFault>
+    requires { number + pieces (shape filter.now) < 2 ^ 32 }
+    ensures { Searched number (nodes false (shape filter.now)) result }
+{
+    match filter {
+        Filter::Nop => Ok(number + 1),
+        Filter::Sub(_) => Ok(number + 1),
+        Filter::Prefix(_) => Ok(number + 1),
+        Filter::Dir(_) => Ok(number + 1),
+        Filter::File(_) => Ok(number + 1),
+        Filter::Exclude(inner) => Ok(past_pieces(inner, number + 1)),
+        Filter::Join(members) => {
+            let members = members.as_slice();
+            match are_apart(alloc, most, members, number as u32) {
+                Err(fault) => Err(fault),
+                Ok(()) => first_overlap_in(alloc, most, members, number + 1),
+            }
+        }
+        Filter::Chain(members) => first_overlap_in(alloc, most, members.as_slice(), number),
+        Filter::Workspace(_) => Ok(number + 1),
+    }
+}
+
+#[cycle(searching)]
+fn first_overlap_in(
+    alloc: Global,
+    most: usize,
+    members: &[Filter],
+    number: usize,
+) -> Result<usize, RouteFault>
+    requires { number + pieces_in (shapes members.now) < 2 ^ 32 }
+    ensures { Searched number (nodes_all false (shapes members.now)) result }
+{
+    let mut number = number;
+    for m in members {
+        match first_overlap(alloc, most, m, number) {
+            Err(fault) => return Err(fault),
+            Ok(next) => number = next,
+        }
+    }
+    Ok(number)
+}
+
+// The fault of a filter that isn't sound.
+pub fn fault_of(alloc: Global, filter: &Filter) -> RouteFault
+    requires few { pieces (shape filter.now) < 2 ^ 32 }
+    requires unsound { IsSound (shape filter.now) → ⊥ }
+    ensures { IsRouteFault (shape filter.now) result }
+{
+    if let Some(piece) = first_not_keeping(filter) {
+        return RouteFault::NotKeeping { piece };
+    }
+    let most = MOST_ENTRIES.max(2 * past_pieces(filter, 0));
+    match first_overlap(alloc, most, filter, 0) {
+        Err(fault) => fault,
+        Ok(_) => unreachable!(),
+    }
+}
+
+/// Whether a filter is sound, and where it isn't. A workspace is read as the paths below its place.
+pub fn check(alloc: Global, filter: &Filter) -> Result<(), RouteFault>
+    requires { pieces (shape filter.now) < 2 ^ 31 }
+    ensures sound { OnOk result (IsSound (shape filter.now)) }
+    ensures fault { IfErr result (IsRouteFault (shape filter.now)) }
+{
+    if is_sound(alloc, filter)? {
+        return Ok(());
+    }
+    Err(fault_of(alloc, filter))
+}
