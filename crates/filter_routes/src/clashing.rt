@@ -165,26 +165,16 @@ fn any_left(alloc: Global, list: &Lent<'_>, others: &Lent<'_>) -> Result<bool, A
 }
 
 // Whether some cell of a list clashes with some cell of another.
-pub fn clashes_with_list(
-    alloc: Global,
-    list: &Indexed,
-    others: &[Entry],
-) -> Result<bool, AllocError>
+pub fn clashes_with_list(alloc: Global, list: &Indexed, others: &[Entry]) -> Result<bool, AllocError>
     ensures { IfOk result (λ b. b ≡ any_clash (cells [] list.now) (cells [] others.now)) }
 {
     let index = Index::of(alloc, others)?;
     any_left(alloc, &list.lent(), &Lent::of(others, &index))
 }
 
-// Whether some cell of a list clashes with some cell of another.
-pub fn any_clash(alloc: Global, entries: &[Entry], others: &[Entry]) -> Result<bool, AllocError>
-    ensures { IfOk result (λ b. b ≡ any_clash (cells [] entries.now) (cells [] others.now)) }
+// The same of two lists that have their indexes.
+pub fn any_clash(alloc: Global, list: &Indexed, others: &Indexed) -> Result<bool, AllocError>
+    ensures { IfOk result (λ b. b ≡ any_clash (cells [] list.now) (cells [] others.now)) }
 {
-    let index = Index::of(alloc, entries)?;
-    let other_index = Index::of(alloc, others)?;
-    any_left(
-        alloc,
-        &Lent::of(entries, &index),
-        &Lent::of(others, &other_index),
-    )
+    any_left(alloc, &list.lent(), &others.lent())
 }

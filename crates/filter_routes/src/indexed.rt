@@ -1,5 +1,5 @@
 // Decision lists with an index of their cones.
-ghost use Rattle.std.specs.Prelude.{◌≡◌, ◌++◌, ◌≤◌, [], ◌∷◌, List, length, take, nat_eq, is_some, ◌&&◌, OnOk};
+ghost use Rattle.std.specs.Prelude.{◌≡◌, ◌++◌, ◌≤◌, [], ◌∷◌, List, length, take, nat_eq, is_some, ◌&&◌, IfOk, OnOk};
 ghost use Rattle.std.specs.HashMap.{get};
 ghost use Rattle.filter_routes.specs.Entries.{Entry as RouteEntry, cone_of};
 ghost use Rattle.filter_routes.specs.Operations.{alive_in, are_live};
@@ -43,6 +43,16 @@ impl Indexed {
             index: Index::new(alloc),
             live: true,
         }
+    }
+
+    pub fn of(alloc: Global, entries: Vec<Entry>) -> Result<Indexed, AllocError>
+        ensures { IfOk result (λ list. list ≡ entries.items) }
+    {
+        let mut list = Indexed::new(alloc);
+        for e in entries {
+            list.push(e)?;
+        }
+        Ok(list)
     }
 
     pub fn push(&mut self, entry: Entry) -> Result<(), AllocError>

@@ -2,11 +2,15 @@
 //! the mode and a number of branches, members or items; a mode that begins with `make-` only builds.
 #![tactic(auto)]
 
+ghost use Rattle.std.specs.Prelude.{◌≤◌, IfOk};
+ghost use Rattle.filter_text.specs.Filters.{pieces};
+ghost use Rattle.filter_text.specs.Shapes.{shape};
+
 mod items;
 mod texts;
 
 use filter_routes::{Table, is_sound};
-use filter_text::{Filter, parse};
+use filter_text::{Filter, FilterFault, parse};
 use std::alloc::Global;
 use std::{env, io};
 
@@ -15,11 +19,20 @@ fn told(alloc: Global, filter: &Filter) -> Option<bool> {
     is_sound(alloc, filter).ok()
 }
 
-// Whether the filter of a text is sound, and has a table. None: no filter, or no memory.
+// The filter of a text.
+fn read(alloc: Global, text: &[u8]) -> Result<Filter, FilterFault>
+    ensures { IfOk result (λ f. pieces (shape f) ≤ 1024) }
+{
+    Ok(parse(alloc, text)?)
+}
+
+// Whether the filter of a text is sound, and has a table; where it has none, its fault is looked for. None: no filter, or no
+// memory.
 fn told_of_text(alloc: Global, text: &[u8]) -> Option<bool> {
-    let filter = parse(alloc, text).ok()?;
-    let table = Table::of_sound(alloc, &filter).ok()?;
-    Some(is_sound(alloc, &filter).ok()? && table.is_some())
+    match read(alloc, text) {
+        Err(_) => None,
+        Ok(filter) => Some(told(alloc, &filter)? && Table::compile(alloc, &filter).is_ok()),
+    }
 }
 
 // What the mode makes, and whether it is sound; true where it is only made. None: no such mode, or no memory.
