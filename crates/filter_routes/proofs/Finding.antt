@@ -221,54 +221,54 @@ nodes-next i fs f = nodes-append i fs (only f) ∙ ap (λ vs. nodes_all i fs ++ 
 
 -- ---- the members' lists
 
-lists-get : (fs : Filters) (vs : List (Vec Entry)) → AreListsOf fs vs → (a : ℕ) (f : Filter) → member fs a ≡ Some f
-    → (v : Vec Entry) × (slice_get vs a ≡ Some v) × IsListOf f v.items
+lists-get : (fs : Filters) (vs : List (List Entry)) → AreListsOf fs vs → (a : ℕ) (f : Filter) → member fs a ≡ Some f
+    → (v : List Entry) × (slice_get vs a ≡ Some v) × IsListOf f v
 lists-get no_more [] h a f e = absurd (none-some f e)
 lists-get no_more (v ∷ vs) h a f e = absurd h
 lists-get (more g fs) [] h a f e = absurd h
-lists-get (more g fs) (v ∷ vs) h zero f e = (v, refl, subst (λ k. IsListOf k v.items) (same_Some g f e) h.0)
+lists-get (more g fs) (v ∷ vs) h zero f e = (v, refl, subst (λ k. IsListOf k v) (same_Some g f e) h.0)
 lists-get (more g fs) (v ∷ vs) h (suc a) f e = lists-get fs vs h.1 a f e
 
-lists-member : (fs : Filters) (vs : List (Vec Entry)) → AreListsOf fs vs → (a : ℕ) (v : Vec Entry) → slice_get vs a ≡ Some v
-    → (f : Filter) × (member fs a ≡ Some f) × IsListOf f v.items
+lists-member : (fs : Filters) (vs : List (List Entry)) → AreListsOf fs vs → (a : ℕ) (v : List Entry) → slice_get vs a ≡ Some v
+    → (f : Filter) × (member fs a ≡ Some f) × IsListOf f v
 lists-member no_more [] h a v e = absurd (none-some v e)
 lists-member no_more (w ∷ vs) h a v e = absurd h
 lists-member (more g fs) [] h a v e = absurd h
-lists-member (more g fs) (w ∷ vs) h zero v e = (g, refl, subst (λ (x : Vec Entry). IsListOf g x.items) (same_Some w v e) h.0)
+lists-member (more g fs) (w ∷ vs) h zero v e = (g, refl, subst (λ (x : List Entry). IsListOf g x) (same_Some w v e) h.0)
 lists-member (more g fs) (w ∷ vs) h (suc a) v e = lists-member fs vs h.1 a v e
 
-pub lists-more-one : (fs : Filters) (vs : List (Vec Entry)) (f : Filter) (v : Vec Entry) → AreListsOf fs vs → IsListOf f v.items → AreListsOf (append fs (only f)) (vs ++ v ∷ [])
+pub lists-more-one : (fs : Filters) (vs : List (List Entry)) (f : Filter) (v : List Entry) → AreListsOf fs vs → IsListOf f v → AreListsOf (append fs (only f)) (vs ++ v ∷ [])
 lists-more-one no_more [] f v h k = (k, tt)
 lists-more-one no_more (w ∷ vs) f v h k = absurd h
 lists-more-one (more g fs) [] f v h k = absurd h
 lists-more-one (more g fs) (w ∷ vs) f v h k = (h.0, lists-more-one fs vs f v h.1 k)
 
-pair-at : (fs : Filters) (vs : List (Vec Entry)) → AreListsOf fs vs → (a b : ℕ) → a < b → (o p : Option (Vec Entry)) → slice_get vs a ≡ o → slice_get vs b ≡ p
+pair-at : (fs : Filters) (vs : List (List Entry)) → AreListsOf fs vs → (a b : ℕ) → a < b → (o p : Option (List Entry)) → slice_get vs a ≡ o → slice_get vs b ≡ p
     → clash_of o p ≡ true → PairAt fs a b
 pair-at fs vs l a b h None p e k c = absurd (true≢false (sym c))
 pair-at fs vs l a b h (Some v) None e k c = absurd (true≢false (sym c))
 pair-at fs vs l a b h (Some v) (Some w) e k c =
     let f = lists-member fs vs l a v e in
     let g = lists-member fs vs l b w k in
-    record { f = f.0; g = g.0; ordered = h; is_f = f.1; is_g = g.1; clash = clash-told f.0 g.0 v.items w.items f.2 g.2 c }
+    record { f = f.0; g = g.0; ordered = h; is_f = f.1; is_g = g.1; clash = clash-told f.0 g.0 v w f.2 g.2 c }
 
-pair-told : (fs : Filters) (vs : List (Vec Entry)) → AreListsOf fs vs → (a b : ℕ) → a < b → clash_at vs a b ≡ true → PairAt fs a b
+pair-told : (fs : Filters) (vs : List (List Entry)) → AreListsOf fs vs → (a b : ℕ) → a < b → clash_at vs a b ≡ true → PairAt fs a b
 pair-told fs vs l a b h c = pair-at fs vs l a b h (slice_get vs a) (slice_get vs b) refl refl c
 
-pair-seen : (fs : Filters) (vs : List (Vec Entry)) → AreListsOf fs vs → (a b : ℕ) → PairAt fs a b → clash_at vs a b ≡ true
+pair-seen : (fs : Filters) (vs : List (List Entry)) → AreListsOf fs vs → (a b : ℕ) → PairAt fs a b → clash_at vs a b ≡ true
 pair-seen fs vs l a b p =
     let v = lists-get fs vs l a p.f p.is_f in
     let w = lists-get fs vs l b p.g p.is_g in
-    ap₂ clash_of v.1 w.1 ∙ clash-seen p.f p.g v.0.items w.0.items v.2 w.2 p.clash
+    ap₂ clash_of v.1 w.1 ∙ clash-seen p.f p.g v.0 w.0 v.2 w.2 p.clash
 
-pub first-pair : (vs : List (Vec Entry)) (a b : ℕ) → ((c : ℕ) → c < a → (d : ℕ) → c < d → clash_at vs c d ≡ false) → ClashBehind vs a (Some b) → FirstClash vs (Some (a, b))
+pub first-pair : (vs : List (List Entry)) (a b : ℕ) → ((c : ℕ) → c < a → (d : ℕ) → c < d → clash_at vs c d ≡ false) → ClashBehind vs a (Some b) → FirstClash vs (Some (a, b))
 first-pair vs a b h k =
     (k.0, k.1, k.2, λ c d l o. split (λ (x : c < a). h c x d l) (λ (x : (c ≡ a) × (d < b)). subst (λ y. clash_at vs y d ≡ false) (sym x.0) (k.3 d (subst (λ y. y < d) x.0 l) x.1)) o)
 
-pub none-clash : (fs : Filters) (vs : List (Vec Entry)) → AreListsOf fs vs → FirstClash vs None → NoPairAt fs
+pub none-clash : (fs : Filters) (vs : List (List Entry)) → AreListsOf fs vs → FirstClash vs None → NoPairAt fs
 none-clash fs vs l h a b p = true≢false (sym (pair-seen fs vs l a b p) ∙ h a b p.ordered)
 
-pub first-clash : (n : ℕ) (fs : Filters) (vs : List (Vec Entry)) (a b : ℕ) → AreListsOf fs vs → FirstClash vs (Some (a, b)) → FirstPairOf n fs (Overlap n a b)
+pub first-clash : (n : ℕ) (fs : Filters) (vs : List (List Entry)) (a b : ℕ) → AreListsOf fs vs → FirstClash vs (Some (a, b)) → FirstPairOf n fs (Overlap n a b)
 first-clash n fs vs a b l h =
     (refl, pair-told fs vs l a b h.0 h.2, λ c d k p. true≢false (sym (pair-seen fs vs l c d p) ∙ h.3 c d p.ordered k))
 

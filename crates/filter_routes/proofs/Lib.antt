@@ -16,6 +16,7 @@ pub mod Admitting
 pub mod Members
 pub mod Locating
 pub mod Walking
+pub mod Indexing
 pub mod Finding
 pub mod Sounds
 pub mod Interning

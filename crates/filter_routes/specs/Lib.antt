@@ -9,6 +9,7 @@ pub mod Rows
 pub mod Lists
 pub mod Tables
 pub mod TableValues
+pub mod Index
 pub mod RouteFaults
 pub mod Searching
 pub mod Interned

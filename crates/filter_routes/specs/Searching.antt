@@ -1,6 +1,5 @@
 -- What the search for the first overlap finds.
 use Rattle.std.specs.Prelude.{◌≡◌, ℕ, ◌+◌, ◌<◌, List, [], ◌∷◌, length, slice_get, Option, Some, None, Bool, true, false, Result, Ok, Err, ⊤}
-use Rattle.std.specs.Global.{Vec}
 use Rattle.filter_text.specs.Filters.{Filters, no_more, more, join}
 use Rattle.filter_routes.specs.Entries.{Entry}
 use Rattle.filter_routes.specs.Cells.{any_clash, cells}
@@ -10,28 +9,28 @@ use Rattle.filter_routes.specs.declared.fault.RouteFault.{RouteFault}
 use Rattle.filter_routes.specs.declared.fault.RouteFault.TheVariants.{NotKeeping, Overlap, OutOfMemory}
 
 -- the decision lists of the members, in their order
-abbrev pub AreListsOf : Filters → List (Vec Entry) → Type 0
+abbrev pub AreListsOf : Filters → List (List Entry) → Type 0
 AreListsOf no_more [] = ⊤
 AreListsOf no_more (v ∷ vs) = ⊥
 AreListsOf (more f fs) [] = ⊥
-AreListsOf (more f fs) (v ∷ vs) = IsListOf f v.items × AreListsOf fs vs
+AreListsOf (more f fs) (v ∷ vs) = IsListOf f v × AreListsOf fs vs
 
-abbrev pub clash_of : Option (Vec Entry) → Option (Vec Entry) → Bool
+abbrev pub clash_of : Option (List Entry) → Option (List Entry) → Bool
 clash_of None o = false
 clash_of (Some v) None = false
-clash_of (Some v) (Some w) = any_clash (cells [] v.items) (cells [] w.items)
+clash_of (Some v) (Some w) = any_clash (cells [] v) (cells [] w)
 
 -- whether the lists at two places clash
-abbrev pub clash_at : List (Vec Entry) → ℕ → ℕ → Bool
+abbrev pub clash_at : List (List Entry) → ℕ → ℕ → Bool
 clash_at vs a b = clash_of (slice_get vs a) (slice_get vs b)
 
 -- the first list behind this place that clashes with the one there
-abbrev pub ClashBehind : List (Vec Entry) → ℕ → Option ℕ → Type 0
+abbrev pub ClashBehind : List (List Entry) → ℕ → Option ℕ → Type 0
 ClashBehind vs a None = (b : ℕ) → a < b → clash_at vs a b ≡ false
 ClashBehind vs a (Some b) = (a < b) × (b < length vs) × (clash_at vs a b ≡ true) × ((d : ℕ) → a < d → d < b → clash_at vs a d ≡ false)
 
 -- the smallest pair of lists that clash
-abbrev pub FirstClash : List (Vec Entry) → Option (ℕ × ℕ) → Type 0
+abbrev pub FirstClash : List (List Entry) → Option (ℕ × ℕ) → Type 0
 FirstClash vs None = (a b : ℕ) → a < b → clash_at vs a b ≡ false
 FirstClash vs (Some p) =
     (p.0 < p.1) × (p.1 < length vs) × (clash_at vs p.0 p.1 ≡ true) × ((c d : ℕ) → c < d → IsBefore c d p.0 p.1 → clash_at vs c d ≡ false)

@@ -6,8 +6,9 @@ ghost use Rattle.filter_routes.specs.Operations.{either_left, after_left};
 ghost use Rattle.filter_routes.specs.Lists.{IsListOf};
 
 use crate::entry::Entry;
+use crate::indexed::Indexed;
 use crate::lists::one_entry;
-use crate::operations::{are_live, either, push_grown, push_thin, turned};
+use crate::operations::{either, push_grown, push_thin, turned};
 use filter_text::Filter;
 use std::alloc::{AllocError, Global};
 
@@ -15,33 +16,33 @@ use std::alloc::{AllocError, Global};
 fn either_within(
     alloc: Global,
     most: usize,
-    entries: Vec<Entry>,
-    others: &[Entry],
-) -> Result<Vec<Entry>, AllocError>
-    ensures { IfOk result (λ v. v.items ≡ either_left entries.items others.now) }
+    entries: Indexed,
+    others: Vec<Entry>,
+) -> Result<Indexed, AllocError>
+    ensures { IfOk result (λ v. v ≡ either_left entries others.items) }
 {
-    if are_live(entries.as_slice()) {
+    if entries.is_live() {
         return either(alloc, entries, others);
     }
-    either_grown_within(alloc, most, entries.as_slice(), others)
+    either_grown_within(alloc, most, entries.into_entries(), others)
 }
 
 fn either_grown_within(
     alloc: Global,
     most: usize,
-    entries: &[Entry],
-    others: &[Entry],
-) -> Result<Vec<Entry>, AllocError>
-    ensures { IfOk result (λ v. v.items ≡ either_left entries.now others.now) }
+    entries: Vec<Entry>,
+    others: Vec<Entry>,
+) -> Result<Indexed, AllocError>
+    ensures { IfOk result (λ v. v ≡ either_left entries.items others.items) }
 {
-    let mut out = Vec::new(alloc);
+    let mut out = Indexed::new(alloc);
     for e in entries {
-        push_grown(alloc, &mut out, true, e, others)?;
+        push_grown(alloc, &mut out, true, e, others.as_slice())?;
         if out.len() > most {
             return Err(AllocError);
         }
     }
-    push_thin(alloc, &mut out, others)?;
+    push_thin(&mut out, others)?;
     Ok(out)
 }
 
@@ -49,19 +50,19 @@ fn either_grown_within(
 fn after_within(
     alloc: Global,
     most: usize,
-    entries: &[Entry],
+    entries: Vec<Entry>,
     others: &[Entry],
 ) -> Result<Vec<Entry>, AllocError>
-    ensures { IfOk result (λ v. v.items ≡ after_left entries.now others.now) }
+    ensures { IfOk result (λ v. v.items ≡ after_left entries.items others.now) }
 {
-    let mut out = Vec::new(alloc);
+    let mut out = Indexed::new(alloc);
     for e in entries {
         push_grown(alloc, &mut out, false, e, others)?;
         if out.len() > most {
             return Err(AllocError);
         }
     }
-    Ok(out)
+    Ok(out.into_entries())
 }
 
 // The decision list of a filter, sound or not. Where a list on the way becomes longer than `most`, there is none for want
@@ -84,7 +85,7 @@ pub fn list_within(alloc: Global, most: usize, filter: &Filter) -> Result<Vec<En
         }
         Filter::Exclude(inner) => {
             let list = list_within(alloc, most, inner)?;
-            turned(alloc, list.as_slice())
+            turned(alloc, list)
         }
         Filter::Join(members) => join_within(alloc, most, members.as_slice()),
         Filter::Chain(members) => chain_within(alloc, most, members.as_slice()),
@@ -96,15 +97,15 @@ pub fn list_within(alloc: Global, most: usize, filter: &Filter) -> Result<Vec<En
 fn join_within(alloc: Global, most: usize, members: &[Filter]) -> Result<Vec<Entry>, AllocError>
     ensures { IfOk result (λ v. IsListOf (join (shapes members.now)) v.items) }
 {
-    let mut list = Vec::new(alloc);
+    let mut list = Indexed::new(alloc);
     for m in members {
         let branch = list_within(alloc, most, m)?;
-        list = either_within(alloc, most, list, branch.as_slice())?;
+        list = either_within(alloc, most, list, branch)?;
         if list.len() > most {
             return Err(AllocError);
         }
     }
-    Ok(list)
+    Ok(list.into_entries())
 }
 
 #[cycle(bounding)]
@@ -114,7 +115,7 @@ fn chain_within(alloc: Global, most: usize, members: &[Filter]) -> Result<Vec<En
     let mut list = one_entry(alloc, false, &[], &[])?;
     for m in members {
         let next = list_within(alloc, most, m)?;
-        list = after_within(alloc, most, list.as_slice(), next.as_slice())?;
+        list = after_within(alloc, most, list, next.as_slice())?;
     }
     Ok(list)
 }

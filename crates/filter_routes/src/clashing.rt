@@ -5,7 +5,9 @@ ghost use Rattle.filter_routes.specs.Images.{strip};
 ghost use Rattle.filter_routes.specs.Operations.{heads, covers, alive};
 ghost use Rattle.filter_routes.specs.Cells.{Cell, touches, reaches_at, clashes, any_right, any_clash, cells, cells_at};
 
-use crate::entry::{Entry, is_alive, joined, rest_behind};
+use crate::entry::{Entry, joined, rest_behind};
+use crate::index::Index;
+use crate::indexed::{Indexed, Lent};
 use git_objects::Component;
 use std::alloc::{AllocError, Global};
 
@@ -13,7 +15,7 @@ use std::alloc::{AllocError, Global};
 fn touches(
     alloc: Global,
     base: &[Component],
-    holes: &[Entry],
+    holes: &Lent<'_>,
     rest: &[Component],
 ) -> Result<bool, AllocError>
     ensures { IfOk result (λ b. b ≡ touches base.now (heads holes.now []) rest.now) }
@@ -21,11 +23,11 @@ fn touches(
     let mut front = joined(alloc, base, &[])?;
     for c in rest {
         front.push(c.copy(alloc)?)?;
-        if is_alive(holes, true, front.as_slice()) {
+        if holes.is_alive(true, front.as_slice()) {
             return Ok(true);
         }
     }
-    Ok(is_alive(holes, false, front.as_slice()))
+    Ok(holes.is_alive(false, front.as_slice()))
 }
 
 // Whether the images of a cell are comparable with all that stands at or below a target.
@@ -33,7 +35,7 @@ fn reaches(
     alloc: Global,
     entry: &Entry,
     target: &[Component],
-    holes: &[Entry],
+    holes: &Lent<'_>,
     other: &[Component],
 ) -> Result<bool, AllocError>
     ensures { IfOk result (λ b. b ≡ reaches_at entry.now.0 (heads holes.now []) (strip target.now other.now)) }
@@ -50,15 +52,15 @@ fn reaches(
 }
 
 // Whether a cone but for its holes has all of another cone.
-fn overlaps(entry: &Entry, holes: &[Entry], other: &Entry) -> bool
+fn overlaps(entry: &Entry, holes: &Lent<'_>, other: &Entry) -> bool
     ensures { result ≡ (covers entry.now.0 other.now.0 && alive (heads holes.now []) other.now.0) }
 {
     entry.covers(other.point, other.base.as_slice())
-        && is_alive(holes, other.point, other.base.as_slice())
+        && holes.is_alive(other.point, other.base.as_slice())
 }
 
 // Whether one of two cells has a path of the other, as each has what lies in no hole of its own.
-fn have_one_path(entry: &Entry, holes: &[Entry], other: &Entry, other_holes: &[Entry]) -> bool
+fn have_one_path(entry: &Entry, holes: &Lent<'_>, other: &Entry, other_holes: &Lent<'_>) -> bool
     ensures { result ≡ ((covers entry.now.0 other.now.0 && alive (heads holes.now []) other.now.0)
         || (covers other.now.0 entry.now.0 && alive (heads other_holes.now []) entry.now.0)) }
 {
@@ -70,10 +72,10 @@ fn clashes(
     alloc: Global,
     entry: &Entry,
     target: &[Component],
-    holes: &[Entry],
+    holes: &Lent<'_>,
     other: &Entry,
     other_target: &[Component],
-    other_holes: &[Entry],
+    other_holes: &Lent<'_>,
 ) -> Result<bool, AllocError>
     ensures { IfOk result (λ b. b ≡ clashes (entry.now.0, target.now, heads holes.now []) (other.now.0, other_target.now, heads other_holes.now [])) }
 {
@@ -91,9 +93,9 @@ fn clashes_with(
     alloc: Global,
     entry: &Entry,
     target: &[Component],
-    holes: &[Entry],
+    holes: &Lent<'_>,
     other: &Entry,
-    other_holes: &[Entry],
+    other_holes: &Lent<'_>,
 ) -> Result<bool, AllocError>
     ensures { IfOk result (λ b. (ks : List Cell) → (b || any_right (entry.now.0, target.now, heads holes.now []) ks)
         ≡ any_right (entry.now.0, target.now, heads holes.now []) (cells_at other.now.0 other.now.1 (heads other_holes.now []) ks)) }
@@ -119,13 +121,14 @@ fn any_right(
     alloc: Global,
     entry: &Entry,
     target: &[Component],
-    holes: &[Entry],
-    others: &[Entry],
+    holes: &Lent<'_>,
+    others: &Lent<'_>,
 ) -> Result<bool, AllocError>
     ensures { IfOk result (λ b. b ≡ any_right (entry.now.0, target.now, heads holes.now []) (cells [] others.now)) }
 {
-    for i in 0..others.len() {
-        if clashes_with(alloc, entry, target, holes, &others[i], &others[..i])? {
+    let all = others.entries();
+    for i in 0..all.len() {
+        if clashes_with(alloc, entry, target, holes, &all[i], &others.front(i))? {
             return Ok(true);
         }
     }
@@ -136,8 +139,8 @@ fn any_right(
 fn any_right_of(
     alloc: Global,
     entry: &Entry,
-    holes: &[Entry],
-    others: &[Entry],
+    holes: &Lent<'_>,
+    others: &Lent<'_>,
 ) -> Result<bool, AllocError>
     ensures { IfOk result (λ b. (ks : List Cell) → (b || any_clash ks (cells [] others.now))
         ≡ any_clash (cells_at entry.now.0 entry.now.1 (heads holes.now []) ks) (cells [] others.now)) }
@@ -149,13 +152,29 @@ fn any_right_of(
 }
 
 // Whether some cell of a list clashes with some cell of another.
-pub fn any_clash(alloc: Global, entries: &[Entry], others: &[Entry]) -> Result<bool, AllocError>
-    ensures { IfOk result (λ b. b ≡ any_clash (cells [] entries.now) (cells [] others.now)) }
+fn any_left(alloc: Global, list: &Lent<'_>, others: &Lent<'_>) -> Result<bool, AllocError>
+    ensures { IfOk result (λ b. b ≡ any_clash (cells [] list.now) (cells [] others.now)) }
 {
+    let entries = list.entries();
     for i in 0..entries.len() {
-        if any_right_of(alloc, &entries[i], &entries[..i], others)? {
+        if any_right_of(alloc, &entries[i], &list.front(i), others)? {
             return Ok(true);
         }
     }
     Ok(false)
+}
+
+// Whether some cell of a list clashes with some cell of another.
+pub fn clashes_with_list(alloc: Global, list: &Indexed, others: &[Entry]) -> Result<bool, AllocError>
+    ensures { IfOk result (λ b. b ≡ any_clash (cells [] list.now) (cells [] others.now)) }
+{
+    let index = Index::of(alloc, others)?;
+    any_left(alloc, &list.lent(), &Lent::of(others, &index))
+}
+
+// The same of two lists that have their indexes.
+pub fn any_clash(alloc: Global, list: &Indexed, others: &Indexed) -> Result<bool, AllocError>
+    ensures { IfOk result (λ b. b ≡ any_clash (cells [] list.now) (cells [] others.now)) }
+{
+    any_left(alloc, &list.lent(), &others.lent())
 }

@@ -1,5 +1,5 @@
 // Entries of decision lists: cones of paths, and where they go.
-ghost use Rattle.std.specs.Prelude.{◌≡◌, ◌++◌, option_map, is_some, not, ◌&&◌, IfOk, Some};
+ghost use Rattle.std.specs.Prelude.{◌≡◌, ◌≤◌, ◌++◌, length, option_map, is_some, true, false, not, ◌&&◌, IfOk, Some};
 ghost use Rattle.filter_routes.specs.Images.{strip};
 ghost use Rattle.filter_routes.specs.Entries.{Entry as RouteEntry, cone_of, tail, base};
 ghost use Rattle.filter_routes.specs.Lists.{behind};
@@ -23,11 +23,23 @@ impl Model for Entry {
     ghost view = { λ e. (cone_of e.point e.base.items, option_map (λ t. t.items) e.target) };
 }
 
+// Whether the last component of `front` is not where `path` would have it: a quick no for paths with long fronts in common.
+fn differ_at_end(front: &[Component], path: &[Component]) -> bool
+    requires { length front.now ≤ length path.now }
+    ensures { result ≡ true → is_some (strip front.now path.now) ≡ false }
+{
+    let count = front.len();
+    count > 0 && front[count - 1].bytes() != path[count - 1].bytes()
+}
+
 // Whether `path` begins with `front`.
 pub fn begins(front: &[Component], path: &[Component]) -> bool
     ensures { result ≡ is_some (strip front.now path.now) }
 {
     if path.len() < front.len() {
+        return false;
+    }
+    if differ_at_end(front, path) {
         return false;
     }
     for i in 0..front.len() {
@@ -101,27 +113,22 @@ impl Entry {
         !self.point && begins(self.base.as_slice(), base)
     }
 
-    pub fn copy(&self, alloc: Global) -> Result<Entry, AllocError>
-        ensures { IfOk result (λ e. e ≡ self.now) }
-    {
-        Ok(Entry {
-            point: self.point,
-            base: joined(alloc, self.base.as_slice(), &[])?,
-            target: onward(alloc, &self.target, &[])?,
-        })
-    }
-
     // The entry that keeps its cone where this one gives nothing, and gives nothing where this one gives something.
-    pub fn flipped(&self, alloc: Global) -> Result<Entry, AllocError>
-        ensures { IfOk result (λ e. e ≡ (self.now.0, flip_act (base self.now.0) self.now.1)) }
+    pub fn flipped(self, alloc: Global) -> Result<Entry, AllocError>
+        ensures { IfOk result (λ e. e ≡ (self.0, flip_act (base self.0) self.1)) }
     {
-        let target = match &self.target {
-            None => Some(joined(alloc, self.base.as_slice(), &[])?),
+        let Entry {
+            point,
+            base,
+            target,
+        } = self;
+        let target = match target {
+            None => Some(joined(alloc, base.as_slice(), &[])?),
             Some(_) => None,
         };
         Ok(Entry {
-            point: self.point,
-            base: joined(alloc, self.base.as_slice(), &[])?,
+            point,
+            base,
             target,
         })
     }

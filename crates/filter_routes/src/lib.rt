@@ -7,6 +7,8 @@ mod entry;
 mod fault;
 mod faults;
 mod hit;
+mod index;
+mod indexed;
 mod laws;
 mod lists;
 mod locate;

@@ -8,8 +8,9 @@ ghost use Rattle.filter_routes.specs.Entries.{cone_of, below};
 ghost use Rattle.filter_routes.specs.Soundness.{IsSound};
 ghost use Rattle.filter_routes.specs.Lists.{Listed, entries_of};
 
-use crate::clashing::any_clash;
+use crate::clashing::clashes_with_list;
 use crate::entry::{Entry, joined};
+use crate::indexed::Indexed;
 use crate::operations::{after, either, turned};
 use filter_text::Filter;
 use git_objects::Component;
@@ -76,7 +77,7 @@ pub fn list_of(
             }
             match list_of(alloc, inner, false)? {
                 None => Ok(None),
-                Some(list) => Ok(Some(turned(alloc, list.as_slice())?)),
+                Some(list) => Ok(Some(turned(alloc, list)?)),
             }
         }
         Filter::Join(members) => list_of_join(alloc, members.as_slice(), apart),
@@ -88,14 +89,14 @@ pub fn list_of(
 // The list with one branch more, where it doesn't clash with those before, or needn't be apart from them.
 fn with_branch(
     alloc: Global,
-    list: Vec<Entry>,
-    branch: &[Entry],
+    list: Indexed,
+    branch: Vec<Entry>,
     apart: bool,
-) -> Result<Option<Vec<Entry>>, AllocError>
-    ensures { IfOk result (λ o. entries_of o ≡
-        cond (apart && any_clash (cells [] list.items) (cells [] branch.now)) None (Some (either_left list.items branch.now))) }
+) -> Result<Option<Indexed>, AllocError>
+    ensures { IfOk result (λ o. o ≡
+        cond (apart && any_clash (cells [] list) (cells [] branch.items)) None (Some (either_left list branch.items))) }
 {
-    if apart && any_clash(alloc, list.as_slice(), branch)? {
+    if apart && clashes_with_list(alloc, &list, branch.as_slice())? {
         return Ok(None);
     }
     Ok(Some(either(alloc, list, branch)?))
@@ -109,17 +110,17 @@ fn list_of_join(
 ) -> Result<Option<Vec<Entry>>, AllocError>
     ensures { IfOk result (λ o. Listed apart (join (shapes members.now)) (entries_of o)) }
 {
-    let mut list = Vec::new(alloc);
+    let mut list = Indexed::new(alloc);
     for m in members {
         match list_of(alloc, m, apart)? {
             None => return Ok(None),
-            Some(branch) => match with_branch(alloc, list, branch.as_slice(), apart)? {
+            Some(branch) => match with_branch(alloc, list, branch, apart)? {
                 None => return Ok(None),
                 Some(longer) => list = longer,
             },
         }
     }
-    Ok(Some(list))
+    Ok(Some(list.into_entries()))
 }
 
 #[cycle(listing)]
@@ -134,7 +135,7 @@ fn list_of_chain(
     for m in members {
         match list_of(alloc, m, apart)? {
             None => return Ok(None),
-            Some(next) => list = after(alloc, list.as_slice(), next.as_slice())?,
+            Some(next) => list = after(alloc, list, next.as_slice())?,
         }
     }
     Ok(Some(list))

@@ -3,9 +3,9 @@ ghost use Rattle.std.specs.Prelude.{◌≡◌, ◌++◌, [], ◌∷◌, option_m
 ghost use Rattle.filter_routes.specs.Entries.{Entry as RouteEntry, cone_of, at, below};
 ghost use Rattle.filter_routes.specs.Operations.{pull, put, pulled, block, heads, thin, grown, how, either_left, after_left, turned, onward};
 ghost use Rattle.filter_routes.specs.Lists.{part_of};
-ghost use Rattle.filter_routes.specs.Operations.{are_live};
 
-use crate::entry::{Entry, is_alive, joined, onward, rest_behind};
+use crate::entry::{Entry, joined, onward, rest_behind};
+use crate::indexed::Indexed;
 use git_objects::Component;
 use std::alloc::{AllocError, Global};
 
@@ -104,20 +104,20 @@ fn part(
 
 // Adds a part of a cone that no cone before has. Whether it is all of the cone, which ends the parts.
 fn push_part(
-    out: &mut Vec<Entry>,
+    out: &mut Indexed,
     point: bool,
     base: &[Component],
     found: Entry,
 ) -> Result<bool, AllocError>
     ensures { IfOk result (λ ended. (es : List RouteEntry) →
-        out.new.items ++ cond ended [] (block (heads out.new.items []) (cone_of point base.now) es)
-        ≡ out.old.items ++ block (heads out.old.items []) (cone_of point base.now) (found ∷ es)) }
+        out.new ++ cond ended [] (block (heads out.new []) (cone_of point base.now) es)
+        ≡ out.old ++ block (heads out.old []) (cone_of point base.now) (found ∷ es)) }
 {
     if found.covers(point, base) {
         out.push(found)?;
         return Ok(true);
     }
-    if is_alive(out.as_slice(), found.point, found.base.as_slice()) {
+    if out.is_alive(found.point, found.base.as_slice()) {
         out.push(found)?;
     }
     Ok(false)
@@ -126,15 +126,15 @@ fn push_part(
 // Adds the part by one entry.
 fn push_part_by(
     alloc: Global,
-    out: &mut Vec<Entry>,
+    out: &mut Indexed,
     point: bool,
     base: &[Component],
     target: &[Component],
     entry: &Entry,
 ) -> Result<bool, AllocError>
     ensures { IfOk result (λ ended. (es : List RouteEntry) →
-        out.new.items ++ cond ended [] (block (heads out.new.items []) (cone_of point base.now) (pulled (cone_of point base.now) target.now es))
-        ≡ out.old.items ++ block (heads out.old.items []) (cone_of point base.now) (pulled (cone_of point base.now) target.now (entry.now ∷ es))) }
+        out.new ++ cond ended [] (block (heads out.new []) (cone_of point base.now) (pulled (cone_of point base.now) target.now es))
+        ≡ out.old ++ block (heads out.old []) (cone_of point base.now) (pulled (cone_of point base.now) target.now (entry.now ∷ es))) }
 {
     match part(alloc, point, base, target, entry)? {
         None => Ok(false),
@@ -145,14 +145,14 @@ fn push_part_by(
 // Adds the parts of a cone that no cone before has, up to one that is all of it; else the cone itself, without a target.
 fn push_block(
     alloc: Global,
-    out: &mut Vec<Entry>,
+    out: &mut Indexed,
     point: bool,
     base: &[Component],
     target: &[Component],
     others: &[Entry],
 ) -> Result<(), AllocError>
-    ensures { OnOk result (out.new.items ≡ out.old.items
-        ++ block (heads out.old.items []) (cone_of point base.now) (pulled (cone_of point base.now) target.now others.now)) }
+    ensures { OnOk result (out.new ≡ out.old
+        ++ block (heads out.old []) (cone_of point base.now) (pulled (cone_of point base.now) target.now others.now)) }
 {
     for e in others {
         if push_part_by(alloc, out, point, base, target, e)? {
@@ -168,21 +168,21 @@ fn push_block(
 }
 
 // Adds the entry if no earlier one hides it.
-fn push_alive(alloc: Global, out: &mut Vec<Entry>, entry: &Entry) -> Result<(), AllocError>
-    ensures { OnOk result (out.new.items ≡ out.old.items ++ thin (heads out.old.items []) (entry.now ∷ [])) }
+fn push_alive(out: &mut Indexed, entry: Entry) -> Result<(), AllocError>
+    ensures { OnOk result (out.new ≡ out.old ++ thin (heads out.old []) (entry ∷ [])) }
 {
-    if is_alive(out.as_slice(), entry.point, entry.base.as_slice()) {
-        out.push(entry.copy(alloc)?)?;
+    if out.is_alive(entry.point, entry.base.as_slice()) {
+        out.push(entry)?;
     }
     Ok(())
 }
 
 // Adds the entries that no earlier one hides.
-pub fn push_thin(alloc: Global, out: &mut Vec<Entry>, entries: &[Entry]) -> Result<(), AllocError>
-    ensures { OnOk result (out.new.items ≡ out.old.items ++ thin (heads out.old.items []) entries.now) }
+pub fn push_thin(out: &mut Indexed, entries: Vec<Entry>) -> Result<(), AllocError>
+    ensures { OnOk result (out.new ≡ out.old ++ thin (heads out.old []) entries.items) }
 {
     for e in entries {
-        push_alive(alloc, out, e)?;
+        push_alive(out, e)?;
     }
     Ok(())
 }
@@ -190,29 +190,34 @@ pub fn push_thin(alloc: Global, out: &mut Vec<Entry>, entries: &[Entry]) -> Resu
 // Adds what becomes of an entry: a list keeps an entry with a target, a chain one without; of the other come its parts.
 pub fn push_grown(
     alloc: Global,
-    out: &mut Vec<Entry>,
+    out: &mut Indexed,
     is_list: bool,
-    entry: &Entry,
+    entry: Entry,
     others: &[Entry],
 ) -> Result<(), AllocError>
-    ensures { OnOk result (out.new.items ≡ out.old.items
-        ++ grown (heads out.old.items []) entry.now.0 entry.now.1 (how is_list others.now entry.now.0 entry.now.1)) }
+    ensures { OnOk result (out.new ≡ out.old
+        ++ grown (heads out.old []) entry.0 entry.1 (how is_list others.now entry.0 entry.1)) }
 {
-    let base = entry.base.as_slice();
     match &entry.target {
         None => {
             if is_list {
+                let base = entry.base.as_slice();
                 return push_block(alloc, out, entry.point, base, base, others);
             }
-            out.push(entry.copy(alloc)?)?;
-            Ok(())
+            out.push(entry)
         }
         Some(target) => {
             if is_list {
-                out.push(entry.copy(alloc)?)?;
-                return Ok(());
+                return out.push(entry);
             }
-            push_block(alloc, out, entry.point, base, target.as_slice(), others)
+            push_block(
+                alloc,
+                out,
+                entry.point,
+                entry.base.as_slice(),
+                target.as_slice(),
+                others,
+            )
         }
     }
 }
@@ -220,63 +225,47 @@ pub fn push_grown(
 // A list's decision list with one branch more.
 fn either_grown(
     alloc: Global,
-    entries: &[Entry],
-    others: &[Entry],
-) -> Result<Vec<Entry>, AllocError>
-    ensures { IfOk result (λ v. v.items ≡ either_left entries.now others.now) }
+    entries: Vec<Entry>,
+    others: Vec<Entry>,
+) -> Result<Indexed, AllocError>
+    ensures { IfOk result (λ v. v ≡ either_left entries.items others.items) }
 {
-    let mut out = Vec::new(alloc);
+    let mut out = Indexed::new(alloc);
     for e in entries {
-        push_grown(alloc, &mut out, true, e, others)?;
+        push_grown(alloc, &mut out, true, e, others.as_slice())?;
     }
-    push_thin(alloc, &mut out, others)?;
+    push_thin(&mut out, others)?;
     Ok(out)
 }
 
-// Whether each entry has a target.
-pub fn are_live(entries: &[Entry]) -> bool
-    ensures { result ≡ are_live entries.now }
-{
-    for e in entries {
-        if e.target.is_none() {
-            return false;
-        }
-    }
-    true
-}
-
 // A list's decision list with one branch more.
-pub fn either(
-    alloc: Global,
-    entries: Vec<Entry>,
-    others: &[Entry],
-) -> Result<Vec<Entry>, AllocError>
-    ensures { IfOk result (λ v. v.items ≡ either_left entries.items others.now) }
+pub fn either(alloc: Global, entries: Indexed, others: Vec<Entry>) -> Result<Indexed, AllocError>
+    ensures { IfOk result (λ v. v ≡ either_left entries others.items) }
 {
-    if !are_live(entries.as_slice()) {
-        return either_grown(alloc, entries.as_slice(), others);
+    if !entries.is_live() {
+        return either_grown(alloc, entries.into_entries(), others);
     }
     let mut out = entries;
-    push_thin(alloc, &mut out, others)?;
+    push_thin(&mut out, others)?;
     Ok(out)
 }
 
 // A chain's decision list with one member more.
-pub fn after(alloc: Global, entries: &[Entry], others: &[Entry]) -> Result<Vec<Entry>, AllocError>
-    ensures { IfOk result (λ v. v.items ≡ after_left entries.now others.now) }
+pub fn after(alloc: Global, entries: Vec<Entry>, others: &[Entry]) -> Result<Vec<Entry>, AllocError>
+    ensures { IfOk result (λ v. v.items ≡ after_left entries.items others.now) }
 {
-    let mut out = Vec::new(alloc);
+    let mut out = Indexed::new(alloc);
     for e in entries {
         push_grown(alloc, &mut out, false, e, others)?;
     }
-    Ok(out)
+    Ok(out.into_entries())
 }
 
 // All but what a decision list gives an image.
-pub fn turned(alloc: Global, entries: &[Entry]) -> Result<Vec<Entry>, AllocError>
-    ensures { IfOk result (λ v. v.items ≡ turned [] entries.now) }
+pub fn turned(alloc: Global, entries: Vec<Entry>) -> Result<Vec<Entry>, AllocError>
+    ensures { IfOk result (λ v. v.items ≡ turned [] entries.items) }
 {
-    let mut out = Vec::new(alloc);
+    let mut out = Indexed::new(alloc);
     for e in entries {
         out.push(e.flipped(alloc)?)?;
     }
@@ -285,6 +274,6 @@ pub fn turned(alloc: Global, entries: &[Entry]) -> Result<Vec<Entry>, AllocError
         base: Vec::new(alloc),
         target: Some(Vec::new(alloc)),
     };
-    push_alive(alloc, &mut out, &all)?;
-    Ok(out)
+    push_alive(&mut out, all)?;
+    Ok(out.into_entries())
 }

@@ -10,8 +10,8 @@ ghost use Rattle.filter_routes.specs.Soundness.{IsSound};
 use crate::RouteFault;
 use crate::bounded::list_within;
 use crate::clashing::any_clash;
-use crate::entry::Entry;
 use crate::faults::first_not_keeping;
+use crate::indexed::Indexed;
 use crate::lists::is_sound;
 use filter_text::Filter;
 use std::alloc::{AllocError, Global};
@@ -57,12 +57,13 @@ fn lists_within(
     alloc: Global,
     most: usize,
     members: &[Filter],
-) -> Result<Vec<Vec<Entry>>, AllocError>
+) -> Result<Vec<Indexed>, AllocError>
     ensures { IfOk result (λ v. AreListsOf (shapes members.now) v.items) }
 {
     let mut lists = Vec::with_capacity(alloc, members.len())?;
     for m in members {
-        lists.push(list_within(alloc, most, m)?)?;
+        let list = list_within(alloc, most, m)?;
+        lists.push(Indexed::of(alloc, list)?)?;
     }
     Ok(lists)
 }
@@ -70,14 +71,14 @@ fn lists_within(
 // The first list behind a place that clashes with the one there.
 fn clash_behind(
     alloc: Global,
-    lists: &[Vec<Entry>],
+    lists: &[Indexed],
     first: usize,
 ) -> Result<Option<usize>, AllocError>
     requires { first < length lists.now }
     ensures { IfOk result (ClashBehind lists.now first) }
 {
     for second in first + 1..lists.len() {
-        if any_clash(alloc, lists[first].as_slice(), lists[second].as_slice())? {
+        if any_clash(alloc, &lists[first], &lists[second])? {
             return Ok(Some(second));
         }
     }
@@ -85,7 +86,7 @@ fn clash_behind(
 }
 
 // The first two lists that clash: the first list against the later ones, then the second, and so on.
-fn first_clash(alloc: Global, lists: &[Vec<Entry>]) -> Result<Option<(usize, usize)>, AllocError>
+fn first_clash(alloc: Global, lists: &[Indexed]) -> Result<Option<(usize, usize)>, AllocError>
     ensures { IfOk result (FirstClash lists.now) }
 {
     for first in 0..lists.len() {

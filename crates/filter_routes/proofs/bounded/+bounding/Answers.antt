@@ -1,10 +1,10 @@
-use Rattle.std.proofs.Common.{rules, ◌≡◌, sym, ap, ap₂, ◌∙◌, subst, [], ◌∷◌, take, Some, IfOk}
+use Rattle.std.proofs.Common.{rules, ◌≡◌, sym, ap, ◌∙◌, subst, [], ◌∷◌, take, Some, IfOk}
 use Rattle.filter_text.specs.Filters as plain
 use Rattle.filter_text.specs.Shapes.{shape, shapes}
 use Rattle.filter_text.proofs.RowLists.{shape-join, shape-chain}
 use Rattle.filter_text.specs.declared.filter.Filter.TheViews.{the_lemmas}
 use Rattle.filter_routes.specs.Entries.{at, below}
-use Rattle.filter_routes.specs.Operations.{turned, after_left, either_left}
+use Rattle.filter_routes.specs.Operations.{turned, after_left}
 use Rattle.filter_routes.specs.Lists.{IsListOf}
 use Rattle.filter_routes.proofs.ListLaws.{list-dir, list-file, list-exclude, list-chain, list-join}
 use Rattle.filter_routes.proofs.Finding.{one-list}
@@ -32,12 +32,12 @@ list_within-returns-in_ok-list-in-Exclude t c =
     let told : shape c.args.filter.now ≡ plain.exclude g = search (rules, the_lemmas) in
     subst (λ f. IfOk c.turned.result (λ v. IsListOf f v.items)) (sym told)
     (one-list c.turned.result (plain.exclude g) (turned [] es) (list-exclude g es c.in_ok-list-in-Exclude.ensures)
-    (subst (λ xs. IfOk c.turned.result (λ v. v.items ≡ turned [] xs)) c.as_slice.ensures.value c.turned.ensures))
+    c.turned.ensures)
 
 pub list_within-returns-in-Join : goal.list_within-returns-in-Join
 list_within-returns-in-Join t c =
     subst (λ f. IfOk c.join_within.result (λ v. IsListOf f v.items))
-    (ap (λ xs. plain.join (shapes xs)) c.as_slice-in-Join.ensures.value ∙ sym (ap shape c.in-Join.is ∙ shape-join c.in-Join.members))
+    (ap (λ xs. plain.join (shapes xs)) c.as_slice.ensures.value ∙ sym (ap shape c.in-Join.is ∙ shape-join c.in-Join.members))
     c.join_within.ensures
 
 pub list_within-returns-in-Chain : goal.list_within-returns-in-Chain
@@ -53,7 +53,7 @@ chain_within-loop-m-preserved t c =
     let m = c.m-item.result in
     subst (λ fs. IsListOf (plain.chain fs) c.in_ok-list-2.list.items) (sym (members-next ms i m c.loop-m-test.true c.m-item.is))
     (subst (IsListOf (plain.chain (plain.append (shapes (take i ms)) (plain.only (shape m)))))
-    (sym (c.in_ok-list-2.ensures ∙ ap₂ after_left c.as_slice.ensures.value c.as_slice-in-loop-m.ensures.value))
+    (sym (c.in_ok-list-2.ensures ∙ ap (after_left c.loop-m.list.items) c.as_slice.ensures.value))
     (list-chain (shapes (take i ms)) (shape m) c.loop-m.list.items c.in_ok-next.next.items c.loop-m.invariant c.in_ok-next.ensures))
 
 pub join_within-loop-m-preserved : goal.join_within-loop-m-preserved
@@ -61,8 +61,8 @@ join_within-loop-m-preserved t c =
     let ms = c.args.members.now in
     let i = c.loop-m.m-index in
     let m = c.m-item.result in
-    let es = c.loop-m.list.items in
-    subst (λ fs. IsListOf (plain.join fs) c.in_ok-list.list.items) (sym (members-next ms i m c.loop-m-test.true c.m-item.is))
+    let es = c.loop-m.list in
+    subst (λ fs. IsListOf (plain.join fs) c.in_ok-list.list) (sym (members-next ms i m c.loop-m-test.true c.m-item.is))
     (subst (IsListOf (plain.join (plain.append (shapes (take i ms)) (plain.only (shape m)))))
-    (sym (c.in_ok-list.ensures ∙ ap (either_left es) c.as_slice.ensures.value))
+    (sym c.in_ok-list.ensures)
     (list-join (shapes (take i ms)) (shape m) es c.in_ok-branch.branch.items c.loop-m.invariant c.in_ok-branch.ensures))

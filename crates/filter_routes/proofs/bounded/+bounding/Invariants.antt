@@ -8,4 +8,4 @@ abbrev pub invariant-chain_within-loop-m : goal.invariant-chain_within-loop-m
 invariant-chain_within-loop-m l = IsListOf (chain (shapes (take l.m-index l.members))) l.list.items
 
 abbrev pub invariant-join_within-loop-m : goal.invariant-join_within-loop-m
-invariant-join_within-loop-m l = IsListOf (join (shapes (take l.m-index l.members))) l.list.items
+invariant-join_within-loop-m l = IsListOf (join (shapes (take l.m-index l.members))) l.list

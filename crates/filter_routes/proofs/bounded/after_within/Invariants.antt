@@ -1,7 +1,10 @@
-use Rattle.std.proofs.Common.{◌≡◌, drop, ◌++◌, []}
+use Rattle.std.proofs.Common.{◌≡◌, ◌++◌, [], length}
+use Rattle.std.specs.Vec.Iter.{into_iter_items, into_iter_len}
 use Rattle.filter_routes.specs.Operations.{refine, after_how, after_left, heads}
 use Rattle.filter_routes.proofs.bounded.after_within.Given as goal
 
 abbrev pub invariant-loop-e : goal.invariant-loop-e
-invariant-loop-e l =
-    l.out.items ++ refine (after_how l.others) [] (heads l.out.items []) (drop l.e-index l.entries) ≡ after_left l.entries l.others
+invariant-loop-e l = record {
+  list : l.out ++ refine (after_how l.others) [] (heads l.out []) (into_iter_items l.e-iterator) ≡ after_left l.fn.entries.items l.others;
+  len : into_iter_len l.e-iterator ≡ length (into_iter_items l.e-iterator);
+}

@@ -8,4 +8,4 @@ abbrev pub invariant-list_of_chain-loop-m : goal.invariant-list_of_chain-loop-m
 invariant-list_of_chain-loop-m l = Listed l.apart (chain (shapes (take l.m-index l.members))) (Some l.list.items)
 
 abbrev pub invariant-list_of_join-loop-m : goal.invariant-list_of_join-loop-m
-invariant-list_of_join-loop-m l = Listed l.apart (join (shapes (take l.m-index l.members))) (Some l.list.items)
+invariant-list_of_join-loop-m l = Listed l.apart (join (shapes (take l.m-index l.members))) (Some l.list)

@@ -1,13 +1,24 @@
-use Rattle.std.proofs.Common.{◌+◌, sym, ap, ◌∙◌, refl, [], ◌∷◌, drop}
-use Rattle.std.proofs.lemmas.List.{drop_more}
-use Rattle.filter_routes.specs.Operations.{refine, after_how}
+use Rattle.std.proofs.Common.{arith, ◌++◌, ap, ◌∙◌, refl, [], length}
+use Rattle.std.specs.Vec.Iter.{into_iter_items}
+use Rattle.filter_routes.specs.Operations.{refine, after_how, heads}
 use Rattle.filter_routes.proofs.Making.{step}
 use Rattle.filter_routes.proofs.operations.after.Goals as goal
 
+pub loop-e-init : goal.loop-e-init
+loop-e-init c =
+    let h = c.into_iter-e-iterator.ensures.into_iter_gives in
+    let g = c.args.others.now in
+    record {
+      list = ap (λ out. out ++ refine (after_how g) [] (heads out []) (into_iter_items c.into_iter-e-iterator.result)) c.new-out.ensures
+          ∙ ap (refine (after_how g) [] []) h.0;
+      len = omega (arith, h.1, ap length h.0);
+    }
+
 pub loop-e-preserved : goal.loop-e-preserved
 loop-e-preserved c =
-    let all = c.args.entries.now in
-    let i = c.loop-e.e-index in
-    step (refine (after_how c.args.others.now) []) c.loop-e.out.items c.push_grown.new.out.items _ (drop (i + 1) all) (drop i all) c.e-item.result
-    c.in_ok-push_grown.ensures refl (drop_more all i c.e-item.result c.loop-e-test.true ∙ ap (λ x. x ∷ drop (i + 1) all) (sym c.e-item.is))
-    ∙ c.loop-e.invariant
+    let h = c.in-Some.ensures.steps in
+    record {
+      list = step (refine (after_how c.args.others.now) []) c.loop-e.out c.push_grown.new.out _ (into_iter_items c.next.new.self) (into_iter_items c.loop-e.e-iterator) c.in-Some.e
+          c.in_ok-push_grown.ensures refl h.0 ∙ c.loop-e.invariant.list;
+      len = omega (arith, h.1, ap length h.0, c.loop-e.invariant.len);
+    }

@@ -1,7 +1,10 @@
-use Rattle.std.proofs.Common.{◌≡◌, drop, ◌++◌, []}
+use Rattle.std.proofs.Common.{◌≡◌, ◌++◌, [], length}
+use Rattle.std.specs.Vec.Iter.{into_iter_items, into_iter_len}
 use Rattle.filter_routes.specs.Operations.{refine, either_how, either_left, heads}
 use Rattle.filter_routes.proofs.operations.either_grown.Given as goal
 
 abbrev pub invariant-loop-e : goal.invariant-loop-e
-invariant-loop-e l =
-    l.out.items ++ refine (either_how l.others) l.others (heads l.out.items []) (drop l.e-index l.entries) ≡ either_left l.entries l.others
+invariant-loop-e l = record {
+  list : l.out ++ refine (either_how l.others.items) l.others.items (heads l.out []) (into_iter_items l.e-iterator) ≡ either_left l.fn.entries.items l.others.items;
+  len : into_iter_len l.e-iterator ≡ length (into_iter_items l.e-iterator);
+}

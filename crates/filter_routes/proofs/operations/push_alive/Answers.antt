@@ -1,4 +1,4 @@
-use Rattle.std.proofs.Common.{◌++◌, sym, ap, ap₂, ◌∙◌, true, false, [], ◌∷◌, append-nil}
+use Rattle.std.proofs.Common.{◌++◌, sym, ap, ◌∙◌, true, false, append-nil}
 use Rattle.filter_routes.specs.Entries.{cone_of}
 use Rattle.filter_routes.specs.Operations.{alive_in}
 use Rattle.filter_routes.proofs.Making.{thin-alive}
@@ -6,22 +6,22 @@ use Rattle.filter_routes.proofs.operations.push_alive.Goals as goal
 
 pub returns-in_ok-push : goal.returns-in_ok-push
 returns-in_ok-push c =
-    let e = c.args.entry.now in
-    let out = c.args.out.now.items in
-    c.in_ok-push.ensures.items ∙ ap (λ x. out ++ x ∷ []) c.in_ok-copy.ensures
+    let e = c.args.entry in
+    let out = c.args.out.now in
+    c.in_ok-push.ensures
     ∙ ap (λ x. out ++ x)
     (thin-alive out e true
     (sym c.if-is_alive.true ∙ c.is_alive.ensures
-    ∙ ap₂ (λ es b. alive_in es (cone_of c.entry.inside.point b)) c.as_slice.ensures.value c.as_slice-2.ensures.value
+    ∙ ap (λ b. alive_in out (cone_of c.entry.inside.point b)) c.as_slice.ensures.value
     ∙ ap (λ v. alive_in out v.0) c.entry.view_is))
 
 pub returns-else-is_alive : goal.returns-else-is_alive
 returns-else-is_alive c =
-    let e = c.args.entry.now in
-    let out = c.args.out.now.items in
+    let e = c.args.entry in
+    let out = c.args.out.now in
     sym (append-nil out)
     ∙ ap (λ x. out ++ x)
     (thin-alive out e false
     (sym c.if-is_alive.false ∙ c.is_alive.ensures
-    ∙ ap₂ (λ es b. alive_in es (cone_of c.entry.inside.point b)) c.as_slice.ensures.value c.as_slice-2.ensures.value
+    ∙ ap (λ b. alive_in out (cone_of c.entry.inside.point b)) c.as_slice.ensures.value
     ∙ ap (λ v. alive_in out v.0) c.entry.view_is))

@@ -5,5 +5,5 @@ use Rattle.filter_routes.proofs.operations.push_block.Given as goal
 
 abbrev pub invariant-loop-e : goal.invariant-loop-e
 invariant-loop-e l =
-    l.out.items ++ block (heads l.out.items []) (cone_of l.point l.base) (pulled (cone_of l.point l.base) l.target (drop l.e-index l.others))
-    ≡ l.initial.out.items ++ block (heads l.initial.out.items []) (cone_of l.point l.base) (pulled (cone_of l.point l.base) l.target l.others)
+    l.out ++ block (heads l.out []) (cone_of l.point l.base) (pulled (cone_of l.point l.base) l.target (drop l.e-index l.others))
+    ≡ l.initial.out ++ block (heads l.initial.out []) (cone_of l.point l.base) (pulled (cone_of l.point l.base) l.target l.others)

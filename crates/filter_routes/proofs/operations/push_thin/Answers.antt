@@ -1,14 +1,24 @@
-use Rattle.std.proofs.Common.{◌+◌, sym, ap, ◌∙◌, ◌∷◌, drop}
-use Rattle.std.proofs.lemmas.List.{drop_more}
-use Rattle.filter_routes.specs.Operations.{thin}
+use Rattle.std.proofs.Common.{arith, ◌++◌, ap, ◌∙◌, [], length}
+use Rattle.std.specs.Vec.Iter.{into_iter_items}
+use Rattle.filter_routes.specs.Operations.{heads, thin}
 use Rattle.filter_routes.proofs.Making.{step, thin-next}
 use Rattle.filter_routes.proofs.operations.push_thin.Goals as goal
 
+pub loop-e-init : goal.loop-e-init
+loop-e-init c =
+    let h = c.into_iter-e-iterator.ensures.into_iter_gives in
+    let out = c.args.out.now in
+    record {
+      list = ap (λ es. out ++ thin (heads out []) es) h.0;
+      len = omega (arith, h.1, ap length h.0);
+    }
+
 pub loop-e-preserved : goal.loop-e-preserved
 loop-e-preserved c =
-    let all = c.args.entries.now in
-    let i = c.loop-e.e-index in
-    let e = c.e-item.result in
-    step (λ hs es. thin hs es) c.loop-e.out.items c.push_alive.new.out.items _ (drop (i + 1) all) (drop i all) e
-    c.in_ok-push_alive.ensures (thin-next _ e (drop (i + 1) all)) (drop_more all i e c.loop-e-test.true ∙ ap (λ x. x ∷ drop (i + 1) all) (sym c.e-item.is))
-    ∙ c.loop-e.invariant
+    let h = c.in-Some.ensures.steps in
+    let es = into_iter_items c.next.new.self in
+    record {
+      list = step (λ hs es. thin hs es) c.loop-e.out c.push_alive.new.out _ es (into_iter_items c.loop-e.e-iterator) c.in-Some.e
+          c.in_ok-push_alive.ensures (thin-next _ c.in-Some.e es) h.0 ∙ c.loop-e.invariant.list;
+      len = omega (arith, h.1, ap length h.0, c.loop-e.invariant.len);
+    }

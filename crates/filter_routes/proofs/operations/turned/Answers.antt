@@ -1,15 +1,22 @@
-use Rattle.std.proofs.Common.{◌+◌, ◌++◌, sym, ap, ◌∙◌, refl, [], ◌∷◌, drop}
-use Rattle.std.proofs.lemmas.List.{drop_more}
-use Rattle.filter_routes.specs.Operations.{turned}
+use Rattle.std.proofs.Common.{arith, ◌++◌, ap, ◌∙◌, refl, [], ◌∷◌, length}
+use Rattle.std.specs.Vec.Iter.{into_iter_items}
+use Rattle.filter_routes.specs.Operations.{heads, turned}
 use Rattle.filter_routes.proofs.Making.{step}
 use Rattle.filter_routes.proofs.operations.turned.Goals as goal
 
+pub loop-e-init : goal.loop-e-init
+loop-e-init c =
+    let h = c.into_iter-e-iterator.ensures.into_iter_gives in
+    record {
+      list = ap (λ out. out ++ turned (heads out []) (into_iter_items c.into_iter-e-iterator.result)) c.new-out.ensures ∙ ap (turned []) h.0;
+      len = omega (arith, h.1, ap length h.0);
+    }
+
 pub loop-e-preserved : goal.loop-e-preserved
 loop-e-preserved c =
-    let all = c.args.entries.now in
-    let i = c.loop-e.e-index in
-    let e = c.e-item.result in
-    step (λ hs es. turned hs es) c.loop-e.out.items c.push.new.self.items _ (drop (i + 1) all) (drop i all) e
-    (c.in_ok-push.ensures.items ∙ ap (λ x. c.loop-e.out.items ++ x ∷ []) c.in_ok-flipped.ensures) refl
-    (drop_more all i e c.loop-e-test.true ∙ ap (λ x. x ∷ drop (i + 1) all) (sym c.e-item.is))
-    ∙ c.loop-e.invariant
+    let h = c.in-Some.ensures.steps in
+    record {
+      list = step (λ hs es. turned hs es) c.loop-e.out c.push.new.self _ (into_iter_items c.next.new.self) (into_iter_items c.loop-e.e-iterator) c.in-Some.e
+          (c.in_ok-push.ensures ∙ ap (λ x. c.loop-e.out ++ x ∷ []) c.in_ok-flipped.ensures) refl h.0 ∙ c.loop-e.invariant.list;
+      len = omega (arith, h.1, ap length h.0, c.loop-e.invariant.len);
+    }

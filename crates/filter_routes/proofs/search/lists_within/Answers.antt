@@ -1,6 +1,7 @@
 use Rattle.std.proofs.Common.{sym, subst, take}
 use Rattle.filter_text.specs.Filters.{append, only}
 use Rattle.filter_text.specs.Shapes.{shape, shapes}
+use Rattle.filter_routes.specs.Lists.{IsListOf}
 use Rattle.filter_routes.specs.Searching.{AreListsOf}
 use Rattle.filter_routes.proofs.Finding.{lists-more-one}
 use Rattle.filter_routes.proofs.Members.{members-next}
@@ -13,4 +14,4 @@ loop-m-preserved c =
     let m = c.m-item.result in
     subst (λ fs. AreListsOf fs c.push.new.self.items) (sym (members-next ms i m c.loop-m-test.true c.m-item.is))
     (subst (AreListsOf (append (shapes (take i ms)) (only (shape m)))) (sym c.in_ok-push.ensures.items)
-    (lists-more-one (shapes (take i ms)) c.loop-m.lists.items (shape m) c.in_ok-list_within.field-0 c.loop-m.invariant c.in_ok-list_within.ensures))
+    (lists-more-one (shapes (take i ms)) c.loop-m.lists.items (shape m) _ c.loop-m.invariant (subst (IsListOf (shape m)) (sym c.in_ok-of.ensures) c.in_ok-list.ensures)))
