@@ -1,13 +1,17 @@
 -- What the search for the first overlap finds.
 use Rattle.std.specs.Prelude.{◌≡◌, refl, ℕ, ◌+◌, ◌<◌, suc, zero, List, [], ◌∷◌, ◌++◌, length, slice_get, Option, Some, None, Bool, true, false, Result, Ok, Err, IfOk}
 use Rattle.std.specs.Global.{Vec}
-use Rattle.std.proofs.Common.{ap, ap₂, ◌∙◌, sym, arith, append_assoc, append-nil, length-append, subst, true≢false}
+use Rattle.std.proofs.Common.{ap, ap₂, ◌∙◌, sym, arith, append_assoc, append-nil, get_or, length-append, subst, true≢false}
 use Rattle.std.proofs.lemmas.Option.{none-some, same_Some}
 use Rattle.filter_text.specs.Filters.{Filter, Filters, nop, sub, onto, dir, file, exclude, join, chain, workspace, no_more, more, only, append, pieces}
+use Rattle.filter_text.specs.Shapes.{shape, shapes}
+use Rattle.filter_text.specs.declared.filter.Filter as code
+use Rattle.filter_routes.specs.Cells.{any_clash, cells}
 use Rattle.filter_routes.specs.Entries.{Entry}
+use Rattle.filter_routes.specs.Soundness.{Clash}
 use Rattle.filter_routes.specs.Lists.{IsListOf}
 use Rattle.filter_routes.specs.Faults.{Piece, nodes, nodes_all, member, PairAt, IsBefore}
-use Rattle.filter_routes.specs.Searching.{AreListsOf, ClashBehind, clash_of, clash_at, FirstClash, NoPairAt, FirstPairOf, NoPair, FirstPair, Refused, Searched}
+use Rattle.filter_routes.specs.Searching.{AreListsOf, ClashBehind, ClashOfFirst, clash_of, clash_at, FirstClash, NoPairAt, FirstPairOf, NoPair, FirstPair, Refused, Searched}
 use Rattle.filter_routes.specs.declared.fault.RouteFault.{RouteFault}
 use Rattle.filter_routes.specs.declared.fault.RouteFault.TheVariants.{NotKeeping, Overlap, OutOfMemory}
 use Rattle.filter_routes.proofs.Clash.{split}
@@ -271,6 +275,27 @@ none-clash fs vs l h a b p = true≢false (sym (pair-seen fs vs l a b p) ∙ h a
 pub first-clash : (n : ℕ) (fs : Filters) (vs : List (List Entry)) (a b : ℕ) → AreListsOf fs vs → FirstClash vs (Some (a, b)) → FirstPairOf n fs (Overlap n a b)
 first-clash n fs vs a b l h =
     (refl, pair-told fs vs l a b h.0 h.2, λ c d k p. true≢false (sym (pair-seen fs vs l c d p) ∙ h.3 c d p.ordered k))
+
+-- ---- two branches by their lists
+
+pub member-at : (ms : List code.Filter) (i : ℕ) (m : code.Filter) → i < length ms → m ≡ get_or ms i m → member (shapes ms) i ≡ Some (shape m)
+member-at [] i m l e = absurd (omega (arith, l))
+member-at (x ∷ ms) zero m l e = ap (λ y. Some (shape y)) (sym e)
+member-at (x ∷ ms) (suc i) m l e = member-at ms i m (omega (arith, l)) e
+
+pub pair-by : (fs : Filters) (a b : ℕ) (f g : Filter) (es gs : List Entry) → a < b → member fs a ≡ Some f → member fs b ≡ Some g → IsListOf f es → IsListOf g gs
+    → any_clash (cells [] es) (cells [] gs) ≡ true → PairAt fs a b
+pair-by fs a b f g es gs l e k x y c = record { f = f; g = g; ordered = l; is_f = e; is_g = k; clash = clash-told f g es gs x y c }
+
+pub no-pair-by : (fs : Filters) (a b : ℕ) (f g : Filter) (es gs : List Entry) → member fs a ≡ Some f → member fs b ≡ Some g → IsListOf f es → IsListOf g gs
+    → any_clash (cells [] es) (cells [] gs) ≡ false → PairAt fs a b → ⊥
+no-pair-by fs a b f g es gs e k x y c p =
+    let q : Clash f g = subst (λ h. Clash h g) (same_Some p.f f (sym p.is_f ∙ e)) (subst (λ h. Clash p.f h) (same_Some p.g g (sym p.is_g ∙ k)) p.clash) in
+    true≢false (sym (clash-seen f g es gs x y q) ∙ c)
+
+pub first-of-first : (n : ℕ) (fs : Filters) (b : ℕ) → ClashOfFirst fs (Some b) → FirstPairOf n fs (Overlap n 0 b)
+first-of-first n fs b h =
+    (refl, h.0, λ c d o p. split (λ (x : c < 0). absurd (omega (arith, x))) (λ (x : (c ≡ 0) × (d < b)). h.1 d x.1 (subst (λ y. PairAt fs y d) x.0 p)) o)
 
 -- ---- a list that is made, or not for want of memory
 

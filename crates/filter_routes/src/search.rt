@@ -1,10 +1,10 @@
 // Where a filter that is refused has its fault.
 ghost use Rattle.std.specs.Prelude.{◌≡◌, ◌+◌, ◌<◌, ◌^◌, length, false, IfOk, IfErr, OnOk};
-ghost use Rattle.filter_text.specs.Filters.{pieces, pieces_in};
+ghost use Rattle.filter_text.specs.Filters.{Filters, pieces, pieces_in};
 ghost use Rattle.filter_text.specs.Shapes.{shape, shapes};
 ghost use Rattle.filter_routes.specs.Faults.{nodes, nodes_all};
 ghost use Rattle.filter_routes.specs.RouteFaults.{IsRouteFault};
-ghost use Rattle.filter_routes.specs.Searching.{AreListsOf, ClashBehind, FirstClash, FirstPairOf, NoPairAt, Searched};
+ghost use Rattle.filter_routes.specs.Searching.{AreListsOf, ClashBehind, ClashOfFirst, FirstClash, FirstPairOf, NoPairAt, Searched};
 ghost use Rattle.filter_routes.specs.Soundness.{IsSound};
 
 use crate::RouteFault;
@@ -97,25 +97,56 @@ fn first_clash(alloc: Global, lists: &[Indexed]) -> Result<Option<(usize, usize)
     Ok(None)
 }
 
+// The first branch that clashes with the first one. It makes no more lists than it needs, so a list whose first branches
+// clash is refused whatever stands behind them.
+fn clash_of_first(
+    alloc: Global,
+    most: usize,
+    members: &[Filter],
+) -> Result<Option<usize>, AllocError>
+    ensures { IfOk result (ClashOfFirst (shapes members.now)) }
+{
+    if members.is_empty() {
+        return Ok(None);
+    }
+    let first = list_within(alloc, most, &members[0])?;
+    for second in 1..members.len() {
+        let branch = list_within(alloc, most, &members[second])?;
+        if any_clash(alloc, first.as_slice(), branch.as_slice())? {
+            return Ok(Some(second));
+        }
+    }
+    Ok(None)
+}
+
+// The fault of a list with this number whose first two branches that clash are these.
+fn overlap_of(list: u32, first: usize, second: usize) -> RouteFault
+    requires { first < second }
+    ensures { (fs : Filters) → FirstPairOf list fs (RouteFault.Overlap list first second) → FirstPairOf list fs result }
+{
+    // So many branches that their numbers don't fit can't be held.
+    if second > u32::MAX as usize {
+        return RouteFault::OutOfMemory;
+    }
+    RouteFault::Overlap {
+        list,
+        first: first as u32,
+        second: second as u32,
+    }
+}
+
 // Refuses a list with two branches that clash by its number and the first two.
 fn are_apart(alloc: Global, most: usize, members: &[Filter], number: u32) -> Result<(), RouteFault>
     ensures apart { OnOk result (NoPairAt (shapes members.now)) }
     ensures pair { IfErr result (FirstPairOf number (shapes members.now)) }
 {
+    if let Some(second) = clash_of_first(alloc, most, members)? {
+        return Err(overlap_of(number, 0, second));
+    }
     let lists = lists_within(alloc, most, members)?;
     match first_clash(alloc, lists.as_slice())? {
         None => Ok(()),
-        Some((first, second)) => {
-            // So many branches that their numbers don't fit can't be held.
-            if second > u32::MAX as usize {
-                return Err(RouteFault::OutOfMemory);
-            }
-            Err(RouteFault::Overlap {
-                list: number,
-                first: first as u32,
-                second: second as u32,
-            })
-        }
+        Some((first, second)) => Err(overlap_of(number, first, second)),
     }
 }
 

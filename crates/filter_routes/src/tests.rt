@@ -126,6 +126,8 @@ fn chains_of_lists_that_overlap(rt: HostRuntime) -> Result<(), Fail> {
     for (before, count, behind, fault) in [
         // The first list decides.
         (b"".as_slice(), 100, b"".as_slice(), overlap(0, 0, 1)),
+        // The first two branches decide, whatever stands behind them.
+        (b":[::a,::a,", 100, b"]", overlap(0, 0, 1)),
         // The outer list comes first, and its branches are apart.
         (b":[", 8, b":prefix=y,::z:prefix=x]", overlap(1, 0, 1)),
         (b":[", 8, b":prefix=y,::z:prefix=y]", overlap(0, 0, 1)),
