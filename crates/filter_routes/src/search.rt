@@ -3,6 +3,7 @@ ghost use Rattle.std.specs.Prelude.{◌≡◌, ◌+◌, ◌<◌, ◌^◌, length
 ghost use Rattle.filter_text.specs.Filters.{Filters, pieces, pieces_in};
 ghost use Rattle.filter_text.specs.Shapes.{shape, shapes};
 ghost use Rattle.filter_routes.specs.Faults.{nodes, nodes_all};
+ghost use Rattle.filter_routes.specs.Lists.{IsListOf};
 ghost use Rattle.filter_routes.specs.RouteFaults.{IsRouteFault};
 ghost use Rattle.filter_routes.specs.Searching.{AreListsOf, ClashBehind, ClashOfFirst, FirstClash, FirstPairOf, NoPairAt, Searched};
 ghost use Rattle.filter_routes.specs.Soundness.{IsSound};
@@ -50,6 +51,14 @@ fn past_pieces_in(members: &[Filter], number: usize) -> usize
         number = past_pieces(m, number);
     }
     number
+}
+
+// The decision list of a filter, with its index.
+fn indexed_within(alloc: Global, most: usize, filter: &Filter) -> Result<Indexed, AllocError>
+    ensures { IfOk result (IsListOf (shape filter.now)) }
+{
+    let list = list_within(alloc, most, filter)?;
+    Indexed::of(alloc, list)
 }
 
 // The decision lists of the members.
@@ -109,10 +118,10 @@ fn clash_of_first(
     if members.is_empty() {
         return Ok(None);
     }
-    let first = list_within(alloc, most, &members[0])?;
+    let first = indexed_within(alloc, most, &members[0])?;
     for second in 1..members.len() {
-        let branch = list_within(alloc, most, &members[second])?;
-        if any_clash(alloc, first.as_slice(), branch.as_slice())? {
+        let branch = indexed_within(alloc, most, &members[second])?;
+        if any_clash(alloc, &first, &branch)? {
             return Ok(Some(second));
         }
     }

@@ -1,7 +1,6 @@
-use Rattle.std.proofs.Common.{◌<◌, length, [], sym, ap₂, ◌∙◌, arith}
+use Rattle.std.proofs.Common.{◌<◌, length, sym, ◌∙◌, arith}
 use borrow.Author.Count.{below_more}
 use Rattle.filter_text.specs.Shapes.{shape, shapes}
-use Rattle.filter_routes.specs.Cells.{any_clash, cells}
 use Rattle.filter_routes.specs.Faults.{PairAt}
 use Rattle.filter_routes.proofs.Finding.{member-at, pair-by, no-pair-by}
 use Rattle.filter_routes.proofs.search.clash_of_first.Goals as goal
@@ -13,12 +12,11 @@ returns-then-branch c =
     let f = c.index-members-0.result in
     let g = c.index-members-second.result in
     let l : 0 < length ms = omega arith in
-    let es = c.in_ok-first.first.items in
-    let gs = c.in_ok-branch.branch.items in (
+    let es = c.in_ok-first.first in
+    let gs = c.in_ok-branch.branch in (
       pair-by (shapes ms) 0 i (shape f) (shape g) es gs (omega arith) (member-at ms 0 f l c.index-members-0.is)
           (member-at ms i g c.loop-second-test.true c.index-members-second.is) c.in_ok-first.ensures c.in_ok-branch.ensures
-          (ap₂ (λ xs ys. any_clash (cells [] xs) (cells [] ys)) (sym c.as_slice.ensures.value) (sym c.as_slice-in-loop-second.ensures.value)
-          ∙ sym c.in_ok-any_clash.ensures ∙ c.if-branch.true),
+          (sym c.in_ok-any_clash.ensures ∙ c.if-branch.true),
       c.loop-second.invariant,
     )
 
@@ -29,10 +27,9 @@ loop-second-preserved c =
     let f = c.index-members-0.result in
     let g = c.index-members-second.result in
     let l : 0 < length ms = omega arith in
-    let es = c.in_ok-first.first.items in
-    let gs = c.in_ok-branch.branch.items in
+    let es = c.in_ok-first.first in
+    let gs = c.in_ok-branch.branch in
     below_more (λ d. PairAt (shapes ms) 0 d → ⊥) i c.loop-second.invariant
     (no-pair-by (shapes ms) 0 i (shape f) (shape g) es gs (member-at ms 0 f l c.index-members-0.is)
     (member-at ms i g c.loop-second-test.true c.index-members-second.is) c.in_ok-first.ensures c.in_ok-branch.ensures
-    (ap₂ (λ xs ys. any_clash (cells [] xs) (cells [] ys)) (sym c.as_slice.ensures.value) (sym c.as_slice-in-loop-second.ensures.value)
-    ∙ sym c.in_ok-any_clash.ensures ∙ c.if-branch.false))
+    (sym c.in_ok-any_clash.ensures ∙ c.if-branch.false))
