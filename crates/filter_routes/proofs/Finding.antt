@@ -1,5 +1,5 @@
 -- What the search for the first overlap finds.
-use Rattle.std.specs.Prelude.{◌≡◌, refl, ℕ, ◌+◌, ◌<◌, suc, zero, List, [], ◌∷◌, ◌++◌, length, slice_get, Option, Some, None, Bool, true, false, Result, Ok, Err, IfOk}
+use Rattle.std.specs.Prelude.{◌≡◌, refl, ℕ, ◌+◌, ◌<◌, ◌≤◌, suc, zero, List, [], ◌∷◌, ◌++◌, length, slice_get, Option, Some, None, Bool, true, false, Result, Ok, Err, IfOk}
 use Rattle.std.specs.Global.{Vec}
 use Rattle.std.proofs.Common.{ap, ap₂, ◌∙◌, sym, arith, append_assoc, append-nil, get_or, length-append, subst, true≢false}
 use Rattle.std.proofs.lemmas.Option.{none-some, same_Some}
@@ -282,6 +282,14 @@ pub member-at : (ms : List code.Filter) (i : ℕ) (m : code.Filter) → i < leng
 member-at [] i m l e = absurd (omega (arith, l))
 member-at (x ∷ ms) zero m l e = ap (λ y. Some (shape y)) (sym e)
 member-at (x ∷ ms) (suc i) m l e = member-at ms i m (omega (arith, l)) e
+
+member-within : (ms : List code.Filter) (i : ℕ) (f : Filter) → member (shapes ms) i ≡ Some f → i < length ms
+member-within [] i f e = absurd (none-some f e)
+member-within (x ∷ ms) zero f e = omega arith
+member-within (x ∷ ms) (suc i) f e = omega (arith, member-within ms i f e)
+
+pub no-pair-behind : (ms : List code.Filter) (n : ℕ) → length ms ≤ n → ((d : ℕ) → d < n → PairAt (shapes ms) 0 d → ⊥) → (b : ℕ) → PairAt (shapes ms) 0 b → ⊥
+no-pair-behind ms n l h b p = h b (omega (arith, l, member-within ms b p.g p.is_g)) p
 
 pub pair-by : (fs : Filters) (a b : ℕ) (f g : Filter) (es gs : List Entry) → a < b → member fs a ≡ Some f → member fs b ≡ Some g → IsListOf f es → IsListOf g gs
     → any_clash (cells [] es) (cells [] gs) ≡ true → PairAt fs a b

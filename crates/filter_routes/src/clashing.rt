@@ -165,7 +165,11 @@ fn any_left(alloc: Global, list: &Lent<'_>, others: &Lent<'_>) -> Result<bool, A
 }
 
 // Whether some cell of a list clashes with some cell of another.
-pub fn clashes_with_list(alloc: Global, list: &Indexed, others: &[Entry]) -> Result<bool, AllocError>
+pub fn clashes_with_list(
+    alloc: Global,
+    list: &Indexed,
+    others: &[Entry],
+) -> Result<bool, AllocError>
     ensures { IfOk result (λ b. b ≡ any_clash (cells [] list.now) (cells [] others.now)) }
 {
     let index = Index::of(alloc, others)?;

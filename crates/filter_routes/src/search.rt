@@ -62,11 +62,7 @@ fn indexed_within(alloc: Global, most: usize, filter: &Filter) -> Result<Indexed
 }
 
 // The decision lists of the members.
-fn lists_within(
-    alloc: Global,
-    most: usize,
-    members: &[Filter],
-) -> Result<Vec<Indexed>, AllocError>
+fn lists_within(alloc: Global, most: usize, members: &[Filter]) -> Result<Vec<Indexed>, AllocError>
     ensures { IfOk result (λ v. AreListsOf (shapes members.now) v.items) }
 {
     let mut lists = Vec::with_capacity(alloc, members.len())?;
@@ -78,11 +74,7 @@ fn lists_within(
 }
 
 // The first list behind a place that clashes with the one there.
-fn clash_behind(
-    alloc: Global,
-    lists: &[Indexed],
-    first: usize,
-) -> Result<Option<usize>, AllocError>
+fn clash_behind(alloc: Global, lists: &[Indexed], first: usize) -> Result<Option<usize>, AllocError>
     requires { first < length lists.now }
     ensures { IfOk result (ClashBehind lists.now first) }
 {

@@ -7,7 +7,7 @@ loop-e-init c =
     let h = c.into_iter-e-iterator.ensures.into_iter_gives in
     record {
       list = ap (λ x. x ++ into_iter_items c.into_iter-e-iterator.result) c.new-list.ensures ∙ h.0;
-      len = omega (arith, h.1, ap length h.0)
+      len = omega (arith, h.1, ap length h.0);
     }
 
 pub loop-e-preserved : goal.loop-e-preserved
@@ -16,6 +16,6 @@ loop-e-preserved c =
     let es = into_iter_items c.next.new.self in
     record {
       list = ap (λ x. x ++ es) c.in_ok-push.ensures ∙ append_assoc c.loop-e.list (c.in-Some.e ∷ []) es
-        ∙ ap (λ x. c.loop-e.list ++ x) (sym h.0) ∙ c.loop-e.invariant.list;
-      len = omega (arith, h.1, ap length h.0, c.loop-e.invariant.len)
+          ∙ ap (λ x. c.loop-e.list ++ x) (sym h.0) ∙ c.loop-e.invariant.list;
+      len = omega (arith, h.1, ap length h.0, c.loop-e.invariant.len);
     }
