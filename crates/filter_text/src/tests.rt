@@ -25,100 +25,117 @@ fn framed(
     Ok(text)
 }
 
+// Each text of a filter is read and written in canonical form, or has its fault.
 #[test]
-fn texts_are_read_and_written_in_canonical_form(rt: HostRuntime) -> Result<(), Fail> {
+fn texts_have_their_canonical_form_or_fault(rt: HostRuntime) -> Result<(), Fail> {
     let alloc = rt.alloc();
-    for (text, canonical) in [
+    let part = framed(alloc, b"/", b"a", 255, b"")?;
+    let parts = framed(alloc, b":", &part, 15, b"/")?;
+    let longest = framed(alloc, &parts, b"a", 254, b"")?;
+    let too_long = framed(alloc, &parts, b"a", 255, b"")?;
+    let most_pieces = repeated(alloc, b":[]", 1024)?;
+    let too_many_pieces = repeated(alloc, b":[]", 1025)?;
+    let most_components = repeated(alloc, b"::a", 256)?;
+    let too_many_components = repeated(alloc, b"::a", 257)?;
+    let quoted_brackets = framed(alloc, b":/\"", b"[", 16, b"\"")?;
+    let too_many_quoted = framed(alloc, b":/\"", b"[", 17, b"\"")?;
+    let too_many_bare = repeated(alloc, b"[", 17)?;
+    for (text, answer) in [
+        // Blanks, comments and breaks in lists; empty lists.
         (
             b":[ x = :/a , y = :/c ]".as_slice(),
-            b":[:/a:prefix=x,:/c:prefix=y]".as_slice(),
-        ),
-        (b":/\"a b\"", b":/\"a b\""),
-        (b":/\"a\"", b":/a"),
-        (b":exclude[::a/,::b]", b":exclude[::a/,::b]"),
-        (b":[]", b":[]"),
-        (b":exclude[:[::a]]", b":exclude[:[::a]]"),
-        (b":exclude[::a]", b":exclude[::a]"),
-        (b":exclude[]", b":exclude[]"),
-        (b"::\"\\303\\251\"/:nop", b"::\xc3\xa9/:nop"),
-        (
-            b":workspace=\"\\001\":prefix=a",
-            b":workspace=\"\\001\":prefix=a",
+            Ok(b":[:/a:prefix=x,:/c:prefix=y]".as_slice()),
         ),
         (
             b":[\t:/a\r# one, [two]\n:/b,,\"x y\"=:nop,]",
-            b":[:/a,:/b,:nop:prefix=\"x y\"]",
+            Ok(b":[:/a,:/b,:nop:prefix=\"x y\"]"),
         ),
-    ] {
-        let filter = parse(alloc, text)?;
-        let written = print(alloc, &filter)?;
-        assert_eq!(rt; written.as_slice(), canonical, "of {text:?}");
-        let again = parse(alloc, &written)?;
-        assert!(rt; same(&filter, &again), "of {text:?}");
-        let copied = copy(alloc, &filter)?;
-        assert!(rt; same(&filter, &copied), "of {text:?}");
-        assert!(rt; !same(&filter, &parse(alloc, b"::other")?), "of {text:?}");
-    }
-    Ok(())
-}
-
-#[test]
-fn the_first_fault_is_told(rt: HostRuntime) -> Result<(), Fail> {
-    let alloc = rt.alloc();
-    let brackets = framed(alloc, b":/\"", b"[", 17, b"\"")?;
-    let bare_brackets = repeated(alloc, b"[", 17)?;
-    for (text, fault) in [
-        (b"".as_slice(), FilterFault::Syntax),
-        (b":/a ", FilterFault::Syntax),
-        (b":/a :/b", FilterFault::Syntax),
-        (b":[:/a :/b]", FilterFault::Syntax),
-        (b":[:/a # ]", FilterFault::Syntax),
-        (b"::*.md", FilterFault::Syntax),
-        (b":/\"\\q\"", FilterFault::Syntax),
-        (b":/.git", FilterFault::Syntax),
-        (b":[:workspace=a]", FilterFault::WorkspacePlace),
-        (b":workspace=a:workspace=b", FilterFault::WorkspacePlace),
-        (&brackets, FilterFault::TooDeep),
-        (&bare_brackets, FilterFault::TooDeep),
-    ] {
-        assert_eq!(rt; parse(alloc, text).err(), Some(fault), "at {text:?}");
-    }
-    Ok(())
-}
-
-#[test]
-fn limits_are_reached_and_passed_by_one(rt: HostRuntime) -> Result<(), Fail> {
-    let alloc = rt.alloc();
-    let part = framed(alloc, b"/", b"a", 255, b"")?;
-    let parts = repeated(alloc, &part, 15)?;
-    for (text, fault) in [
+        (b":[:/a\n\n# \"\n:/b # b\n]", Ok(b":[:/a,:/b]")),
+        (b":[x\t=\r:/a]", Ok(b":[:/a:prefix=x]")),
+        (b":[:/a :/b]", Err(FilterFault::Syntax)),
+        (b":[:/a # ]", Err(FilterFault::Syntax)),
+        (b":[x\n= :/a]", Err(FilterFault::Syntax)),
+        (b":/a ", Err(FilterFault::Syntax)),
+        (b" :/a", Err(FilterFault::Syntax)),
+        (b":/a :/b", Err(FilterFault::Syntax)),
+        (b":/a\n", Err(FilterFault::Syntax)),
+        (b":[]", Ok(b":[]")),
+        (b":[ ,\n# none\n, ]", Ok(b":[]")),
+        (b":exclude[]", Ok(b":exclude[]")),
+        (b"", Err(FilterFault::Syntax)),
+        // What a list excludes: its one member, or all of its members.
+        (b":exclude[::a/,::b]", Ok(b":exclude[::a/,::b]")),
+        (b":exclude[:[::a]]", Ok(b":exclude[:[::a]]")),
+        (b":exclude[::a]", Ok(b":exclude[::a]")),
+        // Quoted paths, with each escape.
+        (b":/\"a b\"", Ok(b":/\"a b\"")),
+        (b":/\"a\"", Ok(b":/a")),
         (
-            framed(
-                alloc,
-                &framed(alloc, b":", &parts, 1, b"/")?,
-                b"a",
-                254,
-                b"",
-            )?,
-            None,
+            b":/\"\\a\\b\\t\\n\\v\\f\\r\\\"\\\\\\101\\177\\001\"",
+            Ok(b":/\"\\a\\b\\t\\n\\v\\f\\r\\\"\\\\A\\177\\001\""),
         ),
+        (b"::\"\\303\\251\"/:nop", Ok(b"::\xc3\xa9/:nop")),
         (
-            framed(
-                alloc,
-                &framed(alloc, b":", &parts, 1, b"/")?,
-                b"a",
-                255,
-                b"",
-            )?,
-            Some(FilterFault::TooLong),
+            b":workspace=\"\\001\":prefix=a",
+            Ok(b":workspace=\"\\001\":prefix=a"),
         ),
-        (repeated(alloc, b":[]", 1024)?, None),
-        (repeated(alloc, b":[]", 1025)?, Some(FilterFault::TooMany)),
-        (repeated(alloc, b"::a", 256)?, None),
-        (repeated(alloc, b"::a", 257)?, Some(FilterFault::TooMany)),
-        (framed(alloc, b":/\"", b"[", 16, b"\"")?, None),
+        (b":/\"\\q\"", Err(FilterFault::Syntax)),
+        (b":/\"\\400\"", Err(FilterFault::Syntax)),
+        (b":/\"\\01\"", Err(FilterFault::Syntax)),
+        (b":/\"a\nb\"", Err(FilterFault::Syntax)),
+        (b":/\"a", Err(FilterFault::Syntax)),
+        (b":/\"\"", Err(FilterFault::Syntax)),
+        (b"::\"a b\"/", Ok(b"::\"a b\"/")),
+        (b"::\"a b\"", Ok(b"::\"a b\"")),
+        (b"::\"a b/\"", Err(FilterFault::Syntax)),
+        (b":/a/", Err(FilterFault::Syntax)),
+        (b"::*.md", Err(FilterFault::Syntax)),
+        (b"::\"*.md\"", Ok(b"::\"*.md\"")),
+        (b":/.git", Err(FilterFault::Syntax)),
+        // Targets.
+        (
+            b":[x=:/a:/b,\"y\" = :nop]",
+            Ok(b":[:/a:/b:prefix=x,:nop:prefix=y]"),
+        ),
+        (b":exclude[x=::a]", Ok(b":exclude[::a:prefix=x]")),
+        (b":[x=]", Err(FilterFault::Syntax)),
+        (b":[x/=:/a]", Err(FilterFault::Syntax)),
+        (b"x=:/a", Err(FilterFault::Syntax)),
+        // A `#` in quotes begins no comment.
+        (b":[:/\"a#b\",:/c]", Ok(b":[:/\"a#b\",:/c]")),
+        // Brackets are counted in the text as it stands.
+        (&quoted_brackets, Ok(&quoted_brackets)),
+        (&too_many_quoted, Err(FilterFault::TooDeep)),
+        (&too_many_bare, Err(FilterFault::TooDeep)),
+        // Places of workspaces.
+        (b":[:workspace=a]", Err(FilterFault::WorkspacePlace)),
+        (
+            b":workspace=a:workspace=b",
+            Err(FilterFault::WorkspacePlace),
+        ),
+        // Limits, reached and passed by one.
+        (&longest, Ok(&longest)),
+        (&too_long, Err(FilterFault::TooLong)),
+        (&most_pieces, Ok(&most_pieces)),
+        (&too_many_pieces, Err(FilterFault::TooMany)),
+        (&most_components, Ok(&most_components)),
+        (&too_many_components, Err(FilterFault::TooMany)),
     ] {
-        assert_eq!(rt; parse(alloc, &text).err(), fault, "at {} bytes", text.len());
+        match answer {
+            Ok(canonical) => {
+                let filter = parse(alloc, text)?;
+                let written = print(alloc, &filter)?;
+                assert_eq!(rt; written.as_slice(), canonical, "of {text:?}");
+                let again = parse(alloc, &written)?;
+                assert!(rt; same(&filter, &again), "of {text:?}");
+                let copied = copy(alloc, &filter)?;
+                assert!(rt; same(&filter, &copied), "of {text:?}");
+                assert!(rt; !same(&filter, &parse(alloc, b"::other")?), "of {text:?}");
+            }
+            Err(fault) => {
+                assert_eq!(rt; parse(alloc, text).err(), Some(fault), "at {text:?}");
+            }
+        }
     }
     Ok(())
 }
