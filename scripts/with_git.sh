@@ -1,9 +1,14 @@
 #!/usr/bin/env bash
 # Makes the same histories with real Git and compares its names with those that `proj` prints and that the tests of pushes expect.
-# Run it at the top of the repository, after the program was built.
+# It takes the program that `PROJ` names, or the built one, and builds that where it isn't there: a gate that has proved all of it
+# before builds nothing.
 set -u
 cd "$(dirname "$0")/.." || exit 1
 proj=${PROJ:-$PWD/crates/proj_cli/out/proj_cli}
+if [ ! -x "$proj" ]; then
+    (cd crates/proj_cli && rt run -- name) </dev/null >/dev/null 2>&1
+    [ -x "$proj" ] || { printf 'git: the program is not built\n'; exit 1; }
+fi
 work=$(mktemp -d) || exit 1
 trap 'rm -rf "$work"' EXIT
 export GIT_DIR=$work/repo GIT_INDEX_FILE=$work/index
