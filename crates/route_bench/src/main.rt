@@ -31,7 +31,10 @@ fn read(alloc: Global, text: &[u8]) -> Result<Filter, FilterFault>
 fn told_of_text(alloc: Global, text: &[u8]) -> Option<bool> {
     match read(alloc, text) {
         Err(_) => None,
-        Ok(filter) => Some(told(alloc, &filter)? && Table::compile(alloc, &filter).is_ok()),
+        Ok(filter) => {
+            let sound = told(alloc, &filter)?;
+            Some(Table::compile(alloc, &filter).is_ok() && sound)
+        }
     }
 }
 

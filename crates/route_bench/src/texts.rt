@@ -24,7 +24,7 @@ fn member(alloc: Global, mode: &str, number: usize) -> Result<String, AllocError
         }
         "nops" => format!(in alloc; ":nop"),
         "chain" => format!(in alloc; ":/{name}"),
-        "lists" => format!(in alloc; ":[:/a,:/b]"),
+        "lists" | "listed" => format!(in alloc; ":[:/a,:/b]"),
         "swaps" => format!(in alloc; ":[a=:/b,b=:/a]"),
         _ => format!(in alloc; "::{name}"),
     }
@@ -34,6 +34,7 @@ fn member(alloc: Global, mode: &str, number: usize) -> Result<String, AllocError
 fn frame(mode: &str) -> Option<(&'static str, &'static str, &'static str)> {
     match mode {
         "dirs" | "targets" | "deep" => Some((":[", ",", "]")),
+        "listed" => Some((":[", "", ":prefix=y,::z:prefix=x]")),
         "exclude" | "nops" => Some((":exclude[", ",", "]")),
         "chain" | "lists" | "swaps" => Some(("", "", "")),
         _ => None,
