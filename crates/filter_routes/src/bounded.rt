@@ -8,7 +8,7 @@ ghost use Rattle.filter_routes.specs.Lists.{IsListOf};
 use crate::entry::Entry;
 use crate::indexed::Indexed;
 use crate::lists::one_entry;
-use crate::operations::{either, push_grown, push_thin, turned};
+use crate::operations::{either, push_grown, push_thin, room, turned};
 use filter_text::Filter;
 use std::alloc::{AllocError, Global};
 
@@ -55,7 +55,7 @@ fn after_within(
 ) -> Result<Vec<Entry>, AllocError>
     ensures { IfOk result (λ v. v.items ≡ after_left entries.items others.now) }
 {
-    let mut out = Indexed::new(alloc);
+    let mut out = room(alloc, entries.as_slice(), others);
     for e in entries {
         push_grown(alloc, &mut out, false, e, others)?;
         if out.len() > most {

@@ -142,6 +142,9 @@ impl Index {
         requires { IsIndex (get nat_eq self.old.places) self.old.clean entries.now }
         ensures { OnOk result (IsIndex (get nat_eq self.new.places) self.new.clean (entries.now ++ entry.now ∷ [])) }
     {
+        if !self.clean {
+            return Ok(());
+        }
         let base = entry.base.as_slice();
         let code = cone_code(entry.point, path_code(base));
         match self.places.get(&code).copied() {

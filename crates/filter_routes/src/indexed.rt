@@ -45,6 +45,15 @@ impl Indexed {
         }
     }
 
+    // A list without an index, for few questions.
+    pub fn unindexed(alloc: Global) -> Indexed
+        ensures { result ≡ [] }
+    {
+        let mut list = Indexed::new(alloc);
+        list.index.spoil();
+        list
+    }
+
     pub fn of(alloc: Global, entries: Vec<Entry>) -> Result<Indexed, AllocError>
         ensures { IfOk result (λ list. list ≡ entries.items) }
     {

@@ -1,5 +1,5 @@
 // Lists, chains and excludes of decision lists.
-ghost use Rattle.std.specs.Prelude.{◌≡◌, ◌++◌, [], ◌∷◌, option_map, IfOk, OnOk, List, cond};
+ghost use Rattle.std.specs.Prelude.{◌≡◌, ◌≤◌, ◌++◌, [], ◌∷◌, length, option_map, IfOk, OnOk, List, cond};
 ghost use Rattle.filter_routes.specs.Entries.{Entry as RouteEntry, cone_of, at, below};
 ghost use Rattle.filter_routes.specs.Operations.{pull, put, pulled, block, heads, thin, grown, how, either_left, after_left, turned, onward};
 ghost use Rattle.filter_routes.specs.Lists.{part_of};
@@ -250,11 +250,35 @@ pub fn either(alloc: Global, entries: Indexed, others: Vec<Entry>) -> Result<Ind
     Ok(out)
 }
 
+// How many entries have a target.
+fn live_count(entries: &[Entry]) -> usize
+    ensures { result ≤ length entries.now }
+{
+    let mut count = 0;
+    for e in entries {
+        if e.target.is_some() {
+            count += 1;
+        }
+    }
+    count
+}
+
+// An empty list for a chain with one member more. Each part of an entry with a target asks what hides it, and an index is
+// made for each entry: for few parts the list is read through.
+pub fn room(alloc: Global, entries: &[Entry], others: &[Entry]) -> Indexed
+    ensures { result ≡ [] }
+{
+    if others.len() <= 4 && live_count(entries) <= 4 {
+        return Indexed::unindexed(alloc);
+    }
+    Indexed::new(alloc)
+}
+
 // A chain's decision list with one member more.
 pub fn after(alloc: Global, entries: Vec<Entry>, others: &[Entry]) -> Result<Vec<Entry>, AllocError>
     ensures { IfOk result (λ v. v.items ≡ after_left entries.items others.now) }
 {
-    let mut out = Indexed::new(alloc);
+    let mut out = room(alloc, entries.as_slice(), others);
     for e in entries {
         push_grown(alloc, &mut out, false, e, others)?;
     }
@@ -265,7 +289,7 @@ pub fn after(alloc: Global, entries: Vec<Entry>, others: &[Entry]) -> Result<Vec
 pub fn turned(alloc: Global, entries: Vec<Entry>) -> Result<Vec<Entry>, AllocError>
     ensures { IfOk result (λ v. v.items ≡ turned [] entries.items) }
 {
-    let mut out = Indexed::new(alloc);
+    let mut out = Indexed::unindexed(alloc);
     for e in entries {
         out.push(e.flipped(alloc)?)?;
     }

@@ -59,7 +59,26 @@ fn joined(
     Ok(text)
 }
 
+// A chain of lists that overlap, whose decision list is as long as one may be, as the first branch of that many lists, each
+// around the next: the fault stands in the innermost, and each list around it is looked at first.
+fn nested(alloc: Global, count: usize) -> Result<String, AllocError> {
+    let mut text = String::new(alloc);
+    for _ in 0..count {
+        text.push_str(":[")?;
+    }
+    for _ in 0..15 {
+        text.push_str(":[:/a,:/b]")?;
+    }
+    for _ in 0..count {
+        text.push_str(":prefix=y,::z:prefix=x]")?;
+    }
+    Ok(text)
+}
+
 /// The text of a mode with this many members. None: no such mode, or no memory.
 pub fn made(alloc: Global, mode: &str, count: usize) -> Option<String> {
+    if mode == "nested" {
+        return nested(alloc, count).ok();
+    }
     joined(alloc, mode, count, frame(mode)?).ok()
 }

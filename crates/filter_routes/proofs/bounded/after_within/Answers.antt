@@ -9,7 +9,7 @@ loop-e-init c =
     let h = c.into_iter-e-iterator.ensures.into_iter_gives in
     let g = c.args.others.now in
     record {
-      list = ap (λ out. out ++ refine (after_how g) [] (heads out []) (into_iter_items c.into_iter-e-iterator.result)) c.new-out.ensures
+      list = ap (λ out. out ++ refine (after_how g) [] (heads out []) (into_iter_items c.into_iter-e-iterator.result)) c.room-out.ensures
           ∙ ap (refine (after_how g) [] []) h.0;
       len = omega (arith, h.1, ap length h.0);
     }

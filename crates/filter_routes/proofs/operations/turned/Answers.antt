@@ -8,7 +8,7 @@ pub loop-e-init : goal.loop-e-init
 loop-e-init c =
     let h = c.into_iter-e-iterator.ensures.into_iter_gives in
     record {
-      list = ap (λ out. out ++ turned (heads out []) (into_iter_items c.into_iter-e-iterator.result)) c.new-out.ensures ∙ ap (turned []) h.0;
+      list = ap (λ out. out ++ turned (heads out []) (into_iter_items c.into_iter-e-iterator.result)) c.unindexed-out.ensures ∙ ap (turned []) h.0;
       len = omega (arith, h.1, ap length h.0);
     }
 
