@@ -5,7 +5,7 @@ set -e
 cd "$(dirname "$0")/../crates/route_bench"
 rt run -- branches 10 >/dev/null 2>&1
 program=${PROGRAM:-out/route_bench}
-for case in "dirs 256" "exclude 256" "chain 256" "targets 128" "deep 21" "nops 800" "lists 100" "listed 100" "nested 15" "swaps 64" "branches 4000"; do
+for case in "dirs 256" "exclude 256" "chain 256" "prefixes 250" "excludes 250" "holes 17" "targets 128" "deep 21" "nops 800" "lists 100" "listed 100" "nested 15" "swaps 64" "branches 4000"; do
     echo "$case"
     ( time -p "$program" $case ) 2>&1
 done

@@ -26,6 +26,11 @@ fn member(alloc: Global, mode: &str, number: usize) -> Result<String, AllocError
         "chain" => format!(in alloc; ":/{name}"),
         "lists" | "listed" => format!(in alloc; ":[:/a,:/b]"),
         "swaps" => format!(in alloc; ":[a=:/b,b=:/a]"),
+        "prefixes" => format!(in alloc; ":prefix={name}"),
+        "excludes" => format!(in alloc; ":exclude[::{name}]"),
+        "holes" => format!(in alloc;
+            "{name}=:/x{name}:exclude[::a,::b/,::c/,::d/,::e/,::f/,::g/,::h/,::i/,::j/,::k/,::l/,::m/]"
+        ),
         _ => format!(in alloc; "::{name}"),
     }
 }
@@ -33,10 +38,10 @@ fn member(alloc: Global, mode: &str, number: usize) -> Result<String, AllocError
 // What stands before the members, between two of them, and behind all of them. None: no such mode.
 fn frame(mode: &str) -> Option<(&'static str, &'static str, &'static str)> {
     match mode {
-        "dirs" | "targets" | "deep" => Some((":[", ",", "]")),
+        "dirs" | "targets" | "deep" | "holes" => Some((":[", ",", "]")),
         "listed" => Some((":[", "", ":prefix=y,::z:prefix=x]")),
         "exclude" | "nops" => Some((":exclude[", ",", "]")),
-        "chain" | "lists" | "swaps" => Some(("", "", "")),
+        "chain" | "lists" | "swaps" | "prefixes" | "excludes" => Some(("", "", "")),
         _ => None,
     }
 }
