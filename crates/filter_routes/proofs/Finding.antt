@@ -1,5 +1,5 @@
 -- What the search for the first overlap finds.
-use Rattle.std.specs.Prelude.{◌≡◌, refl, ℕ, ◌+◌, ◌<◌, ◌≤◌, suc, zero, List, [], ◌∷◌, ◌++◌, length, slice_get, Option, Some, None, Bool, true, false, Result, Ok, Err, IfOk}
+use Rattle.std.specs.Prelude.{◌≡◌, refl, ℕ, ◌+◌, ◌<◌, suc, zero, List, [], ◌∷◌, ◌++◌, length, take, slice_get, Option, Some, None, Bool, true, false, Result, Ok, Err, IfOk}
 use Rattle.std.specs.Global.{Vec}
 use Rattle.std.proofs.Common.{ap, ap₂, ◌∙◌, sym, arith, append_assoc, append-nil, get_or, length-append, subst, true≢false}
 use Rattle.std.proofs.lemmas.Option.{none-some, same_Some}
@@ -11,7 +11,7 @@ use Rattle.filter_routes.specs.Entries.{Entry}
 use Rattle.filter_routes.specs.Soundness.{Clash}
 use Rattle.filter_routes.specs.Lists.{IsListOf}
 use Rattle.filter_routes.specs.Faults.{Piece, nodes, nodes_all, member, PairAt, IsBefore}
-use Rattle.filter_routes.specs.Searching.{AreListsOf, ClashBehind, ClashOfFirst, clash_of, clash_at, FirstClash, NoPairAt, FirstPairOf, NoPair, FirstPair, Refused, Searched}
+use Rattle.filter_routes.specs.Searching.{AreListsOf, ClashBehind, clash_of, clash_at, FirstClash, NoPairAt, FirstPairOf, NoPair, FirstPair, Refused, Searched}
 use Rattle.filter_routes.specs.declared.fault.RouteFault.{RouteFault}
 use Rattle.filter_routes.specs.declared.fault.RouteFault.TheVariants.{NotKeeping, Overlap, OutOfMemory}
 use Rattle.filter_routes.proofs.Clash.{split}
@@ -283,14 +283,6 @@ member-at [] i m l e = absurd (omega (arith, l))
 member-at (x ∷ ms) zero m l e = ap (λ y. Some (shape y)) (sym e)
 member-at (x ∷ ms) (suc i) m l e = member-at ms i m (omega (arith, l)) e
 
-member-within : (ms : List code.Filter) (i : ℕ) (f : Filter) → member (shapes ms) i ≡ Some f → i < length ms
-member-within [] i f e = absurd (none-some f e)
-member-within (x ∷ ms) zero f e = omega arith
-member-within (x ∷ ms) (suc i) f e = omega (arith, member-within ms i f e)
-
-pub no-pair-behind : (ms : List code.Filter) (n : ℕ) → length ms ≤ n → ((d : ℕ) → d < n → PairAt (shapes ms) 0 d → ⊥) → (b : ℕ) → PairAt (shapes ms) 0 b → ⊥
-no-pair-behind ms n l h b p = h b (omega (arith, l, member-within ms b p.g p.is_g)) p
-
 pub pair-by : (fs : Filters) (a b : ℕ) (f g : Filter) (es gs : List Entry) → a < b → member fs a ≡ Some f → member fs b ≡ Some g → IsListOf f es → IsListOf g gs
     → any_clash (cells [] es) (cells [] gs) ≡ true → PairAt fs a b
 pair-by fs a b f g es gs l e k x y c = record { f = f; g = g; ordered = l; is_f = e; is_g = k; clash = clash-told f g es gs x y c }
@@ -301,9 +293,38 @@ no-pair-by fs a b f g es gs e k x y c p =
     let q : Clash f g = subst (λ h. Clash h g) (same_Some p.f f (sym p.is_f ∙ e)) (subst (λ h. Clash p.f h) (same_Some p.g g (sym p.is_g ∙ k)) p.clash) in
     true≢false (sym (clash-seen f g es gs x y q) ∙ c)
 
-pub first-of-first : (n : ℕ) (fs : Filters) (b : ℕ) → ClashOfFirst fs (Some b) → FirstPairOf n fs (Overlap n 0 b)
-first-of-first n fs b h =
-    (refl, h.0, λ c d o p. split (λ (x : c < 0). absurd (omega (arith, x))) (λ (x : (c ≡ 0) × (d < b)). h.1 d x.1 (subst (λ y. PairAt fs y d) x.0 p)) o)
+pub first-of-first : (n : ℕ) (fs : Filters) (b : ℕ) → PairAt fs 0 b → ((d : ℕ) → d < b → PairAt fs 0 d → ⊥) → FirstPairOf n fs (Overlap n 0 b)
+first-of-first n fs b q h =
+    (refl, q, λ c d o p. split (λ (x : c < 0). absurd (omega (arith, x))) (λ (x : (c ≡ 0) × (d < b)). h d x.1 (subst (λ y. PairAt fs y d) x.0 p)) o)
+
+first-list : (ms : List code.Filter) (i : ℕ) (vs : List (List Entry)) → AreListsOf (shapes (take i ms)) vs → (v : List Entry) → slice_get vs 0 ≡ Some v
+    → (f : Filter) × (member (shapes ms) 0 ≡ Some f) × IsListOf f v
+first-list ms zero [] h v e = absurd (none-some v e)
+first-list ms zero (w ∷ vs) h v e = absurd h
+first-list [] (suc i) [] h v e = absurd (none-some v e)
+first-list [] (suc i) (w ∷ vs) h v e = absurd h
+first-list (m ∷ ms) (suc i) [] h v e = absurd h
+first-list (m ∷ ms) (suc i) (w ∷ vs) h v e = (shape m, refl, subst (IsListOf (shape m)) (same_Some w v e) h.0)
+
+pub some-first : (vs : List (List Entry)) (gs : List Entry) → clash_of (slice_get vs 0) (Some gs) ≡ true → 0 < length vs
+some-first [] gs c = absurd (true≢false (sym c))
+some-first (v ∷ vs) gs c = omega arith
+
+-- the member there clashes with the first one, as the lists of those before it say
+pub pair-of-first : (ms : List code.Filter) (i : ℕ) (vs : List (List Entry)) (g : Filter) (gs : List Entry) → AreListsOf (shapes (take i ms)) vs → 0 < i
+    → member (shapes ms) i ≡ Some g → IsListOf g gs → clash_of (slice_get vs 0) (Some gs) ≡ true → PairAt (shapes ms) 0 i
+pair-of-first ms i vs g gs h l e x c = by (slice_get vs 0) refl c
+  where
+    by : (o : Option (List Entry)) → slice_get vs 0 ≡ o → clash_of o (Some gs) ≡ true → PairAt (shapes ms) 0 i
+    by None k t = absurd (true≢false (sym t))
+    by (Some v) k t = let f = first-list ms i vs h v k in pair-by (shapes ms) 0 i f.0 g v gs l f.1 e f.2 x t
+
+-- it doesn't
+pub no-pair-of-first : (ms : List code.Filter) (i : ℕ) (vs : List (List Entry)) (g : Filter) (gs : List Entry) → AreListsOf (shapes (take i ms)) vs → length vs ≡ i
+    → member (shapes ms) i ≡ Some g → IsListOf g gs → clash_of (slice_get vs 0) (Some gs) ≡ false → PairAt (shapes ms) 0 i → ⊥
+no-pair-of-first ms i [] g gs h n e x c p = omega (arith, n, p.ordered)
+no-pair-of-first ms i (v ∷ vs) g gs h n e x c p =
+    let f = first-list ms i (v ∷ vs) h v refl in no-pair-by (shapes ms) 0 i f.0 g v gs f.1 e f.2 x c p
 
 -- ---- a list that is made, or not for want of memory
 

@@ -45,11 +45,6 @@ FirstPairOf n fs (NotKeeping k) = ⊥
 FirstPairOf n fs (Overlap m a b) = (m ≡ n) × PairAt fs a b × ((c d : ℕ) → IsBefore c d a b → PairAt fs c d → ⊥)
 FirstPairOf n fs OutOfMemory = ⊤
 
--- the first branch that clashes with the first one, or none
-abbrev pub ClashOfFirst : Filters → Option ℕ → Type 0
-ClashOfFirst fs None = (b : ℕ) → PairAt fs 0 b → ⊥
-ClashOfFirst fs (Some b) = PairAt fs 0 b × ((d : ℕ) → d < b → PairAt fs 0 d → ⊥)
-
 -- no list outside of excludes has two branches that clash
 abbrev pub NoPair : List Piece → Type 0
 NoPair vs = (k : ℕ) (fs : Filters) → slice_get vs k ≡ Some (false, join fs) → NoPairAt fs

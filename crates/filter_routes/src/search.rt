@@ -1,11 +1,11 @@
 // Where a filter that is refused has its fault.
-ghost use Rattle.std.specs.Prelude.{◌≡◌, ◌+◌, ◌<◌, ◌^◌, length, false, IfOk, IfErr, OnOk};
+ghost use Rattle.std.specs.Prelude.{◌≡◌, ◌+◌, ◌<◌, ◌^◌, length, slice_get, Some, false, IfOk, IfErr, OnOk};
 ghost use Rattle.filter_text.specs.Filters.{Filters, pieces, pieces_in};
 ghost use Rattle.filter_text.specs.Shapes.{shape, shapes};
 ghost use Rattle.filter_routes.specs.Faults.{nodes, nodes_all};
 ghost use Rattle.filter_routes.specs.Lists.{IsListOf};
 ghost use Rattle.filter_routes.specs.RouteFaults.{IsRouteFault};
-ghost use Rattle.filter_routes.specs.Searching.{AreListsOf, ClashBehind, ClashOfFirst, FirstClash, FirstPairOf, NoPairAt, Searched};
+ghost use Rattle.filter_routes.specs.Searching.{AreListsOf, ClashBehind, clash_of, FirstClash, FirstPairOf, NoPairAt, Searched};
 ghost use Rattle.filter_routes.specs.Soundness.{IsSound};
 
 use crate::RouteFault;
@@ -61,18 +61,6 @@ fn indexed_within(alloc: Global, most: usize, filter: &Filter) -> Result<Indexed
     Indexed::of(alloc, list)
 }
 
-// The decision lists of the members.
-fn lists_within(alloc: Global, most: usize, members: &[Filter]) -> Result<Vec<Indexed>, AllocError>
-    ensures { IfOk result (λ v. AreListsOf (shapes members.now) v.items) }
-{
-    let mut lists = Vec::with_capacity(alloc, members.len())?;
-    for m in members {
-        let list = list_within(alloc, most, m)?;
-        lists.push(Indexed::of(alloc, list)?)?;
-    }
-    Ok(lists)
-}
-
 // The first list behind a place that clashes with the one there.
 fn clash_behind(alloc: Global, lists: &[Indexed], first: usize) -> Result<Option<usize>, AllocError>
     requires { first < length lists.now }
@@ -98,28 +86,6 @@ fn first_clash(alloc: Global, lists: &[Indexed]) -> Result<Option<(usize, usize)
     Ok(None)
 }
 
-// The first branch that clashes with the first one. It makes no more lists than it needs, so a list whose first branches
-// clash is refused whatever stands behind them.
-fn clash_of_first(
-    alloc: Global,
-    most: usize,
-    members: &[Filter],
-) -> Result<Option<usize>, AllocError>
-    ensures { IfOk result (ClashOfFirst (shapes members.now)) }
-{
-    if members.is_empty() {
-        return Ok(None);
-    }
-    let first = indexed_within(alloc, most, &members[0])?;
-    for second in 1..members.len() {
-        let branch = indexed_within(alloc, most, &members[second])?;
-        if any_clash(alloc, &first, &branch)? {
-            return Ok(Some(second));
-        }
-    }
-    Ok(None)
-}
-
 // The fault of a list with this number whose first two branches that clash are these.
 fn overlap_of(list: u32, first: usize, second: usize) -> RouteFault
     requires { first < second }
@@ -136,15 +102,51 @@ fn overlap_of(list: u32, first: usize, second: usize) -> RouteFault
     }
 }
 
+// Whether a list clashes with the first of these.
+fn clashes_with_first(
+    alloc: Global,
+    lists: &[Indexed],
+    branch: &Indexed,
+) -> Result<bool, AllocError>
+    ensures { IfOk result (λ b. b ≡ clash_of (slice_get lists.now 0) (Some branch.now)) }
+{
+    if lists.is_empty() {
+        return Ok(false);
+    }
+    any_clash(alloc, &lists[0], branch)
+}
+
+// The decision lists of the members of the list with this number. They are made one after the other up to one that clashes with
+// the first, so that a list whose first branches clash is refused whatever stands behind them.
+fn lists_beside_first(
+    alloc: Global,
+    most: usize,
+    members: &[Filter],
+    number: u32,
+) -> Result<Vec<Indexed>, RouteFault>
+    ensures lists { IfOk result (λ v. AreListsOf (shapes members.now) v.items) }
+    ensures pair { IfErr result (FirstPairOf number (shapes members.now)) }
+{
+    let mut lists = Vec::with_capacity(alloc, members.len())?;
+    for second in 0..members.len() {
+        let branch = indexed_within(alloc, most, &members[second])?;
+        if clashes_with_first(alloc, lists.as_slice(), &branch)? {
+            return Err(overlap_of(number, 0, second));
+        }
+        match lists.push(branch) {
+            Ok(()) => {}
+            Err(_) => return Err(RouteFault::OutOfMemory),
+        }
+    }
+    Ok(lists)
+}
+
 // Refuses a list with two branches that clash by its number and the first two.
 fn are_apart(alloc: Global, most: usize, members: &[Filter], number: u32) -> Result<(), RouteFault>
     ensures apart { OnOk result (NoPairAt (shapes members.now)) }
     ensures pair { IfErr result (FirstPairOf number (shapes members.now)) }
 {
-    if let Some(second) = clash_of_first(alloc, most, members)? {
-        return Err(overlap_of(number, 0, second));
-    }
-    let lists = lists_within(alloc, most, members)?;
+    let lists = lists_beside_first(alloc, most, members, number)?;
     match first_clash(alloc, lists.as_slice())? {
         None => Ok(()),
         Some((first, second)) => Err(overlap_of(number, first, second)),
