@@ -64,18 +64,20 @@ fn joined(
     Ok(text)
 }
 
-// A chain of lists that overlap, whose decision list is as long as one may be, as the first branch of that many lists, each
-// around the next: the fault stands in the innermost, and each list around it is looked at first.
+// A chain of lists that overlap, whose decision list is about as long as one may be, in the first branch of that many lists around
+// each other. No other list overlaps: each is looked at, with all that stands in it, before the first of the chain.
 fn nested(alloc: Global, count: usize) -> Result<String, AllocError> {
     let mut text = String::new(alloc);
     for _ in 0..count {
         text.push_str(":[")?;
     }
-    for _ in 0..15 {
+    for _ in 0..14 {
         text.push_str(":[:/a,:/b]")?;
     }
-    for _ in 0..count {
-        text.push_str(":prefix=y,::z:prefix=x]")?;
+    for number in 0..count {
+        text.push_str(":prefix=y,::")?;
+        text.push_str(name(alloc, number)?.as_str())?;
+        text.push_str(":prefix=x]")?;
     }
     Ok(text)
 }
