@@ -64,7 +64,7 @@ fn joined(
     Ok(text)
 }
 
-// A chain of lists that overlap, whose decision list is about as long as one may be, in the first branch of that many lists around
+// A chain of lists that overlap, whose decision list is half as long as one may be, in the first branch of that many lists around
 // each other. No other list overlaps: each is looked at, with all that stands in it, before the first of the chain.
 fn nested(alloc: Global, count: usize) -> Result<String, AllocError> {
     let mut text = String::new(alloc);
