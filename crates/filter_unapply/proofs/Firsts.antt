@@ -9,7 +9,8 @@ use Rattle.std.specs.FinMap.{is_sorted}
 use Rattle.std.specs.FinMap.Entries.{below_all}
 use Rattle.git_objects.specs.Paths.{Path, same_path, path_cmp}
 use Rattle.git_objects.specs.Trees.{Leaf, Flat, at}
-use Rattle.git_objects.proofs.Basics.{Each, both, first, second}
+use Rattle.git_objects.proofs.Basics.{both, first, second}
+use Rattle.git_objects.specs.Lists.{Each}
 use Rattle.git_objects.proofs.Order.{path_cmp-total, path_decides}
 use Rattle.git_objects.proofs.Pointwise.{all_at, each_at}
 use Rattle.filter_unapply.specs.Lenses.{Lens}

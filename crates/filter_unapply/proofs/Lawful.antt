@@ -6,7 +6,7 @@ use Rattle.std.specs.List.{list_all}
 use Rattle.std.specs.FinMap.{is_sorted}
 use Rattle.git_objects.specs.Paths.{Path, same_path, is_path, is_prefix, comparable, path_cmp}
 use Rattle.git_objects.specs.Trees.{Leaf, is_leaf, Flat, at, IsTree}
-use Rattle.git_objects.proofs.Basics.{Each}
+use Rattle.git_objects.specs.Lists.{Each}
 use Rattle.git_objects.proofs.Order.{path_decides}
 use Rattle.git_objects.proofs.Maps.{first_some, at_rest}
 use Rattle.git_objects.proofs.Pointwise.{from-T, all_at, leaf_at, at_apart, tree_from}

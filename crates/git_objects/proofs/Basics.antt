@@ -9,10 +9,6 @@ use Rattle.git_objects.specs.Paths.{Bytes, same_bytes, is_bytes, is_component}
 pub and_both : {a b : Bool} → a ≡ true → b ≡ true → (a && b) ≡ true
 and_both p q = (λ i. p i && q i)
 
-abbrev pub Each : {A : Type 0} → (A → Type 0) → List A → Type 0
-Each P [] = Unit
-Each P (x ∷ xs) = P x × Each P xs
-
 pub both : (a b : Bool) → T a → T b → T (a && b)
 both true b p q = q
 both false b p q = p

@@ -11,7 +11,8 @@ use Rattle.git_objects.specs.Paths.{Bytes, Path, same_bytes, same_path, is_compo
 use Rattle.git_objects.specs.Trees.{Leaf, Flat, at, IsTree, rest_below, moved, under}
 use Rattle.git_objects.specs.Names.{tops, add_top, name, line_of, body_within}
 use Rattle.git_objects.specs.declared.kind.Kind.TheVariants.{Tree}
-use Rattle.git_objects.proofs.Basics.{Each, both, first, second, same_bytes-self, same_bytes-back, no_slash}
+use Rattle.git_objects.proofs.Basics.{both, first, second, same_bytes-self, same_bytes-back, no_slash}
+use Rattle.git_objects.specs.Lists.{Each}
 use Rattle.git_objects.proofs.Order.{front}
 use Rattle.git_objects.proofs.Under.{under-append}
 

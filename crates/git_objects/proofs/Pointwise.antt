@@ -9,7 +9,8 @@ use Rattle.std.specs.FinMap.Entries.{below_all}
 use Rattle.git_objects.specs.Paths.{Path, same_bytes, same_path, is_component, is_path, is_prefix, comparable, path_cmp}
 use Rattle.git_objects.specs.Trees.{Leaf, is_leaf, Flat, at, IsTree, no_comparable, Node, LeafNode, TreeNode, rests, put, remove}
 use Rattle.git_objects.proofs.Order.{path_cmp-total, path_decides}
-use Rattle.git_objects.proofs.Basics.{Each, both, first, second, same_bytes-self, same_bytes-back}
+use Rattle.git_objects.proofs.Basics.{both, first, second, same_bytes-self, same_bytes-back}
+use Rattle.git_objects.specs.Lists.{Each}
 use Rattle.git_objects.proofs.Maps.{first_some, after, at_rest, at-put, sorted-put, at-remove, sorted-remove}
 
 T-from : (b : Bool) → b ≡ true → T b

@@ -20,7 +20,8 @@ use Rattle.git_objects.specs.declared.entry.Entry.{Entry}
 use Rattle.git_objects.specs.declared.kind.Kind.TheVariants.{Blob, Tree}
 use Rattle.git_objects.specs.declared.mode.Mode.{Mode}
 use Rattle.git_objects.specs.declared.mode.Mode.TheVariants.{Dir}
-use Rattle.git_objects.proofs.Basics.{Each, and_both, first, second, same_bytes-self, no_slash}
+use Rattle.git_objects.proofs.Basics.{and_both, first, second, same_bytes-self, no_slash}
+use Rattle.git_objects.specs.Lists.{Each}
 use Rattle.git_objects.proofs.Order.{front}
 use Rattle.git_objects.proofs.Pointwise.{from-T, all_at, leaf_at, at_apart, each_at}
 use Rattle.git_objects.proofs.Bodies.{body-within}

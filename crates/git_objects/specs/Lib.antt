@@ -1,8 +1,12 @@
+pub mod Results
+pub mod Lists
 pub mod Paths
 pub mod Trees
 pub mod Names
 pub mod Idents
 pub mod Commits
+pub mod Snapshots
+pub mod Refs
 pub mod Entries
 pub mod Parts
 pub mod Bodies

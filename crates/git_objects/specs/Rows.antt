@@ -1,6 +1,7 @@
 -- Worked examples.
-use Rattle.std.specs.Prelude.{◌≡◌, refl, [], ◌∷◌, ◌++◌, codes, true, false, length, replicate, Some, None}
+use Rattle.std.specs.Prelude.{◌≡◌, ◌^◌, refl, [], ◌∷◌, ◌++◌, codes, true, false, length, replicate, Some, None}
 use Rattle.std.specs.Fmt.{digits}
+use Rattle.git_objects.specs.declared.limits.TheConstants.{TREE_FILES, COMMITS, OBJECTS, ITEM_BYTES, ITEMS, STORE_BYTES, STREAM_BYTES}
 use Rattle.git_objects.specs.Paths.{Bytes, Path, is_component, is_path, comparable, before, text}
 use Rattle.git_objects.specs.Trees.{Flat, FileLeaf, LeafNode, put, remove, under}
 use Rattle.git_objects.specs.Names.{name, body, tree_name, tops, line}
@@ -250,3 +251,7 @@ no_message = refl
 pub no_empty_line : commit_from (codes "tree ab00000000000000000000000000000000000000\nauthor <> 1 +0\ncommitter <> 1 +0\n") ≡ None
 unfolding commit_from decode_pairs is_ident encode_with
 no_empty_line = refl
+
+-- the largest numbers as the rules have them
+pub the_numbers : (TREE_FILES ≡ 2 ^ 20) × (COMMITS ≡ 2 ^ 20) × (OBJECTS ≡ 2 ^ 22) × (ITEM_BYTES ≡ 2 ^ 29) × (ITEMS ≡ 2 ^ 20) × (STORE_BYTES ≡ 2 ^ 31) × (STREAM_BYTES ≡ 2 ^ 28)
+the_numbers = (refl, refl, refl, refl, refl, refl, refl)

@@ -9,6 +9,7 @@ mod entry;
 mod ident;
 mod kind;
 mod laws;
+pub mod limits;
 mod mode;
 mod name;
 mod quantity;

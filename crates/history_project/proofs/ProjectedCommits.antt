@@ -9,7 +9,7 @@ use Rattle.git_objects.specs.Commits.{Commit}
 use Rattle.git_objects.specs.CommitBodies.{commit_from}
 use Rattle.git_objects.specs.declared.kind.Kind.{Kind}
 use Rattle.git_objects.specs.declared.kind.Kind.TheVariants.{Blob, Tree, Commit as CommitKind}
-use Rattle.git_objects.proofs.Basics.{Each}
+use Rattle.git_objects.specs.Lists.{Each}
 use Rattle.object_store.specs.Objects.{Object, IsStore, object_name, has, body_of}
 use Rattle.object_store.specs.Unfolding.{flat}
 use Rattle.object_store.proofs.Held.{not_named, has-above}

@@ -8,7 +8,8 @@ use Rattle.git_objects.specs.Entries.{Before}
 use Rattle.git_objects.specs.Names.{tops, add_top, name, line, line_of, leaf_mode, leaf_name, body_within}
 use Rattle.git_objects.specs.declared.kind.Kind.TheVariants.{Tree}
 use Rattle.git_objects.specs.declared.mode.Mode.TheVariants.{Dir}
-use Rattle.git_objects.proofs.Basics.{Each, second, same_bytes-self, same_bytes-back}
+use Rattle.git_objects.proofs.Basics.{second, same_bytes-self, same_bytes-back}
+use Rattle.git_objects.specs.Lists.{Each}
 use Rattle.object_store.specs.Unfolding.{below}
 use Rattle.object_store.proofs.Listings.{Item, item_component, item_dir, join, IsFullNode, AreItems}
 

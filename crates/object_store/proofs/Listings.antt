@@ -11,7 +11,8 @@ use Rattle.std.specs.FinMap.Entries.{below_all}
 use Rattle.git_objects.specs.Paths.{Bytes, Path, same_bytes, key, path_cmp, is_path, is_component, comparable, is_prefix}
 use Rattle.git_objects.specs.Trees.{is_leaf, Flat, IsTree, Node, LeafNode, TreeNode, rests, no_comparable}
 use Rattle.git_objects.specs.Entries.{dir_key, Before}
-use Rattle.git_objects.proofs.Basics.{Each, both, first, second, same_bytes-self, same_bytes-back, list_all-append}
+use Rattle.git_objects.proofs.Basics.{both, first, second, same_bytes-self, same_bytes-back, list_all-append}
+use Rattle.git_objects.specs.Lists.{Each}
 use Rattle.object_store.specs.Unfolding.{below}
 
 -- a component, and what stands there

@@ -13,7 +13,7 @@ use Rattle.git_objects.specs.declared.entry.Entry.{Entry}
 use Rattle.git_objects.specs.declared.kind.Kind.TheVariants.{Blob, Tree}
 use Rattle.git_objects.specs.declared.mode.Mode.{Mode}
 use Rattle.git_objects.specs.declared.mode.Mode.TheVariants.{File, Exec, Link, Module, Dir}
-use Rattle.git_objects.proofs.Basics.{Each}
+use Rattle.git_objects.specs.Lists.{Each}
 use Rattle.git_objects.proofs.TreeReading.{tree_law}
 use Rattle.object_store.specs.Objects.{Object, object_name, is_named, body_of, has, has_name, has_child, missing_entry, is_body, IsStore}
 use Rattle.object_store.specs.Unfolding.{node_of, below, joined, flat}

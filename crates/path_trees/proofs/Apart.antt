@@ -8,7 +8,8 @@ use Rattle.git_objects.specs.Entries.{is_dir, Before, entry_component, entry_dir
 use Rattle.git_objects.specs.declared.entry.Entry.{Entry}
 use Rattle.git_objects.specs.declared.mode.Mode.{Mode}
 use Rattle.git_objects.specs.declared.kind.Kind.TheVariants.{Blob}
-use Rattle.git_objects.proofs.Basics.{Each, same_bytes-back, same_bytes-self}
+use Rattle.git_objects.proofs.Basics.{same_bytes-back, same_bytes-self}
+use Rattle.git_objects.specs.Lists.{Each}
 use Rattle.object_store.specs.Objects.{Object, has_child, body_of, IsStore}
 use Rattle.object_store.specs.Unfolding.{flat}
 use Rattle.object_store.proofs.Unfolding.{node, IsFull, IsHeld, AreHeld, flat_good}

@@ -14,7 +14,8 @@ use Rattle.git_objects.specs.declared.entry.Entry.{Entry}
 use Rattle.git_objects.specs.declared.name.Name.{Name}
 use Rattle.git_objects.specs.declared.mode.Mode.{Mode}
 use Rattle.git_objects.specs.declared.mode.Mode.TheVariants.{Dir}
-use Rattle.git_objects.proofs.Basics.{Each, same_bytes-back}
+use Rattle.git_objects.proofs.Basics.{same_bytes-back}
+use Rattle.git_objects.specs.Lists.{Each}
 use Rattle.git_objects.proofs.Maps.{first_some}
 use Rattle.object_store.specs.Objects.{Object, has_child}
 use Rattle.object_store.specs.Unfolding.{flat}

@@ -13,7 +13,7 @@ use Rattle.git_objects.specs.declared.entry.Entry.{Entry}
 use Rattle.git_objects.specs.declared.name.Name.{Name}
 use Rattle.git_objects.specs.declared.mode.Mode.TheVariants.{Dir}
 use Rattle.git_objects.specs.declared.kind.Kind.TheVariants.{Tree}
-use Rattle.git_objects.proofs.Basics.{Each}
+use Rattle.git_objects.specs.Lists.{Each}
 use Rattle.object_store.specs.Objects.{Object, IsStore, has, has_child}
 use Rattle.object_store.specs.Unfolding.{flat, below}
 use Rattle.object_store.proofs.Unfolding.{node, IsFull, AreHeld, flat_good}

@@ -13,7 +13,7 @@ use Rattle.git_objects.specs.Parts.{name_bytes}
 use Rattle.git_objects.specs.Trees.{FileLeaf, Flat}
 use Rattle.git_objects.specs.declared.kind.Kind.TheVariants.{Blob, Commit as CommitKind}
 use Rattle.git_objects.specs.declared.name.Name.{Name}
-use Rattle.git_objects.proofs.Basics.{Each}
+use Rattle.git_objects.specs.Lists.{Each}
 use Rattle.object_store.specs.Objects.{Object, IsStore, body_of, has}
 use Rattle.repo_state.specs.Changes as changes
 use Rattle.repo_state.specs.Changes.{IsWithin, commit_fits, commit_named}

@@ -14,7 +14,8 @@ use Rattle.git_objects.specs.declared.kind.Kind.TheVariants.{Blob, Tree, Commit 
 use Rattle.git_objects.specs.declared.mode.Mode.{Mode}
 use Rattle.git_objects.specs.declared.mode.Mode.TheVariants.{File, Exec, Link, Module, Dir}
 use Rattle.git_objects.specs.declared.name.Name.{Name}
-use Rattle.git_objects.proofs.Basics.{Each, same_bytes-self}
+use Rattle.git_objects.proofs.Basics.{same_bytes-self}
+use Rattle.git_objects.specs.Lists.{Each}
 use Rattle.object_store.specs.Objects.{Object, object_name, is_named, find_named, has, has_name, has_child, body_of, missing_entry, is_body, IsStore}
 use Rattle.object_store.proofs.Held.{named_kind, body_named, body_bytes, tree_held, has_name-from}
 use Rattle.repo_state.specs.Changes.{Change, IsChange, blob_object, commit_named, commit_objects, has_parents, objects_of}

@@ -17,7 +17,8 @@ use Rattle.git_objects.specs.declared.kind.Kind.{Kind}
 use Rattle.git_objects.specs.declared.kind.Kind.TheVariants.{Blob, Tree, Commit as CommitKind}
 use Rattle.git_objects.specs.declared.mode.Mode.{Mode}
 use Rattle.git_objects.specs.declared.mode.Mode.TheVariants.{File, Exec, Link, Module, Dir}
-use Rattle.git_objects.proofs.Basics.{Each, same_bytes-self}
+use Rattle.git_objects.proofs.Basics.{same_bytes-self}
+use Rattle.git_objects.specs.Lists.{Each}
 use Rattle.object_store.specs.Objects.{Object, object_name, is_named, find_named, has, has_name, has_child, body_of, missing_entry, missing_of_commit, is_body, IsStore}
 use Rattle.object_store.specs.Puts.{collision, of_body, of_commit, of_tree, if_missing, refusal}
 use Rattle.object_store.specs.Unfolding.{below, joined, flat, node_of}

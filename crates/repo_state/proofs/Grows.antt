@@ -9,7 +9,7 @@ use Rattle.git_objects.specs.Paths.{Bytes, same_bytes}
 use Rattle.git_objects.specs.Parts.{name_bytes}
 use Rattle.git_objects.specs.declared.kind.Kind.{Kind}
 use Rattle.git_objects.specs.declared.name.Name.{Name}
-use Rattle.git_objects.proofs.Basics.{Each}
+use Rattle.git_objects.specs.Lists.{Each}
 use Rattle.object_store.specs.Objects.{Object, object_name, same_kind, is_named, find_named, has, has_name, body_of, is_body, IsStore}
 use Rattle.object_store.proofs.Held.{named_name}
 use Rattle.object_store.proofs.Finding.{has-found}

@@ -11,7 +11,7 @@ use Rattle.git_objects.specs.Commits.{Commit}
 use Rattle.git_objects.specs.CommitBodies.{commit_from}
 use Rattle.git_objects.specs.declared.kind.Kind.TheVariants.{Tree, Commit as CommitKind}
 use Rattle.git_objects.specs.declared.name.Name.{Name}
-use Rattle.git_objects.proofs.Basics.{Each}
+use Rattle.git_objects.specs.Lists.{Each}
 use Rattle.object_store.specs.Objects.{Object, is_named, find_named, has, body_of, missing_parent, missing_of_commit, is_body, IsStore}
 use Rattle.object_store.specs.Unfolding.{flat}
 use Rattle.object_store.proofs.Finding.{has-found}

@@ -15,7 +15,8 @@ use Rattle.git_objects.specs.declared.kind.Kind.TheVariants.{Blob, Tree}
 use Rattle.git_objects.specs.declared.mode.Mode.{Mode}
 use Rattle.git_objects.specs.declared.mode.Mode.TheVariants.{File, Exec, Link, Module, Dir}
 use Rattle.git_objects.specs.declared.name.Name.{Name}
-use Rattle.git_objects.proofs.Basics.{Each, same_bytes-self}
+use Rattle.git_objects.proofs.Basics.{same_bytes-self}
+use Rattle.git_objects.specs.Lists.{Each}
 use Rattle.object_store.specs.Objects.{Object, IsStore, has, has_child, is_named, body_of, object_name}
 use Rattle.object_store.specs.Unfolding.{below, flat, node_of}
 use Rattle.object_store.proofs.Held.{body_named}

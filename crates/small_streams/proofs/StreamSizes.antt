@@ -7,7 +7,7 @@ use Rattle.std.specs.Option.{option_and_then, option_map}
 use Rattle.std.proofs.lemmas.List.{length-take}
 use Rattle.git_objects.specs.Paths.{Bytes, Path, is_component, is_nil, text}
 use Rattle.git_objects.specs.Idents.{is_ident}
-use Rattle.git_objects.proofs.Basics.{Each}
+use Rattle.git_objects.specs.Lists.{Each}
 use Rattle.path_names.specs.PathTexts.{parts, path_of}
 use Rattle.path_names.specs.RefNames.{is_ref_name}
 use Rattle.path_names.specs.declared.path.PathFault.{PathFault}
