@@ -12,7 +12,6 @@ use Rattle.git_objects.specs.declared.kind.Kind.TheVariants.{Blob, Tree, Commit 
 use Rattle.git_objects.specs.declared.name.Name.{Name}
 use Rattle.git_objects.proofs.Basics.{same_bytes-self}
 use Rattle.object_store.specs.Objects.{Object, IsStore, object_name, find_named, has, body_of}
-use Rattle.object_store.specs.Errors.{newest}
 use Rattle.object_store.specs.Unfolding.{flat}
 use Rattle.object_store.proofs.Unfolding.{growing_law}
 use Rattle.repo_state.specs.Changes.{commit_named}
@@ -121,5 +120,5 @@ upon-is S h (Some n) s w i k =
 
 -- the same of a state
 pub stored-upon : (s : Stored) (head : Option Name) → IsStored s → IfSome head (λ n. has CommitKind s.held.objects n.0 ≡ true) →
-    tree_upon (repo_of s.held).commits (option_map name_bytes head) ≡ base_tree (newest s.objects) head
-stored-upon s head w k = upon-is (newest s.objects) s.held head w.whole w.held (within-in (newest s.objects) s.held.objects w.within) k
+    tree_upon (repo_of s.held).commits (option_map name_bytes head) ≡ base_tree s.objects head
+stored-upon s head w k = upon-is s.objects s.held head w.whole w.held (within-in s.objects s.held.objects w.within) k

@@ -6,7 +6,6 @@ ghost use Rattle.std.specs.Cmp.Lexicographic.{slice_cmp};
 ghost use Rattle.git_objects.specs.Entries.{body_text, dir_key};
 ghost use Rattle.git_objects.specs.Parts.{name_bytes};
 ghost use Rattle.git_objects.specs.Views.{entry_value};
-ghost use Rattle.object_store.specs.Errors.{newest};
 ghost use Rattle.git_objects.specs.declared.entry.Entry.{Entry};
 ghost use Rattle.path_trees.specs.Listed.{changed, is_before, listed_at, named, with_found};
 
@@ -105,7 +104,7 @@ pub fn changed_body(
     change: Option<Found>,
 ) -> Result<Vec<u8>, AllocError>
     ensures { IfOk result (λ body. body.items
-        ≡ body_text (changed component.now change (listed_at (newest store.now) (option_map name_bytes directory)))) }
+        ≡ body_text (changed component.now change (listed_at store.now (option_map name_bytes directory)))) }
 {
     let entries = match directory {
         None => None,

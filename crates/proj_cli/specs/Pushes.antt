@@ -7,7 +7,6 @@ use Rattle.git_objects.specs.Trees.{Flat, IsTree, under}
 use Rattle.git_objects.specs.Names.{tree_name}
 use Rattle.git_objects.specs.Commits.{Letter}
 use Rattle.object_store.specs.Objects.{Object}
-use Rattle.object_store.specs.Errors.{newest}
 use Rattle.object_store.specs.Unfolding.{flat}
 use Rattle.repo_state.specs.Loads.{IsStored, Stored}
 use Rattle.filter_unapply.specs.Lenses.{Lens}
@@ -93,5 +92,5 @@ pub record IsPushBatch (refname : Bytes) (r : Pushed) (p : Prepared) : Type 0 wh
 pub record IsPreparedPush (s' : Stored) (f : Lens) (start : push.Start) (refname : Bytes) (s : Small) (p : Prepared) : Type 0 where
   pub stored : IsStored s'
   pub made : Pushed
-  pub accepted : IsAccepted (newest s'.objects) f start s made
+  pub accepted : IsAccepted s'.objects f start s made
   pub batch : IsPushBatch refname made p

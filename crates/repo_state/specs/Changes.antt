@@ -10,7 +10,6 @@ use Rattle.git_objects.specs.declared.kind.Kind.TheVariants.{Blob, Commit as Com
 use Rattle.git_objects.specs.declared.quantity.Quantity.{Quantity}
 use Rattle.git_objects.specs.declared.quantity.Quantity.TheVariants.{Commits, Objects, Item, Items, Store}
 use Rattle.object_store.specs.Objects.{Object, object_name, has, has_name, body_of}
-use Rattle.object_store.specs.Errors.{newest}
 use Rattle.object_store.specs.Unfolding.{flat}
 use Rattle.repo_state.specs.Items.{Refs, Held, bytes_cmp, held_with, is_commit, item_text, tree_fits, read_items}
 use Rattle.repo_state.specs.TreeObjects.{leaf_objects, tree_objects}
@@ -95,7 +94,7 @@ passed h number size p =
 -- ---- the state
 
 abbrev pub plan_in : Stored → Change → Plan
-plan_in s c = plan (newest s.objects) s.held c
+plan_in s c = plan s.objects s.held c
 
 -- after the change, of which nothing is kept where it says nothing new
 abbrev pub changed : Stored → Plan → Stored

@@ -3,7 +3,6 @@ ghost use Rattle.std.specs.Prelude.{◌≡◌, ◌<◌, ◌≤◌, ◌^◌, ◌&
 ghost use Rattle.std.specs.Option.{option_map_or};
 ghost use Rattle.git_objects.specs.Names.{name};
 ghost use Rattle.git_objects.specs.CommitBodies.{commit_from};
-ghost use Rattle.object_store.specs.Errors.{newest};
 ghost use Rattle.object_store.specs.Objects.{Object, has, has_name, IsStore};
 ghost use Rattle.object_store.specs.Puts.{refusal};
 ghost use Rattle.object_store.specs.Unfolding.{flat};
@@ -44,15 +43,14 @@ pub(crate) struct Objects {
 
 impl Model for Objects {
     ghost use Rattle.std.specs.Prelude.{List};
-    ghost use Rattle.object_store.specs.Errors.{newest};
     ghost use Rattle.object_store.specs.Objects.{Object};
     ghost use Rattle.repo_state.specs.HeldObjects.{HoldsObjects};
 
     ghost Value = { List Object };
 
-    ghost view = { λ o. newest o.store };
+    ghost view = { λ o. o.store };
 
-    ghost invariant = { λ o. HoldsObjects (newest o.store) o.names.keys o.commits };
+    ghost invariant = { λ o. HoldsObjects o.store o.names.keys o.commits };
 }
 
 fn kind_of(x: u8) -> Option<Kind>
@@ -98,15 +96,15 @@ fn add(
     body: &[u8],
     at: u64,
 ) -> Result<Name, Stop>
-    requires { AreNamed (newest store.old) names.old.keys }
-    ensures refusal { IfOk result (λ _. refusal (newest store.old) kind body.now ≡ None) }
-    ensures fresh { IfOk result (λ _. has_name (newest store.old) (name kind body.now) ≡ false) }
+    requires { AreNamed store.old names.old.keys }
+    ensures refusal { IfOk result (λ _. refusal store.old kind body.now ≡ None) }
+    ensures fresh { IfOk result (λ _. has_name store.old (name kind body.now) ≡ false) }
     ensures name { IfOk result (λ n. n.0 ≡ name kind body.now) }
-    ensures store { IfOk result (λ _. newest store.new ≡ record { kind = kind; body = body.now } ∷ newest store.old) }
-    ensures whole { IsStore (newest store.new) }
+    ensures store { IfOk result (λ _. store.new ≡ record { kind = kind; body = body.now } ∷ store.old) }
+    ensures whole { IsStore store.new }
     ensures names { IfOk result (λ n. names.new.keys ≡ names.old.keys ++ n ∷ []) }
     ensures err { IfErr result (λ stop.
-        IsStop stop (take_object (newest store.old) kind body.now at (refusal (newest store.old) kind body.now))) }
+        IsStop stop (take_object store.old kind body.now at (refusal store.old kind body.now))) }
 {
     match store.put_slice(kind, body) {
         Err(error) => Err(put_stop(error, at)),
@@ -126,7 +124,7 @@ fn stats_fit(stats: TreeStats) -> bool
 
 // Whether a stored tree is within the limits.
 fn tree_fits(store: &Store, name: &Name) -> bool
-    ensures { result ≡ (has Kind.Tree (newest store.now) name.now.0 && tree_fits (flat (newest store.now) name.now.0)) }
+    ensures { result ≡ (has Kind.Tree store.now name.now.0 && tree_fits (flat store.now name.now.0)) }
 {
     match store.stats(name) {
         None => false,
@@ -147,7 +145,7 @@ fn message_fits(body: &[u8]) -> bool
 // Whether the object that arrived last is within the limits.
 fn fits(store: &Store, kind: Kind, key: &Name, body: &[u8]) -> bool
     requires { key.now.0 ≡ name kind body.now }
-    ensures { (S : List Object) → newest store.now ≡ record { kind = kind; body = body.now } ∷ S → result ≡ body_fits S kind body.now }
+    ensures { (S : List Object) → store.now ≡ record { kind = kind; body = body.now } ∷ S → result ≡ body_fits S kind body.now }
 {
     match kind {
         Kind::Blob => body.len() <= BLOB_BYTES,

@@ -5,7 +5,6 @@ ghost use Rattle.std.specs.Option.{option_map};
 ghost use Rattle.git_objects.specs.Parts.{name_bytes};
 ghost use Rattle.proj_io.specs.Counts.{Counts};
 ghost use Rattle.proj_io.specs.Items.{Stays};
-ghost use Rattle.object_store.specs.Errors.{newest};
 ghost use Rattle.git_objects.specs.declared.kind.Kind.TheVariants.{Commit};
 ghost use Rattle.object_store.specs.Objects.{has, object_name};
 ghost use Rattle.repo_state.specs.Items.{bytes_cmp, held_with, is_commit, read_items};
@@ -68,7 +67,7 @@ impl State {
     fn of(loaded: Loaded, number: u32) -> State
         requires { are_heads loaded.objects loaded.refs ≡ true }
         ensures held { result.held ≡ held_with loaded.objects loaded.refs }
-        ensures objects { newest result.objects ≡ loaded.objects }
+        ensures objects { result.objects ≡ loaded.objects }
         ensures number { result.number ≡ number }
         ensures size { result.size ≡ loaded.size }
     {
@@ -112,7 +111,7 @@ impl State {
             (λ state. IsLoaded items state)
             (λ e. IsLoadFault e (read_items items))) }
         ensures number { IfOk result (λ state. state.number ≡ K.number keeper.old) }
-        ensures whole { IfOk result (λ state. newest state.objects ≡ state.held.objects) }
+        ensures whole { IfOk result (λ state. state.objects ≡ state.held.objects) }
         ensures same { K.number keeper.new ≡ K.number keeper.old }
         ensures items { Stays (K.items keeper.old) (K.items keeper.new) }
         ensures is_open { K.is_open keeper.new }
