@@ -45,12 +45,6 @@ pub fn laid_below(
     }
 }
 
-fn is_dir(mode: Mode) -> bool
-    ensures { result ≡ is_dir mode }
-{
-    mode == Mode::Dir
-}
-
 // The first path of a tree, in path order.
 fn first_path(alloc: Global, store: &Store, root: Name) -> Result<Option<Path>, AllocError>
     requires { has Tree store.now root.0 ≡ true }
@@ -76,7 +70,7 @@ fn emptied(alloc: Global, store: &mut Store, place: &Path, base: Name) -> Result
 {
     let _ = store.get(&base);
     match entry_at(store, base, place) {
-        Some(found) if is_dir(found.mode) => Ok(remove_at(alloc, store, base, place)?),
+        Some(found) if found.mode.is_dir() => Ok(remove_at(alloc, store, base, place)?),
         _ => Ok(base),
     }
 }
@@ -130,7 +124,7 @@ fn leaf_in_way(
     'fronts: for last in 0..components.len() {
         let front = Path::of_parts(alloc, &components[..last + 1], &[])?;
         if let Some(found) = entry_at(store, root, &front) {
-            if !is_dir(found.mode) {
+            if !found.mode.is_dir() {
                 return Ok(Some(front));
             }
         }

@@ -12,7 +12,7 @@ ghost use Rattle.git_objects.specs.declared.kind.Kind.TheVariants.{Commit, Tree}
 ghost use Rattle.object_store.specs.Objects.{has, IsStore};
 ghost use Rattle.object_store.specs.Unfolding.{flat};
 ghost use Rattle.path_trees.specs.Listed.{directory_of};
-ghost use Rattle.repo_state.specs.Changes.{commit_named};
+ghost use Rattle.object_store.specs.StoredSnapshots.{commit_named};
 ghost use Rattle.history_project.specs.Projection.{distinct, name_line, projected, projection_below, shown_commit};
 ghost use Rattle.history_project.specs.Kept.{kept, with_shown, IsNameOf};
 ghost use Rattle.history_project.specs.Snapshots.{snapshots_at};

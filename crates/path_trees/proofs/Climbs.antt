@@ -19,12 +19,12 @@ use Rattle.git_objects.proofs.Digests.{name-is_name}
 use Rattle.git_objects.proofs.Pointwise.{IsNode}
 use Rattle.object_store.specs.Objects.{Object, has, has_child, IsStore}
 use Rattle.object_store.specs.Puts.{of_body}
-use Rattle.object_store.specs.Unfolding.{flat}
+use Rattle.object_store.specs.Unfolding.{flat, StandsFor}
 use Rattle.object_store.proofs.Held.{has-above}
 use Rattle.object_store.proofs.Listings.{IsFullNode}
 use Rattle.object_store.proofs.Unfolding.{growing_law, IsHeld, flat_good, node_good}
 use Rattle.path_trees.specs.Standing.{node, IsClear}
-use Rattle.path_trees.specs.Made.{StandsFor, IsOnWay, AreMade, IsGrown, IsTreeFault}
+use Rattle.path_trees.specs.Made.{IsOnWay, AreMade, IsGrown, IsTreeFault}
 use Rattle.path_trees.specs.Listed.{listed_at, changed, edited}
 use Rattle.path_trees.specs.Levels.{IsDirectory, AreDirectories, IsTaken, IsRefused, IsAbove}
 use Rattle.path_trees.specs.declared.found.Found.{Found}

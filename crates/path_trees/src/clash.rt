@@ -14,7 +14,7 @@ ghost use Rattle.path_trees.specs.Paired.{first_behind, pair_behind};
 ghost use Rattle.path_trees.specs.Standing.{node};
 
 use crate::Found;
-use crate::directory::{find, is_dir};
+use crate::directory::find;
 use crate::walk::{copied, entries_at, go_up, next_leaf};
 use git_objects::{Component, Mode, Name, TreeView};
 use object_store::Store;
@@ -83,7 +83,7 @@ pub fn first_clash(
 fn are_directories(a: Mode, b: Mode) -> bool
     ensures { result ≡ (is_dir a && is_dir b) }
 {
-    is_dir(a) && is_dir(b)
+    a.is_dir() && b.is_dir()
 }
 
 // The first path of what these components have in each tree, where one of the two is a leaf.
@@ -121,7 +121,7 @@ fn first_path(
     requires held { has_child store.now found.now.mode found.now.name.0 ≡ true }
     ensures { IfOk result (λ path. Some path ≡ first_behind components.items (rests (node store.now found.now))) }
 {
-    if !is_dir(found.mode) {
+    if !found.mode.is_dir() {
         return Ok(Path::of(components));
     }
     let mut levels = Vec::new(alloc);

@@ -2,7 +2,6 @@
 ghost use Rattle.std.specs.Prelude.{◌≡◌, is_some, true};
 ghost use Rattle.git_objects.specs.Bodies.{tree_entries};
 ghost use Rattle.std.specs.Option.{option_and_then};
-ghost use Rattle.git_objects.specs.Entries.{is_dir};
 ghost use Rattle.object_store.specs.Errors.{object_value};
 ghost use Rattle.object_store.specs.Objects.{IsStore};
 ghost use Rattle.path_trees.specs.Listed.{directory_of, entries_of, found_at, listed};
@@ -10,12 +9,6 @@ ghost use Rattle.path_trees.specs.Listed.{directory_of, entries_of, found_at, li
 use crate::Found;
 use git_objects::{Kind, Mode, Name, TreeView};
 use object_store::{ObjectRef, Store};
-
-pub fn is_dir(mode: Mode) -> bool
-    ensures { result ≡ is_dir mode }
-{
-    mode == Mode::Dir
-}
 
 // The entries of an object, unless it is no tree.
 fn entries_in<'a>(object: ObjectRef<'a>) -> Option<TreeView<'a>>
@@ -73,7 +66,7 @@ pub fn directory_in(store: &Store, directory: &Name, component: &[u8]) -> Option
     ensures store { IsStore store.now }
 {
     let found = found_in(store, directory, component)?;
-    if is_dir(found.mode) {
+    if found.mode.is_dir() {
         Some(found.name)
     } else {
         None

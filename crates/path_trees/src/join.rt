@@ -5,10 +5,10 @@ ghost use Rattle.git_objects.specs.Trees.{Flat};
 ghost use Rattle.git_objects.specs.Paths.{is_nil};
 ghost use Rattle.git_objects.specs.declared.kind.Kind.TheVariants.{Tree};
 ghost use Rattle.object_store.specs.Objects.{IsStore, has};
-ghost use Rattle.object_store.specs.Unfolding.{flat};
+ghost use Rattle.object_store.specs.Unfolding.{flat, StandsFor};
 ghost use Rattle.path_trees.specs.Clashes.{IsShared, clash, together};
 ghost use Rattle.path_trees.specs.Joins.{AreLinked, IsJoinFault, IsPlaced, listing_of};
-ghost use Rattle.path_trees.specs.Made.{IsGrown, IsTreeFault, StandsFor};
+ghost use Rattle.path_trees.specs.Made.{IsGrown, IsTreeFault};
 ghost use Rattle.path_trees.specs.Merged.{shared, with_names};
 
 use crate::TreeFault;

@@ -4,7 +4,8 @@ ghost use Rattle.std.specs.Option.{option_map};
 ghost use Rattle.git_objects.specs.declared.kind.Kind.TheVariants.{Tree};
 ghost use Rattle.object_store.specs.Objects.{has, has_child};
 ghost use Rattle.object_store.specs.Unfolding.{flat};
-ghost use Rattle.path_trees.specs.Standing.{node, standing};
+ghost use Rattle.path_trees.specs.Standing.{node};
+ghost use Rattle.git_objects.specs.Trees.{standing};
 
 use crate::Found;
 use crate::directory::{directory_in, found_in};

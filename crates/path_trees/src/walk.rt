@@ -11,7 +11,7 @@ ghost use Rattle.path_trees.specs.Listed.{listed};
 ghost use Rattle.path_trees.specs.Walked.{AreLevels, IsHeldLeaf, IsStep, left_in, walked};
 
 use crate::Leaf;
-use crate::directory::{entries_of, is_dir};
+use crate::directory::entries_of;
 use git_objects::{Component, Name, TreeView};
 use object_store::Store;
 use path_names::Path;
@@ -154,7 +154,7 @@ pub fn next_leaf<'a>(
         };
         levels.push(level)?;
         components.push(copied(alloc, entry.component)?)?;
-        if !is_dir(entry.mode) {
+        if !entry.mode.is_dir() {
             let leaf = Leaf {
                 mode: entry.mode,
                 name: entry.name,

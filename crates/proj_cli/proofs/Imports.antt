@@ -11,10 +11,12 @@ use Rattle.git_objects.specs.Parts.{name_bytes}
 use Rattle.git_objects.specs.declared.kind.Kind.TheVariants.{Blob, Commit}
 use Rattle.git_objects.specs.declared.name.Name.{Name}
 use Rattle.object_store.specs.Objects.{Object, body_of, has}
-use Rattle.repo_state.specs.Items.{Held, bytes_cmp}
+use Rattle.repo_state.specs.Items.{Held}
+use Rattle.git_objects.specs.Refs.{bytes_cmp}
 use Rattle.repo_state.specs.Loads.{IsStored, Stored}
 use Rattle.repo_state.specs.Repos.{repo_of}
-use Rattle.repo_state.specs.Changes.{IsChange, are_distinct, commit_fits, commit_named, fresh, has_parents, moved, objects_of, plan}
+use Rattle.repo_state.specs.Changes.{IsChange, are_distinct, commit_fits, fresh, has_parents, moved, objects_of, plan}
+use Rattle.object_store.specs.StoredSnapshots.{commit_named}
 use Rattle.repo_state.specs.declared.commit.Setting.{Setting}
 use Rattle.repo_state.specs.Commits.{change_of, setting}
 use Rattle.proj_cli.specs.Answer.{IsInImport}

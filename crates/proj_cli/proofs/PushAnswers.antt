@@ -10,7 +10,8 @@ use Rattle.object_store.specs.Objects.{has}
 use Rattle.filter_unapply.specs.Lenses.{below}
 use Rattle.repo_state.specs.Changes.{changed, held_after, plan_in}
 use Rattle.repo_state.specs.Commits.{change_of}
-use Rattle.repo_state.specs.Items.{Held, bytes_cmp}
+use Rattle.repo_state.specs.Items.{Held}
+use Rattle.git_objects.specs.Refs.{bytes_cmp}
 use Rattle.repo_state.specs.Loads.{IsStored, Stored}
 use Rattle.proj_cli.specs.Answer.{IsInPush, IsInPushFrom}
 use Rattle.history_project.specs.Histories.{is_same_name}

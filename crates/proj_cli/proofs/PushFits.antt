@@ -11,11 +11,12 @@ use Rattle.git_objects.specs.Trees.{Flat, FileLeaf, Leaf}
 use Rattle.git_objects.specs.declared.kind.Kind.TheVariants.{Blob, Commit as CommitKind}
 use Rattle.git_objects.specs.declared.name.Name.{Name}
 use Rattle.object_store.specs.Objects.{Object, IsStore, body_of, has}
-use Rattle.repo_state.specs.TreeObjects.{leaf_objects}
+use Rattle.object_store.specs.TreeObjects.{leaf_objects}
 use Rattle.filter_unapply.specs.Lenses.{Lens}
 use Rattle.filter_unapply.specs.Laying.{LaidTree, carried, entered, first_blocked, first_lost, laid, laid_from, pre, unseen}
 use Rattle.repo_state.specs.Changes as changes
-use Rattle.repo_state.specs.Changes.{IsWithin, commit_fits, commit_named}
+use Rattle.repo_state.specs.Changes.{IsWithin, commit_fits}
+use Rattle.object_store.specs.StoredSnapshots.{commit_named}
 use Rattle.repo_state.specs.Loads.{Stored}
 use Rattle.proj_cli.specs.Prepared.{FitsItems}
 use Rattle.proj_cli.specs.Push.{pushed_commit}

@@ -17,13 +17,15 @@ use Rattle.filter_unapply.specs.Lenses.{below}
 use Rattle.filter_unapply.specs.Laying.{LaidTree, laid}
 use Rattle.filter_unapply.proofs.Lawful.{kept-laid, laid-tree, shown-laid}
 use Rattle.filter_unapply.proofs.Rests.{below-lens, shows-under}
-use Rattle.repo_state.specs.Items.{Held, bytes_cmp}
+use Rattle.repo_state.specs.Items.{Held}
+use Rattle.git_objects.specs.Refs.{bytes_cmp}
 use Rattle.repo_state.specs.Loads.{IsStored, Stored}
 use Rattle.repo_state.specs.Commits.{change_of}
-use Rattle.repo_state.specs.Changes.{Plan, changed, commit_named, held_after, is_empty, moved, plan_in, plan_text, with_refs}
-use Rattle.repo_state.specs.Repos.{Snapshot, snapshot_commit, snapshots_in}
-use Rattle.repo_state.proofs.Fitting.{flat-part}
-use Rattle.repo_state.proofs.Grows.{AreIn, part-has}
+use Rattle.repo_state.specs.Changes.{Plan, changed, held_after, is_empty, moved, plan_in, plan_text, with_refs}
+use Rattle.object_store.specs.StoredSnapshots.{commit_named, snapshots_in}
+use Rattle.git_objects.specs.Snapshots.{Snapshot, snapshot_commit}
+use Rattle.object_store.proofs.FlatParts.{flat-part}
+use Rattle.object_store.proofs.Parts.{AreIn, part-has}
 use Rattle.repo_state.proofs.Heads.{find-there}
 use Rattle.small_streams.specs.Streams.{Small}
 use Rattle.history_project.specs.Histories.{tree_at}

@@ -2,8 +2,8 @@
 ghost use Rattle.std.specs.Prelude.{◌≡◌, filter, map, reverse};
 ghost use Rattle.git_objects.specs.Parts.{name_bytes};
 ghost use Rattle.object_store.specs.Objects.{object_name};
-ghost use Rattle.repo_state.specs.Items.{is_commit};
-ghost use Rattle.repo_state.specs.Repos.{snapshots_in};
+ghost use Rattle.object_store.specs.Fits.{is_commit};
+ghost use Rattle.object_store.specs.StoredSnapshots.{snapshots_in};
 ghost use Rattle.proj_cli.specs.Answer.{NoObject, Plainly};
 ghost use Rattle.history_project.specs.Projection.{name_line, projection_below};
 ghost use Rattle.proj_cli.specs.Step.{done, project_step};

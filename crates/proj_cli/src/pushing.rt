@@ -4,14 +4,15 @@ ghost use Rattle.git_objects.specs.Commits.{commit_name};
 ghost use Rattle.git_objects.specs.Trees.{under};
 ghost use Rattle.git_objects.specs.declared.kind.Kind.TheVariants.{Commit, Tree};
 ghost use Rattle.object_store.specs.Objects.{has, IsStore};
-ghost use Rattle.object_store.specs.Unfolding.{flat};
+ghost use Rattle.object_store.specs.Unfolding.{flat, StandsFor};
 ghost use Rattle.filter_unapply.specs.Laying.{laid};
 ghost use Rattle.filter_unapply.specs.Lenses.{below};
-ghost use Rattle.repo_state.specs.Items.{tree_fits};
+ghost use Rattle.object_store.specs.Fits.{tree_fits};
 ghost use Rattle.proj_cli.specs.Push.{IsLaidMade, IsPushMade};
 ghost use Rattle.proj_cli.specs.Pushes.{IsAccepted, IsCommitFault, IsLaidFault, IsOriginal, IsPushFault, fault_of, start_value};
 ghost use Rattle.small_streams.specs.Replay.{IsDirectoryOf, IsMadeIn, are_small, contents_in, trees_within, with_changes};
-ghost use Rattle.small_streams.specs.Replays.{AddsBlobs, IsFilesFault, IsGrownBy, IsOnlyCommit, IsPutFault, StandsFor, StandsOrNone, parent_of};
+ghost use Rattle.small_streams.specs.Replays.{AddsBlobs, IsFilesFault, IsOnlyCommit, IsPutFault, StandsOrNone, parent_of};
+ghost use Rattle.object_store.specs.Growth.{IsGrownBy};
 ghost use Rattle.history_project.specs.Snapshots.{IsSnapshot};
 ghost use Rattle.small_streams.specs.Views.{change_of, head_value, small_value};
 

@@ -12,12 +12,14 @@ use Rattle.object_store.specs.Objects.{Object, object_name, find_named, has, IsS
 use Rattle.repo_state.specs.Changes.{Change, IsChange, blob_object, commit_objects, is_moved, moved, objects_of, plan, with_refs}
 use Rattle.repo_state.specs.Drafts.{IsDraft}
 use Rattle.repo_state.specs.Growing.{grown, held_of}
-use Rattle.repo_state.specs.Items.{Refs, bytes_cmp, held_with}
+use Rattle.repo_state.specs.Items.{held_with}
+use Rattle.git_objects.specs.Refs.{Refs, bytes_cmp}
 use Rattle.repo_state.specs.Stops.{are_heads}
 use Rattle.repo_state.specs.Wholes.{HoldsState}
 use Rattle.repo_state.specs.declared.draft.Draft.{Draft}
 use Rattle.repo_state.proofs.Feeding.{change-fed, commits-in, grown-all, in-grown, kept-commit, known-back}
-use Rattle.repo_state.proofs.Grows.{AreIn, grown-fresh, named-in}
+use Rattle.repo_state.proofs.Grows.{grown-fresh, named-in}
+use Rattle.object_store.proofs.Parts.{AreIn}
 use Rattle.repo_state.proofs.Heads.{are_heads-more, are_heads-put}
 use Rattle.repo_state.proofs.States.{all-at}
 

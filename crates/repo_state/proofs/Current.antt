@@ -17,7 +17,9 @@ use Rattle.repo_state.specs.Changes.{Change, IsChange, IsCurrent, IsWithin, Plan
 use Rattle.repo_state.specs.Commits.{IsSpelled}
 use Rattle.repo_state.specs.Drafts.{IsDraft}
 use Rattle.repo_state.specs.Growing.{grown, held_of}
-use Rattle.repo_state.specs.Items.{Refs, Held, has_room, held_with, is_commit, item_fits, item_text, nothing, numbered, read_from, read_item, read_items, then_read}
+use Rattle.repo_state.specs.Items.{Held, has_room, held_with, item_fits, item_text, nothing, numbered, read_from, read_item, read_items, then_read}
+use Rattle.object_store.specs.Fits.{is_commit}
+use Rattle.git_objects.specs.Refs.{Refs}
 use Rattle.repo_state.specs.Fields.{BrokenAt}
 use Rattle.repo_state.specs.Loads.{Stored}
 use Rattle.repo_state.specs.Steps.{step}

@@ -15,12 +15,14 @@ use Rattle.object_store.proofs.Finding.{found_name}
 use Rattle.std.specs.Option.{is_some}
 use Rattle.repo_state.specs.Growing.{held_of}
 use Rattle.repo_state.specs.HeldObjects.{AreNamed}
-use Rattle.repo_state.specs.Items.{Refs, is_commit}
+use Rattle.object_store.specs.Fits.{is_commit}
+use Rattle.git_objects.specs.Refs.{Refs}
 use Rattle.repo_state.specs.Views.{named}
 use Rattle.repo_state.specs.Wholes.{HoldsState}
 use Rattle.repo_state.proofs.Adopting.{each-at}
 use Rattle.repo_state.proofs.Feeding.{in-above}
-use Rattle.repo_state.proofs.Grows.{AreIn, AreKnown, named-in}
+use Rattle.repo_state.proofs.Grows.{AreKnown, named-in}
+use Rattle.object_store.proofs.Parts.{AreIn}
 
 named-own : (S H : List Object) → AreIn S H → named S (map object_name H) ≡ H
 named-own S [] i = refl

@@ -17,19 +17,22 @@ use Rattle.git_objects.specs.Lists.{Each}
 use Rattle.object_store.specs.Objects.{Object, object_name, same_kind, is_named, has, has_name, body_of, is_body, IsStore}
 use Rattle.object_store.specs.Unfolding.{flat}
 use Rattle.object_store.proofs.Held.{named_kind}
-use Rattle.repo_state.specs.Changes.{Change, IsChange, blob_object, commit_named, commit_objects, held_after, objects_of, plan_in}
+use Rattle.repo_state.specs.Changes.{Change, IsChange, blob_object, commit_objects, held_after, objects_of, plan_in}
+use Rattle.object_store.specs.StoredSnapshots.{commit_named, snapshot_in, snapshot_of, snapshots_in}
 use Rattle.repo_state.specs.Growing.{grown, held_of, with_one}
-use Rattle.repo_state.specs.Items.{Refs}
+use Rattle.git_objects.specs.Refs.{Refs}
 use Rattle.repo_state.specs.Loads.{Stored}
-use Rattle.repo_state.specs.Repos.{Snapshot, has_tree, is_kept, is_tree_of, is_used, snapshot_in, snapshot_of, snapshots_in}
-use Rattle.repo_state.specs.TreeObjects.{tree_objects}
+use Rattle.repo_state.specs.Repos.{has_tree, is_kept, is_tree_of, is_used}
+use Rattle.git_objects.specs.Snapshots.{Snapshot}
+use Rattle.object_store.specs.TreeObjects.{tree_objects}
 use Rattle.repo_state.specs.Views.{stored}
 use Rattle.repo_state.specs.Wholes.{HoldsState}
 use Rattle.repo_state.proofs.Adopting.{change-in}
 use Rattle.repo_state.proofs.Feeding.{change-fed, commits-in, grown-all, known-back}
-use Rattle.repo_state.proofs.Fitting.{flat-part}
-use Rattle.repo_state.proofs.Grows.{AreIn, grown-fresh, named-in, part-has, store-grown}
-use Rattle.repo_state.proofs.StoredCommits.{commit-held, stored-commit}
+use Rattle.object_store.proofs.FlatParts.{flat-part}
+use Rattle.repo_state.proofs.Grows.{grown-fresh, named-in, store-grown}
+use Rattle.object_store.proofs.Parts.{AreIn, part-has}
+use Rattle.object_store.proofs.StoredCommits.{commit-held, stored-commit}
 
 any-front : {A : Type 0} (p : A → Bool) (xs ys : List A) → list_any p xs ≡ true → list_any p (xs ++ ys) ≡ true
 any-front p [] ys h = absurd (true≢false (sym h))

@@ -5,7 +5,8 @@ use Rattle.git_objects.specs.Paths.{Bytes}
 use Rattle.git_objects.specs.Parts.{name_bytes}
 use Rattle.git_objects.specs.declared.name.Name.{Name}
 use Rattle.object_store.specs.Objects.{Object, find_named}
-use Rattle.repo_state.specs.Items.{Refs, held_with}
+use Rattle.repo_state.specs.Items.{held_with}
+use Rattle.git_objects.specs.Refs.{Refs}
 use Rattle.repo_state.specs.Loads.{Stored}
 
 -- the objects of these names

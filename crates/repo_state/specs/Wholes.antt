@@ -2,7 +2,8 @@
 use Rattle.std.specs.Prelude.{◌≡◌, ◌≤◌, ◌^◌, ℕ, List, filter, length}
 use Rattle.git_objects.specs.declared.name.Name.{Name}
 use Rattle.object_store.specs.Objects.{Object}
-use Rattle.repo_state.specs.Items.{Refs, is_commit}
+use Rattle.object_store.specs.Fits.{is_commit}
+use Rattle.git_objects.specs.Refs.{Refs}
 use Rattle.repo_state.specs.Loads.{IsStored}
 use Rattle.repo_state.specs.Views.{stored}
 use Rattle.repo_state.specs.HeldObjects.{AreNamed}

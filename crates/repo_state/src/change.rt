@@ -5,27 +5,12 @@ ghost use Rattle.git_objects.specs.Parts.{name_bytes};
 ghost use Rattle.object_store.specs.Objects.{has};
 ghost use Rattle.repo_state.specs.Changes.{blob_object, commit_objects};
 ghost use Rattle.repo_state.specs.Growing.{Extends, IsReady, IsStep};
-ghost use Rattle.repo_state.specs.StoredObjects.{IsTreeOf};
 
 use crate::walk::{hold, hold_tree};
-use git_objects::{CommitView, Kind, Name};
+use git_objects::{Kind, Name};
 use indexmap::IndexSet;
-use object_store::Store;
+use object_store::{Store, tree_of};
 use std::alloc::{AllocError, Global};
-
-// The tree of a stored commit.
-fn tree_of(store: &Store, name: &Name) -> Name
-    requires { has Kind.Commit store.now name.now.0 ≡ true }
-    ensures { IsTreeOf store.now name.now.0 result.0 }
-{
-    match store.get(name) {
-        None => unreachable!(),
-        Some(object) => match CommitView::of(object.body) {
-            None => unreachable!(),
-            Some(commit) => commit.tree(),
-        },
-    }
-}
 
 // Holds a commit and the objects of its tree.
 fn hold_commit(

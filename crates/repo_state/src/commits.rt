@@ -4,7 +4,7 @@ ghost use Rattle.std.specs.Option.{option_to_list};
 ghost use Rattle.git_objects.specs.Parts.{name_bytes};
 ghost use Rattle.object_store.specs.Objects.{object_name};
 ghost use Rattle.repo_state.specs.Drafts.{found};
-ghost use Rattle.repo_state.specs.Items.{is_commit};
+ghost use Rattle.object_store.specs.Fits.{is_commit};
 
 use git_objects::{Kind, Name};
 use object_store::Store;

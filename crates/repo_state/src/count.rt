@@ -3,7 +3,7 @@ ghost use Rattle.std.specs.Prelude.{◌≡◌, [], filter, length, IfOk};
 ghost use Rattle.object_store.specs.Objects.{IsStore};
 ghost use Rattle.repo_state.specs.Changes.{IsChange, fresh, objects_of};
 ghost use Rattle.repo_state.specs.Commits.{change_of};
-ghost use Rattle.repo_state.specs.Items.{is_commit};
+ghost use Rattle.object_store.specs.Fits.{is_commit};
 
 use crate::Batch;
 use crate::draft::{count_commits, hold_change};

@@ -2,6 +2,7 @@
 ghost use Rattle.std.specs.Prelude.{◌≡◌, ◌<◌, ◌≤◌, ◌^◌, ◌+◌, ◌∷◌, ◌++◌, ◌&&◌, [], None, true, cond, drop, nat_le, map, filter, length, is_some, IfOk, OnOk, MatchResult};
 ghost use Rattle.std.specs.Int.{to_be_bytes, w32};
 ghost use Rattle.std.specs.List.{flat_map, list_all};
+ghost use Rattle.git_objects.specs.declared.limits.TheConstants.{ITEMS, STORE_BYTES};
 ghost use Rattle.git_objects.specs.Paths.{is_nil};
 ghost use Rattle.git_objects.specs.Parts.{name_bytes};
 ghost use Rattle.object_store.specs.Objects.{IsStore};
@@ -9,11 +10,13 @@ ghost use Rattle.repo_state.specs.Changes.{IsChange, objects_of, or_else, plan, 
 ghost use Rattle.repo_state.specs.Commits.{change_of};
 ghost use Rattle.repo_state.specs.Drafts.{DraftOrNot, IsNoDraft, NewsOrNot, WeighedOrNot, first_passed, found, is_short, ref_value, sized};
 ghost use Rattle.repo_state.specs.Growing.{Extends, Holds, IsReady, IsStep, held_of};
-ghost use Rattle.repo_state.specs.Items.{held_with, is_commit, item_text, kind_byte, object_text, ref_text};
+ghost use Rattle.repo_state.specs.Items.{held_with, item_text, kind_byte, object_text, ref_text};
+ghost use Rattle.object_store.specs.Fits.{is_commit};
 
 use crate::change::{hold_blobs, hold_commits};
 use crate::ref_table::{MovedRef, RefTable};
 use crate::{Batch, CommitError};
+use git_objects::limits::{COMMITS, ITEM_BYTES, ITEMS, OBJECTS, STORE_BYTES};
 use git_objects::{Kind, Name, Quantity};
 use indexmap::IndexSet;
 use object_store::Store;
@@ -34,16 +37,6 @@ pub(crate) struct Draft {
     pub(crate) refs: RefTable,
     pub(crate) commits: u32,
 }
-
-const ITEM_BYTES: usize = 536_870_912;
-
-const COMMITS: usize = 1_048_576;
-
-const OBJECTS: usize = 4_194_304;
-
-const ITEMS: u32 = 1_048_576;
-
-const ALL_BYTES: u64 = 2_147_483_648;
 
 // A length with so much more, where that is within the limit of an item.
 fn add_size(size: usize, more: usize) -> Option<usize>
@@ -156,10 +149,10 @@ fn first_passed(
 ) -> Option<Quantity>
     ensures { result ≡ first_passed commits objects item number size }
 {
-    if commits > COMMITS {
+    if commits > COMMITS as usize {
         return Some(Quantity::Commits);
     }
-    if objects > OBJECTS {
+    if objects > OBJECTS as usize {
         return Some(Quantity::Objects);
     }
     match item {
@@ -170,15 +163,15 @@ fn first_passed(
 
 // The first limit of the items together that is passed.
 fn passed_by_items(length: usize, number: u32, size: u64) -> Option<Quantity>
-    ensures { result ≡ or_else (nat_le (number + 1) (2 ^ 20)) Quantity.Items (or_else (nat_le (size + length) (2 ^ 31)) Quantity.Store None) }
+    ensures { result ≡ or_else (nat_le (number + 1) ITEMS) Quantity.Items (or_else (nat_le (size + length) STORE_BYTES) Quantity.Store None) }
 {
     if number >= ITEMS {
         return Some(Quantity::Items);
     }
-    if size > ALL_BYTES {
+    if size > STORE_BYTES {
         return Some(Quantity::Store);
     }
-    if length as u64 > ALL_BYTES - size {
+    if length as u64 > STORE_BYTES - size {
         return Some(Quantity::Store);
     }
     None

@@ -1,37 +1,26 @@
 // The objects of an item.
 ghost use Rattle.std.specs.Prelude.{◌≡◌, ◌<◌, ◌≤◌, ◌^◌, ◌&&◌, ◌++◌, ◌∷◌, [], ℕ, List, None, Ok, true, false, length, nat_le, IfErr, IfOk, OnOk, MatchResult};
 ghost use Rattle.std.specs.Option.{option_map_or};
+ghost use Rattle.git_objects.specs.declared.limits.TheConstants.{COMMITS, MESSAGE_BYTES, OBJECTS, TREE_DEPTH, TREE_FILES, TREE_PATH_BYTES};
 ghost use Rattle.git_objects.specs.Names.{name};
 ghost use Rattle.git_objects.specs.CommitBodies.{commit_from};
 ghost use Rattle.object_store.specs.Objects.{Object, has, has_name, IsStore};
 ghost use Rattle.object_store.specs.Puts.{refusal};
 ghost use Rattle.object_store.specs.Unfolding.{flat};
-ghost use Rattle.repo_state.specs.Items.{body_fits, kind_field, kind_of, object_field, objects_field, refs_field, take_object, tree_fits};
+ghost use Rattle.repo_state.specs.Items.{kind_field, kind_of, object_field, objects_field, refs_field, take_object};
+ghost use Rattle.object_store.specs.Fits.{body_fits, tree_fits};
 ghost use Rattle.repo_state.specs.HeldObjects.{AreNamed, more_commits, put_stop};
 ghost use Rattle.repo_state.specs.Stops.{IsStop, are_heads};
 
 use crate::cursor::{Cursor, Stop};
 use crate::ref_fields::set_refs;
 use crate::ref_table::RefTable;
+use git_objects::limits::{BLOB_BYTES, COMMITS, MESSAGE_BYTES, OBJECTS, TREE_DEPTH, TREE_FILES, TREE_PATH_BYTES};
 use git_objects::{CommitView, Kind, Name};
 use indexmap::IndexSet;
 use object_store::{PutError, Store, TreeStats};
 use std::alloc::Global;
 use std::marker::Model;
-
-const BLOB_BYTES: usize = 16_777_216;
-
-const TREE_FILES: u32 = 1_048_576;
-
-const TREE_DEPTH: u32 = 1024;
-
-const PATH_BYTES: u32 = 16_384;
-
-const MESSAGE_BYTES: usize = 1_048_576;
-
-const OBJECTS: usize = 4_194_304;
-
-const COMMITS: u32 = 1_048_576;
 
 /// The objects that items have brought, with their names in order of arrival and the number of commits.
 #[derive(Drop)]
@@ -117,9 +106,9 @@ fn add(
 }
 
 fn stats_fit(stats: TreeStats) -> bool
-    ensures { result ≡ (nat_le stats.files (2 ^ 20) && nat_le stats.depth 1024 && nat_le stats.longest 16384) }
+    ensures { result ≡ (nat_le stats.files TREE_FILES && nat_le stats.depth TREE_DEPTH && nat_le stats.longest TREE_PATH_BYTES) }
 {
-    stats.files <= TREE_FILES && stats.depth <= TREE_DEPTH && stats.longest <= PATH_BYTES
+    stats.files <= TREE_FILES && stats.depth <= TREE_DEPTH && stats.longest <= TREE_PATH_BYTES
 }
 
 // Whether a stored tree is within the limits.
@@ -134,7 +123,7 @@ fn tree_fits(store: &Store, name: &Name) -> bool
 
 // Whether a commit's message is within the limit.
 fn message_fits(body: &[u8]) -> bool
-    ensures { result ≡ option_map_or (λ c. nat_le (length c.letter.message) (2 ^ 20)) (commit_from body.now) false }
+    ensures { result ≡ option_map_or (λ c. nat_le (length c.letter.message) MESSAGE_BYTES) (commit_from body.now) false }
 {
     match CommitView::of(body) {
         None => false,
@@ -165,9 +154,9 @@ fn more_commits(commits: u32, kind: Kind) -> u32
 }
 
 fn has_room(objects: usize, commits: u32) -> bool
-    ensures { result ≡ (nat_le objects (2 ^ 22) && nat_le commits (2 ^ 20)) }
+    ensures { result ≡ (nat_le objects OBJECTS && nat_le commits COMMITS) }
 {
-    objects <= OBJECTS && commits <= COMMITS
+    objects <= OBJECTS as usize && commits <= COMMITS
 }
 
 impl Objects {

@@ -4,7 +4,8 @@ ghost use Rattle.std.specs.Option.{option_copied, option_map};
 ghost use Rattle.std.specs.Ordering.{is_lt};
 ghost use Rattle.git_objects.specs.Parts.{name_bytes};
 ghost use Rattle.object_store.specs.Objects.{has};
-ghost use Rattle.repo_state.specs.Items.{bytes_cmp, head_field, ref_field, refs_field, rises};
+ghost use Rattle.repo_state.specs.Items.{head_field, ref_field, refs_field, rises};
+ghost use Rattle.git_objects.specs.Refs.{bytes_cmp};
 ghost use Rattle.repo_state.specs.Stops.{IsStop, are_heads, one_ref};
 
 use crate::cursor::{Cursor, Stop};

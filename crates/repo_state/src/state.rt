@@ -7,7 +7,9 @@ ghost use Rattle.proj_io.specs.Counts.{Counts};
 ghost use Rattle.proj_io.specs.Items.{Stays};
 ghost use Rattle.git_objects.specs.declared.kind.Kind.TheVariants.{Commit};
 ghost use Rattle.object_store.specs.Objects.{has, object_name};
-ghost use Rattle.repo_state.specs.Items.{bytes_cmp, held_with, is_commit, read_items};
+ghost use Rattle.repo_state.specs.Items.{held_with, read_items};
+ghost use Rattle.object_store.specs.Fits.{is_commit};
+ghost use Rattle.git_objects.specs.Refs.{bytes_cmp};
 ghost use Rattle.repo_state.specs.Loads.{IsLoaded, IsLoadFault};
 ghost use Rattle.repo_state.specs.Stops.{are_heads};
 

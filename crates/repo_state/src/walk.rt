@@ -1,8 +1,8 @@
 // The objects of stored trees, each after its children.
 ghost use Rattle.std.specs.Prelude.{◌≡◌, ◌+◌, ◌<◌, ◌++◌, ◌∷◌, [], ℕ, List, Some, None, IfNone, IfSome, OnOk, length};
-ghost use Rattle.object_store.specs.Objects.{Object, IsStore, find_named};
+ghost use Rattle.object_store.specs.Objects.{Object, IsStore, find_named, HasChildren};
 ghost use Rattle.repo_state.specs.Growing.{Extends, IsReady, IsStep};
-ghost use Rattle.repo_state.specs.StoredObjects.{AreOpen, HasChildren, HasNext, IsOpen, counted, entries_steps, frame_steps, frames_steps, itself, next_steps, stored_objects, work_of_frame, work_of_frames};
+ghost use Rattle.repo_state.specs.StoredObjects.{AreOpen, HasNext, IsOpen, counted, entries_steps, frame_steps, frames_steps, itself, next_steps, stored_objects, work_of_frame, work_of_frames};
 
 use git_objects::{Kind, Mode, Name, TreeView};
 use indexmap::IndexSet;

@@ -6,9 +6,10 @@ ghost use Rattle.git_objects.specs.Names.{name};
 ghost use Rattle.git_objects.specs.declared.kind.Kind.TheVariants.{Commit, Tree};
 ghost use Rattle.object_store.specs.Objects.{find_named, has};
 ghost use Rattle.object_store.specs.Puts.{of_body};
-ghost use Rattle.object_store.specs.Unfolding.{flat};
+ghost use Rattle.object_store.specs.Unfolding.{flat, StandsFor};
 ghost use Rattle.small_streams.specs.Replay.{IsMadeBy, IsMadeIn, are_small, blob_object, contents_in, snapshot, trees_within, with_change, with_changes};
-ghost use Rattle.small_streams.specs.Replays.{AddsBlobs, IsFilesFault, IsGrownBy, IsOnly, IsOnlyCommit, IsPutFault, IsReplayFault, IsReplayed, StandsFor, fault_of, parent_of};
+ghost use Rattle.small_streams.specs.Replays.{AddsBlobs, IsFilesFault, IsOnlyCommit, IsPutFault, IsReplayFault, IsReplayed, fault_of, parent_of};
+ghost use Rattle.object_store.specs.Growth.{IsGrownBy, IsOnly};
 ghost use Rattle.history_project.specs.Snapshots.{base_tree, IsSnapshot};
 ghost use Rattle.small_streams.specs.Views.{change_of, head_value, small_value};
 

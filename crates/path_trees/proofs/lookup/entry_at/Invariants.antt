@@ -2,7 +2,7 @@ use Rattle.std.proofs.Common.{◌≡◌, true, drop}
 use Rattle.git_objects.specs.declared.kind.Kind.TheVariants.{Tree}
 use Rattle.object_store.specs.Objects.{has}
 use Rattle.object_store.specs.Unfolding.{flat}
-use Rattle.path_trees.specs.Standing.{standing}
+use Rattle.git_objects.specs.Trees.{standing}
 use Rattle.path_trees.proofs.lookup.entry_at.Given as goal
 
 -- in the directory of the components so far, the rest of the path has what the path has

@@ -4,8 +4,8 @@ use Rattle.std.proofs.lemmas.Bool.{le-leb, lt-leb}
 use Rattle.repo_state.specs.Changes.{fresh}
 use Rattle.repo_state.specs.Commits.{change_of}
 use Rattle.repo_state.specs.Changes.{objects_of}
-use Rattle.repo_state.specs.Items.{is_commit}
-use Rattle.repo_state.specs.Repos.{Snapshot}
+use Rattle.object_store.specs.Fits.{is_commit}
+use Rattle.git_objects.specs.Snapshots.{Snapshot}
 use Rattle.proj_cli.specs.Step.{has_few}
 use Rattle.small_streams.specs.Views.{small_value}
 use Rattle.proj_cli.proofs.Bringing.{brought-change, brought-objects}

@@ -1,6 +1,6 @@
 use Rattle.std.proofs.Common.{◌≡◌, List, IfOk, sym, subst}
 use Rattle.git_objects.specs.Paths.{Bytes}
-use Rattle.repo_state.specs.Repos.{Snapshot}
+use Rattle.git_objects.specs.Snapshots.{Snapshot}
 use Rattle.history_project.specs.Projection.{name_line, projection_below}
 use Rattle.history_project.proofs.MadeLines.{last-named, made-reversed}
 use Rattle.proj_cli.proofs.name.last_line.Goals as goal

@@ -3,7 +3,8 @@ use Rattle.git_objects.specs.declared.name.Name.{Name}
 use Rattle.object_store.specs.Objects.{Object}
 use Rattle.proj_cli.specs.Answer.{IsTwice}
 use Rattle.small_streams.specs.Replay.{IsMadeBy}
-use Rattle.small_streams.specs.Replays.{IsGrownBy, IsReplayFault}
+use Rattle.small_streams.specs.Replays.{IsReplayFault}
+use Rattle.object_store.specs.Growth.{IsGrownBy}
 use Rattle.small_streams.specs.Views.{small_value}
 use Rattle.proj_cli.proofs.Twice.{twice}
 use Rattle.proj_cli.proofs.name.name_text.Goals as goal

@@ -1,6 +1,6 @@
 use Rattle.std.proofs.Common.{List, ap, sym, ◌∙◌}
 use Rattle.history_project.specs.Projection.{name_line, projection_below}
-use Rattle.repo_state.specs.Repos.{Snapshot}
+use Rattle.git_objects.specs.Snapshots.{Snapshot}
 use Rattle.proj_cli.specs.Step.{done}
 use Rattle.history_project.proofs.AllCommits.{each-held, snapshots-arrived}
 use Rattle.proj_cli.proofs.project.line_of.Goals as goal

@@ -1,7 +1,7 @@
 use Rattle.std.proofs.Common.{List, ap, ◌∙◌}
 use Rattle.std.specs.Option.{option_map}
 use Rattle.git_objects.specs.Trees.{under}
-use Rattle.repo_state.specs.Repos.{Snapshot}
+use Rattle.git_objects.specs.Snapshots.{Snapshot}
 use Rattle.history_project.specs.Projection.{Shown, projection_below}
 use Rattle.history_project.proofs.AllCommits.{each-held, snapshots-arrived}
 use Rattle.proj_cli.proofs.PushStarts.{tree-here}

@@ -1,6 +1,6 @@
 use Rattle.std.proofs.Common.{ap, ◌∙◌, ◌&&◌}
 use Rattle.object_store.specs.Unfolding.{flat}
-use Rattle.repo_state.specs.Items.{tree_fits}
+use Rattle.object_store.specs.Fits.{tree_fits}
 use Rattle.repo_state.proofs.Naming.{no-stats, some-stats}
 use Rattle.proj_cli.proofs.pushing.fits.Goals as goal
 

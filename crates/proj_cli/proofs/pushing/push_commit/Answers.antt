@@ -1,7 +1,7 @@
 use Rattle.std.proofs.Common.{sym}
 use Rattle.git_objects.specs.declared.kind.Kind.TheVariants.{Tree, Commit}
 use Rattle.small_streams.specs.Views.{small_value}
-use Rattle.small_streams.proofs.Grows.{has-grown}
+use Rattle.object_store.proofs.Growth.{has-grown}
 use Rattle.proj_cli.proofs.PushedCommits.{AreTrees, accepted_is, push_fault, push_grown}
 use Rattle.proj_cli.proofs.pushing.push_commit.Goals as goal
 

@@ -1,10 +1,10 @@
 use Rattle.std.proofs.Common.{◌≡◌, true, map, subst}
 use Rattle.git_objects.specs.Trees.{under}
-use Rattle.object_store.specs.Unfolding.{flat}
+use Rattle.object_store.specs.Unfolding.{flat, StandsFor}
 use Rattle.small_streams.specs.Replay.{IsMadeIn, are_small, trees_within, with_changes}
-use Rattle.small_streams.specs.Replays.{IsFilesFault, StandsFor}
+use Rattle.small_streams.specs.Replays.{IsFilesFault}
 use Rattle.small_streams.specs.Views.{change_of}
-use Rattle.small_streams.proofs.Grows.{stands-grown}
+use Rattle.object_store.proofs.Growth.{stands-grown}
 use Rattle.proj_cli.proofs.PushedCommits.{files_grown, shown_fault, shown_grown}
 use Rattle.proj_cli.proofs.pushing.pushed_trees.Goals as goal
 

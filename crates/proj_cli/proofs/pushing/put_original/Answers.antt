@@ -2,7 +2,7 @@ use Rattle.std.proofs.Common.{[], ◌∷◌}
 use Rattle.object_store.specs.Unfolding.{flat}
 use Rattle.small_streams.specs.Replays.{IsOnlyCommit}
 use Rattle.small_streams.specs.Views.{head_value}
-use Rattle.small_streams.proofs.Grows.{grown_self}
+use Rattle.object_store.proofs.Growth.{grown_self}
 use Rattle.proj_cli.proofs.pushing.put_original.Goals as goal
 
 pub returns-then-not-fits-clause-store : goal.returns-then-not-fits-clause-store

@@ -1,6 +1,6 @@
 use Rattle.git_objects.specs.Trees.{under}
 use Rattle.object_store.specs.Unfolding.{flat}
-use Rattle.small_streams.proofs.Grows.{grown_self}
+use Rattle.object_store.proofs.Growth.{grown_self}
 use Rattle.proj_cli.proofs.ShownRoots.{empty_fault, empty_grown, empty_stands}
 use Rattle.small_streams.proofs.Upon.{nothing_fits}
 use Rattle.small_streams.specs.Replay.{IsDirectoryOf}

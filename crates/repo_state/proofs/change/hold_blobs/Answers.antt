@@ -7,7 +7,7 @@ use Rattle.repo_state.specs.Changes.{blob_object}
 use Rattle.repo_state.specs.Growing.{IsStep}
 use Rattle.repo_state.proofs.Grows.{extends-then, step-then}
 use Rattle.repo_state.proofs.StoredCommits.{drop-at, named-at}
-use Rattle.repo_state.proofs.Walks.{find-has}
+use Rattle.object_store.proofs.Parts.{find-has}
 use Rattle.repo_state.proofs.change.hold_blobs.Goals as goal
 
 pub loop-name-preserved : goal.loop-name-preserved

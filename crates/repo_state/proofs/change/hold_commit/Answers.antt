@@ -5,7 +5,8 @@ use Rattle.repo_state.specs.Growing.{IsReady, IsStep}
 use Rattle.repo_state.specs.StoredObjects.{stored_objects}
 use Rattle.repo_state.proofs.Grows.{ready-front, step-front, step-then}
 use Rattle.repo_state.proofs.StoredCommits.{commit-spelled, commit_at}
-use Rattle.repo_state.proofs.Walks.{find-has, on-ok}
+use Rattle.repo_state.proofs.Walks.{on-ok}
+use Rattle.object_store.proofs.Parts.{find-has}
 use Rattle.repo_state.proofs.change.hold_commit.Goals as goal
 
 pub returns-clause-step : goal.returns-clause-step

@@ -3,7 +3,7 @@ use Rattle.git_objects.specs.declared.name.Name.{Name}
 use Rattle.object_store.specs.Objects.{Object}
 use Rattle.repo_state.specs.Commits.{change_of}
 use Rattle.repo_state.specs.Drafts.{found}
-use Rattle.repo_state.specs.Items.{is_commit}
+use Rattle.object_store.specs.Fits.{is_commit}
 use Rattle.repo_state.proofs.Counting.{counted}
 use Rattle.repo_state.proofs.count.count_batch.Goals as goal
 

@@ -1,6 +1,6 @@
 use Rattle.std.proofs.Common.{◌≡◌, ◌≤◌, ◌+◌, drop, length, filter}
 use Rattle.repo_state.specs.Drafts.{found}
-use Rattle.repo_state.specs.Items.{is_commit}
+use Rattle.object_store.specs.Fits.{is_commit}
 use Rattle.repo_state.proofs.draft.count_commits.Given as goal
 
 abbrev pub invariant-loop-name : goal.invariant-loop-name

@@ -5,7 +5,7 @@ use Rattle.path_names.specs.RefNames.{is_ref_name}
 use Rattle.repo_state.specs.Changes.{moved}
 use Rattle.repo_state.specs.Commits.{change_of, setting}
 use Rattle.repo_state.specs.Drafts.{NewsOrNot, found, is_short, is_valid_ref, ref_value}
-use Rattle.repo_state.specs.Items.{Refs}
+use Rattle.git_objects.specs.Refs.{Refs}
 use Rattle.repo_state.specs.declared.commit.Setting.{Setting}
 use Rattle.repo_state.specs.declared.ref_table.MovedRef.{MovedRef}
 use Rattle.repo_state.proofs.Plans.{all-short, keys-moved, news-number, prepared}

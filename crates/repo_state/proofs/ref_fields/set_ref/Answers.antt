@@ -1,5 +1,5 @@
 use Rattle.std.proofs.Common.{ap, ◌∙◌}
-use Rattle.repo_state.specs.Items.{Refs}
+use Rattle.git_objects.specs.Refs.{Refs}
 use Rattle.repo_state.specs.Stops.{are_heads}
 use Rattle.repo_state.proofs.Heads.{are_heads-put}
 use Rattle.repo_state.proofs.ref_fields.set_ref.Goals as goal

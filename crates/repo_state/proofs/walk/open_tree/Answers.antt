@@ -7,10 +7,12 @@ use Rattle.git_objects.specs.declared.kind.Kind.TheVariants.{Tree}
 use Rattle.object_store.specs.Errors.{object_value}
 use Rattle.object_store.proofs.Finding.{has-found, kind_test}
 use Rattle.repo_state.specs.Growing.{held_of}
-use Rattle.repo_state.specs.StoredObjects.{AreOpen, HasChildren, counted, frames_steps, itself, stored_objects, tree_steps}
+use Rattle.repo_state.specs.StoredObjects.{AreOpen, counted, frames_steps, itself, stored_objects, tree_steps}
+use Rattle.object_store.specs.Objects.{HasChildren}
 use Rattle.repo_state.specs.declared.walk.Frame.{Frame}
 use Rattle.repo_state.proofs.Naming.{name-known}
-use Rattle.repo_state.proofs.Walks.{absent-step, frames-open, listed, open-push, tree-children, same-step, skip-step, tree-found, tree-read}
+use Rattle.repo_state.proofs.Walks.{absent-step, frames-open, open-push, same-step, skip-step}
+use Rattle.object_store.proofs.Children.{listed, tree-children, tree-found, tree-read}
 use Rattle.repo_state.proofs.walk.open_tree.Goals as goal
 
 pub returns-then-contains-clause-step : goal.returns-then-contains-clause-step

@@ -5,7 +5,8 @@ use Rattle.repo_state.specs.Growing.{IsReady, IsStep}
 use Rattle.repo_state.specs.StoredObjects.{AreOpen, HasNext, next_steps, blob_at, counted, frame_steps, frames_steps, itself, tree_at, tree_steps}
 use Rattle.repo_state.specs.declared.walk.Child.{Child}
 use Rattle.repo_state.specs.declared.walk.Frame.{Frame}
-use Rattle.repo_state.proofs.Walks.{find-has, frame-end, frame-next, on-ok, open-push}
+use Rattle.repo_state.proofs.Walks.{frame-end, frame-next, on-ok, open-push}
+use Rattle.object_store.proofs.Parts.{find-has}
 use Rattle.repo_state.proofs.walk.turn.Goals as goal
 
 pub open_tree-requires : goal.open_tree-requires

@@ -3,7 +3,8 @@ use Rattle.git_objects.specs.CommitBodies.{commit_from}
 use Rattle.small_streams.specs.Replays.{parent_of}
 use Rattle.small_streams.specs.Views.{head_value}
 use Rattle.small_streams.proofs.CommitPuts.{commit_fits, only_commit, snapshot_is}
-use Rattle.small_streams.proofs.Grows.{fault_as, grown_as}
+use Rattle.small_streams.proofs.Grows.{fault_as}
+use Rattle.object_store.proofs.Growth.{grown_as}
 use Rattle.small_streams.proofs.replay.put_commit.Goals as goal
 
 pub put-requires : goal.put-requires

@@ -4,7 +4,7 @@ use Rattle.object_store.specs.Unfolding.{flat}
 use Rattle.small_streams.specs.Views.{change_of}
 use Rattle.small_streams.specs.Replay.{IsMadeIn}
 use Rattle.small_streams.specs.Replays.{IsPutFault}
-use Rattle.small_streams.proofs.Grows.{grown_as}
+use Rattle.object_store.proofs.Growth.{grown_as}
 use Rattle.small_streams.proofs.replay.put_file.Goals as goal
 
 pub put_at-requires-clause-root : goal.put_at-requires-clause-root

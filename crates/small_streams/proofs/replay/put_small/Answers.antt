@@ -3,7 +3,7 @@ use Rattle.object_store.specs.Unfolding.{flat}
 use Rattle.small_streams.specs.Replay.{contents_in, with_changes}
 use Rattle.small_streams.specs.Replays.{parent_of}
 use Rattle.small_streams.specs.Views.{change_of, small_value}
-use Rattle.small_streams.proofs.Grows.{stands-grown}
+use Rattle.object_store.proofs.Growth.{stands-grown}
 use Rattle.small_streams.proofs.SmallPuts.{small_grown, parent_still, blobs_still}
 use Rattle.small_streams.proofs.replay.put_small.Goals as goal
 

@@ -1,7 +1,8 @@
 use Rattle.std.proofs.Common.{map, subst, []}
 use Rattle.git_objects.specs.declared.kind.Kind.TheVariants.{Tree}
 use Rattle.small_streams.specs.Replay.{IsMadeBy}
-use Rattle.small_streams.specs.Replays.{IsGrownBy, IsReplayFault, IsReplayed}
+use Rattle.small_streams.specs.Replays.{IsReplayFault, IsReplayed}
+use Rattle.object_store.specs.Growth.{IsGrownBy}
 use Rattle.small_streams.specs.Views.{small_value}
 use Rattle.history_project.proofs.FoundObjects.{has-found}
 use Rattle.small_streams.proofs.Upon.{empty-flat, empty_fault, empty_grown, empty_grown_one, nothing_fits}

@@ -1,6 +1,6 @@
 use Rattle.std.proofs.Common.{◌∙◌, ap, map, reverse, filter}
 use Rattle.object_store.specs.Objects.{object_name}
-use Rattle.repo_state.specs.Items.{is_commit}
+use Rattle.object_store.specs.Fits.{is_commit}
 use Rattle.repo_state.specs.Loads.{Stored}
 use Rattle.repo_state.proofs.CommitNames.{in-order, commits_of}
 use Rattle.repo_state.proofs.state.State.commits.Goals as goal

@@ -6,7 +6,7 @@ use Rattle.std.proofs.lemmas.Iterator.Consumers.{YieldsList-from_chain}
 use Rattle.std.proofs.lemmas.Iterator.Search.{cmp_from_yields_List}
 use Rattle.git_objects.specs.Paths.{Bytes}
 use Rattle.git_objects.specs.Entries.{dir_key}
-use Rattle.git_objects.proofs.tree_view.compare.Goals as goal
+use Rattle.git_objects.proofs.entry_order.compare_components.Goals as goal
 
 joined_key : (c s : Bytes) (v : Bool) → s ≡ dir_key [] v → c ++ s ≡ dir_key c v
 joined_key c s true e = ap (λ (t : Bytes). c ++ t) e
