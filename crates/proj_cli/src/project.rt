@@ -28,7 +28,7 @@ pub fn project_line(
 {
     match state.head(refname) {
         None => Err(Outcome::UnknownRef),
-        Some(head) => match state.commits(alloc) {
+        Some(head) => match state.commits() {
             Err(_) => Err(Outcome::OutOfMemory),
             Ok(commits) => line_of(alloc, &state.store, &commits, place, &head),
         },

@@ -96,7 +96,7 @@ fn start(alloc: Global, state: &State, place: &Path, head: Name) -> Result<Start
     ensures tree { IfOk result (λ s. has Tree state.now.objects s.tree.0 ≡ true) }
     ensures head { IfOk result (λ s. has Commit state.now.objects s.head.0 ≡ true) }
 {
-    let commits = state.commits(alloc)?;
+    let commits = state.commits()?;
     start_in(alloc, &state.store, &commits, place, head)
 }
 

@@ -45,7 +45,7 @@ pub fn save<K: Keeper>(
 {
     let Prepared { report, batch } = prepared;
     let mut state = state;
-    match state.commit(alloc, store, batch) {
+    match state.commit(store, batch) {
         Ok(()) => Ok(report),
         Err(CommitError::StoreFault) => Err(Outcome::StoreFault),
         Err(CommitError::Limit { which: _ }) => Err(Outcome::NotBuilt),

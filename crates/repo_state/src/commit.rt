@@ -11,7 +11,6 @@ use crate::draft::{Meter, prepare};
 use git_objects::{Name, Quantity};
 use path_names::RefName;
 use proj_io::{KeepError, Keeper};
-use std::alloc::Global;
 
 /// A ref, and the commit that it is to name.
 #[derive(Drop)]
@@ -58,7 +57,6 @@ impl State {
     /// All memory is taken before the item is appended.
     pub fn commit<K: Keeper>(
         &mut self,
-        alloc: Global,
         keeper: &mut K,
         batch: Batch,
     ) -> Result<(), CommitError>
@@ -87,7 +85,7 @@ impl State {
             size: self.size,
         };
         match prepare(
-            alloc,
+            self.alloc,
             &self.store,
             &mut self.held,
             &self.refs,

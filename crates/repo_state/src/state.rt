@@ -50,6 +50,7 @@ pub struct State {
     // How many items there are, and their bytes together.
     pub(crate) number: u32,
     pub(crate) size: u64,
+    pub(crate) alloc: Global,
 }
 
 impl Model for State {
@@ -66,7 +67,7 @@ impl Model for State {
 
 impl State {
     // The state of what was read of so many items.
-    fn of(loaded: Loaded, number: u32) -> State
+    fn of(alloc: Global, loaded: Loaded, number: u32) -> State
         requires { are_heads loaded.objects loaded.refs ≡ true }
         ensures held { result.held ≡ held_with loaded.objects loaded.refs }
         ensures objects { result.objects ≡ loaded.objects }
@@ -90,6 +91,7 @@ impl State {
             commits,
             number,
             size,
+            alloc,
         }
     }
 
@@ -103,7 +105,7 @@ impl State {
             refs: RefTable::new(alloc),
             size: 0,
         };
-        Ok(State::of(loaded, 0))
+        Ok(State::of(alloc, loaded, 0))
     }
 
     /// Reads all items of the keeper.
@@ -126,15 +128,15 @@ impl State {
         };
         match load_items(alloc, keeper, count) {
             Err(e) => return Err(e),
-            Ok(loaded) => return Ok(State::of(loaded, count)),
+            Ok(loaded) => return Ok(State::of(alloc, loaded, count)),
         }
     }
 
     /// The names of the commits that items hold, in order of arrival.
-    pub fn commits(&self, alloc: Global) -> Result<Vec<Name>, AllocError>
+    pub fn commits(&self) -> Result<Vec<Name>, AllocError>
         ensures { IfOk result (λ v. map name_bytes v.items ≡ reverse (map object_name (filter is_commit self.now.held.objects))) }
     {
-        match commit_names(alloc, &self.store, self.held.as_slice()) {
+        match commit_names(self.alloc, &self.store, self.held.as_slice()) {
             Ok(commits) => Ok(commits),
             Err(_) => Err(AllocError),
         }
