@@ -1,5 +1,6 @@
 // A store of objects.
-ghost use Rattle.std.specs.Prelude.{◌≡◌, ◌⊎◌, ◌+◌, ◌≤◌, ◌∷◌, [], length, IfOk, IfErr, IfSome, OnOk, OnErr, None, true, is_some};
+ghost use Rattle.std.specs.Prelude.{◌≡◌, ◌⊎◌, ◌+◌, ◌≤◌, ◌∷◌, [], length, IfOk, IfErr, IfSome, OnOk, OnErr, None};
+ghost use Rattle.std.specs.Prelude.{true, is_some};
 ghost use Rattle.std.specs.Option.{option_map};
 ghost use Rattle.std.specs.Result.{result_err};
 ghost use Rattle.git_objects.specs.Names.{name};
@@ -8,7 +9,8 @@ ghost use Rattle.git_objects.specs.Bodies.{tree_entries};
 ghost use Rattle.git_objects.specs.CommitBodies.{commit_from};
 ghost use Rattle.git_objects.specs.Views.{entry_value};
 ghost use Rattle.git_objects.specs.declared.kind.Kind.TheVariants.{Blob};
-ghost use Rattle.object_store.specs.Objects.{body_of, find_named, has, has_child, missing_entry, missing_of_commit, missing_parent, IsStore};
+ghost use Rattle.object_store.specs.Objects.{body_of, find_named, has, has_child, missing_entry, missing_of_commit};
+ghost use Rattle.object_store.specs.Objects.{missing_parent, IsStore};
 ghost use Rattle.object_store.specs.Puts.{if_missing, of_body, of_commit, of_tree, refusal, same_object, with_object};
 ghost use Rattle.object_store.specs.Errors.{object_value, refusal_told, error_of};
 ghost use Rattle.object_store.specs.Places.{is_full_tree, placed};
@@ -316,8 +318,8 @@ impl Store {
         }
     }
 
-    /// Takes an object in, and gives its name. One that is held already changes nothing. Of several faults the body's comes
-    /// first, then the first child in the body's order, then a collision.
+    /// Takes an object in, and gives its name. One that is held already changes nothing. Of several faults the body's
+    /// comes first, then the first child in the body's order, then a collision.
     pub fn put(&mut self, kind: Kind, body: Vec<u8>) -> Result<Name, PutError>
         ensures ok { IfOk result (λ n. (n.0 ≡ name kind body.items) × (refusal self.old kind body.items ≡ None)
             × (self.new ≡ with_object self.old kind body.items)) }
