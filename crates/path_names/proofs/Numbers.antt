@@ -1,21 +1,10 @@
--- Words at the front of a text, and numbers.
-use Rattle.std.proofs.Common.{◌≡◌, ◌+◌, ◌-◌, ◌*◌, ◌<◌, ℕ, zero, suc, true, false, cond, [], ◌∷◌, length, take, drop, get_or, Some, None, refl, arith, nat_eq}
-use Rattle.std.specs.Prelude.{◌&&◌}
-use Rattle.std.specs.Cmp.Lexicographic.{pointwise}
+-- Numbers that texts say, digit by digit.
+use Rattle.std.proofs.Common.{◌≡◌, ◌+◌, ◌-◌, ◌*◌, ◌<◌, ℕ, zero, suc, true, false, cond, [], ◌∷◌, length, drop, get_or, None, refl, arith}
 use Rattle.git_objects.specs.Paths.{Bytes}
 use Rattle.git_objects.specs.Idents.{is_digit}
-use Rattle.git_objects.specs.CommitBodies.{strip}
-use Rattle.fast_import.specs.Words.{number_from}
+use Rattle.path_names.specs.Words.{number_from}
 
-pub strip-is : (word text : Bytes) → strip word text ≡ cond (pointwise nat_eq (take (length word) text) word) (Some (drop (length word) text)) None
-strip-is [] text = refl
-strip-is (w ∷ word) [] = refl
-strip-is (w ∷ word) (x ∷ text) =
-    elim (nat_eq x w) as (λ b. cond b (strip word text) None ≡ cond (b && pointwise nat_eq (take (length word) text) word) (Some (drop (length word) text)) None) [
-      | true ↦ strip-is word text
-      | false ↦ refl
-    ]
-
+-- a text with a byte that is no digit says no number
 pub number_none : (n : ℕ) (text : Bytes) (k : ℕ) → k < length text → is_digit (get_or text k 0) ≡ false → number_from n text ≡ None
 number_none n [] k h e = absurd (omega arith)
 number_none n (x ∷ text) zero h e = rw e refl
@@ -25,6 +14,7 @@ number_none n (x ∷ text) (suc k) h e =
       | false ↦ refl
     ]
 
+-- one more digit is read
 pub number_more : (n : ℕ) (text : Bytes) (k : ℕ) → k < length text → is_digit (get_or text k 0) ≡ true → number_from n (drop k text) ≡ number_from (10 * n + (get_or text k 0 - 48)) (drop (k + 1) text)
 number_more n [] k h e = absurd (omega arith)
 number_more n (x ∷ text) zero h e = rw e refl
