@@ -4,12 +4,14 @@ use Rattle.std.proofs.Common.{◌∙◌, sym, subst, inl, true≢false}
 use Rattle.std.proofs.lemmas.Bool.{and_parts, and_from}
 use Rattle.std.proofs.lemmas.Option.{none-some}
 use Rattle.filter_routes.proofs.ListLaws.{clash-seen, clash-told, list-all, list-chain, list-dir, list-exclude, list-file, list-join, list-none, list-nop, list-onto, list-sub, list-workspace}
-use Rattle.filter_routes.specs.Cells.{any_clash, cells}
-use Rattle.filter_routes.specs.Entries.{Entry, at, below}
-use Rattle.filter_routes.specs.Images.{first, image, or_else}
+use Rattle.decision_lists.specs.Cells.{any_clash, cells}
+use Rattle.decision_lists.specs.Entries.{Entry, at, below}
+use Rattle.decision_lists.specs.Fronts.{or_else}
+use Rattle.filter_routes.specs.Images.{first, image}
 use Rattle.filter_routes.specs.Laws.{has_paths, have_paths}
-use Rattle.filter_routes.specs.Lists.{IsPath, Listed}
-use Rattle.filter_routes.specs.Operations.{after_left, either_left, turned}
+use Rattle.decision_lists.specs.Lists.{IsPath}
+use Rattle.filter_routes.specs.Lists.{Listed}
+use Rattle.decision_lists.specs.Operations.{after_left, either_left, turned}
 use Rattle.filter_routes.specs.Soundness.{AreApart, AreSound, Clash, IsApart, IsSound, are_keeping, is_keeping}
 use Rattle.filter_text.specs.Filters.{Filter, Filters, append, chain, dir, exclude, file, join, more, no_more, nop, only, onto, sub, workspace}
 use Rattle.git_objects.specs.Paths.{Path}

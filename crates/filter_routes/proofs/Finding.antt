@@ -6,15 +6,15 @@ use Rattle.std.proofs.lemmas.Option.{none-some, same_Some}
 use Rattle.filter_text.specs.Filters.{Filter, Filters, nop, sub, onto, dir, file, exclude, join, chain, workspace, no_more, more, only, append, pieces}
 use Rattle.filter_text.specs.Shapes.{shape, shapes}
 use Rattle.filter_text.specs.declared.filter.Filter as code
-use Rattle.filter_routes.specs.Cells.{any_clash, cells}
-use Rattle.filter_routes.specs.Entries.{Entry}
+use Rattle.decision_lists.specs.Cells.{any_clash, cells}
+use Rattle.decision_lists.specs.Entries.{Entry}
 use Rattle.filter_routes.specs.Soundness.{Clash}
 use Rattle.filter_routes.specs.Lists.{IsListOf}
 use Rattle.filter_routes.specs.Faults.{Piece, nodes, nodes_all, member, PairAt, IsBefore}
 use Rattle.filter_routes.specs.Searching.{AreListsOf, ClashBehind, clash_of, clash_at, FirstClash, NoPairAt, FirstPairOf, NoPair, FirstPair, Refused, Searched}
 use Rattle.filter_routes.specs.declared.fault.RouteFault.{RouteFault}
 use Rattle.filter_routes.specs.declared.fault.RouteFault.TheVariants.{NotKeeping, Overlap, OutOfMemory}
-use Rattle.filter_routes.proofs.Clash.{split}
+use Rattle.decision_lists.proofs.Clash.{split}
 use Rattle.filter_routes.proofs.ListLaws.{clash-told, clash-seen}
 use Rattle.filter_routes.proofs.Walking.{nodes-count}
 

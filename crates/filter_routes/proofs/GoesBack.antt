@@ -3,14 +3,15 @@ use Rattle.std.specs.Prelude.{◌≡◌, refl, [], ◌∷◌, ◌++◌, Option, 
 use Rattle.std.proofs.Common.{ap, ◌∙◌, sym, inl, inr, subst}
 use Rattle.std.proofs.lemmas.Option.{none-some, same_Some}
 use Rattle.std.proofs.lemmas.Bool.{and_parts}
-use Rattle.filter_routes.proofs.Clash.{Comparable, append-nothing, comparable-behind, comparable-in, comparable-sym}
-use Rattle.filter_routes.proofs.Compare.{comparable-is, comparable-test}
-use Rattle.filter_routes.proofs.Compile.{kept-is, left_out-is}
-use Rattle.filter_routes.proofs.Strip.{proper-some, strip-is}
-use Rattle.filter_routes.proofs.Valid.{image-path}
-use Rattle.filter_routes.specs.Images.{and_then, first, image, or_else, proper, strip, through, whole}
+use Rattle.decision_lists.proofs.Clash.{Comparable, append-nothing, comparable-behind, comparable-in, comparable-sym}
+use Rattle.decision_lists.proofs.Compare.{comparable-is, comparable-test}
+use Rattle.decision_lists.proofs.Compile.{kept-is, left_out-is}
+use Rattle.decision_lists.proofs.Strip.{proper-some, strip-is}
+use Rattle.filter_routes.proofs.ImagePaths.{image-path}
+use Rattle.decision_lists.specs.Fronts.{and_then, or_else, proper, strip, whole}
+use Rattle.filter_routes.specs.Images.{first, image, through}
 use Rattle.filter_routes.specs.Laws.{RouteLaw, has_paths, have_paths}
-use Rattle.filter_routes.specs.Lists.{IsPath}
+use Rattle.decision_lists.specs.Lists.{IsPath}
 use Rattle.filter_routes.specs.Soundness.{AreApart, AreSound, Clash, IsApart, IsSound}
 use Rattle.filter_text.specs.Filters.{Filter, Filters, chain, dir, exclude, file, join, more, no_more, nop, onto, sub, workspace}
 use Rattle.git_objects.specs.Paths.{Path}

@@ -1,15 +1,11 @@
 pub mod Images
 pub mod Soundness
 pub mod Faults
-pub mod Entries
 pub mod Laws
-pub mod Operations
-pub mod Cells
-pub mod Rows
 pub mod Lists
 pub mod Tables
 pub mod TableValues
-pub mod Index
 pub mod RouteFaults
 pub mod Searching
 pub mod Interned
+pub mod Examples

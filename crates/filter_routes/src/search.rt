@@ -9,11 +9,10 @@ ghost use Rattle.filter_routes.specs.Searching.{AreListsOf, ClashBehind, clash_o
 ghost use Rattle.filter_routes.specs.Soundness.{IsSound};
 
 use crate::RouteFault;
-use crate::bounded::list_within;
-use crate::clashing::any_clash;
+use crate::any_list::list_within;
 use crate::faults::first_not_keeping;
-use crate::indexed::Indexed;
 use crate::lists::is_sound;
+use decision_lists::{Indexed, any_clash};
 use filter_text::Filter;
 use std::alloc::{AllocError, Global};
 
