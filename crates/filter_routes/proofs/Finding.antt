@@ -82,6 +82,13 @@ branches_of (workspace a) = no_more
 other-clear : (f : Filter) → is_list f ≡ false → IsClear (false, f)
 other-clear f h fs e = absurd (true≢false (sym (ap (λ (v : Piece). is_list v.1) e) ∙ h))
 
+-- of fewer than two branches no two clash
+pub few-apart : (ms : List code.Filter) → length ms < 2 → NoPairAt (shapes ms)
+few-apart [] l a b p = none-some p.g p.is_g
+few-apart (m ∷ []) l a zero p = omega (arith, p.ordered)
+few-apart (m ∷ []) l a (suc b) p = none-some p.g p.is_g
+few-apart (m ∷ k ∷ ms) l a b p = omega (arith, l)
+
 pub list-clear : (fs : Filters) → NoPairAt fs → IsClear (false, join fs)
 list-clear fs n gs e = subst NoPairAt (ap (λ (v : Piece). branches_of v.1) e) n
 

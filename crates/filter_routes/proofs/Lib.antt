@@ -1,9 +1,15 @@
 pub mod ImagePaths
+pub mod Branches
 pub mod GoesBack
+pub mod Inverse
 pub mod ListLaws
+pub mod SoundLemmas
 pub mod Admitting
 pub mod Members
 pub mod Walking
 pub mod Finding
 pub mod Sounds
 pub mod Interning
+pub mod Carried
+pub mod TreeEntries
+pub mod SeenTrees

@@ -1,11 +1,15 @@
 -- Worked examples.
-use Rattle.std.specs.Prelude.{◌≡◌, ℕ, ◌<◌, suc, zero, refl, List, [], ◌∷◌, ◌++◌, codes, Some, None, true, false, slice_get}
+use Rattle.std.specs.Prelude.{◌≡◌, ℕ, ◌<◌, suc, zero, refl, [], ◌∷◌, ◌++◌, codes, Some, None, true, false, slice_get}
 use Rattle.std.proofs.Common.{inl, inr, subst, arith}
 use Rattle.std.proofs.lemmas.Option.{none-some, same_Some}
 use Rattle.git_objects.specs.Paths.{Path}
+use Rattle.git_objects.specs.Trees.{FileLeaf}
 use Rattle.filter_text.specs.Filters.{Filter, Filters, nop, sub, onto, dir, file, exclude, join, chain, workspace, no_more, more, only}
 use Rattle.filter_routes.specs.Images.{image}
+use Rattle.filter_routes.specs.Lenses.{seen_through}
+use Rattle.filter_routes.specs.Origins.{origin, lens_of}
 use Rattle.filter_routes.specs.Soundness.{Clash}
+use Rattle.filter_routes.specs.SoundTests.{is_sound}
 use Rattle.filter_routes.specs.Faults.{Piece, nodes, keeps, IsBefore}
 use Rattle.filter_routes.specs.RouteFaults.{IsRouteFault}
 use Rattle.filter_routes.specs.declared.fault.RouteFault.TheVariants.{NotKeeping, Overlap}
@@ -72,6 +76,61 @@ one_after_the_other = refl
 -- a workspace is read as what lies below it
 pub a_workspace : image (workspace a) (a ++ b) ≡ Some b
 a_workspace = refl
+
+-- ---- origins
+
+pub sub_puts_on_again : origin (sub a) b ≡ Some (a ++ b)
+sub_puts_on_again = refl
+
+pub prefix_takes_off_again : origin (onto a) (a ++ b) ≡ Some b
+prefix_takes_off_again = refl
+
+-- what isn't below the prefix comes from no path
+pub prefix_gives_nothing_else : origin (onto a) (b ++ a) ≡ None
+prefix_gives_nothing_else = refl
+
+pub exclude_leaves_out_origins : origin (exclude (file a)) a ≡ None
+exclude_leaves_out_origins = refl
+
+-- `:/a:prefix=x`
+pub back_through_a_chain : origin (chain (two (sub a) (onto x))) (x ++ b) ≡ Some (a ++ b)
+back_through_a_chain = refl
+
+-- `:[x=:/a,y=:/b]`
+pub by_the_second_branch : origin (join (two (chain (two (sub a) (onto x))) (chain (two (sub b) (onto y))))) (y ++ a) ≡ Some (b ++ a)
+by_the_second_branch = refl
+
+-- `:/a` sees the leaf of a/b at b, and that of b/a nowhere
+pub seen_by_a_sub : seen_through (lens_of (sub a)) ((a ++ b, FileLeaf (codes "1")) ∷ (b ++ a, FileLeaf (codes "2")) ∷ []) ≡ (b, FileLeaf (codes "1")) ∷ []
+seen_by_a_sub = refl
+
+-- ---- soundness as a test
+
+-- `:[:/a,:/b]`
+pub two_subs : is_sound (join (two (sub a) (sub b))) ≡ false
+two_subs = refl
+
+-- `:[::a,::a/]`
+pub file_and_directory : is_sound (join (two (file a) (dir a))) ≡ false
+file_and_directory = refl
+
+pub exclude_of_sub : is_sound (exclude (sub a)) ≡ false
+exclude_of_sub = refl
+
+pub exclude_of_exclude : is_sound (exclude (exclude (file a))) ≡ false
+exclude_of_exclude = refl
+
+-- `:[x=:/a,y=:/b]`
+pub two_targets : is_sound (join (two (chain (two (sub a) (onto x))) (chain (two (sub b) (onto y))))) ≡ true
+two_targets = refl
+
+-- `:[:exclude[::a/,::b/,::b],b=:/a]`
+pub all_but_one : is_sound (join (two (exclude (join (more (dir a) (two (dir b) (file b))))) (chain (two (sub a) (onto b))))) ≡ true
+all_but_one = refl
+
+-- without `::b` in the exclude the path b stays, and clashes
+pub all_but_below : is_sound (join (two (exclude (join (two (dir a) (dir b)))) (chain (two (sub a) (onto b))))) ≡ false
+all_but_below = refl
 
 -- ---- pieces
 

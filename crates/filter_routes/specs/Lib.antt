@@ -8,4 +8,7 @@ pub mod TableValues
 pub mod RouteFaults
 pub mod Searching
 pub mod Interned
+pub mod Lenses
+pub mod Origins
+pub mod SoundTests
 pub mod Examples

@@ -9,13 +9,11 @@ mod lists;
 mod search;
 mod table;
 mod tables;
-#[cfg(test)]
-mod tests;
 
 pub use decision_lists::RouteHit;
 pub use fault::RouteFault;
 pub use faults::first_not_keeping;
-pub use laws::{fault_law, route_law, tables_law};
+pub use laws::{fault_law, lens_law, route_law, seen_law, sound_test_law, tables_law};
 pub use lists::is_sound;
 pub use search::check;
 pub use table::Table;

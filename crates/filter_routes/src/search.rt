@@ -140,11 +140,15 @@ fn lists_beside_first(
     Ok(lists)
 }
 
-// Refuses a list with two branches that clash by its number and the first two.
+// Refuses a list with two branches that clash by its number and the first two. The decision list of a lone branch isn't made:
+// it could fill any memory, where a list below it is refused at once.
 fn are_apart(alloc: Global, most: usize, members: &[Filter], number: u32) -> Result<(), RouteFault>
     ensures apart { OnOk result (NoPairAt (shapes members.now)) }
     ensures pair { IfErr result (FirstPairOf number (shapes members.now)) }
 {
+    if members.len() < 2 {
+        return Ok(());
+    }
     let lists = lists_beside_first(alloc, most, members, number)?;
     match first_clash(alloc, lists.as_slice())? {
         None => Ok(()),

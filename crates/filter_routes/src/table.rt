@@ -6,9 +6,9 @@ ghost use Rattle.filter_routes.specs.Images.{image};
 ghost use Rattle.filter_routes.specs.Laws.{has_paths};
 ghost use Rattle.filter_routes.specs.Soundness.{IsSound};
 
+use crate::RouteFault;
 use crate::lists::list_of;
 use crate::search::fault_of;
-use crate::RouteFault;
 use decision_lists::{Entry, RouteHit, locate, locate_origin};
 use filter_text::{Filter, copy};
 use git_objects::Component;

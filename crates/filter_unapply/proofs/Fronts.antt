@@ -5,7 +5,7 @@ use Rattle.git_objects.specs.Paths.{Path}
 use Rattle.git_objects.specs.Trees.{Leaf, Flat, IsTree, at, LeafNode}
 use Rattle.path_trees.specs.Standing.{standing}
 use Rattle.filter_unapply.specs.Stored.{IsInWay, IsLeafInWay}
-use Rattle.filter_unapply.proofs.Carried.{nowhere}
+use Rattle.filter_routes.proofs.Carried.{nowhere}
 use Rattle.filter_unapply.proofs.Places.{leaf_stands}
 
 -- no leaf stands at a front of fewer components

@@ -1,21 +1,19 @@
 -- Carried leaves: what they are at a path, and what holds of all of them.
 use Rattle.std.proofs.Common.{◌≡◌, Bool, true, false, cond, T, [], ◌∷◌, refl, sym, ap, subst, ◌∙◌, Option, Some, None, true≢false}
 use Rattle.std.specs.Prelude.{filter}
-use Rattle.std.specs.Option.{is_none}
 use Rattle.std.specs.List.{list_all}
 use Rattle.std.specs.declared.cmp.Ordering.{Ordering}
 use Rattle.std.specs.declared.cmp.Ordering.TheVariants.{Less, Equal, Greater}
 use Rattle.std.specs.Ordering.{is_lt}
 use Rattle.std.specs.FinMap.{put as put_entry, is_sorted}
-use Rattle.std.specs.FinMap.Entries.{by_order, below_all, is_sorted-put, is_sorted-where_key}
+use Rattle.std.specs.FinMap.Entries.{by_order, below_all, is_sorted-put}
 use Rattle.git_objects.specs.Paths.{Path, same_path, is_path, path_cmp}
 use Rattle.git_objects.specs.Trees.{Leaf, Flat, at}
 use Rattle.git_objects.proofs.Basics.{both, first, second}
 use Rattle.git_objects.proofs.Order.{path_cmp-total, path_cmp-antisymmetric, path_decides}
-use Rattle.git_objects.proofs.Maps.{first_some, at_rest, at-put_entry, at-where, same_flat}
+use Rattle.git_objects.proofs.Maps.{first_some, at_rest, at-put_entry, same_flat}
 use Rattle.git_objects.proofs.Pointwise.{from-T, all_at}
-use Rattle.filter_unapply.specs.Lenses.{Lens}
-use Rattle.filter_unapply.specs.Laying.{entered, carried, unseen}
+use Rattle.filter_routes.specs.Lenses.{entered, carried}
 
 abbrev pub ArePaths : Flat → Type 0
 ArePaths t = T (list_all (λ e. is_path e.0) t)
@@ -74,9 +72,6 @@ sorted-carried to (e ∷ s) t h = by (to e.0) (sorted-carried to s t h)
     by None r = r
     by (Some p) r = is_sorted-put path_cmp path_cmp-total p e.1 (carried to s t) r
 
-pub sorted-unseen : (f : Lens) (t : Flat) → T (is_sorted path_cmp t) → T (is_sorted path_cmp (unseen f t))
-sorted-unseen f t h = is_sorted-where_key path_cmp (λ x. is_none (f.image x)) t h
-
 pub is_less : (o : Ordering) → T (is_lt o) → o ≡ Less
 is_less Less h = refl
 is_less Equal h = absurd h
@@ -132,6 +127,3 @@ module _ (to from : Path → Option Path) (is : IsBack to from) where
   pub at-carried : (s t : Flat) → ArePaths s → (p : Path) → is_path p ≡ true → at (carried to s t) p ≡ first_some (at_rest s (from p)) (at t p)
   at-carried [] t h p v = ap (λ o. first_some o (at t p)) (at_rest-nil (from p))
   at-carried (e ∷ s) t h p v = at-entered e s t p (to e.0) refl (from-T (is_path e.0) (first (is_path e.0) _ h)) v (at-carried s t (second (is_path e.0) _ h) p v)
-
-pub at-unseen : (f : Lens) (t : Flat) (p : Path) → at (unseen f t) p ≡ cond (is_none (f.image p)) (at t p) None
-at-unseen f t p = at-where (λ x. is_none (f.image x)) t p
