@@ -1,27 +1,9 @@
 //! `proj` shows parts of a monorepo as Git repositories of their own.
 #![tactic(auto)]
 
-mod import;
-#[cfg(test)]
-mod import_tests;
-mod name;
-mod outcome;
-mod program;
-mod project;
-mod push;
-#[cfg(test)]
-mod push_tests;
-mod pushing;
-mod saving;
-#[cfg(test)]
-mod tests;
-mod texts;
-mod words;
-
-pub use outcome::{Outcome, outcome_code, outcome_text};
-pub use program::run;
+use proj_cli::{outcome_code, run};
 use proj_io::{MemKeeper, StdSink, StdSource};
-use std::alloc::{AllocError, Global};
+use std::alloc::Global;
 use std::process::ExitCode;
 use std::{env, io};
 
