@@ -19,7 +19,7 @@ use Rattle.fast_import.specs.declared.command.Command.{Command}
 use Rattle.fast_import.specs.declared.command.Command.TheVariants as commands
 use Rattle.fast_import.specs.declared.command.CommitHead.{CommitHead}
 use Rattle.fast_import.specs.declared.commit_ref.CommitRef.{CommitRef}
-use Rattle.fast_import.specs.Words.{number, number_from}
+use Rattle.path_names.specs.Words.{number, number_from}
 use Rattle.fast_import.specs.Reading.{Reader, ◌>>=◌, ◌then◌, pure, judged, refuse, or_fault, fault, option_line, need_line}
 use Rattle.fast_import.specs.Names.{refname, ident}
 use Rattle.fast_import.specs.Blocks.{count, whole_block, sized_block, data_behind, blob_data, blob_max, message_behind, message_data, message_max}

@@ -9,7 +9,7 @@ use Rattle.git_objects.specs.CommitBodies.{strip}
 use Rattle.stream_lex.specs.Lines.{Input, Line, block_at}
 use Rattle.fast_import.specs.declared.fault.Feature.TheVariants.{Delimiter, Encoding, Signature}
 use Rattle.fast_import.specs.declared.fault.StreamFault.TheVariants.{Syntax, Unsupported, Limit}
-use Rattle.fast_import.specs.Words.{number}
+use Rattle.path_names.specs.Words.{number}
 use Rattle.fast_import.specs.Reading.{Reader, Read, ◌>>=◌, ◌then◌, lifted, fault, or_fault, judged, refuse, need_line}
 
 -- the bytes of a blob, and of a message

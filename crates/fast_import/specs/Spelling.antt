@@ -19,7 +19,7 @@ use Rattle.fast_import.specs.declared.progress.Phase.{Phase}
 use Rattle.fast_import.specs.declared.progress.Phase.TheVariants.{Between, InCommit, Finished}
 use Rattle.fast_import.specs.declared.progress.Progress.{Progress}
 use Rattle.fast_import.specs.declared.command.Placed.{Placed}
-use Rattle.fast_import.specs.Words.{number}
+use Rattle.path_names.specs.Words.{number}
 use Rattle.fast_import.specs.Reading.{Judged}
 use Rattle.fast_import.specs.Blocks.{blob_max, message_max}
 use Rattle.fast_import.specs.PathWords.{last_path, two_paths}

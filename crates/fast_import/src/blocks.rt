@@ -2,14 +2,15 @@
 ghost use Rattle.std.specs.Prelude.{◌≡◌, ◌≤◌, ◌<◌, ◌^◌, IfOk};
 ghost use Rattle.stream_lex.specs.Lines.{stream_max};
 ghost use Rattle.stream_lex.specs.Views.{input, line};
-ghost use Rattle.fast_import.specs.Blocks.{count, whole_block, sized_block, data_behind, blob_data, message_behind, message_data};
+ghost use Rattle.fast_import.specs.Blocks.{count, whole_block, sized_block, data_behind, blob_data};
+ghost use Rattle.fast_import.specs.Blocks.{message_behind, message_data};
 ghost use Rattle.fast_import.specs.Views.{Tells, bytes_read};
 
 use crate::halt::Halt;
 use crate::lines::need_line;
-use crate::words::{number, strip};
 use crate::{Feature, StreamFault};
 use git_objects::Quantity;
+use path_names::{number, strip};
 use stream_lex::{Cursor, LineView, block};
 
 // The bytes of a blob, and of a message.

@@ -2,16 +2,18 @@
 ghost use Rattle.std.specs.Prelude.{◌≡◌, ◌≤◌, ◌<◌, ◌^◌, [], IfOk};
 ghost use Rattle.stream_lex.specs.Lines.{stream_max};
 ghost use Rattle.stream_lex.specs.Views.{input, line, maybe_line};
-ghost use Rattle.fast_import.specs.Heads.{if_some, mark_in, mark_lines, blob, author_in, author_or, committer_of, people, ref_in, ref_line, merges, merges_max, parents, head, reset};
+ghost use Rattle.fast_import.specs.Heads.{if_some, mark_in, mark_lines, blob, author_in, author_or, committer_of};
+ghost use Rattle.fast_import.specs.Heads.{people, ref_in, ref_line, merges, merges_max, parents, head, reset};
 ghost use Rattle.fast_import.specs.Views.{Tells, same, with_rest, people_read, parents_read};
 
 use crate::blocks::{blob_data, message_data};
 use crate::halt::Halt;
 use crate::lines::{need_line, option_line};
 use crate::names::{ident, refname, target};
-use crate::words::{mark, strip};
+use crate::words::mark;
 use crate::{Command, CommitHead, CommitRef, Merges, StreamFault};
 use git_objects::{Bytes, Ident, Quantity};
+use path_names::strip;
 use std::alloc::{AllocError, Global};
 use stream_lex::{Cursor, LineView};
 

@@ -7,7 +7,7 @@ ghost use Rattle.fast_import.specs.Views.{Tells, line_read};
 
 use crate::StreamFault;
 use crate::halt::Halt;
-use crate::words::strip;
+use path_names::strip;
 use stream_lex::{Cursor, LineView, line};
 
 // The next line where it begins with a word, without this word. Else it isn't taken.

@@ -3,7 +3,8 @@ ghost use Rattle.std.specs.Prelude.{◌≡◌, ◌≤◌, true, None, IfSome, If
 ghost use Rattle.std.specs.List.{list_all};
 ghost use Rattle.std.specs.Option.{option_map};
 ghost use Rattle.git_objects.specs.Bodies.{is_name};
-ghost use Rattle.git_objects.specs.CommitBodies.{commit_from, field_from, ident_field, is_parent, letter_from, lower_name, name_field, rest_from, strip};
+ghost use Rattle.git_objects.specs.CommitBodies.{commit_from, field_from, ident_field, is_parent, letter_from};
+ghost use Rattle.git_objects.specs.CommitBodies.{lower_name, name_field, rest_from, strip};
 ghost use Rattle.git_objects.specs.ParentLines.{parents_at, with_parents};
 ghost use Rattle.git_objects.specs.Parts.{name_bytes};
 ghost use Rattle.git_objects.specs.Views.{letter_value};

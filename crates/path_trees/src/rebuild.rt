@@ -6,41 +6,24 @@ ghost use Rattle.std.specs.Cmp.Lexicographic.{slice_cmp};
 ghost use Rattle.git_objects.specs.Entries.{body_text, dir_key};
 ghost use Rattle.git_objects.specs.Parts.{name_bytes};
 ghost use Rattle.git_objects.specs.Views.{entry_value};
-ghost use Rattle.object_store.specs.Errors.{newest};
 ghost use Rattle.git_objects.specs.declared.entry.Entry.{Entry};
 ghost use Rattle.path_trees.specs.Listed.{changed, is_before, listed_at, named, with_found};
 
 use crate::Found;
-use crate::directory::{entries_of, is_dir};
-use git_objects::{EntryView, Name, TreeView, add_entry};
+use crate::directory::entries_of;
+use git_objects::{EntryView, Name, TreeView, add_entry, compare_components};
 use object_store::Store;
 use std::alloc::{AllocError, Global};
-use std::cmp::Ordering;
-
-fn slash(is_dir: bool) -> &'static [u8]
-    ensures { result.now ≡ dir_key [] is_dir }
-{
-    if is_dir { b"/" } else { b"" }
-}
-
-// Git's order of entries' components.
-pub fn compare(a: &[u8], a_dir: bool, b: &[u8], b_dir: bool) -> Ordering
-    ensures { result ≡ slice_cmp nat_cmp (dir_key a.now a_dir) (dir_key b.now b_dir) }
-{
-    a.iter()
-        .chain(slash(a_dir).iter())
-        .cmp(b.iter().chain(slash(b_dir).iter()))
-}
 
 // Whether a component with this stands before an entry.
 fn is_before(component: &[u8], found: &Found, entry: &EntryView<'_>) -> bool
     ensures { result ≡ is_before (named component.now found.now) (entry_value entry.now) }
 {
-    compare(
+    compare_components(
         component,
-        is_dir(found.mode),
+        found.mode.is_dir(),
         entry.component,
-        is_dir(entry.mode),
+        entry.mode.is_dir(),
     )
     .is_lt()
 }
@@ -105,7 +88,7 @@ pub fn changed_body(
     change: Option<Found>,
 ) -> Result<Vec<u8>, AllocError>
     ensures { IfOk result (λ body. body.items
-        ≡ body_text (changed component.now change (listed_at (newest store.now) (option_map name_bytes directory)))) }
+        ≡ body_text (changed component.now change (listed_at store.now (option_map name_bytes directory)))) }
 {
     let entries = match directory {
         None => None,

@@ -10,8 +10,11 @@ use Rattle.filter_unapply.specs.Lenses.{below}
 use Rattle.git_objects.specs.Commits.{hex}
 use Rattle.object_store.specs.Objects.{Object}
 use Rattle.repo_state.specs.Fields.{BrokenAt, Clash}
-use Rattle.repo_state.specs.Items.{Held, Break, bytes_cmp, is_commit, read_items}
-use Rattle.repo_state.specs.Repos.{Snapshot, repo_of, snapshot_name}
+use Rattle.repo_state.specs.Items.{Held, Break, read_items}
+use Rattle.object_store.specs.Fits.{is_commit}
+use Rattle.git_objects.specs.Refs.{bytes_cmp}
+use Rattle.repo_state.specs.Repos.{repo_of}
+use Rattle.git_objects.specs.Snapshots.{Snapshot, snapshot_name}
 use Rattle.repo_state.specs.Changes.{Plan, fresh, is_empty, moved, passed}
 use Rattle.repo_state.specs.declared.state.LoadError.{LoadError}
 use Rattle.repo_state.specs.declared.state.LoadError.TheVariants as load

@@ -3,14 +3,13 @@ ghost use Rattle.std.specs.Prelude.{◌≡◌, [], List, map, reverse, true, Som
 ghost use Rattle.std.specs.List.{list_all};
 ghost use Rattle.git_objects.specs.Parts.{name_bytes};
 ghost use Rattle.git_objects.specs.declared.kind.Kind.TheVariants.{Commit};
-ghost use Rattle.object_store.specs.Errors.{newest};
 ghost use Rattle.object_store.specs.Objects.{has, IsStore};
 ghost use Rattle.repo_state.specs.Changes.{fresh};
-ghost use Rattle.repo_state.specs.Repos.{Snapshot};
+ghost use Rattle.git_objects.specs.Snapshots.{Snapshot};
 ghost use Rattle.proj_cli.specs.Answer.{Plainly};
 ghost use Rattle.history_project.specs.Projection.{name_line, projection_below};
 ghost use Rattle.small_streams.specs.Replay.{IsMadeBy, replayed, stream_objects};
-ghost use Rattle.small_streams.specs.Replays.{IsBrought};
+ghost use Rattle.proj_cli.specs.Brought.{IsBrought};
 ghost use Rattle.history_project.specs.Snapshots.{AreSnapshots};
 ghost use Rattle.proj_cli.specs.Step.{has_few, name_made, name_smalls};
 ghost use Rattle.history_project.specs.Histories.{last_name};
@@ -36,9 +35,9 @@ fn last_line(
     commits: &[Name],
     place: &Path,
 ) -> Result<Bytes, AllocError>
-    requires whole { IsStore (newest store.now) }
-    requires held { list_all (λ n. has Commit (newest store.now) n) (map name_bytes commits.now) ≡ true }
-    ensures { (cs : List Snapshot) → AreSnapshots (newest store.now) commits.now cs → IfOk result
+    requires whole { IsStore store.now }
+    requires held { list_all (λ n. has Commit store.now n) (map name_bytes commits.now) ≡ true }
+    ensures { (cs : List Snapshot) → AreSnapshots store.now commits.now cs → IfOk result
         (λ line. line ≡ name_line (projection_below place.now (reverse cs) (last_name cs))) }
 {
     match commits.last() {
@@ -57,7 +56,7 @@ fn are_few(
     smalls: &[SmallCommit<'_>],
     batch: &Batch,
 ) -> Result<bool, AllocError>
-    requires { IsBrought (newest store.now) (map small_value smalls.now) batch.now }
+    requires { IsBrought store.now (map small_value smalls.now) batch.now }
     ensures { (cs : List Snapshot) → replayed [] [] (map small_value smalls.now) ≡ Some cs → IfOk result
         (λ few. few ≡ has_few (fresh [] (stream_objects (map small_value smalls.now) cs))) }
 {
@@ -76,7 +75,7 @@ fn replayed_line(
     smalls: &[SmallCommit<'_>],
     batch: &Batch,
 ) -> Result<Bytes, Outcome>
-    requires { IsBrought (newest store.now) (map small_value smalls.now) batch.now }
+    requires { IsBrought store.now (map small_value smalls.now) batch.now }
     ensures { let ss = map small_value smalls.now in
         Plainly (IsMadeBy [] [] ss) (name_made refname.now place.now ss head.now (replayed [] [] ss)) result }
 {

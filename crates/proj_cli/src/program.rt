@@ -2,7 +2,6 @@
 ghost use Rattle.std.specs.Prelude.{◌≡◌, ◌≢◌, ◌≤◌, ◌⊎◌, List, [], map, string_bytes, Some, Err, true, false, IsErr, IfOk};
 ghost use Rattle.git_objects.specs.Paths.{Bytes};
 ghost use Rattle.path_names.specs.RefNames.{is_ref_name};
-ghost use Rattle.object_store.specs.Errors.{newest};
 ghost use Rattle.proj_io.specs.Items.{Stays};
 ghost use Rattle.repo_state.specs.Items.{read_items};
 ghost use Rattle.proj_io.specs.Counts.{Counts};
@@ -38,7 +37,7 @@ fn project_loaded(
     place: &Path,
 ) -> Result<Bytes, Outcome>
     requires refname { is_ref_name refname.now ≡ true }
-    requires whole { newest state.now.objects ≡ state.now.held.objects }
+    requires whole { state.now.objects ≡ state.now.held.objects }
     ensures { Plainly NoObject (project_step refname.now place.now state.now.held) result }
 {
     match RefName::parse(alloc, refname) {

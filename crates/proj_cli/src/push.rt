@@ -7,22 +7,23 @@ ghost use Rattle.git_objects.specs.Paths.{Bytes};
 ghost use Rattle.git_objects.specs.Trees.{under};
 ghost use Rattle.path_names.specs.RefNames.{is_ref_name};
 ghost use Rattle.git_objects.specs.declared.kind.Kind.TheVariants.{Commit, Tree};
-ghost use Rattle.object_store.specs.Errors.{newest};
 ghost use Rattle.object_store.specs.Objects.{has, object_name};
 ghost use Rattle.proj_io.specs.Counts.{Counts};
 ghost use Rattle.proj_io.specs.Views.{keeper_view};
 ghost use Rattle.filter_unapply.specs.Lenses.{below};
 ghost use Rattle.repo_state.specs.Changes.{IsCurrent, changed, held_after, plan_in};
 ghost use Rattle.repo_state.specs.Commits.{change_of};
-ghost use Rattle.repo_state.specs.Items.{bytes_cmp, is_commit, read_items};
-ghost use Rattle.repo_state.specs.Repos.{snapshots_in};
+ghost use Rattle.repo_state.specs.Items.{read_items};
+ghost use Rattle.object_store.specs.Fits.{is_commit};
+ghost use Rattle.git_objects.specs.Refs.{bytes_cmp};
+ghost use Rattle.object_store.specs.StoredSnapshots.{snapshots_in};
 ghost use Rattle.repo_state.specs.Loads.{IsStored};
 ghost use Rattle.proj_cli.specs.Answer.{IsInPush, IsInPushFrom, IsMadeFrom, IsMadeOf, IsPushInHand, IsPushOf, IsSmallsInHand};
 ghost use Rattle.proj_cli.specs.Prepared.{FitsItems, IsPlainRefusal, IsPrepared, IsSameBut, room_in};
 ghost use Rattle.proj_cli.specs.Push.{IsPushMade, judged, start_at};
 ghost use Rattle.proj_cli.specs.Pushed.{IsLawfulRead, IsLawfulStream, IsPushedAll};
 ghost use Rattle.proj_cli.specs.Pushes.{IsAccepted, IsPreparedPush, IsPushBatch, IsPushFault, start_value};
-ghost use Rattle.small_streams.specs.Replays.{IsGrownBy};
+ghost use Rattle.object_store.specs.Growth.{IsGrownBy};
 ghost use Rattle.history_project.specs.Shown.{shown_value};
 ghost use Rattle.proj_cli.specs.Step.{by_items, input_max, push_at, push_line, push_made, push_smalls, push_step, push_stream, room_of, start_below};
 ghost use Rattle.small_streams.specs.Streams.{stream};
@@ -71,11 +72,11 @@ fn start_in(
     place: &Path,
     head: Name,
 ) -> Result<Start, AllocError>
-    requires commits { map name_bytes commits.now ≡ reverse (map object_name (filter is_commit (newest store.now))) }
-    requires head { has Commit (newest store.now) head.0 ≡ true }
-    ensures value { IfOk result (λ s. start_value (newest store.now) place.now s ≡ start_at (λ t. under t place.now) (snapshots_in (newest store.now)) head.0) }
-    ensures tree { IfOk result (λ s. has Tree (newest store.now) s.tree.0 ≡ true) }
-    ensures head { IfOk result (λ s. has Commit (newest store.now) s.head.0 ≡ true) }
+    requires commits { map name_bytes commits.now ≡ reverse (map object_name (filter is_commit store.now)) }
+    requires head { has Commit store.now head.0 ≡ true }
+    ensures value { IfOk result (λ s. start_value store.now place.now s ≡ start_at (λ t. under t place.now) (snapshots_in store.now) head.0) }
+    ensures tree { IfOk result (λ s. has Tree store.now s.tree.0 ≡ true) }
+    ensures head { IfOk result (λ s. has Commit store.now s.head.0 ≡ true) }
 {
     // The outcome rests on what the store keeps.
     let _ = store.get(&head);
@@ -89,13 +90,13 @@ fn start_in(
 
 // What a push to a ref stands upon, which names this commit.
 fn start(alloc: Global, state: &State, place: &Path, head: Name) -> Result<Start, AllocError>
-    requires whole { newest state.now.objects ≡ state.now.held.objects }
+    requires whole { state.now.objects ≡ state.now.held.objects }
     requires head { has Commit state.now.held.objects head.0 ≡ true }
-    ensures value { IfOk result (λ s. start_value (newest state.now.objects) place.now s ≡ start_below place.now state.now.held head.0) }
-    ensures tree { IfOk result (λ s. has Tree (newest state.now.objects) s.tree.0 ≡ true) }
-    ensures head { IfOk result (λ s. has Commit (newest state.now.objects) s.head.0 ≡ true) }
+    ensures value { IfOk result (λ s. start_value state.now.objects place.now s ≡ start_below place.now state.now.held head.0) }
+    ensures tree { IfOk result (λ s. has Tree state.now.objects s.tree.0 ≡ true) }
+    ensures head { IfOk result (λ s. has Commit state.now.objects s.head.0 ≡ true) }
 {
-    let commits = state.commits(alloc)?;
+    let commits = state.commits()?;
     start_in(alloc, &state.store, &commits, place, head)
 }
 
@@ -107,14 +108,14 @@ fn push_onto(
     start: &Start,
     small: &SmallCommit<'_>,
 ) -> Result<Pushed, PushFault>
-    requires whole { newest state.old.objects ≡ state.old.held.objects }
-    requires tree { has Tree (newest state.old.objects) start.now.tree.0 ≡ true }
-    requires head { has Commit (newest state.old.objects) start.now.head.0 ≡ true }
+    requires whole { state.old.objects ≡ state.old.held.objects }
+    requires tree { has Tree state.old.objects start.now.tree.0 ≡ true }
+    requires head { has Commit state.old.objects start.now.head.0 ≡ true }
     ensures same { IsSameBut state.old state.new }
     ensures stored { IsStored state.new }
-    ensures ok { IfOk result (IsAccepted (newest state.new.objects) (below place.now) (start_value (newest state.old.objects) place.now start.now) (small_value small.now)) }
-    ensures err { IfErr result (IsPushFault (newest state.new.objects) (below place.now) (start_value (newest state.old.objects) place.now start.now) (small_value small.now)) }
-    ensures store { IsGrownBy (IsPushMade (below place.now) (start_value (newest state.old.objects) place.now start.now) (small_value small.now)) state.old.held.objects (newest state.new.objects) }
+    ensures ok { IfOk result (IsAccepted state.new.objects (below place.now) (start_value state.old.objects place.now start.now) (small_value small.now)) }
+    ensures err { IfErr result (IsPushFault state.new.objects (below place.now) (start_value state.old.objects place.now start.now) (small_value small.now)) }
+    ensures store { IsGrownBy (IsPushMade (below place.now) (start_value state.old.objects place.now start.now) (small_value small.now)) state.old.held.objects state.new.objects }
 {
     push_commit(alloc, &mut state.store, place, start, small)
 }
@@ -148,13 +149,13 @@ fn push_from(
     start: &Start,
     small: &SmallCommit<'_>,
 ) -> Result<Prepared, Outcome>
-    requires whole { newest state.old.objects ≡ state.old.held.objects }
-    requires tree { has Tree (newest state.old.objects) start.now.tree.0 ≡ true }
-    requires head { has Commit (newest state.old.objects) start.now.head.0 ≡ true }
+    requires whole { state.old.objects ≡ state.old.held.objects }
+    requires tree { has Tree state.old.objects start.now.tree.0 ≡ true }
+    requires head { has Commit state.old.objects start.now.head.0 ≡ true }
     ensures same { IsSameBut state.old state.new }
-    ensures ok { let s = small_value small.now in let from = start_value (newest state.old.objects) place.now start.now in
+    ensures ok { let s = small_value small.now in let from = start_value state.old.objects place.now start.now in
         IfOk result (IsPreparedPush state.new (below place.now) from s.head.refname s) }
-    ensures err { let s = small_value small.now in let from = start_value (newest state.old.objects) place.now start.now in
+    ensures err { let s = small_value small.now in let from = start_value state.old.objects place.now start.now in
         IfErr result (IsPlainRefusal (IsInPushFrom place.now state.old.held from s) (push_made state.old.held (room_in state.old) s.head.refname from s (judged (below place.now) from s))) }
 {
     match push_onto(alloc, state, place, start, small) {
@@ -179,7 +180,7 @@ fn push_small(
     head: Name,
     small: &SmallCommit<'_>,
 ) -> Result<Prepared, Outcome>
-    requires whole { newest state.old.objects ≡ state.old.held.objects }
+    requires whole { state.old.objects ≡ state.old.held.objects }
     requires head { find bytes_cmp refname.now state.old.held.refs ≡ Some head.0 }
     requires held { has Commit state.old.held.objects head.0 ≡ true }
     ensures same { IsSameBut state.old state.new }
@@ -218,7 +219,7 @@ pub fn prepare_push(
     head: Name,
     smalls: &[SmallCommit<'_>],
 ) -> Result<Prepared, Outcome>
-    requires whole { newest state.old.objects ≡ state.old.held.objects }
+    requires whole { state.old.objects ≡ state.old.held.objects }
     requires head { find bytes_cmp refname.now state.old.held.refs ≡ Some head.0 }
     requires held { has Commit state.old.held.objects head.0 ≡ true }
     ensures same { IsSameBut state.old state.new }
@@ -248,7 +249,7 @@ fn push_text<K: Keeper>(
 ) -> Result<Bytes, Outcome>
     requires open { K.is_open store.old }
     requires number { state.number ≡ K.number store.old }
-    requires whole { newest state.objects ≡ state.held.objects }
+    requires whole { state.objects ≡ state.held.objects }
     requires head { find bytes_cmp refname.now state.held.refs ≡ Some head.0 }
     requires held { has Commit state.held.objects head.0 ≡ true }
     requires short { length text.now ≤ input_max }
@@ -284,7 +285,7 @@ fn push_input<S: Source, K: Keeper>(
 ) -> Result<Bytes, Outcome>
     requires open { K.is_open store.old }
     requires number { state.number ≡ K.number store.old }
-    requires whole { newest state.objects ≡ state.held.objects }
+    requires whole { state.objects ≡ state.held.objects }
     requires head { find bytes_cmp refname.now state.held.refs ≡ Some head.0 }
     requires held { has Commit state.held.objects head.0 ≡ true }
     ensures made { let kept = keeper_view K.items K.number K.faults in (items : List Bytes) → (K.items store.old ≡ Some items → IsCurrent items state) →
@@ -326,7 +327,7 @@ fn push_loaded<S: Source, K: Keeper>(
 ) -> Result<Bytes, Outcome>
     requires open { K.is_open store.old }
     requires number { state.number ≡ K.number store.old }
-    requires whole { newest state.objects ≡ state.held.objects }
+    requires whole { state.objects ≡ state.held.objects }
     ensures made { let kept = keeper_view K.items K.number K.faults in (items : List Bytes) → (K.items store.old ≡ Some items → IsCurrent items state) →
         IsMadeOf (λ all. IsPushOf refname.now place.now (Ok state.held) (stream all)) (λ all. push_step refname.now place.now (room_in state) all state.held) (S.left input.old) items (kept store.old) (kept store.new) result }
     ensures lawful { IfSome (S.left input.old) (λ all. IfOk result (λ _. IsLawfulStream place.now refname.now state.held (stream all) (push_step refname.now place.now (room_in state) all state.held))) }

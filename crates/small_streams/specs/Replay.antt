@@ -6,8 +6,9 @@ use Rattle.git_objects.specs.Trees.{Flat, FileLeaf, LeafNode, put, under}
 use Rattle.git_objects.specs.Names.{body}
 use Rattle.git_objects.specs.declared.kind.Kind.TheVariants.{Blob, Tree}
 use Rattle.object_store.specs.Objects.{Object}
-use Rattle.repo_state.specs.TreeObjects.{tree_objects}
-use Rattle.repo_state.specs.Repos.{Snapshot, snapshot_name, snapshot_object}
+use Rattle.object_store.specs.TreeObjects.{tree_objects}
+use Rattle.object_store.specs.StoredSnapshots.{snapshot_object}
+use Rattle.git_objects.specs.Snapshots.{Snapshot, snapshot_name}
 use Rattle.small_streams.specs.Streams.{Change, Small}
 
 -- one file more

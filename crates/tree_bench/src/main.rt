@@ -4,7 +4,6 @@
 
 ghost use Rattle.std.specs.Prelude.{◌≡◌, ◌<◌, true, is_some, length, IfOk};
 ghost use Rattle.git_objects.specs.declared.kind.Kind.{Kind};
-ghost use Rattle.object_store.specs.Errors.{newest};
 ghost use Rattle.object_store.specs.Objects.{has};
 
 use git_objects::{Kind, Mode, Name, add_entry};
@@ -16,7 +15,7 @@ use std::{env, io};
 
 // Whether an object of that kind has the name.
 fn is_held(store: &Store, kind: Kind, name: &Name) -> bool
-    ensures { result ≡ has kind (newest store.now) name.now.0 }
+    ensures { result ≡ has kind store.now name.now.0 }
 {
     match store.get(name) {
         None => false,
