@@ -21,7 +21,7 @@ use Rattle.path_trees.specs.declared.found.TreeFault.{TreeFault}
 use Rattle.path_trees.specs.declared.found.TreeFault.TheVariants.{Collision, OutOfMemory}
 use Rattle.path_trees.proofs.Grown.{joined_in}
 use Rattle.path_trees.proofs.Trees.{stored_tree}
-use Rattle.filter_unapply.specs.Lenses.{below}
+use Rattle.filter_unapply.specs.Laying.{below}
 use Rattle.filter_unapply.specs.Laying.{Laid, Blocked, LaidTree, laid}
 use Rattle.filter_unapply.specs.Stored.{IsLaidTree, IsLaidBody, IsLayFault, IsInWay, fault_of, first_of}
 use Rattle.filter_unapply.specs.declared.fault.LayFault.{LayFault}

@@ -7,7 +7,7 @@ ghost use Rattle.object_store.specs.Objects.{has};
 ghost use Rattle.object_store.specs.Unfolding.{flat};
 ghost use Rattle.path_trees.specs.Made.{IsGrown};
 ghost use Rattle.filter_unapply.specs.Laying.{laid};
-ghost use Rattle.filter_unapply.specs.Lenses.{below};
+ghost use Rattle.filter_unapply.specs.Laying.{below};
 ghost use Rattle.filter_unapply.specs.Stored.{IsLaidBody, IsLaidTree, IsLayFault, IsLeafInWay, first_of};
 
 use crate::LayFault;

@@ -13,8 +13,8 @@ fn slash(is_dir: bool) -> &'static [u8]
     if is_dir { b"/" } else { b"" }
 }
 
-/// Compares the components of two entries as the Git object format orders them: by their bytes, that of a directory as if it
-/// ended in `/`.
+/// Compares the components of two entries as the Git object format orders them: by their bytes, that of a directory
+/// as if it ended in `/`.
 pub fn compare_components(a: &[u8], a_dir: bool, b: &[u8], b_dir: bool) -> Ordering
     ensures { result ≡ slice_cmp nat_cmp (dir_key a.now a_dir) (dir_key b.now b_dir) }
 {

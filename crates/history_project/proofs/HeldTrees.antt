@@ -15,9 +15,6 @@ use Rattle.object_store.specs.Objects.{Object, IsStore, object_name, find_named,
 use Rattle.object_store.specs.Unfolding.{flat}
 use Rattle.object_store.proofs.Unfolding.{growing_law}
 use Rattle.object_store.specs.StoredSnapshots.{commit_named, snapshot_of, snapshots_in}
-use Rattle.repo_state.specs.Items.{Held}
-use Rattle.repo_state.specs.Loads.{IsStored, Stored}
-use Rattle.repo_state.specs.Repos.{repo_of}
 use Rattle.git_objects.specs.Snapshots.{snapshot_name}
 use Rattle.object_store.proofs.FlatParts.{flat-part}
 use Rattle.object_store.proofs.Parts.{AreIn, part-has}

@@ -1,5 +1,6 @@
 // A store of objects.
-ghost use Rattle.std.specs.Prelude.{◌≡◌, ◌⊎◌, ◌+◌, ◌≤◌, ◌∷◌, [], length, IfOk, IfErr, IfSome, OnOk, OnErr, None, true, is_some};
+ghost use Rattle.std.specs.Prelude.{◌≡◌, ◌⊎◌, ◌+◌, ◌≤◌, ◌∷◌, [], length, IfOk, IfErr, IfSome, OnOk, OnErr, None};
+ghost use Rattle.std.specs.Prelude.{true, is_some};
 ghost use Rattle.std.specs.Option.{option_map};
 ghost use Rattle.std.specs.Result.{result_err};
 ghost use Rattle.git_objects.specs.Names.{name};
@@ -8,7 +9,8 @@ ghost use Rattle.git_objects.specs.Bodies.{tree_entries};
 ghost use Rattle.git_objects.specs.CommitBodies.{commit_from};
 ghost use Rattle.git_objects.specs.Views.{entry_value};
 ghost use Rattle.git_objects.specs.declared.kind.Kind.TheVariants.{Blob};
-ghost use Rattle.object_store.specs.Objects.{body_of, find_named, has, has_child, missing_entry, missing_of_commit, missing_parent, IsStore};
+ghost use Rattle.object_store.specs.Objects.{body_of, find_named, has, has_child, missing_entry, missing_of_commit};
+ghost use Rattle.object_store.specs.Objects.{missing_parent, IsStore};
 ghost use Rattle.object_store.specs.Puts.{if_missing, of_body, of_commit, of_tree, refusal, same_object, with_object};
 ghost use Rattle.object_store.specs.Errors.{object_value, refusal_told, error_of};
 ghost use Rattle.object_store.specs.Places.{is_full_tree, placed};
@@ -52,7 +54,8 @@ pub struct TreeStats {
     pub longest: u32,
 }
 
-// Where an object's body stands in the arena, and how large its tree is: of what is no tree, without a path.
+// Where an object's body stands in the arena, and how large its tree is. The sizes of a blob or a commit are those of a
+// tree without a path.
 #[derive(Clone, Copy)]
 struct Place {
     kind: Kind,
@@ -316,8 +319,8 @@ impl Store {
         }
     }
 
-    /// Takes an object in, and gives its name. One that is held already changes nothing. Of several faults the body's comes
-    /// first, then the first child in the body's order, then a collision.
+    /// Takes an object in, and gives its name. One that is held already changes nothing. Of several faults the body's
+    /// comes first, then the first child in the body's order, then a collision.
     pub fn put(&mut self, kind: Kind, body: Vec<u8>) -> Result<Name, PutError>
         ensures ok { IfOk result (λ n. (n.0 ≡ name kind body.items) × (refusal self.old kind body.items ≡ None)
             × (self.new ≡ with_object self.old kind body.items)) }
@@ -328,7 +331,7 @@ impl Store {
         self.put_slice(kind, &body)
     }
 
-    /// The same as `put`, of a body that is lent.
+    /// Takes an object in as `put` does, from a body that is lent.
     pub fn put_slice(&mut self, kind: Kind, body: &[u8]) -> Result<Name, PutError>
         ensures ok { IfOk result (λ n. (n.0 ≡ name kind body.now) × (refusal self.old kind body.now ≡ None)
             × (self.new ≡ with_object self.old kind body.now)) }
@@ -336,7 +339,7 @@ impl Store {
             × ((e ≡ PutError.OutOfMemory) ⊎ (refusal self.old kind body.now ≡ refusal_told e))) }
         ensures store { IsStore self.new }
     {
-        // Every outcome rests on what the store keeps.
+        // The arena is looked at so that the proof has what each store keeps.
         let _ = &self.arena;
         let stats = self.body_stats(kind, body)?;
         let name = name_of(kind, body);

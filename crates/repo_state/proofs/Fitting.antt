@@ -39,7 +39,7 @@ use Rattle.repo_state.proofs.StoredCommits.{commit-spelled, commit_at}
 use Rattle.object_store.proofs.StoredCommits.{stored-commit}
 use Rattle.object_store.proofs.Parts.{AreIn, part-has}
 use Rattle.object_store.proofs.Children.{listed, object-children, tree-children}
-use Rattle.object_store.proofs.FlatParts.{part, flat-part, unfolding, entries_map}
+use Rattle.object_store.proofs.FlatParts.{part, flat-part, entries_map}
 
 -- ---- the flat map of a stored tree, by its entries
 

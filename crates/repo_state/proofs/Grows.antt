@@ -19,7 +19,7 @@ use Rattle.repo_state.specs.HeldObjects.{AreNamed}
 use Rattle.repo_state.specs.Growing.{with_one, grown, AreFed, held_of, IsReady, IsStep, Extends}
 use Rattle.repo_state.specs.Views.{named}
 use Rattle.repo_state.proofs.Naming.{name-known, named-more}
-use Rattle.object_store.proofs.Parts.{find-name, unfolding, AreIn}
+use Rattle.object_store.proofs.Parts.{find-name, AreIn}
 
 -- ---- lists of objects, one behind another
 

@@ -22,7 +22,7 @@ use Rattle.repo_state.specs.StoredObjects.{stored_objects}
 use Rattle.object_store.specs.TreeObjects.{tree_objects}
 use Rattle.object_store.proofs.Parts.{found-has}
 use Rattle.repo_state.proofs.TreeLaw.{tree_law-stored}
-use Rattle.object_store.proofs.StoredCommits.{IsHeldCommit, unfolding}
+use Rattle.object_store.proofs.StoredCommits.{IsHeldCommit}
 
 -- ---- what the code finds
 

@@ -27,7 +27,7 @@ use Rattle.repo_state.specs.Growing.{grown, AreFed, held_of, IsReady, IsStep}
 use Rattle.repo_state.specs.StoredObjects.{AreOpen, IsOpen, child_steps, listed_steps, tree_steps, entries_steps, frame_steps, frames_steps, next_steps, itself, stored_objects, tree_at}
 use Rattle.repo_state.proofs.Grows.{AreKnown, grown-append, grown-known, named-in, fed-back}
 use Rattle.object_store.proofs.Parts.{AreIn, found-has, part-has, part-kind}
-use Rattle.object_store.proofs.Children.{unfolding, tree-children, listed, older-has, object-children}
+use Rattle.object_store.proofs.Children.{tree-children, listed, older-has, object-children}
 
 -- ---- children that are held
 

@@ -24,7 +24,7 @@ use Rattle.small_streams.specs.Replays.{IsPutFault}
 use Rattle.object_store.specs.Growth.{IsGrownBy, IsClash, IsOnly}
 use Rattle.small_streams.specs.declared.replay.ReplayFault.{ReplayFault}
 use Rattle.small_streams.specs.declared.replay.ReplayFault.TheVariants.{TooManyFiles, Collision, OutOfMemory}
-use Rattle.object_store.proofs.Growth.{unfolding, clash_as}
+use Rattle.object_store.proofs.Growth.{clash_as}
 
 -- ---- what is held stays
 

@@ -11,7 +11,6 @@ use Rattle.object_store.specs.Puts.{Collides, collision}
 use Rattle.object_store.specs.Unfolding.{flat, StandsFor}
 use Rattle.object_store.specs.StoredSnapshots.{snapshot_object}
 use Rattle.git_objects.specs.Snapshots.{Snapshot}
-use Rattle.repo_state.specs.declared.commit.Batch.{Batch}
 use Rattle.history_project.specs.Snapshots.{AreSnapshots}
 use Rattle.small_streams.specs.Streams.{Small}
 use Rattle.small_streams.specs.Replay.{IsMadeBy, are_small, blob_object, contents, replayed}

@@ -2,7 +2,7 @@ use Rattle.std.proofs.Common.{◌≡◌, sym, [], refl}
 use Rattle.git_objects.specs.Trees.{remove}
 use Rattle.object_store.specs.Unfolding.{flat}
 use Rattle.filter_unapply.specs.Laying.{laid, LaidTree}
-use Rattle.filter_unapply.specs.Lenses.{below}
+use Rattle.filter_unapply.specs.Laying.{below}
 use Rattle.filter_unapply.proofs.Told.{told_tree, told_grown, told_err, nothing_there, leaf_there, directory_there}
 use Rattle.filter_unapply.proofs.below.emptied.Goals.{in_default-via-in-Some+else-is_dir, in_default-via-in_default}
 use Rattle.filter_unapply.proofs.below.emptied.Goals as goal

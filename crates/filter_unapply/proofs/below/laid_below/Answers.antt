@@ -4,7 +4,7 @@ use Rattle.git_objects.specs.Trees.{Flat}
 use Rattle.object_store.specs.Unfolding.{flat}
 use Rattle.path_trees.specs.Made.{IsGrown}
 use Rattle.filter_unapply.specs.Laying.{laid}
-use Rattle.filter_unapply.specs.Lenses.{below}
+use Rattle.filter_unapply.specs.Laying.{below}
 use Rattle.filter_unapply.specs.Stored.{IsLaidBody, IsLaidTree, IsLayFault}
 use Rattle.filter_unapply.proofs.Told.{empty_first}
 use Rattle.filter_unapply.proofs.below.laid_below.Goals as goal

@@ -3,7 +3,7 @@ use Rattle.git_objects.specs.Paths.{Path}
 use Rattle.git_objects.specs.Trees.{TreeNode, put}
 use Rattle.object_store.specs.Unfolding.{flat}
 use Rattle.filter_unapply.specs.Laying.{laid, Blocked}
-use Rattle.filter_unapply.specs.Lenses.{below}
+use Rattle.filter_unapply.specs.Laying.{below}
 use Rattle.filter_unapply.specs.Stored.{IsLeafInWay}
 use Rattle.filter_unapply.proofs.Places.{laid_put}
 use Rattle.filter_unapply.proofs.Told.{told_tree, told_grown, told_err, is_tree, has_directory, first_in_way}
