@@ -6,8 +6,8 @@ ghost use Rattle.git_objects.specs.Entries.{AreEntries, body_text};
 ghost use Rattle.git_objects.specs.Paths.{is_component};
 
 use crate::session::Session;
-use crate::values::{digits_of, mode_digits, mode_of, name_of as name_in};
-use case_lines::{Fault, Texts, Word, printed};
+use crate::values::{mode_digits, mode_of};
+use case_lines::{Fault, Texts, Word, digits_of, name_of as name_in, printed};
 use git_objects::{
     Bytes, CommitParts, CommitView, Component, Entry, Ident, Kind, TreeView, add_entry,
     encode_commit, encode_tree, is_component, name_of,

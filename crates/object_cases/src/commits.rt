@@ -2,18 +2,16 @@
 ghost use Rattle.std.specs.Prelude.{◌≡◌, false, true, [], ◌∷◌, length, map, IfOk};
 ghost use Rattle.git_objects.specs.declared.kind.Kind.{Kind};
 ghost use Rattle.git_objects.specs.declared.name.Name.{Name};
-ghost use Rattle.object_store.specs.Errors.{newest};
 ghost use Rattle.repo_state.specs.Commits.{setting};
 ghost use Rattle.object_cases.specs.Batches.{AreRefsOf, has_root};
 
 use crate::held::is_held;
 use crate::items::reopened;
-use crate::keepers::Quiet;
 use crate::session::Session;
-use crate::values::{name_of, ref_name_of};
-use case_lines::{Fault, Word};
+use case_lines::{Fault, Word, name_of, ref_name_of};
 use git_objects::{CommitView, Kind, Name};
 use object_store::{PutError, Store};
+use proj_io::MemKeeper;
 use repo_state::{Batch, CommitError, Setting, State};
 use std::alloc::{AllocError, Global};
 
@@ -45,7 +43,7 @@ fn put_all(state: &mut State, objects: &[Made]) -> Result<(), Fault>
 
 // Whether a commit without parents is stored.
 fn has_root(store: &Store, name: &Name) -> bool
-    ensures { result ≡ true → has_root (newest store.now) name.now.0 ≡ true }
+    ensures { result ≡ true → has_root store.now name.now.0 ≡ true }
 {
     match store.get(name) {
         None => false,
@@ -94,13 +92,13 @@ fn refs_to(alloc: Global, words: &[Word], head: Name) -> Result<Vec<Setting>, Fa
 fn commit_one(
     alloc: Global,
     state: &mut State,
-    keeper: &mut Quiet,
+    keeper: &mut MemKeeper,
     blob: Name,
     commit: Name,
     refs: Vec<Setting>,
 ) -> Result<Result<(), CommitError>, Fault>
-    requires open { keeper.old.inner.broken ≡ false }
-    requires number { state.old.number ≡ length keeper.old.inner.items }
+    requires open { keeper.old.broken ≡ false }
+    requires number { state.old.number ≡ length keeper.old.items }
 {
     let blobs = one(alloc, blob)?;
     let commits = one(alloc, commit)?;
@@ -118,19 +116,19 @@ fn commit_one(
         commits,
         refs,
     };
-    Ok(state.commit(alloc, keeper, batch))
+    Ok(state.commit(keeper, batch))
 }
 
 // Loads the keeper's items, puts the objects, and commits.
 fn commit_upon(
     alloc: Global,
-    keeper: &mut Quiet,
+    keeper: &mut MemKeeper,
     objects: &[Made],
     blob: Name,
     commit: Name,
     refs: Vec<Setting>,
 ) -> Result<Result<(), CommitError>, Fault>
-    requires { keeper.old.inner.broken ≡ false }
+    requires { keeper.old.broken ≡ false }
 {
     let Ok(mut state) = State::load(alloc, keeper) else {
         return Err(Fault::BadLine);
@@ -149,11 +147,9 @@ pub fn commit(session: &mut Session, words: &[Word]) -> Result<String, Fault> {
     let blob = name_of(&session.texts, blob)?;
     let commit = name_of(&session.texts, commit)?;
     let refs = refs_to(alloc, refs, commit)?;
-    let mut keeper = Quiet {
-        inner: reopened(session),
-    };
+    let mut keeper = reopened(session);
     let said = commit_upon(alloc, &mut keeper, &session.made, blob, commit, refs);
-    session.keeper = keeper.inner;
+    session.keeper = keeper;
     let text = match said? {
         Ok(()) => "committed",
         Err(CommitError::StoreFault) => "store fault",

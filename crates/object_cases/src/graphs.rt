@@ -1,7 +1,6 @@
 // Graphs of commits.
 use crate::session::Session;
-use crate::values::{digits_of, name_of};
-use case_lines::{Fault, Word, number_of};
+use case_lines::{Fault, Word, digits_of, name_of, number_of};
 use commit_graph::Graph;
 use git_objects::Name;
 use std::alloc::Global;

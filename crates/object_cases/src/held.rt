@@ -2,7 +2,6 @@
 ghost use Rattle.std.specs.Prelude.{◌≡◌};
 ghost use Rattle.git_objects.specs.declared.kind.Kind.{Kind};
 ghost use Rattle.git_objects.specs.declared.mode.Mode.{Mode};
-ghost use Rattle.object_store.specs.Errors.{newest};
 ghost use Rattle.object_store.specs.Objects.{has, has_child};
 
 use git_objects::{Kind, Mode, Name};
@@ -11,7 +10,7 @@ use path_trees::Found;
 
 /// Whether an object of that kind has the name.
 pub fn is_held(store: &Store, kind: Kind, name: &Name) -> bool
-    ensures { result ≡ has kind (newest store.now) name.now.0 }
+    ensures { result ≡ has kind store.now name.now.0 }
 {
     match store.get(name) {
         None => false,
@@ -21,7 +20,7 @@ pub fn is_held(store: &Store, kind: Kind, name: &Name) -> bool
 
 // Whether a directory's tree is held, and has a body.
 fn is_full_tree(store: &Store, name: &Name) -> bool
-    ensures { result ≡ has_child (newest store.now) Mode.Dir name.now.0 }
+    ensures { result ≡ has_child store.now Mode.Dir name.now.0 }
 {
     match store.get(name) {
         None => false,
@@ -31,7 +30,7 @@ fn is_full_tree(store: &Store, name: &Name) -> bool
 
 /// Whether what stands at a path may stand there.
 pub fn is_there(store: &Store, found: &Found) -> bool
-    ensures { result ≡ has_child (newest store.now) found.now.mode found.now.name.0 }
+    ensures { result ≡ has_child store.now found.now.mode found.now.name.0 }
 {
     match found.mode {
         Mode::File | Mode::Exec | Mode::Link => is_held(store, Kind::Blob, &found.name),

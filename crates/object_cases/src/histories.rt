@@ -2,13 +2,11 @@
 ghost use Rattle.std.specs.Prelude.{◌≡◌};
 ghost use Rattle.std.specs.List.{list_all};
 ghost use Rattle.git_objects.specs.declared.kind.Kind.TheVariants.{Commit};
-ghost use Rattle.object_store.specs.Errors.{newest};
 ghost use Rattle.object_store.specs.Objects.{has};
 
 use crate::held::is_held;
 use crate::session::Session;
-use crate::values::{name_of, path_of};
-use case_lines::{Fault, Word};
+use case_lines::{Fault, Word, name_of, path_of};
 use git_objects::{Kind, Name};
 use history_project::{name_line, projection};
 use object_store::Store;
@@ -30,7 +28,7 @@ pub fn answer(session: &mut Session, form: &[u8], words: &[Word]) -> Result<Opti
 }
 
 fn are_commits(store: &Store, names: &[Name]) -> bool
-    ensures { result ≡ list_all (λ n. has Commit (newest store.now) n.0) names.now }
+    ensures { result ≡ list_all (λ n. has Commit store.now n.0) names.now }
 {
     names.iter().all(|name| is_held(store, Kind::Commit, name))
 }

@@ -1,8 +1,8 @@
 // Names, digits, idents, and copies.
 use crate::session::Session;
 use crate::steps::zeros_of;
-use crate::values::{digits_of, kind_of};
-use case_lines::{Fault, Word, printed};
+use crate::values::kind_of;
+use case_lines::{Fault, Word, digits_of, printed};
 use git_objects::{Bytes, Component, Ident, IdentFault, Name, is_component, name_of};
 use std::alloc::Global;
 

@@ -1,7 +1,7 @@
 // Refs.
 use crate::session::Session;
-use crate::values::{digits_of, digits_or_none, name_of, ref_name_of};
-use case_lines::{Fault, Word, printed};
+use crate::values::digits_or_none;
+use case_lines::{Fault, Word, digits_of, name_of, printed, ref_name_of};
 use commit_graph::Graph;
 use git_objects::Name;
 use ref_store::{Refs, forward};
@@ -67,6 +67,6 @@ fn is_forward(alloc: Global, graph: &Graph, old: Name, new: Name) -> Result<Stri
     if graph.index_of(&old).is_none() || graph.index_of(&new).is_none() {
         return Err(Fault::BadLine);
     }
-    let word = if forward(graph, &old, &new)? { "forward" } else { "not forward" };
+    let word = if forward(alloc, graph, &old, &new)? { "forward" } else { "not forward" };
     Ok(String::from_str(alloc, word)?)
 }

@@ -1,7 +1,7 @@
 // What lines of cases work on.
 use crate::commits::Made;
 use crate::{bodies, graphs, histories, items, names, refs, stores, trees};
-use case_lines::{Fault, Texts, Word, number_of, transcript, words_of};
+use case_lines::{Fault, Line, Texts, Word, number_of, read_line, said};
 use commit_graph::Graph;
 use git_objects::Name;
 use object_store::Store;
@@ -46,32 +46,22 @@ impl Session {
         })
     }
 
-    /// What is printed for a line: nothing for one that gives a text, an empty line or a comment as it is, and of any other
-    /// line the line and its answer.
+    /// What is printed for a line.
     pub fn take(&mut self, line: &str) -> Result<String, Fault> {
-        if line.is_empty() || line.starts_with('#') {
-            return Ok(format!(in self.alloc; "{line}\n")?);
-        }
-        if let Some(inner) = line.strip_prefix("  ") {
-            self.texts.add_line(inner.as_bytes())?;
-            return Ok(String::new(self.alloc));
-        }
-        match self.answered(line.as_bytes()) {
-            Ok(None) => Ok(String::new(self.alloc)),
-            Ok(Some(answer)) => Ok(transcript(self.alloc, line, answer.as_str())?),
-            Err(Fault::BadLine) => Ok(transcript(self.alloc, line, "no case")?),
-            Err(fault) => Err(fault),
+        let alloc = self.alloc;
+        match read_line(alloc, &mut self.texts, line) {
+            Ok(Line::Comment) => Ok(format!(in alloc; "{line}\n")?),
+            Ok(Line::Text) => Ok(String::new(alloc)),
+            Ok(Line::Asked(words)) => {
+                let answer = self.answered(&words);
+                said(alloc, line, answer)
+            }
+            Err(fault) => said(alloc, line, Err(fault)),
         }
     }
 
-    fn answered(&mut self, line: &[u8]) -> Result<Option<String>, Fault> {
-        let words = words_of(self.alloc, line)?;
-        match words.as_slice() {
-            [first, name, pieces @ ..] if first.bytes.as_slice() == b"text".as_slice() => {
-                let bytes = self.texts.spelled(pieces)?;
-                self.texts.set(&name.bytes, bytes)?;
-                Ok(None)
-            }
+    fn answered(&mut self, words: &[Word]) -> Result<Option<String>, Fault> {
+        match words {
             [first, count, inner @ ..] if first.bytes.as_slice() == b"repeat".as_slice() => {
                 self.repeated(number_of(&count.bytes)?, inner)
             }

@@ -1,7 +1,7 @@
 // Stores of objects.
 use crate::session::Session;
-use crate::values::{digits_of, kind_of, name_of};
-use case_lines::{Fault, Word, printed};
+use crate::values::kind_of;
+use case_lines::{Fault, Word, digits_of, name_of, printed};
 use git_objects::{Kind, Name};
 use object_store::{PutError, Store};
 use std::alloc::Global;

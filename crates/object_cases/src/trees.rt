@@ -1,9 +1,9 @@
 // Stored trees: edits, lookups and joins. A tree has a name of its own in the texts, which stands for its name's bytes.
 use crate::held::{is_held, is_there};
 use crate::session::Session;
-use crate::values::{digits_of, mode_digits, mode_of, name_of, path_of};
+use crate::values::{mode_digits, mode_of};
 use crate::walks::{leaves, sizes};
-use case_lines::{Fault, Word, printed};
+use case_lines::{Fault, Word, digits_of, name_of, path_of, printed};
 use git_objects::{Kind, Mode, Name};
 use object_store::Store;
 use path_names::Path;

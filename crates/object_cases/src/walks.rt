@@ -2,8 +2,8 @@
 ghost use Rattle.std.specs.Prelude.{◌≡◌, ◌<◌, true, is_some, length, IfOk};
 
 use crate::held::is_held;
-use crate::values::{digits_of, mode_digits};
-use case_lines::{Fault, printed};
+use crate::values::mode_digits;
+use case_lines::{Fault, digits_of, printed};
 use git_objects::{Kind, Name};
 use object_store::Store;
 use path_trees::{Leaf, Walk};
