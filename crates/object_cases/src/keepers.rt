@@ -1,0 +1,87 @@
+// Keepers over one in memory that don't tell their items.
+ghost use Rattle.std.specs.Prelude.{◌≡◌, ◌<◌, ◌≤◌, ◌+◌, ◌^◌, ◌↔◌, ⊤, false, length, List, ℕ, Option, None};
+ghost use Rattle.proj_io.specs.Counts.{Counts};
+ghost use Rattle.proj_io.specs.Items.{Gets, Stays, item_of};
+
+use proj_io::{Failed, KeepError, Keeper, MemKeeper};
+
+/// A keeper that says one size of all its items.
+#[derive(Drop)]
+pub struct Misjudging {
+    pub inner: MemKeeper,
+    pub size: u32,
+}
+
+impl Keeper for Misjudging {
+    ghost tells = { λ _. ⊥ };
+
+    ghost items = { λ _. None };
+
+    ghost number = { λ k. length k.inner.items };
+
+    ghost faults = { λ k. k.inner.faults };
+
+    ghost is_open = { λ k. k.inner.broken ≡ false };
+
+    ghost known = { λ _ h. absurd h };
+
+    ghost counted = { λ _. tt };
+
+    fn count(&mut self) -> Result<u32, Failed> {
+        self.inner.count()
+    }
+
+    fn size(&mut self, item: u32) -> Result<u32, Failed> {
+        match self.inner.size(item) {
+            Ok(0) => Ok(0),
+            Ok(_) => Ok(self.size),
+            Err(error) => Err(error),
+        }
+    }
+
+    fn read(&mut self, item: u32, from: u32, buf: &mut [u8]) -> Result<usize, Failed> {
+        self.inner.read(item, from, buf)
+    }
+
+    fn append(&mut self, bytes: &[u8]) -> Result<(), KeepError> {
+        self.inner.append(bytes)
+    }
+}
+
+/// A keeper that works as the inner one.
+#[derive(Drop)]
+pub struct Quiet {
+    pub inner: MemKeeper,
+}
+
+impl Keeper for Quiet {
+    ghost tells = { λ _. ⊥ };
+
+    ghost items = { λ _. None };
+
+    ghost number = { λ k. length k.inner.items };
+
+    ghost faults = { λ k. k.inner.faults };
+
+    ghost is_open = { λ k. k.inner.broken ≡ false };
+
+    ghost known = { λ _ h. absurd h };
+
+    ghost counted = { λ _. tt };
+
+    fn count(&mut self) -> Result<u32, Failed> {
+        self.inner.count()
+    }
+
+    fn size(&mut self, item: u32) -> Result<u32, Failed> {
+        self.inner.size(item)
+    }
+
+    fn read(&mut self, item: u32, from: u32, buf: &mut [u8]) -> Result<usize, Failed> {
+        self.inner.read(item, from, buf)
+    }
+
+    fn append(&mut self, bytes: &[u8]) -> Result<(), KeepError> {
+        self.inner.append(bytes)
+    }
+}
