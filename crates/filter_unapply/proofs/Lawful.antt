@@ -10,10 +10,9 @@ use Rattle.git_objects.specs.Lists.{Each}
 use Rattle.git_objects.proofs.Order.{path_decides}
 use Rattle.git_objects.proofs.Maps.{first_some, at_rest}
 use Rattle.git_objects.proofs.Pointwise.{from-T, all_at, leaf_at, at_apart, tree_from}
-use Rattle.filter_routes.specs.Lenses.{Lens, IsLens}
+use Rattle.filter_routes.specs.Lenses.{Lens, IsLens, carried, seen_through}
 use Rattle.filter_unapply.proofs.Firsts.{first-none, none-first, blocked-none, is_free}
 use Rattle.filter_routes.proofs.TreeEntries.{each_entry}
-use Rattle.filter_routes.specs.Lenses.{carried, seen_through}
 use Rattle.filter_routes.proofs.SeenTrees.{at-seen, seen-paths, seen-sorted, seen_from}
 use Rattle.filter_unapply.specs.Laying.{hidden, pre, first_path, first_lost, is_other, is_blocked, first_blocked, LaidTree, laid_from, laid}
 use Rattle.filter_routes.proofs.Carried.{ArePaths, nowhere, same_on_paths, all-carried, all-filter, sorted-carried, first_none, IsBack, at-carried}

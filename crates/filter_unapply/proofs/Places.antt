@@ -15,9 +15,8 @@ use Rattle.git_objects.proofs.Order.{path_decides}
 use Rattle.git_objects.proofs.Pointwise.{from-T, all_at, at_apart, put-tree}
 use Rattle.git_objects.proofs.Under.{cmp_rests, rest_short}
 use Rattle.path_trees.proofs.Editing.{front_comparable}
-use Rattle.filter_routes.specs.Lenses.{Lens, IsLens}
+use Rattle.filter_routes.specs.Lenses.{Lens, IsLens, carried}
 use Rattle.filter_unapply.specs.Laying.{below}
-use Rattle.filter_routes.specs.Lenses.{carried}
 use Rattle.filter_unapply.specs.Laying.{hidden, pre, first_path, first_lost, is_other, is_blocked, first_blocked, Blocked, LaidTree, laid_from, laid}
 use Rattle.filter_unapply.specs.Stored.{IsInWay}
 use Rattle.filter_routes.proofs.TreeEntries.{each_entry, not_before, not_before_itself}

@@ -8,9 +8,8 @@ use Rattle.git_objects.specs.Trees.{Leaf, FileLeaf, is_leaf, Flat, IsTree, rest_
 use Rattle.git_objects.proofs.Basics.{both, first, second, same_bytes-self, list_all-append}
 use Rattle.git_objects.proofs.Pointwise.{from-T}
 use Rattle.git_objects.proofs.Under.{under-tree, comparable_below}
-use Rattle.filter_routes.specs.Lenses.{IsLens}
+use Rattle.filter_routes.specs.Lenses.{IsLens, entered, seen_through}
 use Rattle.filter_unapply.specs.Laying.{below}
-use Rattle.filter_routes.specs.Lenses.{entered, seen_through}
 use Rattle.filter_routes.proofs.Carried.{put_front}
 
 pub rest_is : (a p q : Path) → rest_below a p ≡ Some q → p ≡ a ++ q

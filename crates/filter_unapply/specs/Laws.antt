@@ -3,9 +3,8 @@ use Rattle.std.specs.Prelude.{◌≡◌, true, false, is_some, None}
 use Rattle.std.specs.Ordering.{is_lt}
 use Rattle.git_objects.specs.Paths.{Path, is_path, path_cmp, comparable}
 use Rattle.git_objects.specs.Trees.{Flat, IsTree, at, under}
-use Rattle.filter_routes.specs.Lenses.{Lens, IsLens}
+use Rattle.filter_routes.specs.Lenses.{Lens, IsLens, seen_through}
 use Rattle.filter_unapply.specs.Laying.{below}
-use Rattle.filter_routes.specs.Lenses.{seen_through}
 use Rattle.filter_unapply.specs.Laying.{pre, laid, NotHeld, Blocked, LaidTree}
 
 -- a path with a leaf

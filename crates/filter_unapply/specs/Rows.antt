@@ -2,9 +2,8 @@
 use Rattle.std.specs.Prelude.{◌≡◌, refl, cond, is_some, [], ◌∷◌, codes, Option, Some, None}
 use Rattle.git_objects.specs.Paths.{Bytes, Path, same_path}
 use Rattle.git_objects.specs.Trees.{Leaf, FileLeaf, rest_below}
-use Rattle.filter_routes.specs.Lenses.{Lens}
+use Rattle.filter_routes.specs.Lenses.{Lens, seen_through}
 use Rattle.filter_unapply.specs.Laying.{below}
-use Rattle.filter_routes.specs.Lenses.{seen_through}
 use Rattle.filter_unapply.specs.Laying.{pre, laid, NotHeld, Blocked, LaidTree}
 
 abbrev a : Bytes

@@ -9,9 +9,8 @@ use Rattle.git_objects.specs.declared.name.Name.{Name}
 use Rattle.object_store.specs.Objects.{Object, has}
 use Rattle.object_store.specs.Unfolding.{flat}
 use Rattle.path_trees.specs.Made.{IsGrown, IsCollision}
-use Rattle.filter_unapply.specs.Lenses.{below}
+use Rattle.filter_unapply.specs.Laying.{below, Laid, first_blocked, first_lost, laid, pre}
 use Rattle.filter_unapply.specs.Laying as laying
-use Rattle.filter_unapply.specs.Laying.{Laid, first_blocked, first_lost, laid, pre}
 use Rattle.filter_unapply.specs.Stored.{IsLaidBody, IsLaidTree, IsLayFault}
 use Rattle.filter_unapply.specs.declared.fault.LayFault.{LayFault}
 use Rattle.filter_unapply.specs.declared.fault.LayFault.TheVariants.{NotHeld as NotHeldThere, Collision as CollisionThere}

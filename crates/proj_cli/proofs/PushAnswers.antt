@@ -7,7 +7,7 @@ use Rattle.git_objects.specs.Paths.{Bytes, Path, is_path, same_bytes}
 use Rattle.git_objects.specs.declared.kind.Kind.TheVariants.{Commit as CommitKind}
 use Rattle.git_objects.proofs.Basics.{same_bytes-self}
 use Rattle.object_store.specs.Objects.{has}
-use Rattle.filter_unapply.specs.Lenses.{below}
+use Rattle.filter_unapply.specs.Laying.{below}
 use Rattle.repo_state.specs.Changes.{changed, held_after, plan_in}
 use Rattle.repo_state.specs.Commits.{change_of}
 use Rattle.repo_state.specs.Items.{Held}

@@ -13,8 +13,7 @@ use Rattle.git_objects.specs.declared.kind.Kind.TheVariants.{Tree, Commit as Com
 use Rattle.object_store.specs.Objects.{Object, IsStore, has}
 use Rattle.object_store.specs.Unfolding.{flat}
 use Rattle.object_store.proofs.Unfolding.{unfolding_law}
-use Rattle.filter_unapply.specs.Lenses.{below}
-use Rattle.filter_unapply.specs.Laying.{LaidTree, laid}
+use Rattle.filter_unapply.specs.Laying.{below, LaidTree, laid}
 use Rattle.filter_unapply.proofs.Lawful.{kept-laid, laid-tree, shown-laid}
 use Rattle.filter_unapply.proofs.Rests.{below-lens, shows-under}
 use Rattle.repo_state.specs.Items.{Held}

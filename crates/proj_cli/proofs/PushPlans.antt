@@ -10,7 +10,7 @@ use Rattle.git_objects.specs.declared.kind.Kind.TheVariants.{Blob, Commit as Com
 use Rattle.git_objects.specs.declared.name.Name.{Name}
 use Rattle.git_objects.proofs.Basics.{same_bytes-self}
 use Rattle.object_store.specs.Objects.{Object, IsStore, has}
-use Rattle.filter_unapply.specs.Lenses.{Lens}
+use Rattle.filter_routes.specs.Lenses.{Lens}
 use Rattle.repo_state.specs.Items.{Held}
 use Rattle.git_objects.specs.Snapshots.{Snapshot, snapshot_name}
 use Rattle.repo_state.specs.Changes as changes

@@ -12,9 +12,9 @@ use Rattle.git_objects.specs.declared.name.Name.{Name}
 use Rattle.object_store.specs.Objects.{Object, has}
 use Rattle.object_store.specs.Unfolding.{flat, StandsFor}
 use Rattle.object_store.proofs.Unfolding.{unfolding_law}
-use Rattle.filter_unapply.specs.Lenses.{Lens, below}
+use Rattle.filter_routes.specs.Lenses.{Lens}
+use Rattle.filter_unapply.specs.Laying.{below, Laid, laid}
 use Rattle.filter_unapply.specs.Laying as laying
-use Rattle.filter_unapply.specs.Laying.{Laid, laid}
 use Rattle.git_objects.specs.Snapshots.{snapshot_name}
 use Rattle.small_streams.specs.Streams.{Change, Small}
 use Rattle.small_streams.specs.Replay.{IsDirectoryOf, IsMadeIn, are_small, contents_in, trees_within, with_changes}

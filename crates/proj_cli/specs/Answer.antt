@@ -19,7 +19,7 @@ use Rattle.small_streams.specs.Replay.{IsMadeBy}
 use Rattle.proj_cli.specs.Step.{Step, done, start_below}
 use Rattle.proj_cli.specs.Push.{IsPushMade, Start}
 use Rattle.proj_cli.specs.Texts.{filter_path}
-use Rattle.filter_unapply.specs.Lenses.{below}
+use Rattle.filter_unapply.specs.Laying.{below}
 use Rattle.history_project.specs.Histories.{tree_upon}
 use Rattle.proj_cli.specs.declared.outcome.Outcome.{Outcome}
 use Rattle.proj_cli.specs.declared.outcome.Outcome.TheVariants.{Done, OutOfMemory, Collision, ReadFault, WriteFault, StoreFault}

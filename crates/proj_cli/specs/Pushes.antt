@@ -9,7 +9,7 @@ use Rattle.git_objects.specs.Commits.{Letter}
 use Rattle.object_store.specs.Objects.{Object}
 use Rattle.object_store.specs.Unfolding.{flat}
 use Rattle.repo_state.specs.Loads.{IsStored, Stored}
-use Rattle.filter_unapply.specs.Lenses.{Lens}
+use Rattle.filter_routes.specs.Lenses.{Lens}
 use Rattle.filter_unapply.specs.Laying as laying
 use Rattle.filter_unapply.specs.Laying.{Laid, laid}
 use Rattle.object_store.specs.Fits.{tree_fits}

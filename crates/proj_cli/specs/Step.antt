@@ -7,7 +7,7 @@ use Rattle.git_objects.specs.Paths.{Bytes, Path, same_bytes, text}
 use Rattle.git_objects.specs.Trees.{under}
 use Rattle.git_objects.specs.declared.name.Name.{Name as ObjectName}
 use Rattle.path_names.specs.Quoting.{quote}
-use Rattle.filter_unapply.specs.Lenses.{below}
+use Rattle.filter_unapply.specs.Laying.{below}
 use Rattle.git_objects.specs.Commits.{hex}
 use Rattle.object_store.specs.Objects.{Object}
 use Rattle.repo_state.specs.Fields.{BrokenAt, Clash}

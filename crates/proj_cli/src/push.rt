@@ -11,7 +11,7 @@ ghost use Rattle.git_objects.specs.declared.kind.Kind.TheVariants.{Commit, Tree}
 ghost use Rattle.object_store.specs.Objects.{has, object_name};
 ghost use Rattle.proj_io.specs.Counts.{Counts};
 ghost use Rattle.proj_io.specs.Views.{keeper_view};
-ghost use Rattle.filter_unapply.specs.Lenses.{below};
+ghost use Rattle.filter_unapply.specs.Laying.{below};
 ghost use Rattle.repo_state.specs.Changes.{IsCurrent, changed, held_after, plan_in};
 ghost use Rattle.repo_state.specs.Commits.{change_of};
 ghost use Rattle.repo_state.specs.Items.{read_items};

@@ -1,6 +1,6 @@
 use Rattle.std.proofs.Common.{inr, sym, subst}
 use Rattle.git_objects.specs.declared.name.Name.{Name}
-use Rattle.filter_unapply.specs.Lenses.{below}
+use Rattle.filter_unapply.specs.Laying.{below}
 use Rattle.proj_cli.specs.Answer.{IsInPushFrom, IsTwice}
 use Rattle.proj_cli.specs.Push.{IsPushMade}
 use Rattle.proj_cli.specs.Pushes.{IsPushFault, start_value}

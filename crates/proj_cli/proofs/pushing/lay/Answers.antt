@@ -1,6 +1,5 @@
 use Rattle.object_store.specs.Unfolding.{flat}
-use Rattle.filter_unapply.specs.Laying.{laid}
-use Rattle.filter_unapply.specs.Lenses.{below}
+use Rattle.filter_unapply.specs.Laying.{laid, below}
 use Rattle.proj_cli.specs.Pushes.{start_value}
 use Rattle.small_streams.specs.Views.{head_value}
 use Rattle.proj_cli.proofs.LaidCommits.{clash_told, head_still, laid-held, laid_grown, never-told, original_grown}
