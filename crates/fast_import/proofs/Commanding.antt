@@ -1,9 +1,10 @@
 -- The next command, behind lines that give none.
-use Rattle.std.proofs.Common.{◌≡◌, ◌+◌, ◌<◌, ◌≤◌, ℕ, zero, suc, Bool, true, false, ◌++◌, length, Option, Some, None, Ok, Err, refl, ap, ◌∙◌, arith, length-append}
+use Rattle.std.proofs.Common.{◌≡◌, ◌+◌, ◌<◌, ◌≤◌, ℕ, zero, suc, Bool, true, false, ◌++◌, length, Option, Some, None, Ok, Err, refl, sym, ap, subst, ◌∙◌, arith, length-append}
 use Rattle.git_objects.specs.Paths.{Bytes}
 use Rattle.stream_lex.specs.Lines.{Input}
 use Rattle.stream_lex.specs.Cutting.{grown}
 use Rattle.stream_lex.proofs.Combining.{stays}
+use Rattle.stream_lex.specs.declared.stop.Wanted.{Wanted}
 use Rattle.stream_lex.specs.declared.stop.Stop.TheVariants as stops
 use Rattle.fast_import.specs.declared.command.Placed.{Placed}
 use Rattle.fast_import.specs.declared.progress.Progress.{Progress}
@@ -14,8 +15,8 @@ use Rattle.stream_lex.specs.Cutting.{◌then◌}
 use Rattle.fast_import.specs.Reading.{Read, Reader}
 use Rattle.fast_import.specs.Commands.{Turn, Told, turn, by_event, turn_on, command_within, read_command}
 use Rattle.fast_import.specs.Verdicts.{size}
-use Rattle.stream_lex.specs.Cutting.{Agrees, IsTold, Steps, IsReader}
-use Rattle.stream_lex.proofs.Combining.{bind_agrees, bind_steps}
+use Rattle.stream_lex.specs.Cutting.{Agrees, Settles, Advances, IsTold, Steps, WaitsOn, IsReader}
+use Rattle.stream_lex.proofs.Combining.{bind_agrees, bind_steps, bind_waits, waits_later, waits_as}
 use Rattle.fast_import.proofs.Turning.{turn-reader}
 use Rattle.fast_import.proofs.Lowering.{Lowers, TurnLowers, turn_lowers}
 
@@ -59,21 +60,13 @@ event_told f p i h Ends q j l = tt
 turn_told : (f : Progress → Reader Told) (p : Progress) (i : Input) → ((q : Progress) (j : Input) → length j.rest < length i.rest → IsTold (f q true j)) →
     (r : Read Turn) → TurnLowers p i r → IsTold r → IsTold (r >>= λ x. turn_on f x.0 true x.1)
 turn_told f p i h (Ok x) l t = event_told f p i h x.0.event x.0.progress x.1 l
-turn_told f p i h (Err stops.More) l t = t
+turn_told f p i h (Err (stops.More w)) l t = t
 turn_told f p i h (Err (stops.Fault e)) l t = tt
 
 within_told : (n : ℕ) (p : Progress) (i : Input) → length i.rest < n → IsTold (command_within n p true i)
 within_told zero p i h = absurd (omega arith)
 within_told (suc n) p i h =
     turn_told (command_within n) p i (λ q j k. within_told n q j (omega arith)) (turn p true i) (turn_lowers p true i) ((turn-reader p).told i)
-
-pub command-reader : (p : Progress) → IsReader (read_command p)
-unfolding read_command
-command-reader p = record {
-  settles = λ e more i. within_agrees (length i.rest + 1) (length (i.rest ++ more) + 1) (omega (arith, length-append i.rest more)) e more p i;
-  steps = λ e i. within_steps (length i.rest + 1) e p i;
-  told = λ i. within_told (length i.rest + 1) p i (omega arith);
-}
 
 -- ---- enough lines are allowed for
 
@@ -101,6 +94,45 @@ command-is p ended i =
     ap (λ n. command_within n p ended i) (let k : length i.rest + 1 ≡ suc (length i.rest) = omega arith in k)
     ∙ turn_same (command_within (length i.rest)) (λ q e j. command_within (length j.rest + 1) q e j) p i ended
     (λ q j k. same_within (length i.rest) (length j.rest + 1) ended q j (omega arith) (omega arith)) (turn p ended i) (turn_lowers p ended i)
+
+-- ---- what is waited for
+
+event_waits : (p : Progress) (i : Input) (w : Wanted) → ((q : Progress) (j : Input) → length j.rest < length i.rest → read_command q false j ≡ Err (stops.More w) → WaitsOn (λ more. read_command q false (grown more j)) j w) →
+    (e : Event) (q : Progress) (j : Input) → Lowers p i e q j → Advances i j → by_event read_command e q false j ≡ Err (stops.More w) → WaitsOn (λ more. by_event read_command e q false (grown more j)) i w
+event_waits p i w next (Gives c) q j l s e = let no : ⊥ = cc in absurd no
+event_waits p i w next Skips q j l s e = waits_later (λ more. read_command q false (grown more j)) i j w s (next q j l.0 e)
+event_waits p i w next Ends q j l s e = let no : ⊥ = cc in absurd no
+
+within_waits : (n : ℕ) (p : Progress) (i : Input) → length i.rest < n → (w : Wanted) → read_command p false i ≡ Err (stops.More w) → WaitsOn (λ more. read_command p false (grown more i)) i w
+within_waits zero p i h w e = absurd (omega arith)
+within_waits (suc n) p i h w e =
+    waits_as (λ more. turn p false (grown more i) >>= λ x. turn_on read_command x.0 false x.1) (λ more. read_command p false (grown more i)) i w
+    (λ more v a. command-is p false (grown more i) ∙ a)
+    (bind_waits i w (turn p false i) (λ more. turn p false (grown more i)) (λ x. turn_on read_command x.0 false x.1) (λ more x. turn_on read_command x.0 false x.1)
+    (λ more. (turn-reader p).settles false more i) ((turn-reader p).waits i)
+    (λ t j q. event_waits p i w (λ r k l. within_waits n r k (omega (arith, h, l)) w) t.event t.progress j
+    (subst (TurnLowers p i) q (turn_lowers p false i)) (subst (Steps i) q ((turn-reader p).steps false i)))
+    (sym (command-is p false i) ∙ e))
+
+command-waits : (p : Progress) (i : Input) (w : Wanted) → read_command p false i ≡ Err (stops.More w) → WaitsOn (λ more. read_command p false (grown more i)) i w
+command-waits p i w e = within_waits (length i.rest + 1) p i (omega arith) w e
+
+-- what the next command reads is a reader's
+module _ (p : Progress) where
+  settles : Settles (read_command p)
+  unfolding read_command
+  settles e more i = within_agrees (length i.rest + 1) (length (i.rest ++ more) + 1) (omega (arith, length-append i.rest more)) e more p i
+
+  steps : (ended : Bool) (i : Input) → Steps i (read_command p ended i)
+  unfolding read_command
+  steps e i = within_steps (length i.rest + 1) e p i
+
+  told : (i : Input) → IsTold (read_command p true i)
+  unfolding read_command
+  told i = within_told (length i.rest + 1) p i (omega arith)
+
+  pub command-reader : IsReader (read_command p)
+  command-reader = record { settles = settles; steps = steps; told = told; waits = command-waits p }
 
 -- ---- a command lowers the size
 

@@ -47,7 +47,7 @@ module _ (more : Bytes) (p : Progress) (i : Input) (f : Progress → Input → V
   piece_same : (r : Read Told) → Agrees more r (read_command p true (grown more i)) → or_next (go_on f r) next r ≡ go_on verdict_from (read_command p true (grown more i))
   piece_same (Ok x) a =
       told_same x.0.command x.0.progress x.1 (subst (CommandLowers p (grown more i)) a (command_lowers p true (grown more i))) ∙ ap (go_on verdict_from) (sym a)
-  piece_same (Err stops.More) a = g
+  piece_same (Err (stops.More w)) a = g
   piece_same (Err (stops.Fault e)) a = ap (go_on verdict_from) (sym a)
 
 pieces_within : (n : ℕ) (ps : List Bytes) (p : Progress) (i : Input) → turns ps p i < n → told_within n ps p i ≡ verdict_from p (grown (concat ps) i)

@@ -7,6 +7,7 @@ pub mod Lowering
 pub mod Commanding
 pub mod Iterating
 pub mod Reading
+pub mod Waiting
 pub mod SpelledLines
 pub mod SpelledHeads
 pub mod SpelledChanges

@@ -36,6 +36,6 @@ module _ (done : List CommitRef) (ended : Bool) (i : Input) where
 
   pub merges_stop : {X Y : Type 0} (v : X → Option CommitRef × Input) (w : Y → List CommitRef × Input) (n : ℕ) (e : Halt) →
       Tells v (Err e) (next_merge ended i) → Tells w (Err e) (merges n done ended i)
-  merges_stop v w n halts.More h = halts_here n stops.More h
+  merges_stop v w n (halts.More m) h = halts_here n (stops.More m) h
   merges_stop v w n halts.Memory h = tt
   merges_stop v w n (halts.Fault f) h = halts_here n (stops.Fault f) h

@@ -143,7 +143,7 @@ none_ends p i (Some c) q j h e = absurd (no_tail c (verdict_from q j).commands (
 
 none_was : (p : Progress) (i : Input) (r : Read Told) → CommandSpelled p i r → IsTold r → go_on verdict_from r ≡ Whole [] → SpellsAll [] p i
 none_was p i (Ok x) h t e = none_ends p i x.0.command x.0.progress x.1 h e
-none_was p i (Err stops.More) h t e = absurd t
+none_was p i (Err (stops.More w)) h t e = absurd t
 none_was p i (Err (stops.Fault f)) h t e = absurd (no_fault f (Some f) refl (commands_are (stopped (Some f)) (Whole []) e).1)
 
 module _ (c : Placed) (cs : List Placed) (later : (q : Progress) (j : Input) → verdict_from q j ≡ Whole cs → SpellsAll cs q j) where
@@ -157,7 +157,7 @@ module _ (c : Placed) (cs : List Placed) (later : (q : Progress) (j : Input) →
 
   some_was : (p : Progress) (i : Input) (r : Read Told) → CommandSpelled p i r → IsTold r → go_on verdict_from r ≡ Whole (c ∷ cs) → SpellsAll (c ∷ cs) p i
   some_was p i (Ok x) h t e = some_first p i x.0.command x.0.progress x.1 h e
-  some_was p i (Err stops.More) h t e = absurd t
+  some_was p i (Err (stops.More w)) h t e = absurd t
   some_was p i (Err (stops.Fault f)) h t e = absurd (no_fault f (Some f) refl (commands_are (stopped (Some f)) (Whole (c ∷ cs)) e).1)
 
 whole_was : (cs : List Placed) (p : Progress) (i : Input) → verdict_from p i ≡ Whole cs → SpellsAll cs p i

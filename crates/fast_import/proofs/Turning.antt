@@ -1,7 +1,9 @@
 -- One line or one command is read by a reader.
-use Rattle.std.proofs.Common.{ℕ, Bool, true, false, Option, Some, None, refl}
+use Rattle.std.proofs.Common.{ℕ, Bool, true, false, Option, Some, None, Err, ◌≡◌, refl}
 use Rattle.git_objects.specs.Paths.{Bytes}
 use Rattle.stream_lex.specs.Lines.{Input, Line}
+use Rattle.stream_lex.specs.declared.stop.Wanted.{Wanted}
+use Rattle.stream_lex.specs.declared.stop.Stop.TheVariants as stops
 use Rattle.stream_lex.specs.Cutting.{grown, Advances}
 use Rattle.stream_lex.proofs.Combining.{stays}
 use Rattle.fast_import.specs.declared.command.Command.TheVariants as commands
@@ -11,8 +13,8 @@ use Rattle.fast_import.specs.declared.progress.Progress.{Progress}
 use Rattle.stream_lex.specs.Cutting.{◌then◌}
 use Rattle.fast_import.specs.Changes.{change, change_line, ChangeLine, ModifyIs, DeleteIs, RenameIs, CopyIs, DeleteAllIs, NotesAre, EmptyIs, NoChange}
 use Rattle.fast_import.specs.Commands.{command_line, gives, between, at_the_end, between_at, changed, in_commit_at, turn_in, turn}
-use Rattle.stream_lex.specs.Cutting.{Agrees, IsTold, Steps, IsReader}
-use Rattle.stream_lex.proofs.Combining.{then-reader, pure-reader, steps_later}
+use Rattle.stream_lex.specs.Cutting.{Agrees, IsTold, Steps, WaitsOn, IsReader}
+use Rattle.stream_lex.proofs.Combining.{then-reader, pure-reader, steps_later, waits_later}
 use Rattle.fast_import.proofs.Combining.{IsOfLine, line-reader}
 use Rattle.fast_import.proofs.Composed.{change-reader, between-reader, at_the_end-reader}
 
@@ -31,11 +33,17 @@ module _ (d : Bool) where
   between_told None j = (at_the_end-reader j.at d).told j
   between_told (Some l) j = (between-reader (command_line l.bytes) l.place d).told j
 
+  between_waits : (i : Input) (o : Option Line) (j : Input) → Advances i j → (w : Wanted) → between_at d false (o, j) ≡ Err (stops.More w) → WaitsOn (λ more. between_at d false (o, grown more j)) i w
+  between_waits i None j s w e = waits_later (λ more. at_the_end j.at d false (grown more j)) i j w s ((at_the_end-reader j.at d).waits j w e)
+  between_waits i (Some l) j s w e =
+      waits_later (λ more. between (command_line l.bytes) l.place d false (grown more j)) i j w s ((between-reader (command_line l.bytes) l.place d).waits j w e)
+
   between_line : IsOfLine (λ ended i. between_at d ended)
   between_line = record {
     settles = λ e more i o j. between_settles e more o j;
     steps = λ e i o j h. between_steps e i o j h;
     told = λ i o j. between_told o j;
+    waits = between_waits;
   }
 
   -- ---- in a commit
@@ -76,6 +84,25 @@ module _ (d : Bool) where
   changed_told DeleteAllIs at i j = (changing-reader DeleteAllIs at).told j
   changed_told NotesAre at i j = (changing-reader NotesAre at).told j
 
+  changing_waits : (k : ChangeLine) (at : ℕ) (i j : Input) → Advances i j → (w : Wanted) → (change at k then λ c. gives at InCommit d (commands.Change c)) false j ≡ Err (stops.More w) →
+      WaitsOn (λ more. (change at k then λ c. gives at InCommit d (commands.Change c)) false (grown more j)) i w
+  changing_waits k at i j s w e =
+      waits_later (λ more. (change at k then λ c. gives at InCommit d (commands.Change c)) false (grown more j)) i j w s ((changing-reader k at).waits j w e)
+
+  changed_waits : (k : ChangeLine) (at : ℕ) (i j : Input) → Advances i j → (w : Wanted) → changed k at d false i j ≡ Err (stops.More w) → WaitsOn (λ more. changed k at d false (grown more i) (grown more j)) i w
+  changed_waits EmptyIs at i j s w e = let no : ⊥ = cc in absurd no
+  changed_waits NoChange at i j s w e = let no : ⊥ = cc in absurd no
+  changed_waits (ModifyIs t) at i j s w e = changing_waits (ModifyIs t) at i j s w e
+  changed_waits (DeleteIs t) at i j s w e = changing_waits (DeleteIs t) at i j s w e
+  changed_waits (RenameIs t) at i j s w e = changing_waits (RenameIs t) at i j s w e
+  changed_waits (CopyIs t) at i j s w e = changing_waits (CopyIs t) at i j s w e
+  changed_waits DeleteAllIs at i j s w e = changing_waits DeleteAllIs at i j s w e
+  changed_waits NotesAre at i j s w e = changing_waits NotesAre at i j s w e
+
+  commit_waits : (i : Input) (o : Option Line) (j : Input) → Advances i j → (w : Wanted) → in_commit_at d false i (o, j) ≡ Err (stops.More w) → WaitsOn (λ more. in_commit_at d false (grown more i) (o, grown more j)) i w
+  commit_waits i None j s w e = let no : ⊥ = cc in absurd no
+  commit_waits i (Some l) j s w e = changed_waits (change_line l.bytes) l.place i j s w e
+
   commit_settles : (ended : Bool) (more : Bytes) (i : Input) (o : Option Line) (j : Input) → Agrees more (in_commit_at d false i (o, j)) (in_commit_at d ended (grown more i) (o, grown more j))
   commit_settles ended more i None j = refl
   commit_settles ended more i (Some l) j = changed_settles ended more (change_line l.bytes) l.place i j
@@ -93,6 +120,7 @@ module _ (d : Bool) where
     settles = λ e more i o j. commit_settles e more i o j;
     steps = λ e i o j h. commit_steps e i o j h;
     told = λ i o j. commit_told i o j;
+    waits = commit_waits;
   }
 
   turn_in-reader : (p : Phase) → IsReader (turn_in p d)

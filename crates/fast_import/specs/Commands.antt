@@ -6,6 +6,7 @@ use Rattle.stream_lex.specs.Lines.{Input, Line, line_at}
 use Rattle.fast_import.specs.declared.fault.Feature.{Feature}
 use Rattle.fast_import.specs.declared.fault.Feature.TheVariants as features
 use Rattle.fast_import.specs.declared.fault.StreamFault.TheVariants.{Syntax, Unsupported}
+use Rattle.stream_lex.specs.declared.stop.Wanted.TheVariants as wants
 use Rattle.stream_lex.specs.declared.stop.Stop.TheVariants as stops
 use Rattle.fast_import.specs.declared.command.Command.{Command}
 use Rattle.fast_import.specs.declared.command.Command.TheVariants as commands
@@ -145,7 +146,7 @@ turn_on next t = by_event next t.event t.progress
 
 -- behind fewer than n such lines
 abbrev pub command_within : ℕ → Progress → Reader Told
-command_within zero p ended i = Err stops.More
+command_within zero p ended i = Err (stops.More (wants.Line i.at))
 command_within (suc n) p ended i = (turn p then turn_on (command_within n)) ended i
 
 -- The next command of what is left, none where the stream ends, its first fault, or that more must come.

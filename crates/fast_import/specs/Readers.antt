@@ -1,13 +1,15 @@
 -- What a reader has, and what its calls tell.
-use Rattle.std.specs.Prelude.{◌≡◌, ◌⊎◌, Bool, true, [], Some, None, Result, Ok, Err}
+use Rattle.std.specs.Prelude.{◌≡◌, ◌⊎◌, ◌+◌, ◌≤◌, ℕ, length, Bool, true, false, [], Option, Some, None, Result, Ok, Err}
 use Rattle.git_objects.specs.Paths.{Bytes}
+use Rattle.git_objects.specs.declared.limits.TheConstants.{STREAM_BYTES}
 use Rattle.stream_lex.specs.Lines.{Input}
-use Rattle.stream_lex.specs.Cutting.{grown}
+use Rattle.stream_lex.specs.Cutting.{grown, place, StillWants, still_wanted}
 use Rattle.stream_lex.specs.Lexing.{Lexed}
 use Rattle.fast_import.specs.declared.fault.StreamFault.{StreamFault}
 use Rattle.fast_import.specs.declared.fault.StreamFault.TheVariants.{OutOfMemory}
 use Rattle.fast_import.specs.declared.halt.Halt.{Halt}
 use Rattle.fast_import.specs.declared.halt.Halt.TheVariants as halts
+use Rattle.stream_lex.specs.declared.stop.Wanted.{Wanted}
 use Rattle.stream_lex.specs.declared.stop.Stop.TheVariants as stops
 use Rattle.fast_import.specs.declared.progress.Progress.{Progress}
 use Rattle.fast_import.specs.declared.progress.Event.{Event}
@@ -28,6 +30,28 @@ reading p l = record { progress = p; input = l.input; ended = l.ended }
 abbrev pub next_command : Reading → Read Told
 next_command r = read_command r.progress r.ended r.input
 
+-- w is waited for: before it is there nothing can be told, however much has come
+pub record WaitsFor (r : Reading) (w : Wanted) : Type 0 where
+  pub from : r.input.at ≤ place w
+  pub room : place w ≤ r.input.at + length r.input.rest
+  pub within : place w ≤ STREAM_BYTES
+  pub still : (more : Bytes) (v : Wanted) → StillWants w (grown more r.input) v → turn r.progress false (grown more r.input) ≡ Err (stops.More v)
+
+abbrev pub IsWaiting : Option Wanted → Reading → Type 0
+IsWaiting None r = Unit {0}
+IsWaiting (Some w) r = WaitsFor r w
+
+-- what is waited for now
+abbrev pub wanted_now : Option Wanted → Lexed → Option Wanted
+wanted_now None l = None
+wanted_now (Some w) l = still_wanted w l.ended l.input
+
+-- a place of what a lexer holds
+pub record IsPlace (l : Lexed) (at : ℕ) : Type 0 where
+  pub within : at ≤ STREAM_BYTES
+  pub from : l.input.at ≤ at
+  pub room : at ≤ l.input.at + length l.input.rest
+
 -- where more was fed, and the end was told or not; behind the end nothing comes
 abbrev pub fed : Bytes → Bool → Reading → Reading
 fed more ended r = record { progress = r.progress; input = grown more r.input; ended = ended }
@@ -44,7 +68,7 @@ pub record IsBefore (old new : Reading) : Type 0 where
 abbrev pub TellsNext : Result Next StreamFault → Reading → Reading → Type 0
 TellsNext (Ok (nexts.Command p)) old new =
     (next_command old ≡ Ok (record { command = Some p; progress = new.progress }, new.input)) × (new.ended ≡ old.ended)
-TellsNext (Ok nexts.More) old new = (next_command old ≡ Err stops.More) × IsBefore old new
+TellsNext (Ok nexts.More) old new = ((w : Wanted) × (next_command old ≡ Err (stops.More w))) × IsBefore old new
 TellsNext (Ok nexts.Ended) old new =
     (next_command old ≡ Ok (record { command = None; progress = new.progress }, new.input)) × (new.ended ≡ old.ended)
 TellsNext (Err f) old new = (f ≡ OutOfMemory) ⊎ ((next_command old ≡ Err (stops.Fault f)) × IsBefore old new)
@@ -54,5 +78,5 @@ abbrev pub TellsTurn : Result Event Halt → Reading → Reading → Type 0
 TellsTurn (Ok e) old new =
     (turn old.progress old.ended old.input ≡ Ok (record { event = e; progress = new.progress }, new.input)) × (new.ended ≡ old.ended)
 TellsTurn (Err halts.Memory) old new = Unit {0}
-TellsTurn (Err halts.More) old new = (turn old.progress old.ended old.input ≡ Err stops.More) × (new ≡ old)
+TellsTurn (Err (halts.More w)) old new = (turn old.progress old.ended old.input ≡ Err (stops.More w)) × (new ≡ old)
 TellsTurn (Err (halts.Fault f)) old new = (turn old.progress old.ended old.input ≡ Err (stops.Fault f)) × (new ≡ old)

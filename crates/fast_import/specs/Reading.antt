@@ -36,7 +36,7 @@ or_fault f o = or_refuse (stops.Fault f) o
 -- ---- lines
 
 abbrev pub stream_stop : Stop LimitFault → Stop StreamFault
-stream_stop stops.More = stops.More
+stream_stop (stops.More w) = stops.More w
 stream_stop (stops.Fault (LongLine at)) = stops.Fault (Limit at limits.Line)
 stream_stop (stops.Fault StreamTooLong) = stops.Fault (Limit STREAM_BYTES limits.Stream)
 

@@ -27,7 +27,7 @@ with_command c v = record { commands = c ∷ v.commands; fault = v.fault }
 
 abbrev pub halted : Stop StreamFault → Verdict
 halted (stops.Fault f) = stopped (Some f)
-halted stops.More = stopped None
+halted (stops.More w) = stopped None
 
 abbrev pub told_then : (Progress → Input → Verdict) → Option Placed → Progress → Input → Verdict
 told_then later (Some c) p i = with_command c (later p i)
@@ -69,7 +69,7 @@ verdict b = verdict_from start (from_start b)
 -- ---- the same in pieces
 
 abbrev pub or_next : Verdict → Verdict → Read Told → Verdict
-or_next told next (Err stops.More) = next
+or_next told next (Err (stops.More w)) = next
 or_next told next _ = told
 
 -- What is told where pieces come one by one, each as soon as more is wanted, and then the end; in at most n turns.

@@ -30,12 +30,12 @@ use Rattle.fast_import.specs.Commands.{CommandLine, EmptyLine, BlobLine, CommitL
 abbrev pub Tells : {X Y : Type 0} → (X → Y) → Result X Halt → Judged Y → Type 0
 Tells view (Ok x) read = read ≡ Ok (view x)
 Tells view (Err halts.Memory) read = Unit {0}
-Tells view (Err halts.More) read = read ≡ Err stops.More
+Tells view (Err (halts.More w)) read = read ≡ Err (stops.More w)
 Tells view (Err (halts.Fault f)) read = read ≡ Err (stops.Fault f)
 
 -- what a line or a block that isn't read halts with
 abbrev pub halt_of : Stop LimitFault → Halt
-halt_of stops.More = halts.More
+halt_of (stops.More w) = halts.More w
 halt_of (stops.Fault (LongLine at)) = halts.Fault (Limit at limits.Line)
 halt_of (stops.Fault StreamTooLong) = halts.Fault (Limit STREAM_BYTES limits.Stream)
 

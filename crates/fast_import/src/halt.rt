@@ -7,13 +7,13 @@ use crate::StreamFault;
 use git_objects::Quantity;
 use git_objects::limits::STREAM_BYTES;
 use std::alloc::AllocError;
-use stream_lex::{LimitFault, Stop};
+use stream_lex::{LimitFault, Stop, Wanted};
 
 /// Why nothing was read.
 #[derive(Clone, Copy, Debug)]
 pub enum Halt {
     /// It can't be told before more has come.
-    More,
+    More(Wanted),
     /// There is no memory.
     Memory,
     Fault(StreamFault),
@@ -24,7 +24,7 @@ impl From<Stop<LimitFault>> for Halt {
 
     fn from(stop: Stop<LimitFault>) -> Halt {
         match stop {
-            Stop::More => Halt::More,
+            Stop::More(wanted) => Halt::More(wanted),
             Stop::Fault(LimitFault::LongLine { at }) => Halt::Fault(StreamFault::Limit {
                 at,
                 which: Quantity::Line,

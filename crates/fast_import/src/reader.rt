@@ -1,7 +1,7 @@
 // A reader of a stream that is fed in pieces.
-ghost use Rattle.std.specs.Prelude.{◌≡◌, ◌≤◌, [], false, true, OnOk, OnErr};
-ghost use Rattle.stream_lex.specs.Cutting.{grown};
-ghost use Rattle.fast_import.specs.Readers.{TellsTurn, TellsNext, reading, fed};
+ghost use Rattle.std.specs.Prelude.{◌≡◌, ◌≤◌, [], false, true, IfSome, OnOk, OnErr};
+ghost use Rattle.stream_lex.specs.Cutting.{grown, place};
+ghost use Rattle.fast_import.specs.Readers.{IsPlace, TellsTurn, TellsNext, reading, fed, wanted_now};
 ghost use Rattle.fast_import.specs.Verdicts.{start};
 
 use crate::halt::Halt;
@@ -10,7 +10,7 @@ use crate::turns::turn;
 use crate::{Placed, StreamFault};
 use std::alloc::{AllocError, Global};
 use std::marker::Model;
-use stream_lex::Lexer;
+use stream_lex::{Lexer, Wanted};
 
 /// What `Reader::next` tells.
 #[derive(Debug, Drop)]
@@ -27,6 +27,8 @@ pub enum Next {
 pub struct Reader {
     lexer: Lexer,
     progress: Progress,
+    // what was waited for when the last answer was that more must come: nothing is read again before it is there
+    waits: Option<Wanted>,
     alloc: Global,
 }
 
@@ -36,6 +38,10 @@ impl Model for Reader {
     ghost Value = { Reading };
 
     ghost view = { λ r. reading r.progress r.lexer };
+
+    ghost use Rattle.fast_import.specs.Readers.{IsWaiting};
+
+    ghost invariant = { λ r. IsWaiting r.waits (reading r.progress r.lexer) };
 }
 
 impl Reader {
@@ -53,6 +59,7 @@ impl Reader {
                 phase: Phase::Between,
                 wants_done: false,
             },
+            waits: None,
             alloc,
         }
     }
@@ -82,9 +89,16 @@ impl Reader {
     pub fn next(&mut self) -> Result<Next, StreamFault>
         ensures { TellsNext result self.old self.new }
     {
+        self.waits = still_wanted(&self.lexer, self.waits);
+        if self.waits.is_some() {
+            return Ok(Next::More);
+        }
         'turns: loop {
             match advance(self.alloc, &mut self.lexer, &mut self.progress) {
-                Err(Halt::More) => return Ok(Next::More),
+                Err(Halt::More(wanted)) => {
+                    self.waits = Some(wanted);
+                    return Ok(Next::More);
+                }
                 Err(Halt::Memory) => return Err(StreamFault::OutOfMemory),
                 Err(Halt::Fault(fault)) => return Err(fault),
                 Ok(Event::Gives(placed)) => return Ok(Next::Command(placed)),
@@ -92,6 +106,17 @@ impl Reader {
                 Ok(Event::Skips) => {}
             }
         }
+    }
+}
+
+// What is waited for now where this was waited for.
+fn still_wanted(lexer: &Lexer, waits: Option<Wanted>) -> Option<Wanted>
+    requires { IfSome waits (λ w. IsPlace lexer.now (place w)) }
+    ensures { result ≡ wanted_now waits lexer.now }
+{
+    match waits {
+        None => None,
+        Some(wanted) => lexer.still_wants(wanted),
     }
 }
 

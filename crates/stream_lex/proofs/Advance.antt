@@ -85,9 +85,9 @@ end_here n b x xs i h g =
       ]
     ]
 
-short_steps : (ended : Bool) (i : Input) → Steps i (short_block ended i)
-short_steps false i = tt
-short_steps true i = stays i
+short_steps : (n : ℕ) (ended : Bool) (i : Input) → Steps i (short_block n ended i)
+short_steps n false i = tt
+short_steps n true i = stays i
 
 end_steps : (ended : Bool) (n : ℕ) (b xs : Bytes) (i : Input) → n ≤ length i.rest → xs ≡ drop n i.rest → Steps i (block_end ended n b xs i)
 end_steps false n b [] i h g = tt
@@ -99,10 +99,10 @@ pub block_at-steps : (n : ℕ) (ended : Bool) (i : Input) → Steps i (block_at 
 unfolding block_at
 block_at-steps n ended i =
     elim (leb n (length i.rest)) as (λ t. leb n (length i.rest) ≡ t → Steps i
-    (cond t (cond (leb (i.at + n) STREAM_BYTES) (block_end ended n (take n i.rest) (drop n i.rest) i) (Err (Fault StreamTooLong))) (cond (leb (i.at + length i.rest) STREAM_BYTES) (short_block ended i) (Err (Fault StreamTooLong))))) [
+    (cond t (cond (leb (i.at + n) STREAM_BYTES) (block_end ended n (take n i.rest) (drop n i.rest) i) (Err (Fault StreamTooLong))) (cond (leb (i.at + length i.rest) STREAM_BYTES) (short_block n ended i) (Err (Fault StreamTooLong))))) [
       | true ↦ λ e. elim (leb (i.at + n) STREAM_BYTES) as (λ t. Steps i (cond t (block_end ended n (take n i.rest) (drop n i.rest) i) (Err (Fault StreamTooLong)))) [
         | true ↦ end_steps ended n (take n i.rest) (drop n i.rest) i (leb-true n (length i.rest) e) refl
         | false ↦ tt
       ]
-      | false ↦ λ e. elim (leb (i.at + length i.rest) STREAM_BYTES) as (λ t. Steps i (cond t (short_block ended i) (Err (Fault StreamTooLong)))) [ true ↦ short_steps ended i | false ↦ tt ]
+      | false ↦ λ e. elim (leb (i.at + length i.rest) STREAM_BYTES) as (λ t. Steps i (cond t (short_block n ended i) (Err (Fault StreamTooLong)))) [ true ↦ short_steps n ended i | false ↦ tt ]
     ] refl

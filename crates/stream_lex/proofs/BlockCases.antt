@@ -2,6 +2,7 @@
 use Rattle.std.proofs.Common.{◌≡◌, ◌≢◌, ◌+◌, ◌<◌, ◌≤◌, ℕ, Bool, true, false, [], ◌∷◌, length, take, drop, get_or, Err, refl, arith, le-leb}
 use Rattle.std.proofs.lemmas.Bool.{lt-leb, ne_eqb}
 use Rattle.git_objects.specs.declared.limits.TheConstants.{STREAM_BYTES}
+use Rattle.stream_lex.specs.declared.stop.Wanted.TheVariants as wants
 use Rattle.stream_lex.specs.declared.stop.Stop.TheVariants.{More, Fault}
 use Rattle.stream_lex.specs.declared.stop.LimitFault.TheVariants.{StreamTooLong}
 use Rattle.git_objects.specs.Paths.{Bytes}
@@ -16,7 +17,7 @@ module _ (ended : Bool) (at : ℕ) (xs : Bytes) (n : ℕ) where
   unfolding block_at
   few_over h g = rw (lt-leb n (length xs) h, lt-leb (at + length xs) STREAM_BYTES g) refl
 
-  pub few : length xs < n → at + length xs ≤ STREAM_BYTES → block_at n ended here ≡ short_block ended here
+  pub few : length xs < n → at + length xs ≤ STREAM_BYTES → block_at n ended here ≡ short_block n ended here
   unfolding block_at
   few h g = rw (lt-leb n (length xs) h, le-leb (at + length xs) STREAM_BYTES g) refl
 
@@ -32,7 +33,7 @@ module _ (at : ℕ) (xs : Bytes) (n : ℕ) where
   abbrev from : Input
   from = record { at = at; rest = xs }
 
-  pub end_more : (b r : Bytes) → length r ≡ 0 → block_end false n b r from ≡ Err More
+  pub end_more : (b r : Bytes) → length r ≡ 0 → block_end false n b r from ≡ Err (More (wants.Block from.at n))
   end_more b [] h = refl
   end_more b (x ∷ r) h = absurd (omega arith)
 

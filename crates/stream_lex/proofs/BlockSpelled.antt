@@ -4,6 +4,7 @@ use Rattle.std.proofs.lemmas.List.{take_at, drop_at}
 use Rattle.std.proofs.lemmas.Bool.{leb-false, ne_eqb}
 use Rattle.git_objects.specs.declared.limits.TheConstants.{STREAM_BYTES}
 use Rattle.git_objects.specs.Paths.{Bytes}
+use Rattle.stream_lex.specs.declared.stop.Wanted.TheVariants as wants
 use Rattle.stream_lex.specs.declared.stop.Stop.TheVariants.{More, Fault}
 use Rattle.stream_lex.specs.declared.stop.LimitFault.TheVariants.{LongLine, StreamTooLong}
 use Rattle.stream_lex.specs.Lines.{Input, Lex, block_at, block_end, short_block}
@@ -17,7 +18,7 @@ use Rattle.stream_lex.proofs.Settling.{block_at-settles}
 abbrev pub BlockTold : ℕ → Bool → Input → Lex (Option Bytes) → Type 0
 BlockTold n ended i (Ok (Some b, j)) = (h : TakesBlock i b j) × (length b ≡ n) × ((0 < length h.rest) ⊎ (ended ≡ true))
 BlockTold n ended i (Ok (None, j)) = (length i.rest < n) × (i.at + length i.rest ≤ STREAM_BYTES) × (j ≡ i) × (ended ≡ true)
-BlockTold n ended i (Err More) = (ended ≡ false) × (i.at + length i.rest ≤ STREAM_BYTES) × (length i.rest ≤ n)
+BlockTold n ended i (Err (More w)) = (ended ≡ false) × (i.at + length i.rest ≤ STREAM_BYTES) × (length i.rest ≤ n) × (w ≡ wants.Block i.at n)
 BlockTold n ended i (Err (Fault (LongLine at))) = ⊥
 BlockTold n ended i (Err (Fault StreamTooLong)) = STREAM_BYTES < i.at + length i.rest
 
@@ -39,25 +40,25 @@ end_here n ended i x xs h g e =
     ] refl
 
 end_told : (n : ℕ) (ended : Bool) (i : Input) (r : Bytes) → n ≤ length i.rest → i.at + n ≤ STREAM_BYTES → r ≡ drop n i.rest → BlockTold n ended i (block_end ended n (take n i.rest) r i)
-end_told n false i [] h g e = (refl, omega (arith, ap length e, length-drop n i.rest), omega (arith, ap length e, length-drop n i.rest))
+end_told n false i [] h g e = (refl, omega (arith, ap length e, length-drop n i.rest), omega (arith, ap length e, length-drop n i.rest), refl)
 end_told n true i [] h g e = taken n true i [] _ h e refl g (inr refl)
 end_told n false i (x ∷ xs) h g e = end_here n false i x xs h g e
 end_told n true i (x ∷ xs) h g e = end_here n true i x xs h g e
 
-short_told : (n : ℕ) (ended : Bool) (i : Input) → length i.rest < n → i.at + length i.rest ≤ STREAM_BYTES → BlockTold n ended i (short_block ended i)
-short_told n false i h g = (refl, g, omega arith)
+short_told : (n : ℕ) (ended : Bool) (i : Input) → length i.rest < n → i.at + length i.rest ≤ STREAM_BYTES → BlockTold n ended i (short_block n ended i)
+short_told n false i h g = (refl, g, omega arith, refl)
 short_told n true i h g = (h, g, refl, refl)
 
 pub block_at-told : (n : ℕ) (ended : Bool) (i : Input) → BlockTold n ended i (block_at n ended i)
 unfolding block_at
 block_at-told n ended i =
     elim (leb n (length i.rest)) as (λ t. leb n (length i.rest) ≡ t → BlockTold n ended i
-    (cond t (cond (leb (i.at + n) STREAM_BYTES) (block_end ended n (take n i.rest) (drop n i.rest) i) (Err (Fault StreamTooLong))) (cond (leb (i.at + length i.rest) STREAM_BYTES) (short_block ended i) (Err (Fault StreamTooLong))))) [
+    (cond t (cond (leb (i.at + n) STREAM_BYTES) (block_end ended n (take n i.rest) (drop n i.rest) i) (Err (Fault StreamTooLong))) (cond (leb (i.at + length i.rest) STREAM_BYTES) (short_block n ended i) (Err (Fault StreamTooLong))))) [
       | true ↦ λ e. elim (leb (i.at + n) STREAM_BYTES) as (λ t. leb (i.at + n) STREAM_BYTES ≡ t → BlockTold n ended i (cond t (block_end ended n (take n i.rest) (drop n i.rest) i) (Err (Fault StreamTooLong)))) [
         | true ↦ λ g. end_told n ended i (drop n i.rest) (leb-true n (length i.rest) e) (leb-true (i.at + n) STREAM_BYTES g) refl
         | false ↦ λ g. let o : STREAM_BYTES < i.at + n = leb-false (i.at + n) STREAM_BYTES g in omega (arith, leb-true n (length i.rest) e)
       ] refl
-      | false ↦ λ e. elim (leb (i.at + length i.rest) STREAM_BYTES) as (λ t. leb (i.at + length i.rest) STREAM_BYTES ≡ t → BlockTold n ended i (cond t (short_block ended i) (Err (Fault StreamTooLong)))) [
+      | false ↦ λ e. elim (leb (i.at + length i.rest) STREAM_BYTES) as (λ t. leb (i.at + length i.rest) STREAM_BYTES ≡ t → BlockTold n ended i (cond t (short_block n ended i) (Err (Fault StreamTooLong)))) [
         | true ↦ λ g. short_told n ended i (leb-false n (length i.rest) e) (leb-true (i.at + length i.rest) STREAM_BYTES g)
         | false ↦ λ g. leb-false (i.at + length i.rest) STREAM_BYTES g
       ] refl
@@ -118,17 +119,17 @@ over-again n ended i t o = go (block_at n ended i) (block_at-told n ended i)
     go : (r : Lex (Option Bytes)) → BlockTold n ended i r → r ≡ Err (Fault StreamTooLong)
     go (Ok (Some b, j)) h = absurd (o b j h.0 h.1)
     go (Ok (None, j)) h = absurd (omega (arith, h.1))
-    go (Err More) h = absurd (omega (arith, h.1))
+    go (Err (More w)) h = absurd (omega (arith, h.1))
     go (Err (Fault (LongLine at))) h = absurd h
     go (Err (Fault StreamTooLong)) h = refl
 
-pub more-again : (n : ℕ) (ended : Bool) (i : Input) → ended ≡ false → i.at + length i.rest ≤ STREAM_BYTES → length i.rest ≤ n → block_at n ended i ≡ Err More
+pub more-again : (n : ℕ) (ended : Bool) (i : Input) → ended ≡ false → i.at + length i.rest ≤ STREAM_BYTES → length i.rest ≤ n → block_at n ended i ≡ Err (More (wants.Block i.at n))
 more-again n ended i u t l = go (block_at n ended i) (block_at-told n ended i)
   where
-    go : (r : Lex (Option Bytes)) → BlockTold n ended i r → r ≡ Err More
+    go : (r : Lex (Option Bytes)) → BlockTold n ended i r → r ≡ Err (More (wants.Block i.at n))
     go (Ok (Some b, j)) h = elim h.2 [ inl p ↦ absurd (omega (arith, p, h.1, ap length h.0.front, length-append b h.0.rest)) | inr e ↦ absurd (true≢false (sym e ∙ u)) ]
     go (Ok (None, j)) h = absurd (true≢false (sym h.3 ∙ u))
-    go (Err More) h = refl
+    go (Err (More w)) h = ap (λ u. Err (More u)) h.3
     go (Err (Fault (LongLine at))) h = absurd h
     go (Err (Fault StreamTooLong)) h = absurd (omega (arith, h))
 

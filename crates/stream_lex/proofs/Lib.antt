@@ -7,5 +7,6 @@ pub mod Advance
 pub mod Spelled
 pub mod BlockSpelled
 pub mod Whole
+pub mod Waiting
 pub mod Passing
 pub mod Pieces

@@ -13,7 +13,7 @@ use Rattle.stream_lex.proofs.Passing.{grown_none, grown_twice}
 
 answered-agrees : {A : Type 0} (f : A → Answer) (more : Bytes) (r s : Lex A) → Agrees more r s → Agrees more (answered f r) (answered f s)
 answered-agrees f more (Ok x) s h = ap (answered f) h
-answered-agrees f more (Err More) s h = tt
+answered-agrees f more (Err (More w)) s h = tt
 answered-agrees f more (Err (Fault e)) s h = ap (answered f) h
 
 ask-settles : (r : Request) → Settles (ask r)
@@ -31,7 +31,7 @@ at_end (Err s) b e = e
 
 unless : (a b : Lex Answer) (p : Bytes) (ps : List Bytes) (later : Fed) → Agrees (concat (p ∷ ps)) a b → Same later b → Same (unless_more a (p ∷ ps) later) b
 unless (Ok x) b p ps later h g = h
-unless (Err More) b p ps later h g = g
+unless (Err (More w)) b p ps later h g = g
 unless (Err (Fault e)) b p ps later h g = h
 
 fed_same : (r : Request) (ps : List Bytes) (i : Input) → Same (ask_fed r ps i) (ask r true (grown (concat ps) i))

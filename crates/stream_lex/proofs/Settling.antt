@@ -8,6 +8,7 @@ use Rattle.stream_lex.proofs.Scan.{and-false, got_line, got_block}
 use Rattle.std.specs.Prelude.{◌&&◌}
 use Rattle.std.proofs.lemmas.Bool.{lt-leb, leb-false}
 use Rattle.git_objects.specs.declared.limits.TheConstants.{LINE_BYTES, STREAM_BYTES}
+use Rattle.stream_lex.specs.declared.stop.Wanted.TheVariants as wants
 use Rattle.stream_lex.specs.declared.stop.Stop.TheVariants.{More, Fault}
 use Rattle.stream_lex.specs.declared.stop.LimitFault.TheVariants.{LongLine, StreamTooLong}
 use Rattle.git_objects.specs.Paths.{Bytes}
@@ -85,9 +86,9 @@ module _ (ended : Bool) (more : Bytes) (i : Input) where
 
   none_agrees : (o : Option (Bytes × Bytes)) → EndsSame i.rest more None o → Agrees more (line_from false i None) (line_from ended (grown more i) o)
   none_agrees o h =
-      elim (is_long i.at (length i.rest)) as (λ b. is_long i.at (length i.rest) ≡ b → Agrees more (cond b (Err (Fault (LongLine i.at))) (cond (leb (i.at + length i.rest) STREAM_BYTES) (Err More) (Err (Fault StreamTooLong)))) (line_from ended (grown more i) o)) [
+      elim (is_long i.at (length i.rest)) as (λ b. is_long i.at (length i.rest) ≡ b → Agrees more (cond b (Err (Fault (LongLine i.at))) (cond (leb (i.at + length i.rest) STREAM_BYTES) (Err (More (wants.Line i.at))) (Err (Fault StreamTooLong)))) (line_from ended (grown more i) o)) [
         | true ↦ λ e. still_long_line o h e
-        | false ↦ λ e. elim (leb (i.at + length i.rest) STREAM_BYTES) as (λ b. leb (i.at + length i.rest) STREAM_BYTES ≡ b → Agrees {A = Option Line} more (cond b (Err More) (Err (Fault StreamTooLong))) (line_from ended (grown more i) o)) [
+        | false ↦ λ e. elim (leb (i.at + length i.rest) STREAM_BYTES) as (λ b. leb (i.at + length i.rest) STREAM_BYTES ≡ b → Agrees {A = Option Line} more (cond b (Err (More (wants.Line i.at))) (Err (Fault StreamTooLong))) (line_from ended (grown more i) o)) [
           | true ↦ λ g. tt
           | false ↦ λ g. still_over o h e (leb-false (i.at + length i.rest) STREAM_BYTES g)
         ] refl
@@ -145,7 +146,7 @@ module _ (ended : Bool) (more : Bytes) (i : Input) (n : ℕ) where
   unfolding block_at
   too_few h g =
       let long = length-append i.rest more in
-      elim (leb n (length (i.rest ++ more))) as (λ t. cond t (cond (leb (i.at + n) STREAM_BYTES) (block_end ended n (take n (i.rest ++ more)) (drop n (i.rest ++ more)) (grown more i)) (Err (Fault StreamTooLong))) (cond (leb (i.at + length (i.rest ++ more)) STREAM_BYTES) (short_block ended (grown more i)) (Err (Fault StreamTooLong))) ≡ Err (Fault StreamTooLong)) [
+      elim (leb n (length (i.rest ++ more))) as (λ t. cond t (cond (leb (i.at + n) STREAM_BYTES) (block_end ended n (take n (i.rest ++ more)) (drop n (i.rest ++ more)) (grown more i)) (Err (Fault StreamTooLong))) (cond (leb (i.at + length (i.rest ++ more)) STREAM_BYTES) (short_block n ended (grown more i)) (Err (Fault StreamTooLong))) ≡ Err (Fault StreamTooLong)) [
         | true ↦ rw (lt-leb (i.at + n) STREAM_BYTES (omega arith)) refl
         | false ↦ rw (lt-leb (i.at + length (i.rest ++ more)) STREAM_BYTES (omega arith)) refl
       ]
@@ -154,14 +155,14 @@ pub block_at-settles : (n : ℕ) → Settles (block_at n)
 unfolding block_at
 block_at-settles n ended more i =
     elim (leb n (length i.rest)) as (λ t. leb n (length i.rest) ≡ t → Agrees more
-    (cond t (cond (leb (i.at + n) STREAM_BYTES) (block_end false n (take n i.rest) (drop n i.rest) i) (Err (Fault StreamTooLong))) (cond (leb (i.at + length i.rest) STREAM_BYTES) (Err More) (Err (Fault StreamTooLong))))
+    (cond t (cond (leb (i.at + n) STREAM_BYTES) (block_end false n (take n i.rest) (drop n i.rest) i) (Err (Fault StreamTooLong))) (cond (leb (i.at + length i.rest) STREAM_BYTES) (Err (More (wants.Block i.at n))) (Err (Fault StreamTooLong))))
     (block_at n ended (grown more i))) [
       | true ↦ λ e. subst (Agrees more _) (sym (enough ended more i n (leb-true n (length i.rest) e)))
           (elim (leb (i.at + n) STREAM_BYTES) as (λ t. Agrees more
           (cond t (block_end false n (take n i.rest) (drop n i.rest) i) (Err (Fault StreamTooLong)))
           (cond t (block_end ended n (take n i.rest) (drop n i.rest ++ more) (grown more i)) (Err (Fault StreamTooLong)))) [ true ↦ end_agrees ended more i n (take n i.rest) (drop n i.rest) | false ↦ refl ])
       | false ↦ λ e.
-          elim (leb (i.at + length i.rest) STREAM_BYTES) as (λ t. leb (i.at + length i.rest) STREAM_BYTES ≡ t → Agrees {A = Option Bytes} more (cond t (Err More) (Err (Fault StreamTooLong))) (block_at n ended (grown more i))) [
+          elim (leb (i.at + length i.rest) STREAM_BYTES) as (λ t. leb (i.at + length i.rest) STREAM_BYTES ≡ t → Agrees {A = Option Bytes} more (cond t (Err (More (wants.Block i.at n))) (Err (Fault StreamTooLong))) (block_at n ended (grown more i))) [
             | true ↦ λ g. tt
             | false ↦ λ g. too_few ended more i n (leb-false n (length i.rest) e) (leb-false (i.at + length i.rest) STREAM_BYTES g)
           ] refl

@@ -5,6 +5,8 @@ use Rattle.std.specs.Option.{option_map}
 use Rattle.std.specs.Cmp.{first_so, second_so}
 use Rattle.std.proofs.lemmas.Bool.{leb-false, not-true}
 use Rattle.git_objects.specs.declared.limits.TheConstants.{LINE_BYTES, STREAM_BYTES}
+use Rattle.stream_lex.specs.declared.stop.Wanted.{Wanted}
+use Rattle.stream_lex.specs.declared.stop.Wanted.TheVariants as wants
 use Rattle.stream_lex.specs.declared.stop.Stop.TheVariants.{More, Fault}
 use Rattle.stream_lex.specs.declared.stop.LimitFault.TheVariants.{LongLine, StreamTooLong}
 use Rattle.git_objects.specs.Paths.{Bytes}
@@ -60,15 +62,15 @@ plain_at (x ∷ l) m zero h g = λ e. true≢false (sym (eq-eqb x 10 e) ∙ not-
 plain_at (x ∷ l) m (suc k) h g = plain_at l m k (second_so (not (eqb x 10)) (no_lf l) h) (omega arith)
 
 -- what any_line tells of the bytes
-abbrev Told : Bool → Input → Lex (Option Line) → Type 0
+abbrev pub Told : Bool → Input → Lex (Option Line) → Type 0
 Told ended i (Ok (Some l, j)) = TakesLine i l j × (EndsAtLf i l.bytes j ⊎ (ended ≡ true))
 Told ended i (Ok (None, j)) = (i.rest ≡ []) × (j ≡ i) × (i.at ≤ STREAM_BYTES) × (ended ≡ true)
-Told ended i (Err More) = (ended ≡ false) × (i.at + length i.rest ≤ STREAM_BYTES)
+Told ended i (Err (More w)) = (ended ≡ false) × (i.at + length i.rest ≤ STREAM_BYTES) × (w ≡ wants.Line i.at)
 Told ended i (Err (Fault (LongLine at))) = (at ≡ i.at) × IsLong i
 Told ended i (Err (Fault StreamTooLong)) = STREAM_BYTES < i.at + length i.rest
 
 last_told : (ended : Bool) (i : Input) (xs : Bytes) → xs ≡ i.rest → no_lf xs ≡ true → length xs ≤ LINE_BYTES → i.at + length xs ≤ STREAM_BYTES → Told ended i (last_line ended i xs)
-last_told false i xs e h k g = (refl, omega (arith, ap length e))
+last_told false i xs e h k g = (refl, omega (arith, ap length e), refl)
 last_told true i [] e h k g = (sym e, refl, omega arith, refl)
 last_told true i (x ∷ xs) e h k g =
     (record { place = refl; plain = h; short = k; within = g; ends = inr (sym e, omega arith, refl) }, inr refl)
@@ -103,7 +105,7 @@ from_told ended i None h =
       ] refl
     ] refl
 
-any_line-told : (ended : Bool) (i : Input) → Told ended i (any_line ended i)
+pub any_line-told : (ended : Bool) (i : Input) → Told ended i (any_line ended i)
 unfolding any_line
 any_line-told ended i = from_told ended i (split_line i.rest) (cut i.rest)
 
@@ -157,14 +159,14 @@ total i l j t =
 abbrev pub Spelled : Bool → Input → Lex (Option Line) → Type 0
 Spelled ended i (Ok (Some l, j)) = (h : NextLine i l j) × (IsWhole i l j h ⊎ (ended ≡ true))
 Spelled ended i (Ok (None, j)) = NoLine i j × (ended ≡ true)
-Spelled ended i (Err More) = (ended ≡ false) × (i.at + length i.rest ≤ STREAM_BYTES)
+Spelled ended i (Err (More w)) = (ended ≡ false) × (i.at + length i.rest ≤ STREAM_BYTES)
 Spelled ended i (Err (Fault (LongLine at))) = NextIsLong i at
 Spelled ended i (Err (Fault StreamTooLong)) = STREAM_BYTES < i.at + length i.rest
 
 behind_comment : (ended : Bool) (i m : Input) (k : Line) → TakesLine i k m → is_comment k.bytes ≡ true → (r : Lex (Option Line)) → Spelled ended m r → Spelled ended i r
 behind_comment ended i m k t c (Ok (Some l, j)) h = (record { comments = k.bytes ∷ h.0.comments; from = h.0.from; skips = (m, subst (λ p. TakesLine i (record { place = p; bytes = k.bytes }) m) t.place t, c, h.0.skips); takes = h.0.takes; plain = h.0.plain }, h.1)
 behind_comment ended i m k t c (Ok (None, j)) h = (record { comments = k.bytes ∷ h.0.comments; skips = (m, subst (λ p. TakesLine i (record { place = p; bytes = k.bytes }) m) t.place t, c, h.0.skips); within = h.0.within; nothing = h.0.nothing }, h.1)
-behind_comment ended i m k t c (Err More) h = (h.0, omega (arith, h.1, total i k m t))
+behind_comment ended i m k t c (Err (More w)) h = (h.0, omega (arith, h.1, total i k m t))
 behind_comment ended i m k t c (Err (Fault (LongLine at))) h = record { comments = k.bytes ∷ h.comments; from = h.from; skips = (m, subst (λ p. TakesLine i (record { place = p; bytes = k.bytes }) m) t.place t, c, h.skips); place = h.place; long = h.long }
 behind_comment ended i m k t c (Err (Fault StreamTooLong)) h = omega (arith, h, total i k m t)
 
@@ -175,7 +177,7 @@ one_spelled ended i f g (Ok (Some l, j)) v h =
       | false ↦ λ e. (record { comments = []; from = i; skips = refl; takes = h.0; plain = e }, h.1)
     ] refl
 one_spelled ended i f g (Ok (None, j)) v h = (record { comments = []; skips = sym h.1; within = subst (λ (k : Input). k.at ≤ STREAM_BYTES) (sym h.1) h.2; nothing = ap (λ (k : Input). k.rest) h.1 ∙ h.0 }, h.3)
-one_spelled ended i f g (Err More) v h = h
+one_spelled ended i f g (Err (More w)) v h = (h.0, h.1)
 one_spelled ended i f g (Err (Fault (LongLine at))) v h = record { comments = []; from = i; skips = refl; place = h.0; long = h.1 }
 one_spelled ended i f g (Err (Fault StreamTooLong)) v h = h
 
@@ -248,22 +250,22 @@ over-again ended i t n o = go (line_at ended i) (line_at-spelled ended i)
     go : (r : Lex (Option Line)) → Spelled ended i r → r ≡ Err (Fault StreamTooLong)
     go (Ok (Some l, j)) h = absurd (n (l, j, h.0))
     go (Ok (None, j)) h = absurd (omega (arith, h.0.within, skips_all h.0.comments i j h.0.skips, ap length h.0.nothing))
-    go (Err More) h = absurd (omega (arith, h.1))
+    go (Err (More w)) h = absurd (omega (arith, h.1))
     go (Err (Fault (LongLine at))) h = absurd (o at h)
     go (Err (Fault StreamTooLong)) h = refl
 
-pub more_has_none : (ended : Bool) (i : Input) → line_at ended i ≡ Err More → ¬ HasWholeLine i
-more_has_none ended i e h = let b = whole_line-again ended i h.0 h.1 h.2 h.3 in cc
+pub more_has_none : (ended : Bool) (i : Input) (w : Wanted) → line_at ended i ≡ Err (More w) → ¬ HasWholeLine i
+more_has_none ended i w e h = let b = whole_line-again ended i h.0 h.1 h.2 h.3 in cc
 
-pub more_not_long : (ended : Bool) (i : Input) → line_at ended i ≡ Err More → (at : ℕ) → ¬ NextIsLong i at
-more_not_long ended i e at h = let b = long-again ended i at h in cc
+pub more_not_long : (ended : Bool) (i : Input) (w : Wanted) → line_at ended i ≡ Err (More w) → (at : ℕ) → ¬ NextIsLong i at
+more_not_long ended i w e at h = let b = long-again ended i at h in cc
 
-pub more-again : (ended : Bool) (i : Input) → ended ≡ false → i.at + length i.rest ≤ STREAM_BYTES → ¬ HasWholeLine i → ((at : ℕ) → ¬ NextIsLong i at) → line_at ended i ≡ Err More
+pub more-again : (ended : Bool) (i : Input) → ended ≡ false → i.at + length i.rest ≤ STREAM_BYTES → ¬ HasWholeLine i → ((at : ℕ) → ¬ NextIsLong i at) → (w : Wanted) × (line_at ended i ≡ Err (More w))
 more-again ended i u t n o = go (line_at ended i) (line_at-spelled ended i)
   where
-    go : (r : Lex (Option Line)) → Spelled ended i r → r ≡ Err More
+    go : (r : Lex (Option Line)) → Spelled ended i r → (w : Wanted) × (r ≡ Err (More w))
     go (Ok (Some l, j)) h = elim h.1 [ inl w ↦ absurd (n (l, j, h.0, w)) | inr e ↦ absurd (true≢false (sym e ∙ u)) ]
     go (Ok (None, j)) h = absurd (true≢false (sym h.1 ∙ u))
-    go (Err More) h = refl
+    go (Err (More w)) h = (w, refl)
     go (Err (Fault (LongLine at))) h = absurd (o at h)
     go (Err (Fault StreamTooLong)) h = absurd (omega (arith, h))

@@ -7,9 +7,7 @@ use Rattle.stream_lex.specs.declared.stop.LimitFault.TheVariants.{LongLine, Stre
 use Rattle.git_objects.specs.Paths.{Bytes}
 use Rattle.git_objects.specs.Results.{◌>>=◌}
 use Rattle.stream_lex.specs.Lines.{Input, Line, Lex, split_line, is_long, line_from, last_line, any_line, line_at, line_within, past_comment, is_comment, block_at, block_end, short_block}
-use Rattle.stream_lex.specs.Cutting.{IsTold, IsReader}
-use Rattle.stream_lex.proofs.Settling.{line_at-settles, block_at-settles}
-use Rattle.stream_lex.proofs.Advance.{line_at-steps, block_at-steps}
+use Rattle.stream_lex.specs.Cutting.{IsTold}
 use Rattle.stream_lex.proofs.Scan.{got_line, got_block}
 use Rattle.stream_lex.proofs.Fuel.{Moves, any_line-moves}
 
@@ -36,7 +34,7 @@ any_line-told i = from_told i (split_line i.rest)
 comment_told : (f : Input → Lex (Option Line)) (i : Input) → ((j : Input) → length j.rest < length i.rest → IsTold (f j)) → (r : Lex (Option Line)) → Moves i r → IsTold r → IsTold (r >>= past_comment f)
 comment_told f i k (Ok (Some l, j)) h g = elim (is_comment l.bytes) as (λ b. IsTold (cond b (f j) (Ok (Some l, j)))) [ true ↦ k j h.0 | false ↦ tt ]
 comment_told f i k (Ok (None, j)) h g = tt
-comment_told f i k (Err More) h g = g
+comment_told f i k (Err (More w)) h g = g
 comment_told f i k (Err (Fault e)) h g = tt
 
 within_told : (n : ℕ) (i : Input) → length i.rest < n → IsTold (line_within n true i)
@@ -59,15 +57,7 @@ pub block_at-whole : (n : ℕ) (i : Input) → IsTold (block_at n true i)
 unfolding block_at
 block_at-whole n i =
     elim (leb n (length i.rest)) as (λ t. IsTold
-    (cond t (cond (leb (i.at + n) STREAM_BYTES) (block_end true n (take n i.rest) (drop n i.rest) i) (Err (Fault StreamTooLong))) (cond (leb (i.at + length i.rest) STREAM_BYTES) (short_block true i) (Err (Fault StreamTooLong))))) [
+    (cond t (cond (leb (i.at + n) STREAM_BYTES) (block_end true n (take n i.rest) (drop n i.rest) i) (Err (Fault StreamTooLong))) (cond (leb (i.at + length i.rest) STREAM_BYTES) (short_block n true i) (Err (Fault StreamTooLong))))) [
       | true ↦ elim (leb (i.at + n) STREAM_BYTES) as (λ t. IsTold (cond t (block_end true n (take n i.rest) (drop n i.rest) i) (Err (Fault StreamTooLong)))) [ true ↦ end_told n (take n i.rest) (drop n i.rest) i | false ↦ tt ]
-      | false ↦ elim (leb (i.at + length i.rest) STREAM_BYTES) as (λ t. IsTold (cond t (short_block true i) (Err (Fault StreamTooLong)))) [ true ↦ tt | false ↦ tt ]
+      | false ↦ elim (leb (i.at + length i.rest) STREAM_BYTES) as (λ t. IsTold (cond t (short_block n true i) (Err (Fault StreamTooLong)))) [ true ↦ tt | false ↦ tt ]
     ]
-
--- ---- both are readers
-
-pub line_at-reader : IsReader line_at
-line_at-reader = record { settles = line_at-settles; steps = line_at-steps; told = line_at-whole }
-
-pub block_at-reader : (n : ℕ) → IsReader (block_at n)
-block_at-reader n = record { settles = block_at-settles n; steps = block_at-steps n; told = block_at-whole n }

@@ -3,6 +3,8 @@ use Rattle.std.specs.Prelude.{◌≡◌, ◌≢◌, ◌↔◌, ◌+◌, ◌<◌,
 use Rattle.std.specs.List.{concat}
 use Rattle.git_objects.specs.declared.limits.TheConstants.{STREAM_BYTES}
 use Rattle.git_objects.specs.Paths.{Bytes}
+use Rattle.stream_lex.specs.declared.stop.Wanted.{Wanted}
+use Rattle.stream_lex.specs.declared.stop.Wanted.TheVariants as wants
 use Rattle.stream_lex.specs.declared.stop.Stop.TheVariants.{More, Fault}
 use Rattle.stream_lex.specs.declared.stop.LimitFault.TheVariants.{LongLine, StreamTooLong}
 use Rattle.stream_lex.specs.Lines.{Input, Line, line_at, block_at}
@@ -26,7 +28,7 @@ pub record LineLaw : Type 0 where
   pub over : (ended : Bool) (i : Input) →
       (line_at ended i ≡ Err (Fault StreamTooLong)) ↔ ((STREAM_BYTES < fed i) × ¬ HasLine i × ((at : ℕ) → ¬ NextIsLong i at))
   pub more : (ended : Bool) (i : Input) →
-      (line_at ended i ≡ Err More) ↔ ((ended ≡ false) × (fed i ≤ STREAM_BYTES) × ¬ HasWholeLine i × ((at : ℕ) → ¬ NextIsLong i at))
+      ((w : Wanted) × (line_at ended i ≡ Err (More w))) ↔ ((ended ≡ false) × (fed i ≤ STREAM_BYTES) × ¬ HasWholeLine i × ((at : ℕ) → ¬ NextIsLong i at))
 
 pub record BlockLaw : Type 0 where
   -- of a whole stream
@@ -41,7 +43,7 @@ pub record BlockLaw : Type 0 where
   pub over : (n : ℕ) (ended : Bool) (i : Input) →
       (block_at n ended i ≡ Err (Fault StreamTooLong)) ↔ ((STREAM_BYTES < fed i) × ((b : Bytes) (j : Input) → TakesBlock i b j → length b ≢ n))
   pub more : (n : ℕ) (ended : Bool) (i : Input) →
-      (block_at n ended i ≡ Err More) ↔ ((ended ≡ false) × (fed i ≤ STREAM_BYTES) × (length i.rest ≤ n))
+      (block_at n ended i ≡ Err (More (wants.Block i.at n))) ↔ ((ended ≡ false) × (fed i ≤ STREAM_BYTES) × (length i.rest ≤ n))
 
 -- Whatever pieces a stream is cut into, requests are told the same. What was told before more came is told again, what is
 -- left is what was there behind some bytes, and of a whole stream nothing is left open.

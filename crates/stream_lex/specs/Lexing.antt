@@ -1,5 +1,6 @@
 -- What a lexer has, and what its calls tell.
 use Rattle.std.specs.Prelude.{◌≡◌, Bool, Option, Some, None, Result, Ok, Err}
+use Rattle.stream_lex.specs.declared.stop.Wanted.{Wanted}
 use Rattle.stream_lex.specs.declared.stop.Stop.TheVariants as stops
 use Rattle.stream_lex.specs.declared.stop.LimitFault.{LimitFault}
 use Rattle.stream_lex.specs.declared.stop.LimitFault.TheVariants as limits
@@ -29,12 +30,12 @@ Refuses faults.OutOfMemory old new read = new ≡ old
 
 abbrev pub TellsLine : Result LineAnswer LexFault → Lexed → Lexed → Lex (Option Line) → Type 0
 TellsLine (Ok (lines.Line at bytes)) old new read = (read ≡ Ok (Some (record { place = at; bytes = bytes }), new.input)) × (new.ended ≡ old.ended)
-TellsLine (Ok lines.More) old new read = (read ≡ Err stops.More) × (new ≡ old)
+TellsLine (Ok lines.More) old new read = ((w : Wanted) × (read ≡ Err (stops.More w))) × (new ≡ old)
 TellsLine (Ok (lines.Ended at)) old new read = (read ≡ Ok (None, new.input)) × (at ≡ new.input.at) × (new.ended ≡ old.ended)
 TellsLine (Err e) old new read = Refuses e old new read
 
 abbrev pub TellsBlock : Result BlockAnswer LexFault → Lexed → Lexed → Lex (Option Bytes) → Type 0
 TellsBlock (Ok (blocks.Block bytes)) old new read = (read ≡ Ok (Some bytes, new.input)) × (new.ended ≡ old.ended)
-TellsBlock (Ok blocks.More) old new read = (read ≡ Err stops.More) × (new ≡ old)
+TellsBlock (Ok blocks.More) old new read = ((w : Wanted) × (read ≡ Err (stops.More w))) × (new ≡ old)
 TellsBlock (Ok blocks.Short) old new read = (read ≡ Ok (None, old.input)) × (new ≡ old)
 TellsBlock (Err e) old new read = Refuses e old new read

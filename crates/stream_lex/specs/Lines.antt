@@ -6,6 +6,7 @@ use Rattle.git_objects.specs.Idents.{cut_at}
 use Rattle.git_objects.specs.Results.{◌>>=◌}
 use Rattle.stream_lex.specs.declared.stop.Stop.{Stop}
 use Rattle.stream_lex.specs.declared.stop.LimitFault.{LimitFault}
+use Rattle.stream_lex.specs.declared.stop.Wanted.TheVariants as wants
 use Rattle.stream_lex.specs.declared.stop.Stop.TheVariants.{More, Fault}
 use Rattle.stream_lex.specs.declared.stop.LimitFault.TheVariants.{LongLine, StreamTooLong}
 
@@ -45,7 +46,7 @@ pub record Line : Type 0 where
 
 -- at the end of the input a line needs no LF, and there is none where no byte is left
 abbrev pub last_line : Bool → Input → Bytes → Lex (Option Line)
-last_line false i text = Err More
+last_line false i text = Err (More (wants.Line i.at))
 last_line true i [] = Ok (None, i)
 last_line true i (x ∷ xs) = Ok (Some (record { place = i.at; bytes = x ∷ xs }), behind (length (x ∷ xs)) [] i)
 
@@ -74,7 +75,7 @@ past_comment next (Some l, i) = cond (is_comment l.bytes) (next i) (Ok (Some l, 
 
 -- behind at most n comments
 abbrev pub line_within : ℕ → Bool → Input → Lex (Option Line)
-line_within zero ended i = Err More
+line_within zero ended i = Err (More (wants.Line i.at))
 line_within (suc n) ended i = any_line ended i >>= past_comment (line_within n ended)
 
 -- The next line, behind comments, or none at the end.
@@ -83,20 +84,20 @@ line_at ended i = line_within (length i.rest + 1) ended i
 
 -- the LF behind a block of n bytes, where it is there
 abbrev pub block_end : Bool → ℕ → Bytes → Bytes → Input → Lex (Option Bytes)
-block_end false n b [] i = Err More
+block_end false n b [] i = Err (More (wants.Block i.at n))
 block_end true n b [] i = Ok (Some b, behind n [] i)
 block_end ended n b (x ∷ xs) i =
     cond (x == 10)
     (cond (leb (i.at + (n + 1)) STREAM_BYTES) (Ok (Some b, behind (n + 1) xs i)) (Err (Fault StreamTooLong)))
     (Ok (Some b, behind n (x ∷ xs) i))
 
-abbrev pub short_block : Bool → Input → Lex (Option Bytes)
-short_block false i = Err More
-short_block true i = Ok (None, i)
+abbrev pub short_block : ℕ → Bool → Input → Lex (Option Bytes)
+short_block n false i = Err (More (wants.Block i.at n))
+short_block n true i = Ok (None, i)
 
 -- The next n bytes and one LF after them, or none where the input ends before.
 unfoldable pub block_at : ℕ → Bool → Input → Lex (Option Bytes)
 block_at n ended i =
     cond (leb n (length i.rest))
     (cond (leb (i.at + n) STREAM_BYTES) (block_end ended n (take n i.rest) (drop n i.rest) i) (Err (Fault StreamTooLong)))
-    (cond (leb (i.at + length i.rest) STREAM_BYTES) (short_block ended i) (Err (Fault StreamTooLong)))
+    (cond (leb (i.at + length i.rest) STREAM_BYTES) (short_block n ended i) (Err (Fault StreamTooLong)))

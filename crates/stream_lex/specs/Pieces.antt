@@ -41,7 +41,7 @@ Fed = Lex (Answer × List Bytes)
 
 abbrev pub unless_more : Lex Answer → List Bytes → Fed → Fed
 unless_more (Ok x) ps later = Ok ((x.0, ps), x.1)
-unless_more (Err More) ps later = later
+unless_more (Err (More w)) ps later = later
 unless_more (Err (Fault f)) ps later = Err (Fault f)
 
 abbrev pub at_the_end : Lex Answer → Fed

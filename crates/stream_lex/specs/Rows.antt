@@ -1,6 +1,7 @@
 -- Worked examples.
 use Rattle.std.specs.Prelude.{◌≡◌, refl, ℕ, true, false, [], ◌∷◌, ◌++◌, codes, replicate, Some, None, Ok, Err}
 use Rattle.git_objects.specs.Paths.{Bytes}
+use Rattle.stream_lex.specs.declared.stop.Wanted.TheVariants as wants
 use Rattle.stream_lex.specs.declared.stop.Stop.TheVariants.{More, Fault}
 use Rattle.stream_lex.specs.declared.stop.LimitFault.TheVariants.{LongLine, StreamTooLong}
 use Rattle.stream_lex.specs.Lines.{Input, Line, any_line, line_at, block_at}
@@ -18,7 +19,7 @@ pub a_line_ends_at_an_lf : line_at false (from 5 (codes "ab\ncd")) ≡ Ok (Some 
 unfolding line_at any_line
 a_line_ends_at_an_lf = refl
 
-pub a_line_waits_for_its_lf : line_at false (from 8 (codes "cd")) ≡ Err More
+pub a_line_waits_for_its_lf : line_at false (from 8 (codes "cd")) ≡ Err (More (wants.Line 8))
 unfolding line_at any_line
 a_line_waits_for_its_lf = refl
 
@@ -42,7 +43,7 @@ pub a_comment_may_be_last : line_at true (from 0 (codes "#a\n#b")) ≡ Ok (None,
 unfolding line_at any_line
 a_comment_may_be_last = refl
 
-pub a_comment_waits_too : line_at false (from 0 (codes "#a\n#b")) ≡ Err More
+pub a_comment_waits_too : line_at false (from 0 (codes "#a\n#b")) ≡ Err (More (wants.Line 3))
 unfolding line_at any_line
 a_comment_waits_too = refl
 
@@ -73,7 +74,7 @@ pub an_lf_past_the_limit : line_at false (from 268435455 (codes "a\n")) ≡ Err 
 unfolding line_at any_line
 an_lf_past_the_limit = refl
 
-pub nothing_past_the_limit : line_at false (from 268435456 []) ≡ Err More
+pub nothing_past_the_limit : line_at false (from 268435456 []) ≡ Err (More (wants.Line 268435456))
 unfolding line_at any_line
 nothing_past_the_limit = refl
 
@@ -100,7 +101,7 @@ pub no_lf_behind_a_block : block_at 2 false (from 4 (codes "abc")) ≡ Ok (Some 
 unfolding block_at
 no_lf_behind_a_block = refl
 
-pub a_block_waits_for_the_byte_behind_it : block_at 2 false (from 4 (codes "ab")) ≡ Err More
+pub a_block_waits_for_the_byte_behind_it : block_at 2 false (from 4 (codes "ab")) ≡ Err (More (wants.Block 4 2))
 unfolding block_at
 a_block_waits_for_the_byte_behind_it = refl
 

@@ -38,5 +38,5 @@ read_block x = (maybe_bytes x.0, input x.1)
 -- where it waits for more, no byte of what has come is LF
 abbrev pub WaitsClear : {X : Type 0} → Result X (Stop LimitFault) → Bool → Bytes → Type 0
 WaitsClear (Ok x) ended rest = Unit {0}
-WaitsClear (Err More) ended rest = (ended ≡ false) × HasNone rest (length rest)
+WaitsClear (Err (More w)) ended rest = (ended ≡ false) × HasNone rest (length rest)
 WaitsClear (Err (Fault f)) ended rest = Unit {0}

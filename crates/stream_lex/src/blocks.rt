@@ -5,7 +5,7 @@ ghost use Rattle.stream_lex.specs.Lines.{block_at};
 ghost use Rattle.stream_lex.specs.Cutting.{Advances};
 ghost use Rattle.stream_lex.specs.Views.{Tells, input, read_block};
 
-use crate::{Cursor, LimitFault, Stop};
+use crate::{Cursor, LimitFault, Stop, Wanted};
 use git_objects::limits::STREAM_BYTES;
 
 /// The next `size` bytes, with one LF behind them passed over where it is there, or none where the input ends before.
@@ -25,7 +25,7 @@ pub fn block<'a>(
             return Err(Stop::Fault(LimitFault::StreamTooLong));
         }
         if !ended {
-            return Err(Stop::More);
+            return Err(Stop::More(Wanted::Block { at, size }));
         }
         return Ok((None, i));
     }
@@ -36,7 +36,7 @@ pub fn block<'a>(
     match rest {
         [] => {
             if !ended {
-                return Err(Stop::More);
+                return Err(Stop::More(Wanted::Block { at, size }));
             }
             let at = at + size as u64;
             Ok((Some(bytes), Cursor { at, rest }))

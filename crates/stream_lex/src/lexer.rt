@@ -3,11 +3,11 @@ ghost use Rattle.std.specs.Prelude.{◌≡◌, ◌+◌, ◌-◌, ◌≤◌, [], 
 ghost use Rattle.git_objects.specs.declared.limits.TheConstants.{STREAM_BYTES};
 ghost use Rattle.stream_lex.specs.Lines.{line_at, block_at};
 ghost use Rattle.stream_lex.specs.Views.{input};
-ghost use Rattle.stream_lex.specs.Cutting.{grown};
+ghost use Rattle.stream_lex.specs.Cutting.{grown, place, from_place, still_wanted};
 ghost use Rattle.stream_lex.specs.Lexing.{TellsLine, TellsBlock, lex_fault};
 
 use crate::lines::look;
-use crate::{Cursor, LimitFault, Stop, block};
+use crate::{Cursor, LimitFault, Stop, Wanted, block, line};
 use git_objects::Bytes;
 use std::alloc::{AllocError, Global};
 use std::marker::Model;
@@ -125,7 +125,7 @@ impl Lexer {
         let rest = &self.bytes[self.from..];
         let (from, found) = look(self.ended, Cursor { at, rest }, self.clear);
         match found {
-            Err(Stop::More) => {
+            Err(Stop::More(_)) => {
                 let passed = (from.at - at) as usize;
                 let clear = from.rest.len();
                 self.from += passed;
@@ -163,7 +163,7 @@ impl Lexer {
         let rest = &self.bytes[self.used..];
         let at = self.base + self.used as u64;
         match block(size as usize, self.ended, Cursor { at, rest }) {
-            Err(Stop::More) => Ok(BlockAnswer::More),
+            Err(Stop::More(_)) => Ok(BlockAnswer::More),
             Err(Stop::Fault(fault)) => Err(LexFault::from(fault)),
             Ok((None, _)) => Ok(BlockAnswer::Short),
             Ok((Some(found), after)) => {
@@ -187,6 +187,40 @@ impl Lexer {
         Cursor {
             at: self.base + self.used as u64,
             rest: &self.bytes[self.used..],
+        }
+    }
+
+    // What isn't handed out from a place on, lent.
+    fn cursor_from(&self, at: u64) -> Cursor<'_>
+        requires within { at ≤ STREAM_BYTES }
+        requires from { self.now.input.at ≤ at }
+        requires room { at ≤ self.now.input.at + length self.now.input.rest }
+        ensures value { input result ≡ from_place at self.now.input }
+        ensures within { result.at ≤ STREAM_BYTES }
+    {
+        let by = (at - self.base) as usize;
+        Cursor {
+            at,
+            rest: &self.bytes[by..],
+        }
+    }
+
+    /// What is waited for now where `wanted` was waited for before; None where it can be told.
+    pub fn still_wants(&self, wanted: Wanted) -> Option<Wanted>
+        requires within { place wanted ≤ STREAM_BYTES }
+        requires from { self.now.input.at ≤ place wanted }
+        requires room { place wanted ≤ self.now.input.at + length self.now.input.rest }
+        ensures { result ≡ still_wanted wanted self.now.ended self.now.input }
+    {
+        match wanted {
+            Wanted::Line { at } => match line(self.ended, self.cursor_from(at)) {
+                Err(Stop::More(wanted)) => Some(wanted),
+                Err(Stop::Fault(_)) | Ok(_) => None,
+            },
+            Wanted::Block { at, size } => match block(size, self.ended, self.cursor_from(at)) {
+                Err(Stop::More(wanted)) => Some(wanted),
+                Err(Stop::Fault(_)) | Ok(_) => None,
+            },
         }
     }
 

@@ -15,4 +15,4 @@ pub use cursor::{Cursor, LineView};
 pub use laws::{block_law, cutting_law, line_law};
 pub use lexer::{BlockAnswer, LexFault, Lexer, LineAnswer};
 pub use lines::{any_line, is_comment, line};
-pub use stop::{LimitFault, Stop};
+pub use stop::{LimitFault, Stop, Wanted};

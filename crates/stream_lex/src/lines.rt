@@ -6,7 +6,7 @@ ghost use Rattle.stream_lex.specs.Cutting.{Advances};
 ghost use Rattle.stream_lex.specs.Passed.{IsPast};
 ghost use Rattle.stream_lex.specs.Views.{Tells, WaitsClear, input, read_line};
 
-use crate::{Cursor, LimitFault, LineView, Stop};
+use crate::{Cursor, LimitFault, LineView, Stop, Wanted};
 use git_objects::limits::{LINE_BYTES, STREAM_BYTES};
 use memchr::memchr;
 
@@ -126,7 +126,7 @@ fn unended<'a>(ended: bool, i: Cursor<'a>) -> Result<(Option<LineView<'a>>, Curs
         return Err(Stop::Fault(LimitFault::StreamTooLong));
     }
     if !ended {
-        return Err(Stop::More);
+        return Err(Stop::More(Wanted::Line { at }));
     }
     if rest.is_empty() {
         return Ok((None, i));

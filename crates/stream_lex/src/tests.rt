@@ -1,4 +1,4 @@
-use crate::{BlockAnswer, LexFault, Lexer, LineAnswer, Stop, any_line, block, is_comment, line};
+use crate::{BlockAnswer, LexFault, Lexer, LineAnswer, Stop, Wanted, any_line, block, is_comment, line};
 use std::alloc::{AllocError, Global};
 use std::test::Fail;
 
@@ -136,7 +136,7 @@ fn lines_and_blocks_are_lent(rt: HostRuntime) -> Result<(), Fail> {
     let (bytes, after) = block(3, ended, after).ok().ok_or("a block")?;
     assert_eq!(rt; bytes.ok_or("a block")?, b"xyz".as_slice());
     assert_eq!(rt; after.at, 10);
-    assert_eq!(rt; line(ended, after).err(), Some(Stop::More));
+    assert_eq!(rt; line(ended, after).err(), Some(Stop::More(Wanted::Line { at: 10 })));
     let to = after.at;
     lexer.pass(to);
     lexer.end();

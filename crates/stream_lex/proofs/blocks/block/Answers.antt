@@ -11,11 +11,11 @@ returns-then-i-at-clause-told c = few_over _ _ _ _ c.if-size-i.true (omega arith
 
 pub returns-then-not-ended-clause-told : goal.returns-then-not-ended-clause-told
 returns-then-not-ended-clause-told c =
-    few _ _ _ _ c.if-size-i.true (omega arith) ∙ ap (λ e. short_block e (input c.args.i)) c.if-not-ended.true
+    few _ _ _ _ c.if-size-i.true (omega arith) ∙ ap (λ e. short_block c.args.size e (input c.args.i)) c.if-not-ended.true
 
 pub returns-then-size-i-clause-told : goal.returns-then-size-i-clause-told
 returns-then-size-i-clause-told c =
-    few _ _ _ _ c.if-size-i.true (omega arith) ∙ ap (λ e. short_block e (input c.args.i)) c.if-not-ended.false
+    few _ _ _ _ c.if-size-i.true (omega arith) ∙ ap (λ e. short_block c.args.size e (input c.args.i)) c.if-not-ended.false
 
 pub returns-then-size-at-clause-told : goal.returns-then-size-at-clause-told
 returns-then-size-at-clause-told c = over _ _ _ _ c.if-size-i.false (omega arith)

@@ -22,7 +22,7 @@ returns c = record {
     λ h. over-again n ended i h.0 h.1,
   );
   more = λ n ended i. (
-    λ e. subst (BlockTold n ended i) e (block_at-told n ended i),
+    λ e. (let h = subst (BlockTold n ended i) e (block_at-told n ended i) in (h.0, h.1, h.2)),
     λ h. more-again n ended i h.0 h.1 h.2,
   );
 }

@@ -1,5 +1,5 @@
 use Rattle.stream_lex.proofs.Pieces.{pieces_same}
-use Rattle.stream_lex.proofs.Whole.{line_at-reader, block_at-reader}
+use Rattle.stream_lex.proofs.Waiting.{line_at-reader, block_at-reader}
 use Rattle.stream_lex.proofs.laws.cutting_law.Goals as goal
 
 pub returns : goal.returns

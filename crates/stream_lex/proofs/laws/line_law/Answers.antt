@@ -21,7 +21,7 @@ returns c = record {
     λ h. over-again ended i h.0 h.1 h.2,
   );
   more = λ ended i. (
-    λ e. (let h = subst (Spelled ended i) e (line_at-spelled ended i) in (h.0, h.1, more_has_none ended i e, more_not_long ended i e)),
+    λ e. (let h = subst (Spelled ended i) e.1 (line_at-spelled ended i) in (h.0, h.1, more_has_none ended i e.0 e.1, more_not_long ended i e.0 e.1)),
     λ h. more-again ended i h.0 h.1 h.2 h.3,
   );
 }

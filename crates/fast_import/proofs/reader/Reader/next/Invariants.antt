@@ -1,9 +1,12 @@
-use Rattle.std.proofs.Common.{length}
+use Rattle.std.proofs.Common.{◌≡◌, length, None}
 use Rattle.fast_import.specs.Readers.{IsBefore, reading}
 use Rattle.fast_import.proofs.reader.Reader.next.Given as goal
 
 abbrev pub invariant-turns : goal.invariant-turns
-invariant-turns l = IsBefore l.fn.self (reading l.self-inside.progress l.self-inside.lexer)
+invariant-turns l = record {
+  before : IsBefore l.fn.self (reading l.self-inside.progress l.self-inside.lexer);
+  free : l.self-inside.waits ≡ None;
+}
 
 abbrev pub decreases-turns : goal.decreases-turns
 decreases-turns l = length l.self-inside.lexer.input.rest
