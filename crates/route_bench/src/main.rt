@@ -2,15 +2,11 @@
 //! the mode and a number of branches, members or items; a mode that begins with `make-` only builds.
 #![tactic(auto)]
 
-ghost use Rattle.std.specs.Prelude.{◌≤◌, IfOk};
-ghost use Rattle.filter_text.specs.Filters.{pieces};
-ghost use Rattle.filter_text.specs.Shapes.{shape};
-
 mod items;
 mod texts;
 
 use filter_routes::{Table, is_sound};
-use filter_text::{Filter, FilterFault, parse};
+use filter_text::{Filter, parse};
 use std::alloc::Global;
 use std::{env, io};
 
@@ -19,17 +15,10 @@ fn told(alloc: Global, filter: &Filter) -> Option<bool> {
     is_sound(alloc, filter).ok()
 }
 
-// The filter of a text.
-fn read(alloc: Global, text: &[u8]) -> Result<Filter, FilterFault>
-    ensures { IfOk result (λ f. pieces (shape f) ≤ 1024) }
-{
-    Ok(parse(alloc, text)?)
-}
-
 // Whether the filter of a text is sound, and has a table; where it has none, its fault is looked for. None: no filter, or no
 // memory.
 fn told_of_text(alloc: Global, text: &[u8]) -> Option<bool> {
-    match read(alloc, text) {
+    match parse(alloc, text) {
         Err(_) => None,
         Ok(filter) => {
             let sound = told(alloc, &filter)?;
