@@ -1,4 +1,3 @@
-pub mod FrontWords
 pub mod Merging
 pub mod Combining
 pub mod Judging

@@ -14,7 +14,8 @@ use Rattle.fast_import.specs.declared.command.Command.TheVariants.{Blob, Commit,
 use Rattle.fast_import.specs.declared.command.Change.TheVariants.{Modify, Delete, Rename, Copy, DeleteAll}
 use Rattle.fast_import.specs.declared.command.BlobRef.TheVariants.{Inline, Digits as DigitsOf, Mark as MarkOf}
 use Rattle.fast_import.specs.declared.commit_ref.Target.TheVariants.{Mark, Ref}
-use Rattle.fast_import.specs.Words.{first_word, number, mark}
+use Rattle.path_names.specs.Words.{number}
+use Rattle.fast_import.specs.Words.{first_word, mark}
 use Rattle.fast_import.specs.Reading.{option_line, need_line}
 use Rattle.fast_import.specs.Names.{target}
 use Rattle.fast_import.specs.Blocks.{data_behind, blob_data, message_data}

@@ -6,7 +6,8 @@ ghost use Rattle.fast_import.specs.Views.{change_kind, command_kind};
 ghost use Rattle.fast_import.specs.Words.{first_word};
 
 use crate::Feature;
-use crate::words::{first_word, strip};
+use crate::words::first_word;
+use path_names::strip;
 
 /// What a line between commands is. A text is what stands behind its word and a space.
 #[derive(Clone, Copy, Debug)]

@@ -1,6 +1,7 @@
 // Paths in lines.
 ghost use Rattle.std.specs.Prelude.{◌≡◌};
-ghost use Rattle.fast_import.specs.PathWords.{path_fault, path_at, is_quoted, unquoted_at, last_path, behind_quote, first_path, two_paths};
+ghost use Rattle.fast_import.specs.PathWords.{path_fault, path_at, is_quoted, unquoted_at, last_path};
+ghost use Rattle.fast_import.specs.PathWords.{behind_quote, first_path, two_paths};
 ghost use Rattle.stream_lex.specs.Views.{maybe_bytes};
 ghost use Rattle.fast_import.specs.Views.{Tells, same, owned_and_rest, value_read};
 ghost use Rattle.fast_import.specs.Words.{first_word};

@@ -8,13 +8,12 @@ use Rattle.std.specs.Cmp.{first_so, second_so}
 use Rattle.std.specs.Cmp.Lexicographic.{bytes_decides}
 use Rattle.std.specs.FinMap.{put as put_entry}
 use Rattle.git_objects.specs.Paths.{Path, same_bytes, same_path, is_path, is_prefix, comparable, path_cmp}
-use Rattle.git_objects.specs.Trees.{Leaf, Flat, at, IsTree, rest_below, moved, under, LeafNode, TreeNode, without, put_all, put, remove}
+use Rattle.git_objects.specs.Trees.{Leaf, Flat, at, IsTree, rest_below, moved, under, LeafNode, TreeNode, without, put_all, put, remove, if_full, standing}
 use Rattle.git_objects.proofs.Basics.{both, first, second, same_bytes-self, same_bytes-back}
 use Rattle.git_objects.specs.Lists.{Each}
 use Rattle.git_objects.proofs.Order.{path_decides}
 use Rattle.git_objects.proofs.Pointwise.{from-T, all_at, at_apart, put-tree}
 use Rattle.git_objects.proofs.Under.{cmp_rests, rest_short}
-use Rattle.path_trees.specs.Standing.{if_full, standing}
 use Rattle.path_trees.proofs.Editing.{front_comparable}
 use Rattle.filter_routes.specs.Lenses.{Lens, IsLens}
 use Rattle.filter_unapply.specs.Laying.{below}

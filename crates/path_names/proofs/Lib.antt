@@ -1,3 +1,4 @@
+pub mod Numbers
 pub mod SplitParts
 pub mod Joins
 pub mod Pairs

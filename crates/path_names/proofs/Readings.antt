@@ -6,6 +6,7 @@ use Rattle.std.specs.Cmp.{first_so, second_so}
 use Rattle.std.proofs.lemmas.Bool.{not-true}
 use Rattle.std.proofs.lemmas.List.Splits.{join_with_byte-slice_split, slice_split-cons_no}
 use Rattle.git_objects.specs.Paths.{Bytes, Path, is_component, is_path, text}
+use Rattle.git_objects.specs.declared.limits.TheConstants.{COMPONENT_BYTES, PATH_COMPONENTS, PATH_BYTES}
 use Rattle.git_objects.proofs.Basics.{plain, plain-component, first, second}
 use Rattle.path_names.specs.PathTexts.{parts, path_of}
 use Rattle.path_names.specs.Laws.{PathTextLaw}
@@ -35,8 +36,8 @@ reading [] p e = let h : ⊥ = cc in absurd h
 reading (x ∷ t) p e =
     let ps = parts (x ∷ t) in
     let h =
-    answered (list_all is_component ps) (list_all (λ c. nat_le (length c) 255) ps) (nat_le (length ps) 128)
-    (nat_le (length (x ∷ t)) 4096) ps p e in
+    answered (list_all is_component ps) (list_all (λ c. nat_le (length c) COMPONENT_BYTES) ps) (nat_le (length ps) PATH_COMPONENTS)
+    (nat_le (length (x ∷ t)) PATH_BYTES) ps p e in
     record { same = h.1; components = h.0 }
 
 no_slash_first : (x : ℕ) (c : Bytes) → plain (x ∷ c) ≡ true → eqb x 47 ≡ false

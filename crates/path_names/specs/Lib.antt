@@ -1,3 +1,4 @@
+pub mod Words
 pub mod PathTexts
 pub mod RefNames
 pub mod Quoting

@@ -2,6 +2,7 @@
 use Rattle.std.specs.Prelude.{ℕ, Bool, false, not, ◌&&◌, ◌||◌, ◌==◌, nat_eq, nat_le, [], ◌∷◌, length, codes}
 use Rattle.std.specs.List.{list_all, slice_split, starts_with, ends_with}
 use Rattle.git_objects.specs.Paths.{Bytes}
+use Rattle.git_objects.specs.declared.limits.TheConstants.{REF_BYTES}
 
 -- no byte below 33, no 127, and none of `~`, `^`, `:`, `?`, `*`, `[` and `\`
 abbrev pub is_ref_byte : ℕ → Bool
@@ -19,12 +20,12 @@ has_pair a b (x ∷ y ∷ t) = (x == a && y == b) || has_pair a b (y ∷ t)
 abbrev pub is_ref_part : Bytes → Bool
 is_ref_part t = not (starts_with nat_eq t (46 ∷ [])) && not (ends_with nat_eq t (codes ".lock"))
 
--- A ref name has 6 to 1,024 bytes and begins with `refs/`. It has no `..`, no `@{` and no `//`, and ends neither in `/`
+-- A ref name has at least 6 bytes, no more than its limit, and begins with `refs/`. It has no `..`, no `@{` and no `//`, and ends neither in `/`
 -- nor in `.`. Each part between slashes is a ref part.
 unfoldable pub is_ref_name : Bytes → Bool
 is_ref_name t =
     nat_le 6 (length t)
-    && nat_le (length t) 1024
+    && nat_le (length t) REF_BYTES
     && starts_with nat_eq t (codes "refs/")
     && list_all is_ref_byte t
     && not (has_pair 46 46 t)

@@ -1,10 +1,31 @@
 -- Worked examples.
 use Rattle.std.specs.Prelude.{◌≡◌, refl, [], ◌∷◌, ◌++◌, replicate, codes, true, false, Ok, Err, Some, None}
 use Rattle.git_objects.specs.Paths.{text, comparable, before}
+use Rattle.path_names.specs.Words.{number}
 use Rattle.path_names.specs.PathTexts.{path_of}
 use Rattle.path_names.specs.RefNames.{is_ref_name}
 use Rattle.path_names.specs.Quoting.{quote, quoted_byte, unquote}
 use Rattle.path_names.specs.declared.path.PathFault.TheVariants.{Empty, BadComponent, LongComponent, TooDeep, TooLong}
+
+pub zeros_in_front : number (codes "007") ≡ Some 7
+unfolding number
+zeros_in_front = refl
+
+pub no_digits : number [] ≡ None
+unfolding number
+no_digits = refl
+
+pub a_sign_is_no_digit : number (codes "-1") ≡ None
+unfolding number
+a_sign_is_no_digit = refl
+
+pub greatest_number : number (replicate 18 57) ≡ Some 999999999999999999
+unfolding number
+greatest_number = refl
+
+pub nineteen_digits : number (replicate 19 48) ≡ None
+unfolding number
+nineteen_digits = refl
 
 pub two_components : path_of (codes "a/b") ≡ Ok (codes "a" ∷ codes "b" ∷ [])
 unfolding path_of

@@ -1,4 +1,4 @@
-//! Paths, ref names, and texts between quotes.
+//! Paths, ref names, texts between quotes, and words and numbers at the front of texts.
 #![tactic(auto)]
 
 mod laws;
@@ -9,9 +9,11 @@ mod quoting;
 mod ref_name;
 #[cfg(test)]
 mod tests;
+mod words;
 
 pub use laws::{comparable_law, path_order_law, path_text_law, quoting_law};
 pub use order::{before, comparable};
-pub use path::{Path, PathFault};
+pub use path::{Path, PathFault, path_in};
 pub use quoting::{QuoteFault, Unquoted, quote, quoted, unquote};
 pub use ref_name::{RefFault, RefName, is_ref_name};
+pub use words::{is_digit, number, strip};

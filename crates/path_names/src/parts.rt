@@ -7,16 +7,10 @@ ghost use Rattle.git_objects.specs.Paths.{is_component};
 ghost use Rattle.path_names.specs.PathTexts.{parts, path_of, parts_left};
 
 use crate::PathFault;
+use git_objects::limits::{COMPONENT_BYTES, PATH_BYTES, PATH_COMPONENTS};
 use git_objects::{Component, is_component};
 use std::alloc::{AllocError, Global};
 use std::marker::Model;
-
-// The limits of what is read: bytes of a component, components of a path, and bytes of its text.
-const LONGEST_COMPONENT: usize = 255;
-
-const DEEPEST: usize = 128;
-
-const LONGEST_TEXT: usize = 4096;
 
 // The parts of a text that are still to come.
 #[derive(Drop)]
@@ -80,16 +74,16 @@ pub fn count_parts(text: &[u8]) -> Result<usize, PathFault>
         if !is_component(part) {
             return Err(PathFault::BadComponent);
         }
-        short &= part.len() <= LONGEST_COMPONENT;
+        short &= part.len() <= COMPONENT_BYTES;
         count += 1;
     }
     if !short {
         return Err(PathFault::LongComponent);
     }
-    if count > DEEPEST {
+    if count > PATH_COMPONENTS {
         return Err(PathFault::TooDeep);
     }
-    if text.len() > LONGEST_TEXT {
+    if text.len() > PATH_BYTES {
         return Err(PathFault::TooLong);
     }
     Ok(count)

@@ -1,8 +1,9 @@
 // Paths.
-ghost use Rattle.std.specs.Prelude.{◌≡◌, ◌⊎◌, ◌++◌, ◌+◌, ◌<◌, ℕ, List, length, true, IfOk, OnOk, MatchResult, Ok, Err};
+ghost use Rattle.std.specs.Prelude.{◌≡◌, ◌⊎◌, ◌++◌, ◌+◌, ◌<◌, ℕ, List, length, true, IfOk, OnOk, MatchResult, Ok};
+ghost use Rattle.std.specs.Prelude.{Err};
 ghost use Rattle.std.specs.List.{list_all};
 ghost use Rattle.git_objects.specs.Paths.{is_component, is_path, text};
-ghost use Rattle.path_names.specs.PathTexts.{path_of};
+ghost use Rattle.path_names.specs.PathTexts.{ok_path, path_of};
 
 use crate::parts::{components_of, count_parts};
 use git_objects::Component;
@@ -19,13 +20,13 @@ pub enum PathFault {
     /// A part between slashes is no component.
     #[error("bad component")]
     BadComponent,
-    /// A component has more than 255 bytes.
+    /// A component has more bytes than `limits::COMPONENT_BYTES`.
     #[error("long component")]
     LongComponent,
-    /// More than 128 components.
+    /// There are more components than `limits::PATH_COMPONENTS`.
     #[error("too many components")]
     TooDeep,
-    /// More than 4,096 bytes.
+    /// The text has more bytes than `limits::PATH_BYTES`.
     #[error("path too long")]
     TooLong,
     #[error("out of memory")]
@@ -115,6 +116,17 @@ impl Path {
         ensures { IfOk result (λ copy. copy ≡ self.now) }
     {
         Path::of_parts(alloc, &self.components, &[])
+    }
+}
+
+/// The path that a text names; None where it names none.
+pub fn path_in(alloc: Global, text: &[u8]) -> Result<Option<Path>, AllocError>
+    ensures { IfOk result (λ path. path ≡ ok_path (path_of text.now)) }
+{
+    match Path::parse(alloc, text) {
+        Ok(path) => Ok(Some(path)),
+        Err(PathFault::OutOfMemory) => Err(AllocError),
+        Err(_) => Ok(None),
     }
 }
 

@@ -1,7 +1,9 @@
 // Texts between double quotes.
-ghost use Rattle.std.specs.Prelude.{◌≡◌, ◌≤◌, ◌⊎◌, ◌++◌, ◌∷◌, [], None, Some, true, length, drop, IfOk, IfSome, OnOk, MatchOption, MatchResult};
+ghost use Rattle.std.specs.Prelude.{◌≡◌, ◌≤◌, ◌⊎◌, ◌++◌, ◌∷◌, [], None, Some, true, length, drop, IfOk, IfSome};
+ghost use Rattle.std.specs.Prelude.{OnOk, MatchOption, MatchResult};
 ghost use Rattle.std.specs.List.{list_any, position, position_or_len};
-ghost use Rattle.path_names.specs.Quoting.{quote, quoted, quoted_byte, is_special, short, unquote, unquoted, unshort, behind, is_marked, octal_of, Slash, Plain};
+ghost use Rattle.path_names.specs.Quoting.{quote, quoted, quoted_byte, is_special, short, unquote, unquoted};
+ghost use Rattle.path_names.specs.Quoting.{unshort, behind, is_marked, octal_of, Slash, Plain};
 
 use git_objects::Bytes;
 use std::alloc::{AllocError, Global};

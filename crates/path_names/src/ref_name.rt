@@ -8,14 +8,13 @@ ghost use Rattle.std.specs.List.{list_all};
 ghost use Rattle.path_names.specs.PathTexts.{parts};
 ghost use Rattle.path_names.specs.RefNames.{is_ref_name, is_ref_byte, has_pair, is_ref_part};
 
+use git_objects::limits::REF_BYTES;
 use std::alloc::{AllocError, Global};
 use std::hash::{Hash, Hasher};
 use std::marker::Model;
 
-// The bytes of the shortest ref name, and of the longest.
+// Bytes of the shortest ref name.
 const SHORTEST: usize = 6;
-
-const LONGEST: usize = 1024;
 
 /// Why a text is not read as a ref name.
 #[derive(Clone, Copy, Debug, PartialEq, Eq)]
@@ -103,7 +102,7 @@ pub fn is_ref_name(t: &[u8]) -> bool
     if t.len() < SHORTEST {
         return false;
     }
-    if t.len() > LONGEST {
+    if t.len() > REF_BYTES {
         return false;
     }
     if !t.starts_with(b"refs/") {

@@ -8,7 +8,8 @@ use Rattle.git_objects.specs.Paths.{Bytes, Path}
 use Rattle.object_store.specs.Objects.{Object, object_name}
 use Rattle.proj_io.specs.Counts.{Counts, Rose}
 use Rattle.proj_io.specs.Views.{SourceView, SinkView, KeeperView}
-use Rattle.repo_state.specs.Items.{Held, Break, bytes_cmp, read_items}
+use Rattle.repo_state.specs.Items.{Held, Break, read_items}
+use Rattle.git_objects.specs.Refs.{bytes_cmp}
 use Rattle.repo_state.specs.Repos.{is_kept, repo_of}
 use Rattle.repo_state.specs.Changes.{Plan, held_after, is_empty, plan_text}
 use Rattle.repo_state.specs.Commits.{GetsItem, KeepsItems}

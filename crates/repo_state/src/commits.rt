@@ -2,10 +2,9 @@
 ghost use Rattle.std.specs.Prelude.{◌≡◌, ◌∷◌, [], filter, map, IfOk};
 ghost use Rattle.std.specs.Option.{option_to_list};
 ghost use Rattle.git_objects.specs.Parts.{name_bytes};
-ghost use Rattle.object_store.specs.Errors.{newest};
 ghost use Rattle.object_store.specs.Objects.{object_name};
 ghost use Rattle.repo_state.specs.Drafts.{found};
-ghost use Rattle.repo_state.specs.Items.{is_commit};
+ghost use Rattle.object_store.specs.Fits.{is_commit};
 
 use git_objects::{Kind, Name};
 use object_store::Store;
@@ -13,7 +12,7 @@ use std::alloc::{AllocError, Global};
 
 // The name, where it is a commit's.
 fn commit_name(store: &Store, name: &Name) -> Option<Name>
-    ensures { map name_bytes (option_to_list result) ≡ map object_name (filter is_commit (found (newest store.now) (name.now ∷ []))) }
+    ensures { map name_bytes (option_to_list result) ≡ map object_name (filter is_commit (found store.now (name.now ∷ []))) }
 {
     match store.get(name) {
         None => None,
@@ -30,7 +29,7 @@ pub(crate) fn commit_names(
     store: &Store,
     names: &[Name],
 ) -> Result<Vec<Name>, AllocError>
-    ensures { IfOk result (λ v. map name_bytes v.items ≡ map object_name (filter is_commit (found (newest store.now) names.now))) }
+    ensures { IfOk result (λ v. map name_bytes v.items ≡ map object_name (filter is_commit (found store.now names.now))) }
 {
     let mut commits = Vec::new(alloc);
     for name in names {

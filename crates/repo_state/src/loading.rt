@@ -1,5 +1,6 @@
 // Reading a keeper's items, one after another.
 ghost use Rattle.std.specs.Prelude.{◌≡◌, ◌≤◌, ◌+◌, ◌^◌, ◌&&◌, ◌↔◌, Ok, Err, true, nat_lt, nat_le, length, IfOk, IfSome, OnOk, MatchResult, sum_by};
+ghost use Rattle.git_objects.specs.declared.limits.TheConstants.{ITEM_BYTES, ITEMS, STORE_BYTES};
 ghost use Rattle.proj_io.specs.Counts.{Counts};
 ghost use Rattle.proj_io.specs.Items.{Stays, item_of};
 ghost use Rattle.repo_state.specs.Items.{held_with, item_fits, read_items};
@@ -12,14 +13,9 @@ use crate::cursor::Stop;
 use crate::item::read_item;
 use crate::objects::Objects;
 use crate::ref_table::RefTable;
+use git_objects::limits::{ITEM_BYTES, ITEMS, STORE_BYTES};
 use proj_io::Keeper;
 use std::alloc::Global;
-
-const ITEMS: u32 = 1_048_576;
-
-const ITEM_BYTES: u32 = 536_870_912;
-
-const ALL_BYTES: u64 = 2_147_483_648;
 
 /// What the items read so far hold, and their bytes together.
 #[derive(Drop)]
@@ -32,9 +28,9 @@ pub(crate) struct Loaded {
 // Whether an item of so many bytes may stand behind others of so many bytes.
 fn item_fits(number: u32, before: u64, size: u32) -> bool
     requires { before ≤ 2 ^ 31 }
-    ensures { result ≡ (nat_lt number (2 ^ 20) && nat_le size (2 ^ 29) && nat_le (before + size) (2 ^ 31)) }
+    ensures { result ≡ (nat_lt number ITEMS && nat_le size ITEM_BYTES && nat_le (before + size) STORE_BYTES) }
 {
-    number < ITEMS && size <= ITEM_BYTES && before + size as u64 <= ALL_BYTES
+    number < ITEMS && size as usize <= ITEM_BYTES && before + size as u64 <= STORE_BYTES
 }
 
 // The error of an item that isn't read to its end.

@@ -4,7 +4,7 @@ ghost use Rattle.std.specs.List.{list_all};
 ghost use Rattle.std.specs.Option.{option_map};
 ghost use Rattle.std.specs.FinMap.{find, put};
 ghost use Rattle.git_objects.specs.Parts.{name_bytes};
-ghost use Rattle.repo_state.specs.Items.{bytes_cmp};
+ghost use Rattle.git_objects.specs.Refs.{bytes_cmp};
 ghost use Rattle.repo_state.specs.Changes.{is_moved, moved, with_refs};
 ghost use Rattle.repo_state.specs.Commits.{setting};
 ghost use Rattle.repo_state.specs.Drafts.{is_valid_ref, ref_value};
@@ -30,7 +30,7 @@ pub(crate) struct MovedRef {
 
 impl Model for RefTable {
     ghost use Rattle.std.specs.Prelude.{map};
-    ghost use Rattle.repo_state.specs.Items.{Refs};
+    ghost use Rattle.git_objects.specs.Refs.{Refs};
 
     ghost Value = { Refs };
 

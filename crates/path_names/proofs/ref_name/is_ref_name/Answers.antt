@@ -11,7 +11,7 @@ returns c =
     c.has_ref_parts.ensures
     ∙ sym (λ i.
     le-leb _ _ c.if-t-lt-SHORTEST.false i
-    && le-leb _ _ c.if-t-gt-LONGEST.false i
+    && le-leb _ _ c.if-t-gt-REF_BYTES.false i
     && (sym c.starts_with.ensures.value ∙ c.if-not-starts_with.false) i
     && (sym c.has_ref_bytes.ensures ∙ c.if-not-has_ref_bytes.false) i
     && not ((sym c.has_pair.ensures ∙ c.if-has_pair.false) i)
