@@ -9,12 +9,11 @@ use Rattle.decision_lists.specs.Cells.{any_clash, cells}
 use Rattle.decision_lists.specs.Entries.{Entry, at, below}
 use Rattle.decision_lists.specs.Fronts.{or_else}
 use Rattle.filter_routes.specs.Images.{first, image}
-use Rattle.filter_routes.specs.Laws.{has_paths, have_paths}
+use Rattle.filter_text.specs.Filters.{has_paths, have_paths, Filter, Filters, append, chain, dir, exclude, file, join, more, no_more, nop, only, onto, sub, workspace}
 use Rattle.decision_lists.specs.Lists.{IsPath}
 use Rattle.filter_routes.specs.Lists.{Listed}
 use Rattle.decision_lists.specs.Operations.{after_left, either_left, turned}
 use Rattle.filter_routes.specs.Soundness.{AreApart, AreSound, Clash, IsApart, IsSound, are_keeping, is_keeping}
-use Rattle.filter_text.specs.Filters.{Filter, Filters, append, chain, dir, exclude, file, join, more, no_more, nop, only, onto, sub, workspace}
 use Rattle.git_objects.specs.Paths.{Path}
 
 -- no member clashes with g

@@ -11,10 +11,10 @@ use Rattle.filter_routes.proofs.Branches.{meets-first}
 use Rattle.filter_routes.proofs.ImagePaths.{image-path}
 use Rattle.decision_lists.specs.Fronts.{and_then, or_else, proper, strip, whole}
 use Rattle.filter_routes.specs.Images.{first, image, through}
-use Rattle.filter_routes.specs.Laws.{RouteLaw, has_paths, have_paths}
+use Rattle.filter_text.specs.Filters.{has_paths, have_paths, Filter, Filters, chain, dir, exclude, file, join, more, no_more, nop, onto, sub, workspace}
+use Rattle.filter_routes.specs.Laws.{RouteLaw}
 use Rattle.decision_lists.specs.Lists.{IsPath}
 use Rattle.filter_routes.specs.Soundness.{AreApart, AreSound, IsApart, IsSound}
-use Rattle.filter_text.specs.Filters.{Filter, Filters, chain, dir, exclude, file, join, more, no_more, nop, onto, sub, workspace}
 use Rattle.git_objects.specs.Paths.{Path}
 
 -- a relation that goes back from images to paths, and is at least as wide as what a list excludes

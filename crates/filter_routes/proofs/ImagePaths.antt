@@ -13,9 +13,8 @@ use Rattle.decision_lists.proofs.Compile.{full-behind, kept-is, left_out-is, pro
 use Rattle.decision_lists.proofs.Locating.{has-path}
 use Rattle.decision_lists.proofs.Strip.{proper-some}
 use Rattle.decision_lists.proofs.Valid.{full-path, path-from, valid-both, valid-path, valid-rest}
-use Rattle.filter_text.specs.Filters.{Filter, Filters, chain, dir, exclude, file, join, more, no_more, nop, onto, sub, workspace}
+use Rattle.filter_text.specs.Filters.{Filter, Filters, chain, dir, exclude, file, join, more, no_more, nop, onto, sub, workspace, has_paths, have_paths}
 use Rattle.filter_routes.specs.Images.{first, image, through}
-use Rattle.filter_routes.specs.Laws.{has_paths, have_paths}
 use Rattle.filter_routes.specs.Lists.{IsListOf}
 use Rattle.filter_routes.specs.Tables.{IsOrigin}
 

@@ -13,11 +13,10 @@ use Rattle.filter_routes.proofs.ImagePaths.{image-path}
 use Rattle.decision_lists.proofs.Valid.{full-path, path-from, valid-both, valid-path, valid-rest}
 use Rattle.decision_lists.specs.Fronts.{and_then, or_else, proper, strip, whole}
 use Rattle.filter_routes.specs.Images.{first, image, through}
-use Rattle.filter_routes.specs.Laws.{has_paths, have_paths}
+use Rattle.filter_text.specs.Filters.{has_paths, have_paths, Filter, Filters, chain, dir, exclude, file, join, more, no_more, nop, onto, sub, workspace}
 use Rattle.decision_lists.specs.Lists.{IsPath, Full}
 use Rattle.filter_routes.specs.Soundness.{AreApart, AreSound, IsApart, IsSound}
 use Rattle.filter_routes.specs.Tables.{IsOrigin}
-use Rattle.filter_text.specs.Filters.{Filter, Filters, chain, dir, exclude, file, join, more, no_more, nop, onto, sub, workspace}
 use Rattle.git_objects.specs.Paths.{Path, comparable}
 use Rattle.filter_routes.specs.Lenses.{IsLens}
 use Rattle.filter_routes.specs.Origins.{LensLaw, back_through, first_origin, lens_of, origin}

@@ -4,11 +4,10 @@ use Rattle.std.proofs.Common.{ap, sym, subst, true≢false}
 use Rattle.std.proofs.lemmas.Bool.{and_parts, and_from}
 use Rattle.filter_routes.proofs.ListLaws.{clash-seen, clash-told, list-all, list-chain, list-dir, list-exclude, list-file, list-join, list-none, list-nop, list-onto, list-sub, list-workspace}
 use Rattle.decision_lists.specs.Entries.{Entry}
-use Rattle.filter_routes.specs.Laws.{has_paths, have_paths}
+use Rattle.filter_text.specs.Filters.{has_paths, have_paths, Filter, Filters, append, chain, dir, exclude, file, join, more, no_more, nop, only, onto, sub, workspace}
 use Rattle.filter_routes.specs.Lists.{IsListOf}
 use Rattle.decision_lists.specs.Operations.{after_left, either_left}
 use Rattle.filter_routes.specs.Soundness.{AreApart, AreSound, IsApart, IsSound}
-use Rattle.filter_text.specs.Filters.{Filter, Filters, append, chain, dir, exclude, file, join, more, no_more, nop, only, onto, sub, workspace}
 use Rattle.filter_routes.specs.SoundTests.{SoundTestLaw, are_apart, are_sound, chained, entries, is_apart, is_clash, is_sound, joined}
 
 append-none : (fs : Filters) → append fs no_more ≡ fs

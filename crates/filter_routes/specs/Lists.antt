@@ -5,9 +5,8 @@ use Rattle.git_objects.specs.Lists.{Each}
 use Rattle.git_objects.specs.Paths.{Path}
 use Rattle.decision_lists.specs.Entries.{Entry, run}
 use Rattle.decision_lists.specs.Lists.{Full, Fine, Thin}
-use Rattle.filter_text.specs.Filters.{Filter}
+use Rattle.filter_text.specs.Filters.{Filter, has_paths}
 use Rattle.filter_routes.specs.Images.{image}
-use Rattle.filter_routes.specs.Laws.{has_paths}
 use Rattle.filter_routes.specs.Soundness.{IsSound, is_keeping}
 
 -- the list gives each path its image, no entry is hidden, and all paths in it are of components

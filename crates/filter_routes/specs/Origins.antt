@@ -1,11 +1,10 @@
 -- The path that a filter shows as a path: the inverse of the image.
 use Rattle.std.specs.Prelude.{◌≡◌, true, ◌++◌, Option, Some, None}
 use Rattle.git_objects.specs.Paths.{Path, is_path}
-use Rattle.filter_text.specs.Filters.{Filter, Filters, nop, sub, onto, dir, file, exclude, join, chain, workspace, no_more, more}
+use Rattle.filter_text.specs.Filters.{Filter, Filters, nop, sub, onto, dir, file, exclude, join, chain, workspace, no_more, more, has_paths}
 use Rattle.decision_lists.specs.Fronts.{strip, proper, whole, kept, left_out, or_else, and_then}
 use Rattle.filter_routes.specs.Images.{image}
 use Rattle.filter_routes.specs.Soundness.{IsSound}
-use Rattle.filter_routes.specs.Laws.{has_paths}
 use Rattle.filter_routes.specs.Tables.{IsOrigin}
 use Rattle.filter_routes.specs.Lenses.{Lens, IsLens}
 

@@ -1,11 +1,10 @@
 -- Soundness as a test that computes: decision lists stand in for all paths.
 use Rattle.std.specs.Prelude.{◌≡◌, ◌↔◌, Bool, true, not, ◌&&◌, List, [], ◌∷◌, Some}
-use Rattle.filter_text.specs.Filters.{Filter, Filters, nop, sub, onto, dir, file, exclude, join, chain, workspace, no_more, more}
+use Rattle.filter_text.specs.Filters.{Filter, Filters, nop, sub, onto, dir, file, exclude, join, chain, workspace, no_more, more, has_paths}
 use Rattle.decision_lists.specs.Entries.{Entry, at, below}
 use Rattle.decision_lists.specs.Operations.{turned, either_left, after_left}
 use Rattle.decision_lists.specs.Cells.{cells, any_clash}
 use Rattle.filter_routes.specs.Soundness.{IsSound, is_keeping}
-use Rattle.filter_routes.specs.Laws.{has_paths}
 
 -- the decision list of a filter
 abbrev mutual

@@ -1,9 +1,8 @@
 // Tables of routes.
 ghost use Rattle.std.specs.Prelude.{◌≡◌, ◌≤◌, ◌<◌, ◌^◌, true, is_some, length, Some, IfOk, IfErr, IfSome};
-ghost use Rattle.filter_text.specs.Filters.{pieces};
+ghost use Rattle.filter_text.specs.Filters.{pieces, has_paths};
 ghost use Rattle.filter_text.specs.Shapes.{shape};
 ghost use Rattle.filter_routes.specs.Images.{image};
-ghost use Rattle.filter_routes.specs.Laws.{has_paths};
 ghost use Rattle.filter_routes.specs.Soundness.{IsSound};
 
 use crate::RouteFault;
