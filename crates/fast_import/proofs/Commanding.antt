@@ -3,17 +3,19 @@ use Rattle.std.proofs.Common.{◌≡◌, ◌+◌, ◌<◌, ◌≤◌, ℕ, zero,
 use Rattle.git_objects.specs.Paths.{Bytes}
 use Rattle.stream_lex.specs.Lines.{Input}
 use Rattle.stream_lex.specs.Cutting.{grown}
-use Rattle.stream_lex.proofs.Advance.{stays}
-use Rattle.fast_import.specs.declared.halt.Halt.TheVariants as halts
+use Rattle.stream_lex.proofs.Combining.{stays}
+use Rattle.stream_lex.specs.declared.stop.Stop.TheVariants as stops
 use Rattle.fast_import.specs.declared.command.Placed.{Placed}
 use Rattle.fast_import.specs.declared.progress.Progress.{Progress}
 use Rattle.fast_import.specs.declared.progress.Event.{Event}
 use Rattle.fast_import.specs.declared.progress.Event.TheVariants.{Gives, Skips, Ends}
-use Rattle.fast_import.specs.Reading.{Read, Reader, ◌>>=◌, ◌then◌}
+use Rattle.git_objects.specs.Results.{◌>>=◌}
+use Rattle.stream_lex.specs.Cutting.{◌then◌}
+use Rattle.fast_import.specs.Reading.{Read, Reader}
 use Rattle.fast_import.specs.Commands.{Turn, Told, turn, by_event, turn_on, command_within, read_command}
 use Rattle.fast_import.specs.Verdicts.{size}
-use Rattle.fast_import.specs.Cutting.{Agrees, IsTold, Steps, IsReader}
-use Rattle.fast_import.proofs.Combining.{bind_agrees, bind_steps}
+use Rattle.stream_lex.specs.Cutting.{Agrees, IsTold, Steps, IsReader}
+use Rattle.stream_lex.proofs.Combining.{bind_agrees, bind_steps}
 use Rattle.fast_import.proofs.Turning.{turn-reader}
 use Rattle.fast_import.proofs.Lowering.{Lowers, TurnLowers, turn_lowers}
 
@@ -57,9 +59,8 @@ event_told f p i h Ends q j l = tt
 turn_told : (f : Progress → Reader Told) (p : Progress) (i : Input) → ((q : Progress) (j : Input) → length j.rest < length i.rest → IsTold (f q true j)) →
     (r : Read Turn) → TurnLowers p i r → IsTold r → IsTold (r >>= λ x. turn_on f x.0 true x.1)
 turn_told f p i h (Ok x) l t = event_told f p i h x.0.event x.0.progress x.1 l
-turn_told f p i h (Err halts.More) l t = t
-turn_told f p i h (Err halts.Memory) l t = t
-turn_told f p i h (Err (halts.Fault e)) l t = tt
+turn_told f p i h (Err stops.More) l t = t
+turn_told f p i h (Err (stops.Fault e)) l t = tt
 
 within_told : (n : ℕ) (p : Progress) (i : Input) → length i.rest < n → IsTold (command_within n p true i)
 within_told zero p i h = absurd (omega arith)

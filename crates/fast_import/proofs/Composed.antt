@@ -2,6 +2,7 @@
 use Rattle.std.proofs.Common.{ℕ, zero, suc, Bool, true, false, List, [], ◌∷◌, ◌++◌, Option, Some, None, nat_eq}
 use Rattle.std.specs.Prelude.{codes, nat_le}
 use Rattle.std.specs.List.{starts_with}
+use Rattle.git_objects.specs.declared.limits.TheConstants.{BLOB_BYTES, MESSAGE_BYTES}
 use Rattle.git_objects.specs.declared.quantity.Quantity.{Quantity}
 use Rattle.git_objects.specs.declared.quantity.Quantity.TheVariants as limits
 use Rattle.git_objects.specs.Paths.{Bytes}
@@ -11,15 +12,17 @@ use Rattle.fast_import.specs.declared.commit_ref.CommitRef.{CommitRef}
 use Rattle.fast_import.specs.declared.modify.DataRef.{DataRef}
 use Rattle.fast_import.specs.declared.modify.DataRef.TheVariants as datas
 use Rattle.fast_import.specs.declared.progress.Phase.TheVariants.{Between, InCommit}
-use Rattle.fast_import.specs.Reading.{Judged, Reader, judged, or_fault, refuse, option_line, need_line}
+use Rattle.stream_lex.specs.Cutting.{judged, refuse}
+use Rattle.fast_import.specs.Reading.{Judged, Reader, or_fault, option_line, need_line}
 use Rattle.fast_import.specs.Names.{refname}
-use Rattle.fast_import.specs.Blocks.{count, sized_block, whole_block, data_behind, blob_data, message_behind, message_data, blob_max, message_max}
+use Rattle.fast_import.specs.Blocks.{count, sized_block, whole_block, data_behind, blob_data, message_behind, message_data}
 use Rattle.fast_import.specs.PathWords.{last_path, two_paths}
 use Rattle.fast_import.specs.Changes.{modify_line, blob_ref, modify, change, ChangeLine, ModifyIs, DeleteIs, RenameIs, CopyIs, DeleteAllIs, NotesAre, EmptyIs, NoChange}
 use Rattle.fast_import.specs.Heads.{if_some, said, mark_in, mark_lines, blob, author_in, committer_of, people, ref_in, ref_line, more_merges, merges, merges_max, parents, head, reset}
 use Rattle.fast_import.specs.Commands.{CommandLine, EmptyLine, BlobLine, CommitLine, ResetLine, IdleLine, WantsDone, DoneLine, RefusedLine, OtherLine, gives, between, at_the_end}
-use Rattle.fast_import.specs.Cutting.{IsReader}
-use Rattle.fast_import.proofs.Combining.{then-reader, pure-reader, refuse-reader, judged-reader, cond-reader, option_line-reader, need_line-reader, whole_block-reader}
+use Rattle.stream_lex.specs.Cutting.{IsReader}
+use Rattle.stream_lex.proofs.Combining.{then-reader, pure-reader, refuse-reader, judged-reader, cond-reader}
+use Rattle.fast_import.proofs.Combining.{option_line-reader, need_line-reader, whole_block-reader}
 use Rattle.fast_import.proofs.Judging.{IsJudged, given, refname-judged, last_path-judged, two_paths-judged, modify_line-judged, if_some-judged, mark_in-judged, author_in-judged, committer_of-judged, ref_in-judged}
 
 sized_block-reader : (which : Quantity) (most at n : ℕ) → IsReader (sized_block which most at n)
@@ -33,12 +36,12 @@ data_behind-reader which most l =
 
 blob_data-reader : IsReader blob_data
 unfolding blob_data
-blob_data-reader = then-reader need_line (data_behind limits.Blob blob_max) need_line-reader (data_behind-reader limits.Blob blob_max)
+blob_data-reader = then-reader need_line (data_behind limits.Blob BLOB_BYTES) need_line-reader (data_behind-reader limits.Blob BLOB_BYTES)
 
 message_behind-reader : (l : Line) → IsReader (message_behind l)
 message_behind-reader l =
     cond-reader (starts_with nat_eq l.bytes (codes "encoding ")) _ _ (refuse-reader _)
-    (cond-reader (starts_with nat_eq l.bytes (codes "gpgsig ")) _ _ (refuse-reader _) (data_behind-reader limits.Message message_max l))
+    (cond-reader (starts_with nat_eq l.bytes (codes "gpgsig ")) _ _ (refuse-reader _) (data_behind-reader limits.Message MESSAGE_BYTES l))
 
 message_data-reader : IsReader message_data
 unfolding message_data

@@ -5,13 +5,13 @@ use Rattle.git_objects.specs.Paths.{Bytes}
 use Rattle.stream_lex.specs.Lines.{Input}
 use Rattle.stream_lex.specs.Cutting.{grown}
 use Rattle.stream_lex.proofs.Passing.{grown_none, grown_twice}
-use Rattle.fast_import.specs.declared.halt.Halt.TheVariants as halts
+use Rattle.stream_lex.specs.declared.stop.Stop.TheVariants as stops
 use Rattle.fast_import.specs.declared.command.Placed.{Placed}
 use Rattle.fast_import.specs.declared.progress.Progress.{Progress}
 use Rattle.fast_import.specs.Reading.{Read}
 use Rattle.fast_import.specs.Commands.{Told, read_command}
 use Rattle.fast_import.specs.Verdicts.{Verdict, with_command, told_then, go_on, verdict_within, size, verdict_from, start, from_start, verdict, or_next, told_within, turns, told}
-use Rattle.fast_import.specs.Cutting.{Agrees}
+use Rattle.stream_lex.specs.Cutting.{Agrees}
 use Rattle.fast_import.proofs.Commanding.{IfCommand, CommandLowers, command_lowers, command-reader}
 
 then_same : (p : Progress) (i : Input) (f g : Progress → Input → Verdict) → ((q : Progress) (j : Input) → size q j < size p i → f q j ≡ g q j) →
@@ -47,9 +47,8 @@ module _ (more : Bytes) (p : Progress) (i : Input) (f : Progress → Input → V
   piece_same : (r : Read Told) → Agrees more r (read_command p true (grown more i)) → or_next (go_on f r) next r ≡ go_on verdict_from (read_command p true (grown more i))
   piece_same (Ok x) a =
       told_same x.0.command x.0.progress x.1 (subst (CommandLowers p (grown more i)) a (command_lowers p true (grown more i))) ∙ ap (go_on verdict_from) (sym a)
-  piece_same (Err halts.More) a = g
-  piece_same (Err halts.Memory) a = ap (go_on verdict_from) (sym a)
-  piece_same (Err (halts.Fault e)) a = ap (go_on verdict_from) (sym a)
+  piece_same (Err stops.More) a = g
+  piece_same (Err (stops.Fault e)) a = ap (go_on verdict_from) (sym a)
 
 pieces_within : (n : ℕ) (ps : List Bytes) (p : Progress) (i : Input) → turns ps p i < n → told_within n ps p i ≡ verdict_from p (grown (concat ps) i)
 pieces_within zero ps p i h = absurd (omega arith)

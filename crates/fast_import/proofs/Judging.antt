@@ -13,13 +13,14 @@ use Rattle.fast_import.specs.declared.fault.StreamFault.TheVariants.{Syntax, Uns
 use Rattle.fast_import.specs.declared.fault.Feature.TheVariants.{DirectoryMode}
 use Rattle.fast_import.specs.declared.modify.DataRef.{DataRef}
 use Rattle.fast_import.specs.Words.{first_word, mark}
-use Rattle.fast_import.specs.Reading.{Judged, ◌>>=◌, fault, or_fault}
+use Rattle.git_objects.specs.Results.{◌>>=◌}
+use Rattle.fast_import.specs.Reading.{Judged, fault, or_fault}
 use Rattle.fast_import.specs.Names.{refname, ident, some_name, without_zero, target_by, target}
 use Rattle.fast_import.specs.PathWords.{path_by, path_at, unquoted_at, last_path, behind_quote, first_path, two_paths}
 use Rattle.fast_import.specs.Changes.{mode, dataref, fitting, data_part, mode_part, modify_line}
 use Rattle.fast_import.specs.Heads.{if_some, mark_in, author_in, committer_by, committer_of, ref_in}
-use Rattle.fast_import.specs.Cutting.{IsTold}
-use Rattle.fast_import.proofs.Combining.{bind_told}
+use Rattle.stream_lex.specs.Cutting.{IsTold}
+use Rattle.stream_lex.proofs.Combining.{bind_told}
 
 pub record IsJudged {A : Type 0} (r : Judged A) : Type 0 where
   pub told : IsTold r

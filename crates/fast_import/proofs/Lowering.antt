@@ -1,6 +1,6 @@
 -- Each command takes bytes, or leaves a commit.
 use Rattle.std.proofs.Common.{◌<◌, ◌≤◌, ℕ, Bool, true, false, length, Option, Some, None, Ok, Err, ap, arith, length-drop}
-use Rattle.stream_lex.specs.Lines.{Input, Line, line_at, Read as LexRead}
+use Rattle.stream_lex.specs.Lines.{Input, Line, line_at, Lex}
 use Rattle.stream_lex.specs.Cutting.{Advances}
 use Rattle.stream_lex.proofs.Fuel.{Moves, line_at-moves}
 use Rattle.fast_import.specs.declared.command.Command.{Command}
@@ -10,12 +10,14 @@ use Rattle.fast_import.specs.declared.progress.Phase.TheVariants.{Between, InCom
 use Rattle.fast_import.specs.declared.progress.Progress.{Progress}
 use Rattle.fast_import.specs.declared.progress.Event.{Event}
 use Rattle.fast_import.specs.declared.progress.Event.TheVariants.{Gives, Skips, Ends}
-use Rattle.fast_import.specs.Reading.{Read, ◌>>=◌, ◌then◌, lifted}
+use Rattle.git_objects.specs.Results.{◌>>=◌}
+use Rattle.stream_lex.specs.Cutting.{◌then◌}
+use Rattle.fast_import.specs.Reading.{Read, lifted}
 use Rattle.fast_import.specs.Heads.{blob, head, reset}
 use Rattle.fast_import.specs.Changes.{change, change_line, ChangeLine, ModifyIs, DeleteIs, RenameIs, CopyIs, DeleteAllIs, NotesAre, EmptyIs, NoChange}
 use Rattle.fast_import.specs.Commands.{CommandLine, EmptyLine, BlobLine, CommitLine, ResetLine, IdleLine, WantsDone, DoneLine, RefusedLine, OtherLine, command_line, Turn, turned, gives, between, at_the_end, between_at, changed, in_commit_at, turn_in, turn}
 use Rattle.fast_import.specs.Verdicts.{size}
-use Rattle.fast_import.specs.Cutting.{Steps}
+use Rattle.stream_lex.specs.Cutting.{Steps}
 use Rattle.fast_import.proofs.Composed.{blob-reader, head-reader, reset-reader, change-reader}
 
 abbrev pub Lowers : Progress → Input → Event → Progress → Input → Type 0
@@ -58,7 +60,7 @@ module _ (ended : Bool) (d : Bool) where
   end_lowers true at i j = tt
   end_lowers false at i j = tt
 
-  between_line_lowers : (i : Input) (r : LexRead (Option Line)) → Moves i r → TurnLowers (here Between d) i (lifted r >>= between_at d ended)
+  between_line_lowers : (i : Input) (r : Lex (Option Line)) → Moves i r → TurnLowers (here Between d) i (lifted r >>= between_at d ended)
   between_line_lowers i (Ok (Some l, j)) h = between_lowers (command_line l.bytes) l.place i j h.0
   between_line_lowers i (Ok (None, j)) h = end_lowers d j.at i j
   between_line_lowers i (Err e) h = tt
@@ -77,7 +79,7 @@ module _ (ended : Bool) (d : Bool) where
   changed_lowers DeleteAllIs at i j h = changing_lowers DeleteAllIs at i j h
   changed_lowers NotesAre at i j h = changing_lowers NotesAre at i j h
 
-  commit_line_lowers : (i : Input) (r : LexRead (Option Line)) → Moves i r → TurnLowers (here InCommit d) i (lifted r >>= in_commit_at d ended i)
+  commit_line_lowers : (i : Input) (r : Lex (Option Line)) → Moves i r → TurnLowers (here InCommit d) i (lifted r >>= in_commit_at d ended i)
   commit_line_lowers i (Ok (Some l, j)) h = changed_lowers (change_line l.bytes) l.place i j h.0
   commit_line_lowers i (Ok (None, j)) h = omega (arith, h.0)
   commit_line_lowers i (Err e) h = tt

@@ -5,9 +5,14 @@ use Rattle.stream_lex.specs.Lines.{Input}
 use Rattle.fast_import.specs.declared.commit_ref.CommitRef.{CommitRef}
 use Rattle.git_objects.specs.declared.quantity.Quantity.TheVariants as limits
 use Rattle.fast_import.specs.declared.fault.StreamFault.TheVariants.{Limit}
+use Rattle.stream_lex.specs.declared.stop.Stop.{Stop}
+use Rattle.fast_import.specs.declared.fault.StreamFault.{StreamFault}
 use Rattle.fast_import.specs.declared.halt.Halt.{Halt}
 use Rattle.fast_import.specs.declared.halt.Halt.TheVariants as halts
-use Rattle.fast_import.specs.Reading.{Judged, ◌>>=◌, refuse}
+use Rattle.stream_lex.specs.declared.stop.Stop.TheVariants as stops
+use Rattle.git_objects.specs.Results.{◌>>=◌}
+use Rattle.stream_lex.specs.Cutting.{refuse}
+use Rattle.fast_import.specs.Reading.{Judged}
 use Rattle.fast_import.specs.Heads.{ref_line, merges, more_merges}
 use Rattle.fast_import.specs.Views.{Tells}
 
@@ -15,9 +20,9 @@ abbrev pub next_merge : Bool → Input → Judged (Option CommitRef × Input)
 next_merge ended i = ref_line (codes "merge ") ended i
 
 module _ (done : List CommitRef) (ended : Bool) (i : Input) where
-  stops : (n : ℕ) (e : Halt) → next_merge ended i ≡ Err e → merges n done ended i ≡ Err e
-  stops zero e h = ap (λ t. t >>= λ x. more_merges done (λ r. refuse (Limit r.at limits.Parents)) x.0 ended x.1) h
-  stops (suc n) e h = ap (λ t. t >>= λ x. more_merges done (λ r. merges n (done ++ r ∷ [])) x.0 ended x.1) h
+  halts_here : (n : ℕ) (e : Stop StreamFault) → next_merge ended i ≡ Err e → merges n done ended i ≡ Err e
+  halts_here zero e h = ap (λ t. t >>= λ x. more_merges done (λ r. refuse (Limit r.at limits.Parents)) x.0 ended x.1) h
+  halts_here (suc n) e h = ap (λ t. t >>= λ x. more_merges done (λ r. merges n (done ++ r ∷ [])) x.0 ended x.1) h
 
   pub merges_none : (n : ℕ) (j : Input) → next_merge ended i ≡ Ok (None, j) → merges n done ended i ≡ Ok (done, j)
   merges_none zero j h = ap (λ t. t >>= λ x. more_merges done (λ r. refuse (Limit r.at limits.Parents)) x.0 ended x.1) h
@@ -31,6 +36,6 @@ module _ (done : List CommitRef) (ended : Bool) (i : Input) where
 
   pub merges_stop : {X Y : Type 0} (v : X → Option CommitRef × Input) (w : Y → List CommitRef × Input) (n : ℕ) (e : Halt) →
       Tells v (Err e) (next_merge ended i) → Tells w (Err e) (merges n done ended i)
-  merges_stop v w n halts.More h = stops n halts.More h
+  merges_stop v w n halts.More h = halts_here n stops.More h
   merges_stop v w n halts.Memory h = tt
-  merges_stop v w n (halts.Fault f) h = stops n (halts.Fault f) h
+  merges_stop v w n (halts.Fault f) h = halts_here n (stops.Fault f) h

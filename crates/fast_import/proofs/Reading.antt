@@ -7,18 +7,19 @@ use Rattle.stream_lex.specs.Cutting.{grown, Advances}
 use Rattle.stream_lex.proofs.Passing.{grown_none}
 use Rattle.fast_import.specs.declared.fault.StreamFault.{StreamFault}
 use Rattle.fast_import.specs.declared.fault.StreamFault.TheVariants.{OutOfMemory}
-use Rattle.fast_import.specs.declared.halt.Halt.{Halt}
-use Rattle.fast_import.specs.declared.halt.Halt.TheVariants as halts
+use Rattle.stream_lex.specs.declared.stop.Stop.{Stop}
+use Rattle.stream_lex.specs.declared.stop.Stop.TheVariants as stops
 use Rattle.fast_import.specs.declared.command.Placed.{Placed}
 use Rattle.fast_import.specs.declared.progress.Progress.{Progress}
 use Rattle.fast_import.specs.declared.progress.Event.TheVariants.{Gives, Skips, Ends}
 use Rattle.fast_import.specs.declared.reader.Next.{Next}
 use Rattle.fast_import.specs.declared.reader.Next.TheVariants as nexts
-use Rattle.fast_import.specs.Reading.{Read, ◌>>=◌}
+use Rattle.git_objects.specs.Results.{◌>>=◌}
+use Rattle.fast_import.specs.Reading.{Read}
 use Rattle.fast_import.specs.Commands.{Turn, turn, turn_on, read_command}
 use Rattle.fast_import.specs.Readers.{Reading, next_command, fed, MayFollow, IsBefore, TellsNext}
 use Rattle.fast_import.specs.Laws.{FaultLaw}
-use Rattle.fast_import.specs.Cutting.{Agrees, Steps}
+use Rattle.stream_lex.specs.Cutting.{Agrees, Steps}
 use Rattle.fast_import.proofs.Turning.{turn-reader}
 use Rattle.fast_import.proofs.Lowering.{TurnLowers, turn_lowers}
 use Rattle.fast_import.proofs.Commanding.{command-is, command-reader}
@@ -82,7 +83,7 @@ module _ (a b : Reading) (h : IsBefore a b) where
       next_command a ≡ Ok (record { command = None; progress = q }, j)
   told_end q j e = told (Ok (record { event = Ends; progress = q }, j)) e
 
-  pub told_halt : (s : Halt) → turn b.progress b.ended b.input ≡ Err s → next_command a ≡ Err s
+  pub told_halt : (s : Stop StreamFault) → turn b.progress b.ended b.input ≡ Err s → next_command a ≡ Err s
   told_halt s e = told (Err s) e
 
 pub before_same : (a b c : Reading) → IsBefore a b → c ≡ b → IsBefore a c
@@ -101,11 +102,11 @@ turned p e i t j h = subst (Steps i) h ((turn-reader p).steps e i)
 
 -- ---- a fault stays
 
-fault_again : (f : StreamFault) (a b : Reading) (more : Bytes) (ended : Bool) → next_command a ≡ Err (halts.Fault f) → IsBefore a b → MayFollow a more ended →
-    next_command (fed more ended b) ≡ Err (halts.Fault f)
+fault_again : (f : StreamFault) (a b : Reading) (more : Bytes) (ended : Bool) → next_command a ≡ Err (stops.Fault f) → IsBefore a b → MayFollow a more ended →
+    next_command (fed more ended b) ≡ Err (stops.Fault f)
 fault_again f a b more ended e h m = sym (h.same ended more m) ∙ grown_fault a.ended refl
   where
-    grown_fault : (c : Bool) → a.ended ≡ c → read_command a.progress ended (grown more a.input) ≡ Err (halts.Fault f)
+    grown_fault : (c : Bool) → a.ended ≡ c → read_command a.progress ended (grown more a.input) ≡ Err (stops.Fault f)
     grown_fault false g =
         subst (λ r. Agrees more r (read_command a.progress ended (grown more a.input))) (ap (λ c. read_command a.progress c a.input) (sym g) ∙ e)
         ((command-reader a.progress).settles ended more a.input)
@@ -113,7 +114,7 @@ fault_again f a b more ended e h m = sym (h.same ended more m) ∙ grown_fault a
         let k = m g in
         (λ t. read_command a.progress (k.1 t) (grown (k.0 t) a.input)) ∙ ap (read_command a.progress true) (grown_none a.input) ∙ ap (λ c. read_command a.progress c a.input) (sym g) ∙ e
 
-answer_again : (f : StreamFault) (b c : Reading) → next_command b ≡ Err (halts.Fault f) → (answer : Result Next StreamFault) → TellsNext answer b c → (answer ≡ Err f) ⊎ (answer ≡ Err OutOfMemory)
+answer_again : (f : StreamFault) (b c : Reading) → next_command b ≡ Err (stops.Fault f) → (answer : Result Next StreamFault) → TellsNext answer b c → (answer ≡ Err f) ⊎ (answer ≡ Err OutOfMemory)
 answer_again f b c e (Ok (nexts.Command p)) h = let k : ⊥ = cc in absurd k
 answer_again f b c e (Ok nexts.More) h = let k : ⊥ = cc in absurd k
 answer_again f b c e (Ok nexts.Ended) h = let k : ⊥ = cc in absurd k

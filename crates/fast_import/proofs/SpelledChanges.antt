@@ -2,6 +2,7 @@
 use Rattle.std.proofs.Common.{◌≡◌, ◌≢◌, ℕ, Bool, true, false, cond, [], ◌∷◌, ◌++◌, Some, None, Ok, refl, sym, ap, ◌∙◌, subst}
 use Rattle.std.specs.Prelude.{codes}
 use Rattle.std.specs.Cmp.Lexicographic.{bytes_decides}
+use Rattle.git_objects.specs.declared.limits.TheConstants.{BLOB_BYTES}
 use Rattle.git_objects.specs.Paths.{Bytes, same_bytes, is_nil}
 use Rattle.git_objects.specs.CommitBodies.{strip}
 use Rattle.git_objects.proofs.CommitReading.{strip-spelled}
@@ -14,8 +15,9 @@ use Rattle.fast_import.specs.declared.modify.DataRef.{DataRef}
 use Rattle.fast_import.specs.declared.modify.DataRef.TheVariants as datas
 use Rattle.fast_import.specs.declared.modify.ModifyLine.{ModifyLine}
 use Rattle.fast_import.specs.Words.{first_word}
-use Rattle.fast_import.specs.Reading.{Judged, ◌then◌, pure, judged}
-use Rattle.fast_import.specs.Blocks.{blob_data, blob_max}
+use Rattle.stream_lex.specs.Cutting.{◌then◌, pure, judged}
+use Rattle.fast_import.specs.Reading.{Judged}
+use Rattle.fast_import.specs.Blocks.{blob_data}
 use Rattle.fast_import.specs.PathWords.{last_path, two_paths}
 use Rattle.fast_import.specs.Changes.{modify_line, blob_ref, modify, change, change_line, with_word, by_word, is_notes, ChangeLine, ModifyIs, DeleteIs, RenameIs, CopyIs, DeleteAllIs, NotesAre, EmptyIs, NoChange}
 use Rattle.fast_import.specs.Spelling.{HasData, HasBlobRef, HasChange, IsOther}
@@ -125,12 +127,12 @@ other_again l h =
 -- ---- data behind a line
 
 abbrev InlineIs : Input → BlobRef → Input → Type 0
-InlineIs i b j = (c : Bytes) × HasData blob_max i c j × (b ≡ blobs.Inline c)
+InlineIs i b j = (c : Bytes) × HasData BLOB_BYTES i c j × (b ≡ blobs.Inline c)
 
-inline_was : (i : Input) (b : BlobRef) (j : Input) → Then (HasData blob_max) (λ c. Same (blobs.Inline c)) i b j → InlineIs i b j
-inline_was i b j h = (h.0, subst (λ k. HasData blob_max i h.0 k) h.3.1 h.2, sym h.3.0)
+inline_was : (i : Input) (b : BlobRef) (j : Input) → Then (HasData BLOB_BYTES) (λ c. Same (blobs.Inline c)) i b j → InlineIs i b j
+inline_was i b j h = (h.0, subst (λ k. HasData BLOB_BYTES i h.0 k) h.3.1 h.2, sym h.3.0)
 
-inline_again : (i : Input) (b : BlobRef) (j : Input) → InlineIs i b j → Then (HasData blob_max) (λ c. Same (blobs.Inline c)) i b j
+inline_again : (i : Input) (b : BlobRef) (j : Input) → InlineIs i b j → Then (HasData BLOB_BYTES) (λ c. Same (blobs.Inline c)) i b j
 inline_again i b j h = (h.0, j, h.1, (sym h.2, refl))
 
 turned : {A : Type 0} (x : A) → Reads (pure x) (λ i y j. (y ≡ x) × (i ≡ j))
@@ -140,8 +142,8 @@ pub blob_ref-reads : (d : DataRef) → Reads (blob_ref d) (HasBlobRef d)
 blob_ref-reads (datas.Mark n) = turned (blobs.Mark n)
 blob_ref-reads (datas.Digits n) = turned (blobs.Digits n)
 blob_ref-reads datas.Inline =
-    convert (blob_ref datas.Inline) (Then (HasData blob_max) (λ c. Same (blobs.Inline c))) InlineIs
-    (then_reads blob_data (λ b. pure (blobs.Inline b)) (HasData blob_max) (λ c. Same (blobs.Inline c)) blob_data-reads (λ b. pure_reads (blobs.Inline b)))
+    convert (blob_ref datas.Inline) (Then (HasData BLOB_BYTES) (λ c. Same (blobs.Inline c))) InlineIs
+    (then_reads blob_data (λ b. pure (blobs.Inline b)) (HasData BLOB_BYTES) (λ c. Same (blobs.Inline c)) blob_data-reads (λ b. pure_reads (blobs.Inline b)))
     inline_was inline_again
 
 -- ---- changes

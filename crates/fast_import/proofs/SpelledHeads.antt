@@ -2,6 +2,7 @@
 use Rattle.std.proofs.Common.{◌≡◌, ◌≤◌, ℕ, zero, suc, Bool, true, false, cond, List, [], ◌∷◌, ◌++◌, length, Option, Some, None, Ok, refl, sym, ap, ◌∙◌, arith, nat_eq, leb, leb-true, le-leb, subst, eqb, eqb-true, append-nil, append_assoc}
 use Rattle.std.specs.Prelude.{codes, ◌&&◌}
 use Rattle.std.specs.List.{starts_with}
+use Rattle.git_objects.specs.declared.limits.TheConstants.{BLOB_BYTES, MESSAGE_BYTES}
 use Rattle.git_objects.specs.declared.quantity.Quantity.{Quantity}
 use Rattle.git_objects.specs.declared.quantity.Quantity.TheVariants as limits
 use Rattle.git_objects.specs.Paths.{Bytes}
@@ -20,9 +21,11 @@ use Rattle.fast_import.specs.declared.command.Command.TheVariants as commands
 use Rattle.fast_import.specs.declared.command.CommitHead.{CommitHead}
 use Rattle.fast_import.specs.declared.commit_ref.CommitRef.{CommitRef}
 use Rattle.path_names.specs.Words.{number, number_from}
-use Rattle.fast_import.specs.Reading.{Reader, ◌>>=◌, ◌then◌, pure, judged, refuse, or_fault, fault, option_line, need_line}
+use Rattle.git_objects.specs.Results.{◌>>=◌}
+use Rattle.stream_lex.specs.Cutting.{◌then◌, pure, judged, refuse}
+use Rattle.fast_import.specs.Reading.{Reader, or_fault, fault, option_line, need_line}
 use Rattle.fast_import.specs.Names.{refname, ident}
-use Rattle.fast_import.specs.Blocks.{count, whole_block, sized_block, data_behind, blob_data, blob_max, message_behind, message_data, message_max}
+use Rattle.fast_import.specs.Blocks.{count, whole_block, sized_block, data_behind, blob_data, message_behind, message_data}
 use Rattle.fast_import.specs.Heads.{said, mark_in, mark_lines, blob, author_in, author_or, committer_of, people, ref_in, ref_line, more_merges, merges, merges_max, parents, head_of, head, reset}
 use Rattle.fast_import.specs.Spelling.{NoWord, OptionLine, Said, HasData, HasMarks, HasBlob, HasPeople, HasMerges, HasParents, HasHead}
 use Rattle.fast_import.proofs.SpelledLines.{Reads, bind_ok, ok_is, or_ok, Then, then_reads, Same, pure_reads, Told, judged_reads, convert, option_line-reads, need_line-reads, said-reads, whole_block-reads}
@@ -120,22 +123,22 @@ data_has most i b j h = record {
 data_then : (most : ℕ) (i : Input) (b : Bytes) (j : Input) → HasData most i b j → Then NextLine (DataLine most) i b j
 data_then most i b j h = (h.line.line, h.behind, h.line.next, (h.digits.bytes, h.line.bytes, h.count, h.within, h.block))
 
-pub blob_data-reads : Reads blob_data (HasData blob_max)
+pub blob_data-reads : Reads blob_data (HasData BLOB_BYTES)
 unfolding blob_data
 blob_data-reads =
-    convert blob_data (Then NextLine (DataLine blob_max)) (HasData blob_max)
-    (then_reads need_line (data_behind limits.Blob blob_max) NextLine (DataLine blob_max) need_line-reads (data_behind-reads limits.Blob blob_max))
-    (data_has blob_max) (data_then blob_max)
+    convert blob_data (Then NextLine (DataLine BLOB_BYTES)) (HasData BLOB_BYTES)
+    (then_reads need_line (data_behind limits.Blob BLOB_BYTES) NextLine (DataLine BLOB_BYTES) need_line-reads (data_behind-reads limits.Blob BLOB_BYTES))
+    (data_has BLOB_BYTES) (data_then BLOB_BYTES)
 
-message_was : (l : Line) (i : Input) (b : Bytes) (j : Input) → message_behind l true i ≡ Ok (b, j) → DataLine message_max l i b j
+message_was : (l : Line) (i : Input) (b : Bytes) (j : Input) → message_behind l true i ≡ Ok (b, j) → DataLine MESSAGE_BYTES l i b j
 message_was l i b j e =
     elim (starts_with nat_eq l.bytes (codes "encoding ")) as (λ t. cond t (refuse (Unsupported l.place Encoding))
-    (cond (starts_with nat_eq l.bytes (codes "gpgsig ")) (refuse (Unsupported l.place Signature)) (data_behind limits.Message message_max l)) true i ≡ Ok (b, j) → DataLine message_max l i b j) [
+    (cond (starts_with nat_eq l.bytes (codes "gpgsig ")) (refuse (Unsupported l.place Signature)) (data_behind limits.Message MESSAGE_BYTES l)) true i ≡ Ok (b, j) → DataLine MESSAGE_BYTES l i b j) [
       | true ↦ λ q. absurd cc
       | false ↦ λ q.
-          elim (starts_with nat_eq l.bytes (codes "gpgsig ")) as (λ t. cond t (refuse (Unsupported l.place Signature)) (data_behind limits.Message message_max l) true i ≡ Ok (b, j) → DataLine message_max l i b j) [
+          elim (starts_with nat_eq l.bytes (codes "gpgsig ")) as (λ t. cond t (refuse (Unsupported l.place Signature)) (data_behind limits.Message MESSAGE_BYTES l) true i ≡ Ok (b, j) → DataLine MESSAGE_BYTES l i b j) [
             | true ↦ λ p. absurd cc
-            | false ↦ λ p. data_behind_was limits.Message message_max l i b j p
+            | false ↦ λ p. data_behind_was limits.Message MESSAGE_BYTES l i b j p
           ] q
     ] e
 
@@ -145,19 +148,19 @@ no_encoding t = refl
 no_signature : (t : Bytes) → starts_with nat_eq (codes "data " ++ t) (codes "gpgsig ") ≡ false
 no_signature t = refl
 
-message_again : (l : Line) (i : Input) (b : Bytes) (j : Input) → DataLine message_max l i b j → message_behind l true i ≡ Ok (b, j)
+message_again : (l : Line) (i : Input) (b : Bytes) (j : Input) → DataLine MESSAGE_BYTES l i b j → message_behind l true i ≡ Ok (b, j)
 message_again l i b j h =
-    ap (λ t. cond t (refuse (Unsupported l.place Encoding)) (cond (starts_with nat_eq l.bytes (codes "gpgsig ")) (refuse (Unsupported l.place Signature)) (data_behind limits.Message message_max l)) true i)
+    ap (λ t. cond t (refuse (Unsupported l.place Encoding)) (cond (starts_with nat_eq l.bytes (codes "gpgsig ")) (refuse (Unsupported l.place Signature)) (data_behind limits.Message MESSAGE_BYTES l)) true i)
     (ap (λ x. starts_with nat_eq x (codes "encoding ")) h.1 ∙ no_encoding h.0)
-    ∙ ap (λ t. cond t (refuse (Unsupported l.place Signature)) (data_behind limits.Message message_max l) true i) (ap (λ x. starts_with nat_eq x (codes "gpgsig ")) h.1 ∙ no_signature h.0)
-    ∙ data_behind_again limits.Message message_max l i b j h
+    ∙ ap (λ t. cond t (refuse (Unsupported l.place Signature)) (data_behind limits.Message MESSAGE_BYTES l) true i) (ap (λ x. starts_with nat_eq x (codes "gpgsig ")) h.1 ∙ no_signature h.0)
+    ∙ data_behind_again limits.Message MESSAGE_BYTES l i b j h
 
-message_data-reads : Reads message_data (HasData message_max)
+message_data-reads : Reads message_data (HasData MESSAGE_BYTES)
 unfolding message_data
 message_data-reads =
-    convert message_data (Then NextLine (DataLine message_max)) (HasData message_max)
-    (then_reads need_line message_behind NextLine (DataLine message_max) need_line-reads (λ l. record { was = message_was l; again = message_again l }))
-    (data_has message_max) (data_then message_max)
+    convert message_data (Then NextLine (DataLine MESSAGE_BYTES)) (HasData MESSAGE_BYTES)
+    (then_reads need_line message_behind NextLine (DataLine MESSAGE_BYTES) need_line-reads (λ l. record { was = message_was l; again = message_again l }))
+    (data_has MESSAGE_BYTES) (data_then MESSAGE_BYTES)
 
 -- ---- marks and blobs
 
@@ -188,10 +191,10 @@ abbrev pub BlobIs : Input → Command → Input → Type 0
 BlobIs i c j = (m : Option ℕ) × (b : Bytes) × HasBlob i m b j × (commands.Blob m b ≡ c)
 
 abbrev ThenBlob : Input → Command → Input → Type 0
-ThenBlob = Then HasMarks (λ m. Then (HasData blob_max) (λ d. Same (commands.Blob m d)))
+ThenBlob = Then HasMarks (λ m. Then (HasData BLOB_BYTES) (λ d. Same (commands.Blob m d)))
 
 blob_was : (i : Input) (c : Command) (j : Input) → ThenBlob i c j → BlobIs i c j
-blob_was i c j h = (h.0, h.3.0, record { middle = h.1; marks = h.2; content = subst (λ z. HasData blob_max h.1 h.3.0 z) h.3.3.1 h.3.2 }, h.3.3.0)
+blob_was i c j h = (h.0, h.3.0, record { middle = h.1; marks = h.2; content = subst (λ z. HasData BLOB_BYTES h.1 h.3.0 z) h.3.3.1 h.3.2 }, h.3.3.0)
 
 blob_again : (i : Input) (c : Command) (j : Input) → BlobIs i c j → ThenBlob i c j
 blob_again i c j h = (h.0, h.2.middle, h.2.marks, (h.1, j, h.2.content, (h.3, refl)))
@@ -200,8 +203,8 @@ pub blob-reads : Reads blob BlobIs
 unfolding blob
 blob-reads =
     convert blob ThenBlob BlobIs
-    (then_reads mark_lines (λ m. blob_data then λ d. pure (commands.Blob m d)) HasMarks (λ m. Then (HasData blob_max) (λ d. Same (commands.Blob m d))) mark_lines-reads
-    (λ m. then_reads blob_data (λ d. pure (commands.Blob m d)) (HasData blob_max) (λ d. Same (commands.Blob m d)) blob_data-reads (λ d. pure_reads (commands.Blob m d))))
+    (then_reads mark_lines (λ m. blob_data then λ d. pure (commands.Blob m d)) HasMarks (λ m. Then (HasData BLOB_BYTES) (λ d. Same (commands.Blob m d))) mark_lines-reads
+    (λ m. then_reads blob_data (λ d. pure (commands.Blob m d)) (HasData BLOB_BYTES) (λ d. Same (commands.Blob m d)) blob_data-reads (λ d. pure_reads (commands.Blob m d))))
     blob_was blob_again
 
 -- ---- people
@@ -270,7 +273,7 @@ ref_line-reads word = said-reads word ref_in
 abbrev Merged : ℕ → List CommitRef → Input → List CommitRef → Input → Type 0
 Merged n done i out j = (rs : List CommitRef) × HasMerges rs i j × (length rs ≤ n) × (done ++ rs ≡ out)
 
-no_more : (n : ℕ) (done : List CommitRef) (i : Input) (k : Input) → Said (codes "merge ") ref_in i None k → (out : List CommitRef) (j : Input) → pure done true k ≡ Ok (out, j) → Merged n done i out j
+no_more : (n : ℕ) (done : List CommitRef) (i : Input) (k : Input) → Said (codes "merge ") ref_in i None k → (out : List CommitRef) (j : Input) → pure {E = StreamFault} done true k ≡ Ok (out, j) → Merged n done i out j
 no_more n done i k h out j e = let p = (pure_reads done).was k out j e in ([], (h.0, h.1 ∙ p.1), omega arith, append-nil done ∙ p.0)
 
 first_was : (done : List CommitRef) (i : Input) (o : Option CommitRef) (k : Input) → Said (codes "merge ") ref_in i o k → (out : List CommitRef) (j : Input) →
@@ -350,7 +353,7 @@ HeadIs t i c j = (h : CommitHead) × (h.refname ≡ t) × HasHead i h j × (comm
 
 abbrev ThenHead : ℕ → Bytes → Input → Command → Input → Type 0
 ThenHead at t =
-    Then (Told (refname at t)) (λ r. Then HasMarks (λ m. Then HasPeople (λ p. Then (HasData message_max) (λ d. Then ParentsAre (λ q. Same (commands.Commit (head_of r m p d q)))))))
+    Then (Told (refname at t)) (λ r. Then HasMarks (λ m. Then HasPeople (λ p. Then (HasData MESSAGE_BYTES) (λ d. Then ParentsAre (λ q. Same (commands.Commit (head_of r m p d q)))))))
 
 head_was : (at : ℕ) (t : Bytes) (i : Input) (c : Command) (j : Input) → ThenHead at t i c j → HeadIs t i c j
 head_was at t i c j h =
@@ -389,7 +392,7 @@ head-reads at t =
     (then_reads (judged (refname at t)) _ (Told (refname at t)) _ (judged_reads (refname at t))
     (λ r. then_reads mark_lines _ HasMarks _ mark_lines-reads
     (λ m. then_reads people _ HasPeople _ people-reads
-    (λ p. then_reads message_data _ (HasData message_max) _ message_data-reads
+    (λ p. then_reads message_data _ (HasData MESSAGE_BYTES) _ message_data-reads
     (λ d. then_reads parents _ ParentsAre (λ q. Same (commands.Commit (head_of r m p d q))) parents-reads (λ q. pure_reads (commands.Commit (head_of r m p d q))))))))
     (head_was at t) (head_again at t)
 

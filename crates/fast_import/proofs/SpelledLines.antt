@@ -3,13 +3,16 @@ use Rattle.std.proofs.Common.{◌≡◌, ◌≢◌, inl, inr, ℕ, true, ◌++�
 use Rattle.git_objects.specs.Paths.{Bytes}
 use Rattle.git_objects.specs.CommitBodies.{strip}
 use Rattle.git_objects.proofs.CommitReading.{strip-spelled, strip-read}
-use Rattle.stream_lex.specs.declared.cursor.Stop.{Stop}
+use Rattle.stream_lex.specs.declared.stop.Stop.{Stop}
+use Rattle.stream_lex.specs.declared.stop.LimitFault.{LimitFault}
 use Rattle.stream_lex.specs.Lines.{Input, Line, line_at, block_at}
 use Rattle.stream_lex.specs.Spelling.{NextLine, TakesBlock}
 use Rattle.stream_lex.proofs.Spelled.{Spelled, line_at-spelled, line_at-again, line_at-none}
 use Rattle.stream_lex.proofs.BlockSpelled.{BlockTold, block_at-told, block_at-again}
 use Rattle.fast_import.specs.declared.fault.StreamFault.{StreamFault}
-use Rattle.fast_import.specs.Reading.{Judged, Reader, ◌>>=◌, ◌then◌, pure, judged, or_fault, lifted, line_text, line_behind, option_line, must, need_line}
+use Rattle.git_objects.specs.Results.{◌>>=◌}
+use Rattle.stream_lex.specs.Cutting.{◌then◌, pure, judged}
+use Rattle.fast_import.specs.Reading.{Judged, Reader, or_fault, lifted, line_text, line_behind, option_line, must, need_line}
 use Rattle.fast_import.specs.Blocks.{block_in, whole_block}
 use Rattle.fast_import.specs.Heads.{if_some, said}
 use Rattle.fast_import.specs.Spelling.{WordLine, NoWord, OptionLine, Said}
@@ -80,7 +83,7 @@ convert f R S h a b = record { was = λ i x j e. a i x j (h.was i x j e); again 
 
 -- ---- lines
 
-lifted_ok : {A : Type 0} (r : Result (A × Input) Stop) (x : A × Input) → lifted r ≡ Ok x → r ≡ Ok x
+lifted_ok : {A : Type 0} (r : Result (A × Input) (Stop LimitFault)) (x : A × Input) → lifted r ≡ Ok x → r ≡ Ok x
 lifted_ok (Ok y) x e = let k : y ≡ x = ok_is y x e in ap Ok k
 lifted_ok (Err s) x e = absurd cc
 

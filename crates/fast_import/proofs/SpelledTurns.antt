@@ -5,7 +5,8 @@ use Rattle.std.specs.Cmp.Lexicographic.{bytes_decides}
 use Rattle.git_objects.specs.Paths.{Bytes, same_bytes}
 use Rattle.git_objects.specs.CommitBodies.{strip}
 use Rattle.git_objects.proofs.CommitReading.{strip-spelled}
-use Rattle.stream_lex.specs.declared.cursor.Stop.{Stop}
+use Rattle.stream_lex.specs.declared.stop.Stop.{Stop}
+use Rattle.stream_lex.specs.declared.stop.LimitFault.{LimitFault}
 use Rattle.stream_lex.specs.Lines.{Input, Line, line_at}
 use Rattle.stream_lex.specs.Spelling.{NextLine, NoLine}
 use Rattle.stream_lex.proofs.Spelled.{Spelled, line_at-spelled, line_at-again, line_at-none}
@@ -19,7 +20,9 @@ use Rattle.fast_import.specs.declared.progress.Progress.{Progress}
 use Rattle.fast_import.specs.declared.progress.Event.{Event}
 use Rattle.fast_import.specs.declared.progress.Event.TheVariants.{Gives, Skips, Ends}
 use Rattle.fast_import.specs.Words.{first_word}
-use Rattle.fast_import.specs.Reading.{Read, ◌>>=◌, ◌then◌, lifted}
+use Rattle.git_objects.specs.Results.{◌>>=◌}
+use Rattle.stream_lex.specs.Cutting.{◌then◌}
+use Rattle.fast_import.specs.Reading.{Read, lifted}
 use Rattle.fast_import.specs.Heads.{blob, head, reset}
 use Rattle.fast_import.specs.Changes.{change, change_line, ChangeLine, ModifyIs, DeleteIs, RenameIs, CopyIs, DeleteAllIs, NotesAre, EmptyIs, NoChange}
 use Rattle.fast_import.specs.Commands.{CommandLine, EmptyLine, BlobLine, CommitLine, ResetLine, IdleLine, WantsDone, DoneLine, RefusedLine, OtherLine, feature_by, refused_line, with_word, by_word, by_text, command_line, Turn, turned, gives, between, at_the_end, between_at, changed, in_commit_at, turn_in, turn}
@@ -171,12 +174,12 @@ end_spelled : (d : Bool) (at : ℕ) (i j : Input) → NoLine i j → TurnSpelled
 end_spelled true at i j h = tt
 end_spelled false at i j h = inr (refl, refl, j, h)
 
-between_line : (d : Bool) (i : Input) (r : Result (Option Line × Input) Stop) → Spelled true i r → TurnSpelled (here Between d) i (lifted r >>= between_at d true)
+between_line : (d : Bool) (i : Input) (r : Result (Option Line × Input) (Stop LimitFault)) → Spelled true i r → TurnSpelled (here Between d) i (lifted r >>= between_at d true)
 between_line d i (Ok (Some l, k)) h = between_spelled d i k l h.0 (command_line l.bytes) (command_told l.bytes)
 between_line d i (Ok (None, k)) h = end_spelled d k.at i k h.0
 between_line d i (Err e) h = tt
 
-commit_spelled : (d : Bool) (i : Input) (r : Result (Option Line × Input) Stop) → Spelled true i r → TurnSpelled (here InCommit d) i (lifted r >>= in_commit_at d true i)
+commit_spelled : (d : Bool) (i : Input) (r : Result (Option Line × Input) (Stop LimitFault)) → Spelled true i r → TurnSpelled (here InCommit d) i (lifted r >>= in_commit_at d true i)
 commit_spelled d i (Ok (Some l, k)) h = changed_spelled d i k l h.0 (change_line l.bytes) (change_told l.bytes)
 commit_spelled d i (Ok (None, k)) h = (inl (h.0, refl), refl)
 commit_spelled d i (Err e) h = tt

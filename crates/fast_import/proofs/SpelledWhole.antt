@@ -3,17 +3,18 @@ use Rattle.std.proofs.Common.{◌≡◌, inl, inr, ℕ, zero, suc, Bool, true, f
 use Rattle.stream_lex.specs.Lines.{Input, line_at}
 use Rattle.stream_lex.proofs.Spelled.{line_at-none}
 use Rattle.fast_import.specs.declared.fault.StreamFault.{StreamFault}
-use Rattle.fast_import.specs.declared.halt.Halt.TheVariants as halts
+use Rattle.stream_lex.specs.declared.stop.Stop.TheVariants as stops
 use Rattle.fast_import.specs.declared.command.Placed.{Placed}
 use Rattle.fast_import.specs.declared.progress.Phase.TheVariants.{Between, Finished}
 use Rattle.fast_import.specs.declared.progress.Progress.{Progress}
 use Rattle.fast_import.specs.declared.progress.Event.{Event}
 use Rattle.fast_import.specs.declared.progress.Event.TheVariants.{Gives, Skips, Ends}
-use Rattle.fast_import.specs.Reading.{Read, Reader, ◌>>=◌, lifted}
+use Rattle.git_objects.specs.Results.{◌>>=◌}
+use Rattle.fast_import.specs.Reading.{Read, Reader, lifted}
 use Rattle.fast_import.specs.Commands.{Turn, turned, Told, between_at, turn_in, turn, by_event, turn_on, command_within, read_command}
 use Rattle.fast_import.specs.Spelling.{Spells, behind, PassesLines, Reaches, EndsHere, SpellsAll}
 use Rattle.fast_import.specs.Verdicts.{Verdict, stopped, with_command, told_then, go_on, start, from_start, verdict_from}
-use Rattle.fast_import.specs.Cutting.{IsTold}
+use Rattle.stream_lex.specs.Cutting.{IsTold}
 use Rattle.fast_import.specs.Laws.{SpellingLaw}
 use Rattle.fast_import.proofs.Commanding.{command-is, command-reader}
 use Rattle.fast_import.proofs.Iterating.{verdict-is}
@@ -142,9 +143,8 @@ none_ends p i (Some c) q j h e = absurd (no_tail c (verdict_from q j).commands (
 
 none_was : (p : Progress) (i : Input) (r : Read Told) → CommandSpelled p i r → IsTold r → go_on verdict_from r ≡ Whole [] → SpellsAll [] p i
 none_was p i (Ok x) h t e = none_ends p i x.0.command x.0.progress x.1 h e
-none_was p i (Err halts.More) h t e = absurd t
-none_was p i (Err halts.Memory) h t e = absurd t
-none_was p i (Err (halts.Fault f)) h t e = absurd (no_fault f (Some f) refl (commands_are (stopped (Some f)) (Whole []) e).1)
+none_was p i (Err stops.More) h t e = absurd t
+none_was p i (Err (stops.Fault f)) h t e = absurd (no_fault f (Some f) refl (commands_are (stopped (Some f)) (Whole []) e).1)
 
 module _ (c : Placed) (cs : List Placed) (later : (q : Progress) (j : Input) → verdict_from q j ≡ Whole cs → SpellsAll cs q j) where
   some_first : (p : Progress) (i : Input) (d : Option Placed) (q : Progress) (j : Input) → TellsSpelled p i d q j → told_then verdict_from d q j ≡ Whole (c ∷ cs) → SpellsAll (c ∷ cs) p i
@@ -157,9 +157,8 @@ module _ (c : Placed) (cs : List Placed) (later : (q : Progress) (j : Input) →
 
   some_was : (p : Progress) (i : Input) (r : Read Told) → CommandSpelled p i r → IsTold r → go_on verdict_from r ≡ Whole (c ∷ cs) → SpellsAll (c ∷ cs) p i
   some_was p i (Ok x) h t e = some_first p i x.0.command x.0.progress x.1 h e
-  some_was p i (Err halts.More) h t e = absurd t
-  some_was p i (Err halts.Memory) h t e = absurd t
-  some_was p i (Err (halts.Fault f)) h t e = absurd (no_fault f (Some f) refl (commands_are (stopped (Some f)) (Whole (c ∷ cs)) e).1)
+  some_was p i (Err stops.More) h t e = absurd t
+  some_was p i (Err (stops.Fault f)) h t e = absurd (no_fault f (Some f) refl (commands_are (stopped (Some f)) (Whole (c ∷ cs)) e).1)
 
 whole_was : (cs : List Placed) (p : Progress) (i : Input) → verdict_from p i ≡ Whole cs → SpellsAll cs p i
 whole_was [] p i e = none_was p i (read_command p true i) (command_spelled p i) ((command-reader p).told i) (sym (verdict-is p i) ∙ e)
@@ -167,13 +166,13 @@ whole_was (c ∷ cs) p i e = some_was c cs (whole_was cs) p i (read_command p tr
 
 -- ---- faults
 
-fault_told : (p : Progress) (i : Input) (f : StreamFault) → turn p true i ≡ Err (halts.Fault f) → verdict_from p i ≡ stopped (Some f)
+fault_told : (p : Progress) (i : Input) (f : StreamFault) → turn p true i ≡ Err (stops.Fault f) → verdict_from p i ≡ stopped (Some f)
 fault_told p i f e = verdict-is p i ∙ ap (go_on verdict_from) (command-is p true i ∙ ap (λ r. r >>= λ x. turn_on read_command x.0 true x.1) e)
 
-none_spelled : (p : Progress) (i : Input) (f : StreamFault) → turn p true i ≡ Err (halts.Fault f) → (j : Input) (c : Placed) → ¬ Spells p.phase i c.at c.command j
+none_spelled : (p : Progress) (i : Input) (f : StreamFault) → turn p true i ≡ Err (stops.Fault f) → (j : Input) (c : Placed) → ¬ Spells p.phase i c.at c.command j
 none_spelled p i f e j c h = let g = turn_again p i j c h in absurd cc
 
-not_whole : (p : Progress) (i : Input) (f : StreamFault) → turn p true i ≡ Err (halts.Fault f) → (cs : List Placed) → ¬ SpellsAll cs p i
+not_whole : (p : Progress) (i : Input) (f : StreamFault) → turn p true i ≡ Err (stops.Fault f) → (cs : List Placed) → ¬ SpellsAll cs p i
 not_whole p i f e cs h = no_fault f (Some f) refl (commands_are (stopped (Some f)) (Whole cs) (sym (fault_told p i f e) ∙ whole_again cs p i h)).1
 
 pub spelling_law : SpellingLaw

@@ -3,16 +3,17 @@ use Rattle.std.proofs.Common.{ℕ, Bool, true, false, Option, Some, None, refl}
 use Rattle.git_objects.specs.Paths.{Bytes}
 use Rattle.stream_lex.specs.Lines.{Input, Line}
 use Rattle.stream_lex.specs.Cutting.{grown, Advances}
-use Rattle.stream_lex.proofs.Advance.{stays}
+use Rattle.stream_lex.proofs.Combining.{stays}
 use Rattle.fast_import.specs.declared.command.Command.TheVariants as commands
 use Rattle.fast_import.specs.declared.progress.Phase.{Phase}
 use Rattle.fast_import.specs.declared.progress.Phase.TheVariants.{Between, InCommit, Finished}
 use Rattle.fast_import.specs.declared.progress.Progress.{Progress}
-use Rattle.fast_import.specs.Reading.{◌then◌}
+use Rattle.stream_lex.specs.Cutting.{◌then◌}
 use Rattle.fast_import.specs.Changes.{change, change_line, ChangeLine, ModifyIs, DeleteIs, RenameIs, CopyIs, DeleteAllIs, NotesAre, EmptyIs, NoChange}
 use Rattle.fast_import.specs.Commands.{command_line, gives, between, at_the_end, between_at, changed, in_commit_at, turn_in, turn}
-use Rattle.fast_import.specs.Cutting.{Agrees, IsTold, Steps, IsReader}
-use Rattle.fast_import.proofs.Combining.{then-reader, pure-reader, IsOfLine, line-reader, steps_later}
+use Rattle.stream_lex.specs.Cutting.{Agrees, IsTold, Steps, IsReader}
+use Rattle.stream_lex.proofs.Combining.{then-reader, pure-reader, steps_later}
+use Rattle.fast_import.proofs.Combining.{IsOfLine, line-reader}
 use Rattle.fast_import.proofs.Composed.{change-reader, between-reader, at_the_end-reader}
 
 -- ---- between commands

@@ -2,6 +2,7 @@
 use Rattle.std.specs.Prelude.{ℕ, cond, nat_eq, nat_le, codes, Option, Some, None, Ok}
 use Rattle.std.specs.Option.{option_and_then}
 use Rattle.std.specs.List.{starts_with}
+use Rattle.git_objects.specs.declared.limits.TheConstants.{BLOB_BYTES, MESSAGE_BYTES}
 use Rattle.git_objects.specs.declared.quantity.Quantity.{Quantity}
 use Rattle.git_objects.specs.declared.quantity.Quantity.TheVariants as limits
 use Rattle.git_objects.specs.Paths.{Bytes}
@@ -10,14 +11,9 @@ use Rattle.stream_lex.specs.Lines.{Input, Line, block_at}
 use Rattle.fast_import.specs.declared.fault.Feature.TheVariants.{Delimiter, Encoding, Signature}
 use Rattle.fast_import.specs.declared.fault.StreamFault.TheVariants.{Syntax, Unsupported, Limit}
 use Rattle.path_names.specs.Words.{number}
-use Rattle.fast_import.specs.Reading.{Reader, Read, ◌>>=◌, ◌then◌, lifted, fault, or_fault, judged, refuse, need_line}
-
--- the bytes of a blob, and of a message
-abbrev pub blob_max : ℕ
-blob_max = 16777216
-
-abbrev pub message_max : ℕ
-message_max = 1048576
+use Rattle.git_objects.specs.Results.{◌>>=◌}
+use Rattle.stream_lex.specs.Cutting.{◌then◌, judged, refuse}
+use Rattle.fast_import.specs.Reading.{Reader, Read, lifted, fault, or_fault, need_line}
 
 -- how many bytes a line `data N` says
 abbrev pub count : Bytes → Option ℕ
@@ -41,16 +37,16 @@ data_behind which most l =
     cond (starts_with nat_eq l.bytes (codes "data <<")) (refuse (Unsupported l.place Delimiter))
     (judged (or_fault (Syntax l.place) (count l.bytes)) then sized_block which most l.place)
 
--- A blob's data, of at most 2^24 bytes.
+-- A blob's data, within its limit.
 unfoldable pub blob_data : Reader Bytes
-blob_data = need_line then data_behind limits.Blob blob_max
+blob_data = need_line then data_behind limits.Blob BLOB_BYTES
 
 abbrev pub message_behind : Line → Reader Bytes
 message_behind l =
     cond (starts_with nat_eq l.bytes (codes "encoding ")) (refuse (Unsupported l.place Encoding))
     (cond (starts_with nat_eq l.bytes (codes "gpgsig ")) (refuse (Unsupported l.place Signature))
-    (data_behind limits.Message message_max l))
+    (data_behind limits.Message MESSAGE_BYTES l))
 
--- A commit's message, of at most 2^20 bytes.
+-- A commit's message, within its limit.
 unfoldable pub message_data : Reader Bytes
 message_data = need_line then message_behind

@@ -15,7 +15,9 @@ use Rattle.fast_import.specs.declared.modify.DataRef.{DataRef}
 use Rattle.fast_import.specs.declared.modify.DataRef.TheVariants as datas
 use Rattle.fast_import.specs.declared.modify.ModifyLine.{ModifyLine}
 use Rattle.fast_import.specs.Words.{first_word, mark}
-use Rattle.fast_import.specs.Reading.{Judged, Reader, ◌>>=◌, ◌then◌, fault, or_fault, judged, pure, refuse}
+use Rattle.git_objects.specs.Results.{◌>>=◌}
+use Rattle.stream_lex.specs.Cutting.{◌then◌, judged, pure, refuse}
+use Rattle.fast_import.specs.Reading.{Judged, Reader, fault, or_fault}
 use Rattle.fast_import.specs.Names.{some_name}
 use Rattle.fast_import.specs.Blocks.{blob_data}
 use Rattle.fast_import.specs.PathWords.{last_path, two_paths}

@@ -6,7 +6,7 @@ use Rattle.stream_lex.specs.Lines.{Input, Line, line_at}
 use Rattle.fast_import.specs.declared.fault.Feature.{Feature}
 use Rattle.fast_import.specs.declared.fault.Feature.TheVariants as features
 use Rattle.fast_import.specs.declared.fault.StreamFault.TheVariants.{Syntax, Unsupported}
-use Rattle.fast_import.specs.declared.halt.Halt.TheVariants as halts
+use Rattle.stream_lex.specs.declared.stop.Stop.TheVariants as stops
 use Rattle.fast_import.specs.declared.command.Command.{Command}
 use Rattle.fast_import.specs.declared.command.Command.TheVariants as commands
 use Rattle.fast_import.specs.declared.command.Placed.{Placed}
@@ -16,7 +16,9 @@ use Rattle.fast_import.specs.declared.progress.Progress.{Progress}
 use Rattle.fast_import.specs.declared.progress.Event.{Event}
 use Rattle.fast_import.specs.declared.progress.Event.TheVariants.{Gives, Skips, Ends}
 use Rattle.fast_import.specs.Words.{first_word}
-use Rattle.fast_import.specs.Reading.{Reader, Read, ◌>>=◌, ◌then◌, lifted, pure, refuse}
+use Rattle.git_objects.specs.Results.{◌>>=◌}
+use Rattle.stream_lex.specs.Cutting.{◌then◌, pure, refuse}
+use Rattle.fast_import.specs.Reading.{Reader, Read, lifted}
 use Rattle.fast_import.specs.Heads.{blob, head, reset}
 use Rattle.fast_import.specs.Changes.{ChangeLine, EmptyIs, NoChange, change_line, change}
 
@@ -143,7 +145,7 @@ turn_on next t = by_event next t.event t.progress
 
 -- behind fewer than n such lines
 abbrev pub command_within : ℕ → Progress → Reader Told
-command_within zero p ended i = Err halts.More
+command_within zero p ended i = Err stops.More
 command_within (suc n) p ended i = (turn p then turn_on (command_within n)) ended i
 
 -- The next command of what is left, none where the stream ends, its first fault, or that more must come.

@@ -1,5 +1,6 @@
 -- Blobs, the heads of commits, and resets.
-use Rattle.std.specs.Prelude.{ℕ, zero, suc, ◌++◌, ◌∷◌, [], List, codes, Option, Some, None, Ok}
+use Rattle.std.specs.Prelude.{ℕ, zero, suc, ◌-◌, ◌++◌, ◌∷◌, [], List, codes, Option, Some, None, Ok}
+use Rattle.git_objects.specs.declared.limits.TheConstants.{PARENTS}
 use Rattle.git_objects.specs.declared.quantity.Quantity.TheVariants as limits
 use Rattle.git_objects.specs.Paths.{Bytes}
 use Rattle.stream_lex.specs.Lines.{Line}
@@ -9,7 +10,9 @@ use Rattle.fast_import.specs.declared.command.Command.TheVariants as commands
 use Rattle.fast_import.specs.declared.command.CommitHead.{CommitHead}
 use Rattle.fast_import.specs.declared.commit_ref.CommitRef.{CommitRef}
 use Rattle.fast_import.specs.Words.{mark}
-use Rattle.fast_import.specs.Reading.{Judged, Reader, ◌>>=◌, ◌then◌, or_fault, judged, pure, refuse, option_line, need_line}
+use Rattle.git_objects.specs.Results.{◌>>=◌}
+use Rattle.stream_lex.specs.Cutting.{◌then◌, judged, pure, refuse}
+use Rattle.fast_import.specs.Reading.{Judged, Reader, or_fault, option_line, need_line}
 use Rattle.fast_import.specs.Names.{refname, ident, target}
 use Rattle.fast_import.specs.Blocks.{blob_data, message_data}
 use Rattle.git_objects.specs.CommitBodies.{strip}
@@ -74,10 +77,10 @@ abbrev pub merges : ℕ → List CommitRef → Reader (List CommitRef)
 merges zero done = ref_line (codes "merge ") then more_merges done (λ r. refuse (Limit r.at limits.Parents))
 merges (suc n) done = ref_line (codes "merge ") then more_merges done (λ r. merges n (done ++ r ∷ []))
 
--- a commit has at most 16 parents
+-- how many merges a commit may have beside its first parent
 abbrev pub merges_max : Option CommitRef → ℕ
-merges_max None = 16
-merges_max (Some r) = 15
+merges_max None = PARENTS
+merges_max (Some r) = PARENTS - 1
 
 -- The line `from NAME`, which may be missing, and any number of lines `merge NAME`.
 unfoldable pub parents : Reader (Option CommitRef × List CommitRef)

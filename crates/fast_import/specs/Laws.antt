@@ -5,14 +5,14 @@ use Rattle.git_objects.specs.Paths.{Bytes}
 use Rattle.stream_lex.specs.Lines.{Input}
 use Rattle.fast_import.specs.declared.fault.StreamFault.{StreamFault}
 use Rattle.fast_import.specs.declared.fault.StreamFault.TheVariants.{OutOfMemory}
-use Rattle.fast_import.specs.declared.halt.Halt.TheVariants as halts
+use Rattle.stream_lex.specs.declared.stop.Stop.TheVariants as stops
 use Rattle.fast_import.specs.declared.command.Placed.{Placed}
 use Rattle.fast_import.specs.declared.progress.Event.TheVariants.{Gives, Skips, Ends}
 use Rattle.fast_import.specs.declared.progress.Phase.TheVariants.{Between}
 use Rattle.fast_import.specs.declared.progress.Progress.{Progress}
 use Rattle.fast_import.specs.declared.reader.Next.{Next}
-use Rattle.fast_import.specs.Cutting.{IsReader}
-use Rattle.fast_import.specs.Reading.{◌then◌}
+use Rattle.stream_lex.specs.Cutting.{IsReader}
+use Rattle.stream_lex.specs.Cutting.{◌then◌}
 use Rattle.fast_import.specs.Heads.{blob, head, reset}
 use Rattle.fast_import.specs.Changes.{ChangeLine, change}
 use Rattle.fast_import.specs.Commands.{turn, turn_on, read_command}
@@ -36,7 +36,7 @@ pub record VerdictLaw : Type 0 where
 abbrev pub FaultLaw : Type 0
 FaultLaw =
     (f : StreamFault) (old new later : Reading) (more : Bytes) (ended : Bool) (answer : Result Next StreamFault) →
-    next_command old ≡ Err (halts.Fault f) → IsBefore old new → MayFollow old more ended →
+    next_command old ≡ Err (stops.Fault f) → IsBefore old new → MayFollow old more ended →
     TellsNext answer (fed more ended new) later → (answer ≡ Err f) ⊎ (answer ≡ Err OutOfMemory)
 
 -- Of a whole stream, one line or one command is told exactly where it is spelled, and a fault only where nothing is. The
@@ -57,6 +57,6 @@ pub record SpellingLaw : Type 0 where
   -- the end
   pub ended : (p q : Progress) (i j : Input) → turn p true i ≡ Ok (record { event = Ends; progress = q }, j) → EndsHere p i
   -- a fault
-  pub fault : (p : Progress) (i : Input) (f : StreamFault) → turn p true i ≡ Err (halts.Fault f) →
+  pub fault : (p : Progress) (i : Input) (f : StreamFault) → turn p true i ≡ Err (stops.Fault f) →
       ((j : Input) (c : Placed) → ¬ Spells p.phase i c.at c.command j) × ((cs : List Placed) → ¬ SpellsAll cs p i)
   pub next : (p : Progress) (ended : Bool) (i : Input) → read_command p ended i ≡ (turn p then turn_on read_command) ended i

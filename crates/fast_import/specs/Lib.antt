@@ -7,7 +7,6 @@ pub mod Changes
 pub mod Heads
 pub mod Commands
 pub mod Verdicts
-pub mod Cutting
 pub mod Views
 pub mod Readers
 pub mod Spelling

@@ -11,7 +11,8 @@ use Rattle.fast_import.specs.declared.fault.StreamFault.TheVariants.{Syntax, Uns
 use Rattle.fast_import.specs.declared.commit_ref.Target.{Target}
 use Rattle.fast_import.specs.declared.commit_ref.Target.TheVariants as targets
 use Rattle.fast_import.specs.Words.{mark}
-use Rattle.fast_import.specs.Reading.{Judged, ◌>>=◌, fault, or_fault}
+use Rattle.git_objects.specs.Results.{◌>>=◌}
+use Rattle.fast_import.specs.Reading.{Judged, fault, or_fault}
 
 -- at is the place of the line in which the text stands
 abbrev pub refname : ℕ → Bytes → Judged Bytes

@@ -12,7 +12,8 @@ use Rattle.fast_import.specs.declared.fault.Feature.TheVariants.{EmptyPath}
 use Rattle.fast_import.specs.declared.fault.StreamFault.{StreamFault}
 use Rattle.fast_import.specs.declared.fault.StreamFault.TheVariants.{Unsupported, BadPath, Limit, OutOfMemory}
 use Rattle.fast_import.specs.Words.{first_word}
-use Rattle.fast_import.specs.Reading.{Judged, ◌>>=◌, fault, or_fault}
+use Rattle.git_objects.specs.Results.{◌>>=◌}
+use Rattle.fast_import.specs.Reading.{Judged, fault, or_fault}
 
 abbrev pub path_fault : ℕ → PathFault → StreamFault
 path_fault at paths.Empty = Unsupported at EmptyPath

@@ -8,6 +8,7 @@ use Rattle.fast_import.specs.declared.fault.StreamFault.{StreamFault}
 use Rattle.fast_import.specs.declared.fault.StreamFault.TheVariants.{OutOfMemory}
 use Rattle.fast_import.specs.declared.halt.Halt.{Halt}
 use Rattle.fast_import.specs.declared.halt.Halt.TheVariants as halts
+use Rattle.stream_lex.specs.declared.stop.Stop.TheVariants as stops
 use Rattle.fast_import.specs.declared.progress.Progress.{Progress}
 use Rattle.fast_import.specs.declared.progress.Event.{Event}
 use Rattle.fast_import.specs.declared.reader.Next.{Next}
@@ -43,15 +44,15 @@ pub record IsBefore (old new : Reading) : Type 0 where
 abbrev pub TellsNext : Result Next StreamFault → Reading → Reading → Type 0
 TellsNext (Ok (nexts.Command p)) old new =
     (next_command old ≡ Ok (record { command = Some p; progress = new.progress }, new.input)) × (new.ended ≡ old.ended)
-TellsNext (Ok nexts.More) old new = (next_command old ≡ Err halts.More) × IsBefore old new
+TellsNext (Ok nexts.More) old new = (next_command old ≡ Err stops.More) × IsBefore old new
 TellsNext (Ok nexts.Ended) old new =
     (next_command old ≡ Ok (record { command = None; progress = new.progress }, new.input)) × (new.ended ≡ old.ended)
-TellsNext (Err f) old new = (f ≡ OutOfMemory) ⊎ ((next_command old ≡ Err (halts.Fault f)) × IsBefore old new)
+TellsNext (Err f) old new = (f ≡ OutOfMemory) ⊎ ((next_command old ≡ Err (stops.Fault f)) × IsBefore old new)
 
 -- what one line or one command tells, of what a lexer holds
 abbrev pub TellsTurn : Result Event Halt → Reading → Reading → Type 0
 TellsTurn (Ok e) old new =
     (turn old.progress old.ended old.input ≡ Ok (record { event = e; progress = new.progress }, new.input)) × (new.ended ≡ old.ended)
 TellsTurn (Err halts.Memory) old new = Unit {0}
-TellsTurn (Err halts.More) old new = (turn old.progress old.ended old.input ≡ Err halts.More) × (new ≡ old)
-TellsTurn (Err (halts.Fault f)) old new = (turn old.progress old.ended old.input ≡ Err (halts.Fault f)) × (new ≡ old)
+TellsTurn (Err halts.More) old new = (turn old.progress old.ended old.input ≡ Err stops.More) × (new ≡ old)
+TellsTurn (Err (halts.Fault f)) old new = (turn old.progress old.ended old.input ≡ Err (stops.Fault f)) × (new ≡ old)

@@ -3,65 +3,45 @@ use Rattle.std.specs.Prelude.{Bool, Option, Some, None, Result, Ok, Err}
 use Rattle.git_objects.specs.declared.quantity.Quantity.TheVariants as limits
 use Rattle.git_objects.specs.Paths.{Bytes}
 use Rattle.git_objects.specs.CommitBodies.{strip}
-use Rattle.stream_lex.specs.declared.cursor.Stop.{Stop}
-use Rattle.stream_lex.specs.declared.cursor.Stop.TheVariants as stops
-use Rattle.stream_lex.specs.Lines.{Input, Line, line_at, stream_max}
+use Rattle.git_objects.specs.Results.{◌>>=◌, or_refuse, refused_by}
+use Rattle.git_objects.specs.declared.limits.TheConstants.{STREAM_BYTES}
+use Rattle.stream_lex.specs.declared.stop.Stop.{Stop}
+use Rattle.stream_lex.specs.declared.stop.Stop.TheVariants as stops
+use Rattle.stream_lex.specs.declared.stop.LimitFault.{LimitFault}
+use Rattle.stream_lex.specs.declared.stop.LimitFault.TheVariants.{LongLine, StreamTooLong}
+use Rattle.stream_lex.specs.Lines as lines
+use Rattle.stream_lex.specs.Lines.{Input, Line, line_at}
+use Rattle.stream_lex.specs.Cutting as readers
 use Rattle.fast_import.specs.declared.fault.StreamFault.{StreamFault}
 use Rattle.fast_import.specs.declared.fault.StreamFault.TheVariants.{Syntax, Limit}
-use Rattle.fast_import.specs.declared.halt.Halt.{Halt}
-use Rattle.fast_import.specs.declared.halt.Halt.TheVariants as halts
 
 -- a value, or why there is none
 abbrev pub Judged : Type 0 → Type 0
-Judged A = Result A Halt
+Judged A = Result A (Stop StreamFault)
 
 -- a value with what is left
 abbrev pub Read : Type 0 → Type 0
-Read A = Judged (A × Input)
+Read A = lines.Read StreamFault A
 
 -- A reader: of whether all has come, and of what is left.
 abbrev pub Reader : Type 0 → Type 0
-Reader A = Bool → Input → Read A
-
-infixl 10 ◌>>=◌
-abbrev pub ◌>>=◌ : {A B : Type 0} → Judged A → (A → Judged B) → Judged B
-(Ok x) >>= f = f x
-(Err e) >>= f = Err e
+Reader A = readers.Reader StreamFault A
 
 abbrev pub fault : {A : Type 0} → StreamFault → Judged A
-fault f = Err (halts.Fault f)
+fault f = Err (stops.Fault f)
 
 abbrev pub or_fault : {A : Type 0} → StreamFault → Option A → Judged A
-or_fault f None = fault f
-or_fault f (Some x) = Ok x
-
--- ---- readers
-
--- one reader, and then another
-infixl 10 ◌then◌
-abbrev pub ◌then◌ : {A B : Type 0} → Reader A → (A → Reader B) → Reader B
-(f then g) ended i = f ended i >>= λ x. g x.0 ended x.1
-
-abbrev pub pure : {A : Type 0} → A → Reader A
-pure x ended i = Ok (x, i)
-
--- what was judged already
-abbrev pub judged : {A : Type 0} → Judged A → Reader A
-judged r ended i = r >>= λ x. Ok (x, i)
-
-abbrev pub refuse : {A : Type 0} → StreamFault → Reader A
-refuse f ended i = fault f
+or_fault f o = or_refuse (stops.Fault f) o
 
 -- ---- lines
 
-abbrev pub halt_of : Stop → Halt
-halt_of stops.More = halts.More
-halt_of (stops.LongLine at) = halts.Fault (Limit at limits.Line)
-halt_of stops.StreamTooLong = halts.Fault (Limit stream_max limits.Stream)
+abbrev pub stream_stop : Stop LimitFault → Stop StreamFault
+stream_stop stops.More = stops.More
+stream_stop (stops.Fault (LongLine at)) = stops.Fault (Limit at limits.Line)
+stream_stop (stops.Fault StreamTooLong) = stops.Fault (Limit STREAM_BYTES limits.Stream)
 
-abbrev pub lifted : {A : Type 0} → Result A Stop → Judged A
-lifted (Ok x) = Ok x
-lifted (Err s) = Err (halt_of s)
+abbrev pub lifted : {A : Type 0} → Result A (Stop LimitFault) → Judged A
+lifted r = refused_by stream_stop r
 
 -- the text behind a word at the front of a line, with the line's place
 abbrev pub line_text : Line → Input → Option Bytes → Input → Read (Option Line)

@@ -1,5 +1,6 @@
 -- What commands are, in the bytes of a whole stream: i is what stands from a place on, j what is left behind.
 use Rattle.std.specs.Prelude.{◌≡◌, ◌≢◌, ◌≤◌, ◌⊎◌, ℕ, zero, suc, Bool, true, false, List, [], ◌∷◌, ◌++◌, length, codes, Option, Some, None, Ok}
+use Rattle.git_objects.specs.declared.limits.TheConstants.{BLOB_BYTES, MESSAGE_BYTES}
 use Rattle.git_objects.specs.Paths.{Bytes}
 use Rattle.git_objects.specs.Idents.{is_ident}
 use Rattle.path_names.specs.RefNames.{is_ref_name}
@@ -21,7 +22,6 @@ use Rattle.fast_import.specs.declared.progress.Progress.{Progress}
 use Rattle.fast_import.specs.declared.command.Placed.{Placed}
 use Rattle.path_names.specs.Words.{number}
 use Rattle.fast_import.specs.Reading.{Judged}
-use Rattle.fast_import.specs.Blocks.{blob_max, message_max}
 use Rattle.fast_import.specs.PathWords.{last_path, two_paths}
 use Rattle.fast_import.specs.Changes.{modify_line, is_notes}
 use Rattle.fast_import.specs.Heads.{mark_in, author_in, author_or, ref_in, merges_max}
@@ -71,7 +71,7 @@ pub record HasMarks (i : Input) (m : Option ℕ) (j : Input) : Type 0 where
 pub record HasBlob (i : Input) (m : Option ℕ) (b : Bytes) (j : Input) : Type 0 where
   pub middle : Input
   pub marks : HasMarks i m middle
-  pub content : HasData blob_max middle b j
+  pub content : HasData BLOB_BYTES middle b j
 
 -- people.0 is the author, people.1 the committer
 pub record HasPeople (i : Input) (people : Bytes × Bytes) (j : Input) : Type 0 where
@@ -102,7 +102,7 @@ pub record HasHead (i : Input) (h : CommitHead) (j : Input) : Type 0 where
   pub b : Input
   pub people : HasPeople a (h.author, h.committer) b
   pub c : Input
-  pub message : HasData message_max b h.message c
+  pub message : HasData MESSAGE_BYTES b h.message c
   pub parents : HasParents c h.from h.merges j
 
 -- ---- changes
@@ -110,7 +110,7 @@ pub record HasHead (i : Input) (h : CommitHead) (j : Input) : Type 0 where
 abbrev pub HasBlobRef : DataRef → Input → BlobRef → Input → Type 0
 HasBlobRef (datas.Mark n) i b j = (b ≡ blobs.Mark n) × (i ≡ j)
 HasBlobRef (datas.Digits n) i b j = (b ≡ blobs.Digits n) × (i ≡ j)
-HasBlobRef datas.Inline i b j = (c : Bytes) × HasData blob_max i c j × (b ≡ blobs.Inline c)
+HasBlobRef datas.Inline i b j = (c : Bytes) × HasData BLOB_BYTES i c j × (b ≡ blobs.Inline c)
 
 -- a change whose first line has these bytes and stands at a place, behind this line
 abbrev pub HasChange : ℕ → Bytes → Input → Change → Input → Type 0

@@ -5,8 +5,8 @@ use Rattle.git_objects.specs.Paths.{Bytes}
 use Rattle.stream_lex.specs.Lines.{Input}
 use Rattle.stream_lex.specs.Cutting.{grown}
 use Rattle.fast_import.specs.declared.fault.StreamFault.{StreamFault}
-use Rattle.fast_import.specs.declared.halt.Halt.{Halt}
-use Rattle.fast_import.specs.declared.halt.Halt.TheVariants as halts
+use Rattle.stream_lex.specs.declared.stop.Stop.{Stop}
+use Rattle.stream_lex.specs.declared.stop.Stop.TheVariants as stops
 use Rattle.fast_import.specs.declared.command.Placed.{Placed}
 use Rattle.fast_import.specs.declared.progress.Phase.{Phase}
 use Rattle.fast_import.specs.declared.progress.Phase.TheVariants.{Between, InCommit, Finished}
@@ -25,10 +25,9 @@ stopped f = record { commands = []; fault = f }
 abbrev pub with_command : Placed → Verdict → Verdict
 with_command c v = record { commands = c ∷ v.commands; fault = v.fault }
 
-abbrev pub halted : Halt → Verdict
-halted (halts.Fault f) = stopped (Some f)
-halted halts.More = stopped None
-halted halts.Memory = stopped None
+abbrev pub halted : Stop StreamFault → Verdict
+halted (stops.Fault f) = stopped (Some f)
+halted stops.More = stopped None
 
 abbrev pub told_then : (Progress → Input → Verdict) → Option Placed → Progress → Input → Verdict
 told_then later (Some c) p i = with_command c (later p i)
@@ -70,7 +69,7 @@ verdict b = verdict_from start (from_start b)
 -- ---- the same in pieces
 
 abbrev pub or_next : Verdict → Verdict → Read Told → Verdict
-or_next told next (Err halts.More) = next
+or_next told next (Err stops.More) = next
 or_next told next _ = told
 
 -- What is told where pieces come one by one, each as soon as more is wanted, and then the end; in at most n turns.

@@ -1,5 +1,5 @@
 -- What functions over borrowed bytes tell.
-use Rattle.std.specs.Prelude.{◌≡◌, ℕ, List, Option, Ok, Err}
+use Rattle.std.specs.Prelude.{◌≡◌, ℕ, List, Option, Result, Ok, Err}
 use Rattle.std.specs.Borrow.{Bor}
 use Rattle.git_objects.specs.Paths.{Bytes}
 use Rattle.stream_lex.specs.declared.cursor.Cursor.{Cursor}
@@ -7,7 +7,15 @@ use Rattle.stream_lex.specs.declared.cursor.LineView.{LineView}
 use Rattle.stream_lex.specs.Lines.{Input, Line}
 use Rattle.stream_lex.specs.Views.{input, line, maybe_bytes}
 use Rattle.fast_import.specs.declared.commit_ref.CommitRef.{CommitRef}
+use Rattle.fast_import.specs.declared.halt.Halt.{Halt}
 use Rattle.fast_import.specs.declared.halt.Halt.TheVariants as halts
+use Rattle.stream_lex.specs.declared.stop.Stop.{Stop}
+use Rattle.stream_lex.specs.declared.stop.Stop.TheVariants as stops
+use Rattle.stream_lex.specs.declared.stop.LimitFault.{LimitFault}
+use Rattle.stream_lex.specs.declared.stop.LimitFault.TheVariants.{LongLine, StreamTooLong}
+use Rattle.git_objects.specs.declared.quantity.Quantity.TheVariants as limits
+use Rattle.git_objects.specs.declared.limits.TheConstants.{STREAM_BYTES}
+use Rattle.fast_import.specs.declared.fault.StreamFault.TheVariants.{Limit}
 use Rattle.fast_import.specs.declared.progress.Event.{Event}
 use Rattle.fast_import.specs.declared.progress.Progress.{Progress}
 use Rattle.fast_import.specs.declared.kinds.CommandKind.{CommandKind}
@@ -19,11 +27,17 @@ use Rattle.fast_import.specs.Changes.{ChangeLine, ModifyIs, DeleteIs, RenameIs, 
 use Rattle.fast_import.specs.Commands.{CommandLine, EmptyLine, BlobLine, CommitLine, ResetLine, IdleLine, WantsDone, DoneLine, RefusedLine, OtherLine, Turn}
 
 -- what a function returned, seen by view, is what reading gives, unless memory ran out
-abbrev pub Tells : {X Y : Type 0} → (X → Y) → Judged X → Judged Y → Type 0
+abbrev pub Tells : {X Y : Type 0} → (X → Y) → Result X Halt → Judged Y → Type 0
 Tells view (Ok x) read = read ≡ Ok (view x)
 Tells view (Err halts.Memory) read = Unit {0}
-Tells view (Err halts.More) read = read ≡ Err halts.More
-Tells view (Err (halts.Fault f)) read = read ≡ Err (halts.Fault f)
+Tells view (Err halts.More) read = read ≡ Err stops.More
+Tells view (Err (halts.Fault f)) read = read ≡ Err (stops.Fault f)
+
+-- what a line or a block that isn't read halts with
+abbrev pub halt_of : Stop LimitFault → Halt
+halt_of stops.More = halts.More
+halt_of (stops.Fault (LongLine at)) = halts.Fault (Limit at limits.Line)
+halt_of (stops.Fault StreamTooLong) = halts.Fault (Limit STREAM_BYTES limits.Stream)
 
 abbrev pub same : {A : Type 0} → A → A
 same x = x

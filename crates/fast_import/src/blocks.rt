@@ -1,6 +1,6 @@
 // Blocks of data.
 ghost use Rattle.std.specs.Prelude.{◌≡◌, ◌≤◌, ◌<◌, ◌^◌, IfOk};
-ghost use Rattle.stream_lex.specs.Lines.{stream_max};
+ghost use Rattle.git_objects.specs.declared.limits.TheConstants.{STREAM_BYTES};
 ghost use Rattle.stream_lex.specs.Views.{input, line};
 ghost use Rattle.fast_import.specs.Blocks.{count, whole_block, sized_block, data_behind, blob_data};
 ghost use Rattle.fast_import.specs.Blocks.{message_behind, message_data};
@@ -10,13 +10,9 @@ use crate::halt::Halt;
 use crate::lines::need_line;
 use crate::{Feature, StreamFault};
 use git_objects::Quantity;
+use git_objects::limits::{BLOB_BYTES, MESSAGE_BYTES};
 use path_names::{number, strip};
 use stream_lex::{Cursor, LineView, block};
-
-// The bytes of a blob, and of a message.
-const BLOB_MAX: u64 = 16777216;
-
-const MESSAGE_MAX: u64 = 1048576;
 
 // How many bytes a line `data N` says.
 fn count(line: &[u8]) -> Option<u64>
@@ -33,10 +29,10 @@ fn whole_block<'a>(
     ended: bool,
     i: Cursor<'a>,
 ) -> Result<(&'a [u8], Cursor<'a>), Halt>
-    requires within { i.at ≤ stream_max }
+    requires within { i.at ≤ STREAM_BYTES }
     requires size { size < 2 ^ 63 }
     ensures told { Tells bytes_read result (whole_block at size ended (input i.entry)) }
-    ensures within { IfOk result (λ x. x.1.at ≤ stream_max) }
+    ensures within { IfOk result (λ x. x.1.at ≤ STREAM_BYTES) }
 {
     match block(size as usize, ended, i)? {
         (None, _) => Err(Halt::Fault(StreamFault::Syntax { at })),
@@ -52,10 +48,10 @@ fn sized_block<'a>(
     ended: bool,
     i: Cursor<'a>,
 ) -> Result<(&'a [u8], Cursor<'a>), Halt>
-    requires within { i.at ≤ stream_max }
+    requires within { i.at ≤ STREAM_BYTES }
     requires most { most < 2 ^ 63 }
     ensures told { Tells bytes_read result (sized_block which most at size ended (input i.entry)) }
-    ensures within { IfOk result (λ x. x.1.at ≤ stream_max) }
+    ensures within { IfOk result (λ x. x.1.at ≤ STREAM_BYTES) }
 {
     if size > most {
         return Err(Halt::Fault(StreamFault::Limit { at, which }));
@@ -72,10 +68,10 @@ fn data_behind<'a>(
     ended: bool,
     i: Cursor<'a>,
 ) -> Result<(&'a [u8], Cursor<'a>), Halt>
-    requires within { i.at ≤ stream_max }
+    requires within { i.at ≤ STREAM_BYTES }
     requires most { most < 2 ^ 63 }
     ensures told { Tells bytes_read result (data_behind which most (line l.entry) ended (input i.entry)) }
-    ensures within { IfOk result (λ x. x.1.at ≤ stream_max) }
+    ensures within { IfOk result (λ x. x.1.at ≤ STREAM_BYTES) }
 {
     let at = l.at;
     if l.bytes.starts_with(b"data <<") {
@@ -93,12 +89,12 @@ fn data_behind<'a>(
 // A blob's data.
 #[tactic(auto, unfolding(crate::specs::Blocks::blob_data))]
 pub fn blob_data<'a>(ended: bool, i: Cursor<'a>) -> Result<(&'a [u8], Cursor<'a>), Halt>
-    requires { i.at ≤ stream_max }
+    requires { i.at ≤ STREAM_BYTES }
     ensures told { Tells bytes_read result (blob_data ended (input i.entry)) }
-    ensures within { IfOk result (λ x. x.1.at ≤ stream_max) }
+    ensures within { IfOk result (λ x. x.1.at ≤ STREAM_BYTES) }
 {
     let (l, after) = need_line(ended, i)?;
-    data_behind(Quantity::Blob, BLOB_MAX, l, ended, after)
+    data_behind(Quantity::Blob, BLOB_BYTES as u64, l, ended, after)
 }
 
 fn message_behind<'a>(
@@ -106,9 +102,9 @@ fn message_behind<'a>(
     ended: bool,
     i: Cursor<'a>,
 ) -> Result<(&'a [u8], Cursor<'a>), Halt>
-    requires { i.at ≤ stream_max }
+    requires { i.at ≤ STREAM_BYTES }
     ensures told { Tells bytes_read result (message_behind (line l.entry) ended (input i.entry)) }
-    ensures within { IfOk result (λ x. x.1.at ≤ stream_max) }
+    ensures within { IfOk result (λ x. x.1.at ≤ STREAM_BYTES) }
 {
     let at = l.at;
     if l.bytes.starts_with(b"encoding ") {
@@ -123,15 +119,15 @@ fn message_behind<'a>(
             what: Feature::Signature,
         }));
     }
-    data_behind(Quantity::Message, MESSAGE_MAX, l, ended, i)
+    data_behind(Quantity::Message, MESSAGE_BYTES as u64, l, ended, i)
 }
 
 // A commit's message.
 #[tactic(auto, unfolding(crate::specs::Blocks::message_data))]
 pub fn message_data<'a>(ended: bool, i: Cursor<'a>) -> Result<(&'a [u8], Cursor<'a>), Halt>
-    requires { i.at ≤ stream_max }
+    requires { i.at ≤ STREAM_BYTES }
     ensures told { Tells bytes_read result (message_data ended (input i.entry)) }
-    ensures within { IfOk result (λ x. x.1.at ≤ stream_max) }
+    ensures within { IfOk result (λ x. x.1.at ≤ STREAM_BYTES) }
 {
     let (l, after) = need_line(ended, i)?;
     message_behind(l, ended, after)

@@ -1,6 +1,6 @@
 // Changes of a commit's tree.
 ghost use Rattle.std.specs.Prelude.{◌≤◌, IfOk};
-ghost use Rattle.stream_lex.specs.Lines.{stream_max};
+ghost use Rattle.git_objects.specs.declared.limits.TheConstants.{STREAM_BYTES};
 ghost use Rattle.stream_lex.specs.Views.{input};
 ghost use Rattle.fast_import.specs.Changes.{blob_ref, modify, change};
 ghost use Rattle.fast_import.specs.Views.{Tells, with_rest, change_kind};
@@ -22,9 +22,9 @@ fn blob_ref<'a>(
     ended: bool,
     i: Cursor<'a>,
 ) -> Result<(BlobRef, Cursor<'a>), Halt>
-    requires { i.at ≤ stream_max }
+    requires { i.at ≤ STREAM_BYTES }
     ensures told { Tells with_rest result (blob_ref blob ended (input i.entry)) }
-    ensures within { IfOk result (λ x. x.1.at ≤ stream_max) }
+    ensures within { IfOk result (λ x. x.1.at ≤ STREAM_BYTES) }
 {
     match blob {
         DataRef::Mark(n) => Ok((BlobRef::Mark(n), i)),
@@ -45,9 +45,9 @@ fn modify<'a>(
     ended: bool,
     i: Cursor<'a>,
 ) -> Result<(Change, Cursor<'a>), Halt>
-    requires { i.at ≤ stream_max }
+    requires { i.at ≤ STREAM_BYTES }
     ensures told { Tells with_rest result (modify at text.now ended (input i.entry)) }
-    ensures within { IfOk result (λ x. x.1.at ≤ stream_max) }
+    ensures within { IfOk result (λ x. x.1.at ≤ STREAM_BYTES) }
 {
     let line = modify_line(alloc, at, text)?;
     let (blob, after) = blob_ref(alloc, line.blob, ended, i)?;
@@ -70,9 +70,9 @@ pub fn change<'a>(
     ended: bool,
     i: Cursor<'a>,
 ) -> Result<(Change, Cursor<'a>), Halt>
-    requires { i.at ≤ stream_max }
+    requires { i.at ≤ STREAM_BYTES }
     ensures told { Tells with_rest result (change at (change_kind kind.entry) ended (input i.entry)) }
-    ensures within { IfOk result (λ x. x.1.at ≤ stream_max) }
+    ensures within { IfOk result (λ x. x.1.at ≤ STREAM_BYTES) }
 {
     match kind {
         ChangeKind::Modify(text) => modify(alloc, at, text, ended, i),

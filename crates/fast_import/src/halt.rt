@@ -1,12 +1,13 @@
 // Why nothing was read.
 ghost use Rattle.std.specs.Prelude.{◌≡◌};
-ghost use Rattle.fast_import.specs.Reading.{halt_of};
+ghost use Rattle.fast_import.specs.Views.{halt_of};
 ghost use Rattle.fast_import.specs.declared.halt.Halt.TheVariants.{Memory};
 
 use crate::StreamFault;
 use git_objects::Quantity;
+use git_objects::limits::STREAM_BYTES;
 use std::alloc::AllocError;
-use stream_lex::Stop;
+use stream_lex::{LimitFault, Stop};
 
 /// Why nothing was read.
 #[derive(Clone, Copy, Debug)]
@@ -18,21 +19,18 @@ pub enum Halt {
     Fault(StreamFault),
 }
 
-// The most bytes of a stream.
-const STREAM_MAX: u64 = 268435456;
-
-impl From<Stop> for Halt {
+impl From<Stop<LimitFault>> for Halt {
     ghost from_gives = { λ s h. h ≡ halt_of s };
 
-    fn from(stop: Stop) -> Halt {
+    fn from(stop: Stop<LimitFault>) -> Halt {
         match stop {
             Stop::More => Halt::More,
-            Stop::LongLine { at } => Halt::Fault(StreamFault::Limit {
+            Stop::Fault(LimitFault::LongLine { at }) => Halt::Fault(StreamFault::Limit {
                 at,
                 which: Quantity::Line,
             }),
-            Stop::StreamTooLong => Halt::Fault(StreamFault::Limit {
-                at: STREAM_MAX,
+            Stop::Fault(LimitFault::StreamTooLong) => Halt::Fault(StreamFault::Limit {
+                at: STREAM_BYTES,
                 which: Quantity::Stream,
             }),
         }

@@ -1,6 +1,6 @@
 // Blobs, the heads of commits, and resets.
 ghost use Rattle.std.specs.Prelude.{◌≡◌, ◌≤◌, ◌<◌, ◌^◌, [], IfOk};
-ghost use Rattle.stream_lex.specs.Lines.{stream_max};
+ghost use Rattle.git_objects.specs.declared.limits.TheConstants.{STREAM_BYTES};
 ghost use Rattle.stream_lex.specs.Views.{input, line, maybe_line};
 ghost use Rattle.fast_import.specs.Heads.{if_some, mark_in, mark_lines, blob, author_in, author_or, committer_of};
 ghost use Rattle.fast_import.specs.Heads.{people, ref_in, ref_line, merges, merges_max, parents, head, reset};
@@ -12,13 +12,11 @@ use crate::lines::{need_line, option_line};
 use crate::names::{ident, refname, target};
 use crate::words::mark;
 use crate::{Command, CommitHead, CommitRef, Merges, StreamFault};
+use git_objects::limits::PARENTS;
 use git_objects::{Bytes, Ident, Quantity};
 use path_names::strip;
 use std::alloc::{AllocError, Global};
 use stream_lex::{Cursor, LineView};
-
-// The most parents of a commit.
-const PARENTS_MAX: u8 = 16;
 
 fn mark_of<'a>(l: Option<LineView<'a>>) -> Result<Option<u64>, Halt>
     ensures { Tells same result (if_some mark_in (maybe_line l.entry)) }
@@ -35,9 +33,9 @@ fn mark_of<'a>(l: Option<LineView<'a>>) -> Result<Option<u64>, Halt>
 // The lines `mark :N` and `original-oid TEXT`, each of which may be missing.
 #[tactic(auto, unfolding(crate::specs::Heads::mark_lines))]
 fn mark_lines<'a>(ended: bool, i: Cursor<'a>) -> Result<(Option<u64>, Cursor<'a>), Halt>
-    requires { i.at ≤ stream_max }
+    requires { i.at ≤ STREAM_BYTES }
     ensures told { Tells with_rest result (mark_lines ended (input i.entry)) }
-    ensures within { IfOk result (λ x. x.1.at ≤ stream_max) }
+    ensures within { IfOk result (λ x. x.1.at ≤ STREAM_BYTES) }
 {
     let (l, after) = option_line(b"mark ", ended, i)?;
     let mark = mark_of(l)?;
@@ -48,9 +46,9 @@ fn mark_lines<'a>(ended: bool, i: Cursor<'a>) -> Result<(Option<u64>, Cursor<'a>
 // What stands behind the line `blob`.
 #[tactic(auto, unfolding(crate::specs::Heads::blob))]
 pub fn blob<'a>(alloc: Global, ended: bool, i: Cursor<'a>) -> Result<(Command, Cursor<'a>), Halt>
-    requires { i.at ≤ stream_max }
+    requires { i.at ≤ STREAM_BYTES }
     ensures told { Tells with_rest result (blob ended (input i.entry)) }
-    ensures within { IfOk result (λ x. x.1.at ≤ stream_max) }
+    ensures within { IfOk result (λ x. x.1.at ≤ STREAM_BYTES) }
 {
     let (mark, after) = mark_lines(ended, i)?;
     let (bytes, after) = blob_data(ended, after)?;
@@ -90,9 +88,9 @@ fn committer_of<'a>(alloc: Global, l: LineView<'a>) -> Result<Ident, Halt>
 // The line `author IDENT`, which may be missing, and the line `committer IDENT`.
 #[tactic(auto, unfolding(crate::specs::Heads::people))]
 fn people<'a>(alloc: Global, ended: bool, i: Cursor<'a>) -> Result<(Ident, Ident, Cursor<'a>), Halt>
-    requires { i.at ≤ stream_max }
+    requires { i.at ≤ STREAM_BYTES }
     ensures told { Tells people_read result (people ended (input i.entry)) }
-    ensures within { IfOk result (λ x. x.2.at ≤ stream_max) }
+    ensures within { IfOk result (λ x. x.2.at ≤ STREAM_BYTES) }
 {
     let (l, after) = option_line(b"author ", ended, i)?;
     let author = author_of(alloc, l)?;
@@ -120,9 +118,9 @@ fn ref_line<'a>(
     ended: bool,
     i: Cursor<'a>,
 ) -> Result<(Option<CommitRef>, Cursor<'a>), Halt>
-    requires { i.at ≤ stream_max }
+    requires { i.at ≤ STREAM_BYTES }
     ensures told { Tells with_rest result (ref_line word.now ended (input i.entry)) }
-    ensures within { IfOk result (λ x. x.1.at ≤ stream_max) }
+    ensures within { IfOk result (λ x. x.1.at ≤ STREAM_BYTES) }
 {
     let (l, after) = option_line(word, ended, i)?;
     let found = ref_of(alloc, l)?;
@@ -132,13 +130,13 @@ fn ref_line<'a>(
 // Any number of lines `merge NAME`, but at most so many.
 fn merges<'a>(
     alloc: Global,
-    most: u8,
+    most: usize,
     ended: bool,
     i: Cursor<'a>,
 ) -> Result<(Merges, Cursor<'a>), Halt>
-    requires { i.at ≤ stream_max }
+    requires { i.at ≤ STREAM_BYTES }
     ensures told { Tells with_rest result (merges most [] ended (input i.entry)) }
-    ensures within { IfOk result (λ x. x.1.at ≤ stream_max) }
+    ensures within { IfOk result (λ x. x.1.at ≤ STREAM_BYTES) }
 {
     let mut refs = Vec::new(alloc);
     let mut left = most;
@@ -166,12 +164,13 @@ fn merges<'a>(
     }
 }
 
-fn merges_max(from: &Option<CommitRef>) -> u8
+// How many merges a commit may have beside its first parent.
+fn merges_max(from: &Option<CommitRef>) -> usize
     ensures { result ≡ merges_max from.now }
 {
     match from {
-        None => PARENTS_MAX,
-        Some(_) => PARENTS_MAX - 1,
+        None => PARENTS,
+        Some(_) => PARENTS - 1,
     }
 }
 
@@ -182,9 +181,9 @@ fn parents<'a>(
     ended: bool,
     i: Cursor<'a>,
 ) -> Result<(Option<CommitRef>, Merges, Cursor<'a>), Halt>
-    requires { i.at ≤ stream_max }
+    requires { i.at ≤ STREAM_BYTES }
     ensures told { Tells parents_read result (parents ended (input i.entry)) }
-    ensures within { IfOk result (λ x. x.2.at ≤ stream_max) }
+    ensures within { IfOk result (λ x. x.2.at ≤ STREAM_BYTES) }
 {
     let (from, after) = ref_line(alloc, b"from ", ended, i)?;
     let (merges, after) = merges(alloc, merges_max(&from), ended, after)?;
@@ -200,9 +199,9 @@ pub fn head<'a>(
     ended: bool,
     i: Cursor<'a>,
 ) -> Result<(Command, Cursor<'a>), Halt>
-    requires { i.at ≤ stream_max }
+    requires { i.at ≤ STREAM_BYTES }
     ensures told { Tells with_rest result (head at text.now ended (input i.entry)) }
-    ensures within { IfOk result (λ x. x.1.at ≤ stream_max) }
+    ensures within { IfOk result (λ x. x.1.at ≤ STREAM_BYTES) }
 {
     let refname = refname(alloc, at, text)?;
     let (mark, after) = mark_lines(ended, i)?;
@@ -231,9 +230,9 @@ pub fn reset<'a>(
     ended: bool,
     i: Cursor<'a>,
 ) -> Result<(Command, Cursor<'a>), Halt>
-    requires { i.at ≤ stream_max }
+    requires { i.at ≤ STREAM_BYTES }
     ensures told { Tells with_rest result (reset at text.now ended (input i.entry)) }
-    ensures within { IfOk result (λ x. x.1.at ≤ stream_max) }
+    ensures within { IfOk result (λ x. x.1.at ≤ STREAM_BYTES) }
 {
     let refname = refname(alloc, at, text)?;
     let (from, after) = ref_line(alloc, b"from ", ended, i)?;

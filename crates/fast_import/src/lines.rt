@@ -1,6 +1,6 @@
 // Lines that may be missing, and lines that must be there.
 ghost use Rattle.std.specs.Prelude.{◌≤◌, IfOk};
-ghost use Rattle.stream_lex.specs.Lines.{stream_max};
+ghost use Rattle.git_objects.specs.declared.limits.TheConstants.{STREAM_BYTES};
 ghost use Rattle.stream_lex.specs.Views.{input, read_line};
 ghost use Rattle.fast_import.specs.Reading.{option_line, need_line};
 ghost use Rattle.fast_import.specs.Views.{Tells, line_read};
@@ -17,9 +17,9 @@ pub fn option_line<'a>(
     ended: bool,
     i: Cursor<'a>,
 ) -> Result<(Option<LineView<'a>>, Cursor<'a>), Halt>
-    requires { i.at ≤ stream_max }
+    requires { i.at ≤ STREAM_BYTES }
     ensures told { Tells read_line result (option_line word.now ended (input i.entry)) }
-    ensures within { IfOk result (λ x. x.1.at ≤ stream_max) }
+    ensures within { IfOk result (λ x. x.1.at ≤ STREAM_BYTES) }
 {
     let (found, after) = line(ended, i)?;
     let Some(l) = found else {
@@ -34,9 +34,9 @@ pub fn option_line<'a>(
 // The next line, which must be there.
 #[tactic(auto, unfolding(crate::specs::Reading::need_line))]
 pub fn need_line<'a>(ended: bool, i: Cursor<'a>) -> Result<(LineView<'a>, Cursor<'a>), Halt>
-    requires { i.at ≤ stream_max }
+    requires { i.at ≤ STREAM_BYTES }
     ensures told { Tells line_read result (need_line ended (input i.entry)) }
-    ensures within { IfOk result (λ x. x.1.at ≤ stream_max) }
+    ensures within { IfOk result (λ x. x.1.at ≤ STREAM_BYTES) }
 {
     match line(ended, i)? {
         (None, after) => Err(Halt::Fault(StreamFault::Syntax { at: after.at })),

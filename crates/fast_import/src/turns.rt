@@ -1,6 +1,6 @@
 // One line or one command of a stream.
 ghost use Rattle.std.specs.Prelude.{◌≡◌, ◌≤◌, Ok, IfOk, true};
-ghost use Rattle.stream_lex.specs.Lines.{stream_max};
+ghost use Rattle.git_objects.specs.declared.limits.TheConstants.{STREAM_BYTES};
 ghost use Rattle.stream_lex.specs.Views.{input};
 ghost use Rattle.fast_import.specs.Commands.{gives, skips, between, at_the_end, changed, turn};
 ghost use Rattle.fast_import.specs.Views.{Tells, turn_read, command_kind, change_kind};
@@ -49,9 +49,9 @@ fn between<'a>(
     ended: bool,
     i: Cursor<'a>,
 ) -> Result<(Event, Progress, Cursor<'a>), Halt>
-    requires { i.at ≤ stream_max }
+    requires { i.at ≤ STREAM_BYTES }
     ensures told { Tells turn_read result (between (command_kind kind.entry) at wants_done ended (input i.entry)) }
-    ensures within { IfOk result (λ x. x.2.at ≤ stream_max) }
+    ensures within { IfOk result (λ x. x.2.at ≤ STREAM_BYTES) }
 {
     match kind {
         CommandKind::Empty | CommandKind::Idle => Ok(skips(wants_done, i)),
@@ -76,9 +76,9 @@ fn between<'a>(
 
 // Behind the last line.
 fn at_the_end<'a>(wants_done: bool, i: Cursor<'a>) -> Result<(Event, Progress, Cursor<'a>), Halt>
-    requires { i.at ≤ stream_max }
+    requires { i.at ≤ STREAM_BYTES }
     ensures told { Tells turn_read result (at_the_end i.entry.at wants_done true (input i.entry)) }
-    ensures within { IfOk result (λ x. x.2.at ≤ stream_max) }
+    ensures within { IfOk result (λ x. x.2.at ≤ STREAM_BYTES) }
 {
     if wants_done {
         return Err(Halt::Fault(StreamFault::Syntax { at: i.at }));
@@ -100,11 +100,11 @@ fn changed<'a>(
     before: Cursor<'a>,
     i: Cursor<'a>,
 ) -> Result<(Event, Progress, Cursor<'a>), Halt>
-    requires before { before.at ≤ stream_max }
-    requires after { i.at ≤ stream_max }
+    requires before { before.at ≤ STREAM_BYTES }
+    requires after { i.at ≤ STREAM_BYTES }
     ensures told { Tells turn_read result
         (changed (change_kind kind.entry) at wants_done ended (input before.entry) (input i.entry)) }
-    ensures within { IfOk result (λ x. x.2.at ≤ stream_max) }
+    ensures within { IfOk result (λ x. x.2.at ≤ STREAM_BYTES) }
 {
     match kind {
         ChangeKind::Empty => Ok(gives(at, Phase::Between, wants_done, Command::CommitEnd, i)),
@@ -135,9 +135,9 @@ pub fn turn<'a>(
     ended: bool,
     i: Cursor<'a>,
 ) -> Result<(Event, Progress, Cursor<'a>), Halt>
-    requires { i.at ≤ stream_max }
+    requires { i.at ≤ STREAM_BYTES }
     ensures told { Tells turn_read result (turn progress ended (input i.entry)) }
-    ensures within { IfOk result (λ x. x.2.at ≤ stream_max) }
+    ensures within { IfOk result (λ x. x.2.at ≤ STREAM_BYTES) }
 {
     let wants_done = progress.wants_done;
     match progress.phase {

@@ -25,7 +25,7 @@ struct LetterView<'a> {
 #[derive(Debug, Drop)]
 pub struct CommitView<'a> {
     tree: Name,
-    // From the first line of a parent on.
+    // The body from the first line of a parent on.
     parents: &'a [u8],
     count: usize,
     letter: LetterView<'a>,

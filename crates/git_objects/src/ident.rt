@@ -71,7 +71,7 @@ fn first_of(byte: u8, text: &[u8]) -> Option<usize>
     text.iter().position(|x| *x == byte)
 }
 
-// What stands before the first such byte, and what after it.
+// What stands before the first byte of that value, and what stands after it.
 pub fn cut(byte: u8, text: &[u8]) -> Option<(&[u8], &[u8])>
     ensures { option_map (λ r. (r.0.now, r.1.now)) result ≡ cut_at byte text.now }
 {

@@ -94,7 +94,7 @@ pub fn name_of(kind: Kind, body: &[u8]) -> Name
     Name(hasher.finalize())
 }
 
-// The same bytes, which are below 256.
+// The 20 bytes, of which the proof learns that each is below 256.
 fn in_range(bytes: &[u8]) -> &[u8]
     ensures same { result.now ≡ bytes.now }
     ensures bytes { is_bytes bytes.now ≡ true }

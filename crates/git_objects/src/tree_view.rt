@@ -66,7 +66,7 @@ impl<'a> TreeView<'a> {
         TreeView { rest: body }
     }
 
-    /// The same entries again.
+    /// A second view of the entries that are left.
     pub fn copy(&self) -> TreeView<'a>
         ensures { result ≡ self.now }
     {

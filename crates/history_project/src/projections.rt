@@ -78,7 +78,8 @@ pub fn projection_line(
 ) -> Result<Bytes, AllocError>
     requires { list_all (λ n. has Commit store.now n) (map name_bytes commits.now) ≡ true }
     ensures { IfOk result (λ line. line
-        ≡ name_line (projection_below place.now (snapshots_at store.now (reverse (map name_bytes commits.now))) head.now.0)) }
+        ≡ name_line (projection_below place.now (snapshots_at store.now (reverse
+        (map name_bytes commits.now))) head.now.0)) }
 {
     let shown = projection(alloc, store, commits, place, head)?;
     let line = name_line(alloc, shown)?;
@@ -94,8 +95,10 @@ fn project_commit(
     name: &Name,
 ) -> Result<Option<Shown>, AllocError>
     requires { has Commit store.now name.now.0 ≡ true }
-    ensures shown { (c : CommitValue) → commit_named store.now name.now.0 ≡ Some c → IfOk result (λ shown. option_map shown_value shown
-        ≡ projected (under (flat store.now c.tree) place.now) c.letter (distinct (filter_map (kept made.now.entries) c.parents))) }
+    ensures shown { (c : CommitValue) → commit_named store.now name.now.0 ≡ Some c →
+        IfOk result (λ shown. option_map shown_value shown
+        ≡ projected (under (flat store.now c.tree) place.now) c.letter (distinct (filter_map
+        (kept made.now.entries) c.parents))) }
     ensures store { IsStore store.now }
 {
     let Some(object) = store.get(name) else {
@@ -245,7 +248,7 @@ fn shown_commit(
     })
 }
 
-// The commits' names.
+// The names of projected commits.
 fn names(alloc: Global, shown: &[Shown]) -> Result<Vec<Name>, AllocError>
     ensures { IfOk result (λ names. names.items ≡ map (λ p. p.commit) shown.now) }
 {

@@ -40,7 +40,7 @@ object-children S o n h e = body-children S o.body (ap (λ k. is_body S k o.body
 
 -- older objects stay as they were
 module _ (o : Object) (S : List Object) (s : IsStore (o ∷ S)) where
-  older-has : (k : Kind) (n : Bytes) → has k S n ≡ true → (has k (o ∷ S) n ≡ true) × (body_of k (o ∷ S) n ≡ body_of k S n)
+  pub older-has : (k : Kind) (n : Bytes) → has k S n ≡ true → (has k (o ∷ S) n ≡ true) × (body_of k (o ∷ S) n ≡ body_of k S n)
   unfolding has body_of
   older-has k n h = (or_right (is_named k o n) (has k S n) h, ap (λ b. cond b o.body (body_of k S n)) (not_named k o S n s.1 h))
 

@@ -15,7 +15,7 @@ use Rattle.object_store.proofs.Unfolding.{growing_law}
 use Rattle.object_store.proofs.Parts.{AreIn, part-has}
 use Rattle.object_store.proofs.Children.{listed, object-children, tree-children}
 
-abbrev part : List Object → Mode → Bytes → Bytes → Flat
+abbrev pub part : List Object → Mode → Bytes → Bytes → Flat
 part S m n c = below c (rests (node_of (body_of Blob S) (flat S) m n))
 
 abbrev pub entries_map : List Object → List Entry → Flat

@@ -54,7 +54,8 @@ pub struct TreeStats {
     pub longest: u32,
 }
 
-// Where an object's body stands in the arena, and how large its tree is: of what is no tree, without a path.
+// Where an object's body stands in the arena, and how large its tree is. The sizes of a blob or a commit are those of a
+// tree without a path.
 #[derive(Clone, Copy)]
 struct Place {
     kind: Kind,
@@ -330,7 +331,7 @@ impl Store {
         self.put_slice(kind, &body)
     }
 
-    /// The same as `put`, of a body that is lent.
+    /// Takes an object in as `put` does, from a body that is lent.
     pub fn put_slice(&mut self, kind: Kind, body: &[u8]) -> Result<Name, PutError>
         ensures ok { IfOk result (λ n. (n.0 ≡ name kind body.now) × (refusal self.old kind body.now ≡ None)
             × (self.new ≡ with_object self.old kind body.now)) }
@@ -338,7 +339,7 @@ impl Store {
             × ((e ≡ PutError.OutOfMemory) ⊎ (refusal self.old kind body.now ≡ refusal_told e))) }
         ensures store { IsStore self.new }
     {
-        // Every outcome rests on what the store keeps.
+        // The arena is looked at so that the proof has what each store keeps.
         let _ = &self.arena;
         let stats = self.body_stats(kind, body)?;
         let name = name_of(kind, body);

@@ -28,7 +28,7 @@ pub struct Level<'a> {
     right: TreeView<'a>,
 }
 
-// The directories of these names.
+// What is left to read of the directories of these names, one of each tree, at the front of a path.
 fn level_at<'a>(store: &'a Store, left: &Name, right: &Name) -> Level<'a>
     requires left { has Tree store.now left.now.0 ≡ true }
     requires right { has Tree store.now right.now.0 ≡ true }
@@ -86,7 +86,7 @@ fn are_directories(a: Mode, b: Mode) -> bool
     a.is_dir() && b.is_dir()
 }
 
-// The first path of what these components have in each tree, where one of the two is a leaf.
+// The first path of what two entries of one component have in each tree, where one of the two is a leaf.
 fn clash_at(
     alloc: Global,
     store: &Store,
@@ -101,7 +101,7 @@ fn clash_at(
     ensures { IfOk result (λ found. Some found ≡ option_map (pair_behind components.items)
         (clash (rests (node store.now left.now)) (rests (node store.now right.now)))) }
 {
-    // Every answer rests on what the store keeps.
+    // The store is looked at so that the proof has what each store keeps.
     let _ = store.get(&left.name);
     let path = Path::of(components);
     let other = path.copy(alloc)?.into_components();
@@ -110,7 +110,7 @@ fn clash_at(
     Ok((own, by))
 }
 
-// The first path of what these components have.
+// The first path of what two entries of one component have in their trees.
 fn first_path(
     alloc: Global,
     store: &Store,

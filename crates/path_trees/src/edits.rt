@@ -44,7 +44,7 @@ pub fn put_at(
         (IsOnWay (put (flat store.old root.0) path.now (node store.old found)) path.now)
         store.old store.new }
 {
-    // A name has 20 bytes, a module's too.
+    // The name is looked at so that the proof has that it has 20 bytes, a module's too.
     let _ = found.name.bytes();
     edited(alloc, store, root, path, Some(found))
 }
@@ -65,7 +65,7 @@ pub fn remove_at(
     ensures store { IsGrown (IsOnWay (remove (flat store.old root.0) path.now) path.now)
         store.old store.new }
 {
-    // Every answer rests on what the store keeps.
+    // The store is looked at so that the proof has what each store keeps.
     let _ = store.get(&root);
     if entry_at(store, root, path).is_none() {
         return Ok(root);
@@ -73,7 +73,7 @@ pub fn remove_at(
     edited(alloc, store, root, path, None)
 }
 
-// The tree in which a path has this, or nothing.
+// The tree in which something, or nothing, stands at a path.
 fn edited(
     alloc: Global,
     store: &mut Store,
@@ -120,7 +120,7 @@ fn edited(
     taken_in(store, &body)
 }
 
-// The one that comes so many behind the first.
+// The component at an index.
 fn nth(directories: &[Name], level: usize) -> Option<Name>
     ensures { result ≡ slice_get directories.now level }
 {
@@ -138,7 +138,7 @@ fn directories(
     ensures names { IfOk result (λ names. AreDirectories store.now (flat store.now root.0) path.now names.items) }
     ensures store { IsStore store.now }
 {
-    // Every answer rests on what the store keeps.
+    // The store is looked at so that the proof has what each store keeps.
     let _ = store.get(&root);
     let mut directories = Vec::new(alloc);
     let mut directory = root;
@@ -152,7 +152,7 @@ fn directories(
     Ok(directories)
 }
 
-// The body of a directory, where the component has this, or nothing.
+// The body of a directory in which something, or nothing, stands at a component.
 fn body_at(
     alloc: Global,
     store: &Store,

@@ -50,7 +50,7 @@ pub fn join_disjoint(alloc: Global, store: &mut Store, a: Name, b: Name) -> Resu
     ensures store { IsGrown (IsShared (flat store.old a.0) (flat store.old b.0))
         store.old store.new }
 {
-    // Every answer rests on what the store keeps.
+    // The store is looked at so that the proof has what each store keeps.
     let _ = store.get(&a);
     match first_clash(alloc, store, &a, &b) {
         Err(_) => return Err(JoinFault::OutOfMemory),
@@ -78,7 +78,7 @@ fn is_empty(store: &Store, name: &Name) -> bool
     entries_at(store, name).next().is_none()
 }
 
-// The tree with the leaves of both, which have some and no clash.
+// The tree with the leaves of two trees that have leaves and don't clash.
 fn joined(alloc: Global, store: &mut Store, a: Name, b: Name) -> Result<Name, TreeFault>
     requires roots { IsPlaced store.old (flat store.old a.0) (flat store.old b.0)
         (record { left = a; right = b }) }
@@ -107,7 +107,7 @@ fn joined(alloc: Global, store: &mut Store, a: Name, b: Name) -> Result<Name, Tr
     Ok(names[0])
 }
 
-// The names in the first tree, in whose places the names of what is made come.
+// The names that directories of both trees have in the first tree. The names of what is made come in their places.
 fn left_names(alloc: Global, directories: &[Shared]) -> Result<Vec<Name>, AllocError>
     ensures { IfOk result (λ names. length names.items ≡ length directories.now) }
 {
@@ -130,7 +130,7 @@ fn shared_directories(
         (record { left = a; right = b }) r.0.items r.1.items) }
     ensures store { IsStore store.now }
 {
-    // Every answer rests on what the store keeps.
+    // The store is looked at so that the proof has what each store keeps.
     let _ = store.get(&a);
     let mut directories = Vec::new(alloc);
     let mut firsts = Vec::new(alloc);
@@ -143,7 +143,7 @@ fn shared_directories(
     Ok((directories, firsts))
 }
 
-// Adds the directories that both have in a directory.
+// Adds the directories that two directories of one path both have.
 fn add_shared(
     store: &Store,
     directory: &Shared,
@@ -167,7 +167,7 @@ fn add_shared(
     Ok(())
 }
 
-// The body of a directory that both have, where those below it have these names in turn.
+// The body of a directory that both trees have, where the directories below it that both have get these names in turn.
 fn joined_body(
     alloc: Global,
     store: &Store,

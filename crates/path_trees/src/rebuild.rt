@@ -15,7 +15,7 @@ use git_objects::{EntryView, Name, TreeView, add_entry, compare_components};
 use object_store::Store;
 use std::alloc::{AllocError, Global};
 
-// Whether a component with this stands before an entry.
+// Whether the entry of a component stands before another entry in Git's order.
 fn is_before(component: &[u8], found: &Found, entry: &EntryView<'_>) -> bool
     ensures { result ≡ is_before (named component.now found.now) (entry_value entry.now) }
 {
@@ -38,7 +38,7 @@ fn add_found(body: &mut Vec<u8>, component: &[u8], found: Option<Found>) -> Resu
     }
 }
 
-// The body of these entries, where the component has this, or nothing.
+// The body of a directory's entries with one component changed: it has what was found, or nothing.
 fn with_change(
     alloc: Global,
     mut entries: TreeView<'_>,
@@ -59,7 +59,7 @@ fn with_change(
     Ok(body)
 }
 
-// Adds the component's entry where it stands before this one, and gives it back where it doesn't.
+// Adds the component's entry where it stands before the next entry, and gives it back where it doesn't.
 fn add_before(
     body: &mut Vec<u8>,
     component: &[u8],
@@ -79,7 +79,7 @@ fn add_before(
     Ok(found)
 }
 
-// The body of a directory, where the component has this, or nothing. None: there is no directory.
+// The body of a directory with one component changed: it has what was found, or nothing. None: there is no directory.
 pub fn changed_body(
     alloc: Global,
     store: &Store,

@@ -40,7 +40,7 @@ impl<'a> Model for Walk<'a> {
 }
 
 impl<'a> Walk<'a> {
-    /// In front of the first leaf of that tree.
+    /// A walk that stands in front of the first leaf of a tree.
     pub fn new(alloc: Global, store: &'a Store, root: Name) -> Result<Walk<'a>, AllocError>
         requires { has Tree store.now root.0 ≡ true }
         ensures { IfOk result (λ walk. walk
@@ -102,7 +102,7 @@ fn directory_of(path: Path) -> Vec<Component>
     components
 }
 
-// Without the last, if there is one.
+// The components without the last one, if there is one.
 pub fn go_up(components: &mut Vec<Component>)
     requires { list_all is_component components.old.items ≡ true }
     ensures directory { reverse components.new.items ≡ drop 1 (reverse components.old.items) }

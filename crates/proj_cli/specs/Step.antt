@@ -2,6 +2,7 @@
 use Rattle.std.specs.Prelude.{ℕ, ◌^◌, Bool, true, false, cond, ◌&&◌, ◌||◌, nat_le, List, [], ◌∷◌, ◌++◌, length, reverse, filter, sum_by, codes, decimal, Option, Some, None, Result, Ok, Err}
 use Rattle.std.specs.Option.{is_some, is_none, option_map, option_to_list}
 use Rattle.std.specs.FinMap.{find}
+use Rattle.git_objects.specs.declared.limits.TheConstants.{COMMITS, OBJECTS}
 use Rattle.git_objects.specs.Paths.{Bytes, Path, same_bytes, text}
 use Rattle.git_objects.specs.Trees.{under}
 use Rattle.git_objects.specs.declared.name.Name.{Name as ObjectName}
@@ -144,9 +145,9 @@ push_step refname place room input h = push_at refname place room input h (find 
 
 -- ---- name
 
--- at most 2^20 commits and 2^22 objects
+-- whether commits and objects are within the limits of a state
 abbrev pub has_few : List Object → Bool
-has_few os = nat_le (length (filter is_commit os)) (2 ^ 20) && nat_le (length os) (2 ^ 22)
+has_few os = nat_le (length (filter is_commit os)) COMMITS && nat_le (length os) OBJECTS
 
 abbrev pub name_at : Bytes → Path → Bytes → List Snapshot → Step
 name_at refname place head cs = cond (same_bytes head refname) (done (name_line (projection_below place (reverse cs) (last_name cs)))) (refused UnknownRef)

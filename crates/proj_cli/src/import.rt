@@ -109,15 +109,20 @@ fn replay_stream(
     requires head { IfSome head (λ n. has Commit state.old.held.objects n.0 ≡ true) }
     ensures same { IsSameBut state.old state.new }
     ensures stored { IsStored state.new }
-    ensures base { tree_upon (repo_of state.old.held).commits (option_map name_bytes head) ≡ base_tree state.old.held.objects head }
-    ensures ok { IfOk result (IsReplayed state.new.objects (base_tree state.old.held.objects head) (parent_of head) (map small_value smalls.now)) }
-    ensures err { IfErr result (IsReplayFault state.new.objects (base_tree state.old.held.objects head) (parent_of head) (map small_value smalls.now)) }
-    ensures store { IsGrownBy (IsMadeBy (base_tree state.old.held.objects head) (parent_of head) (map small_value smalls.now)) state.old.held.objects state.new.objects }
+    ensures base { tree_upon (repo_of state.old.held).commits (option_map name_bytes head)
+        ≡ base_tree state.old.held.objects head }
+    ensures ok { IfOk result (IsReplayed state.new.objects (base_tree state.old.held.objects head)
+        (parent_of head) (map small_value smalls.now)) }
+    ensures err { IfErr result (IsReplayFault state.new.objects (base_tree state.old.held.objects head)
+        (parent_of head) (map small_value smalls.now)) }
+    ensures store { IsGrownBy (IsMadeBy (base_tree state.old.held.objects head) (parent_of head)
+        (map small_value smalls.now)) state.old.held.objects state.new.objects }
 {
     replay_upon(alloc, &mut state.store, head, smalls)
 }
 
-/// Replays a stream upon the commit of its ref, which its first commit names, or upon nothing where there is no such ref.
+/// Replays a stream upon the commit of its ref, which its first commit names, or upon nothing where there is no such
+/// ref.
 pub fn prepare_import(
     alloc: Global,
     state: &mut State,
@@ -125,9 +130,11 @@ pub fn prepare_import(
 ) -> Result<Prepared, Outcome>
     requires whole { state.old.objects ≡ state.old.held.objects }
     ensures same { IsSameBut state.old state.new }
-    ensures ok { IfOk result (IsPrepared state.new (import_smalls state.old.held (room_in state.old) (map small_value smalls.now))) }
+    ensures ok { IfOk result (IsPrepared state.new (import_smalls state.old.held (room_in state.old)
+        (map small_value smalls.now))) }
     ensures fits { IfOk result (FitsItems state.new (map small_value smalls.now)) }
-    ensures err { IfErr result (IsPlainRefusal (IsInImport state.old.held (map small_value smalls.now)) (import_smalls state.old.held (room_in state.old) (map small_value smalls.now))) }
+    ensures err { IfErr result (IsPlainRefusal (IsInImport state.old.held (map small_value smalls.now))
+        (import_smalls state.old.held (room_in state.old) (map small_value smalls.now))) }
 {
     let Some(first) = smalls.first() else {
         return Ok(nothing(alloc));
@@ -158,8 +165,10 @@ fn import_text<K: Keeper>(
     requires number { state.number ≡ K.number store.old }
     requires whole { state.objects ≡ state.held.objects }
     requires short { length text.now ≤ input_max }
-    ensures made { let kept = keeper_view K.items K.number K.faults in (items : List Bytes) → (K.items store.old ≡ Some items → IsCurrent items state) →
-        IsMadeFrom (IsStreamInHand state.held (stream text.now)) (import_stream state.held (room_in state) (stream text.now)) items (kept store.old) (kept store.new) result }
+    ensures made { let kept = keeper_view K.items K.number K.faults in (items : List Bytes) →
+        (K.items store.old ≡ Some items → IsCurrent items state) →
+        IsMadeFrom (IsStreamInHand state.held (stream text.now)) (import_stream state.held (room_in state)
+        (stream text.now)) items (kept store.old) (kept store.new) result }
     ensures early { (result ≢ Err Outcome.WriteFault) × (result ≢ Err Outcome.ReadFault) }
     ensures cause { Counts (K.faults store.old) (K.faults store.new) (result ≡ Err Outcome.StoreFault) }
     ensures is_open { (result ≢ Err Outcome.StoreFault) → K.is_open store.new }
@@ -185,8 +194,10 @@ fn import_input<S: Source, K: Keeper>(
     requires open { K.is_open store.old }
     requires number { state.number ≡ K.number store.old }
     requires whole { state.objects ≡ state.held.objects }
-    ensures made { let kept = keeper_view K.items K.number K.faults in (items : List Bytes) → (K.items store.old ≡ Some items → IsCurrent items state) →
-        IsMadeOf (λ all. IsStreamInHand state.held (stream all)) (λ all. import_step (room_in state) all state.held) (S.left input.old) items (kept store.old) (kept store.new) result }
+    ensures made { let kept = keeper_view K.items K.number K.faults in (items : List Bytes) →
+        (K.items store.old ≡ Some items → IsCurrent items state) →
+        IsMadeOf (λ all. IsStreamInHand state.held (stream all)) (λ all. import_step
+        (room_in state) all state.held) (S.left input.old) items (kept store.old) (kept store.new) result }
     ensures early { result ≢ Err Outcome.WriteFault }
     ensures read { Counts (S.faults input.old) (S.faults input.new) (result ≡ Err Outcome.ReadFault) }
     ensures cause { Counts (K.faults store.old) (K.faults store.new) (result ≡ Err Outcome.StoreFault) }
@@ -211,8 +222,10 @@ pub fn import<S: Source, K: Keeper>(
     store: &mut K,
 ) -> Result<Bytes, Outcome>
     requires { K.is_open store.old }
-    ensures made { let kept = keeper_view K.items K.number K.faults in (items : List Bytes) → K.items store.old ≡ Some items →
-        IsMadeOf (IsInHand (Import false) items) (step (Import false) items) (S.left input.old) items (kept store.old) (kept store.new) result }
+    ensures made { let kept = keeper_view K.items K.number K.faults in (items : List Bytes) →
+        K.items store.old ≡ Some items →
+        IsMadeOf (IsInHand (Import false) items) (step (Import false) items) (S.left input.old) items
+        (kept store.old) (kept store.new) result }
     ensures early { result ≢ Err Outcome.WriteFault }
     ensures read { Counts (S.faults input.old) (S.faults input.new) (result ≡ Err Outcome.ReadFault) }
     ensures cause { Counts (K.faults store.old) (K.faults store.new) (result ≡ Err Outcome.StoreFault) }

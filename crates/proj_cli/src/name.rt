@@ -16,6 +16,7 @@ ghost use Rattle.history_project.specs.Histories.{last_name};
 ghost use Rattle.small_streams.specs.Views.{small_value};
 
 use crate::outcome::Outcome;
+use git_objects::limits::{COMMITS, OBJECTS};
 use git_objects::{Bytes, Name};
 use history_project::{name_line, projection_line};
 use object_store::Store;
@@ -23,10 +24,6 @@ use path_names::Path;
 use repo_state::{Batch, count_batch};
 use small_streams::{ReplayFault, SmallCommit, replay_upon};
 use std::alloc::{AllocError, Global};
-
-const COMMITS: usize = 1_048_576;
-
-const OBJECTS: usize = 4_194_304;
 
 // The line of the last commit's projection, over these commits in order.
 fn last_line(
@@ -49,7 +46,8 @@ fn last_line(
     }
 }
 
-// Whether a stream that was replayed into an empty store brought no more commits and objects than a repository may have.
+// Whether a stream that was replayed into an empty store brought no more commits and objects than a repository may
+// have.
 fn are_few(
     alloc: Global,
     store: &Store,
@@ -62,7 +60,7 @@ fn are_few(
 {
     let _ = smalls;
     let (commits, objects) = count_batch(alloc, store, batch)?;
-    Ok(commits <= COMMITS && objects <= OBJECTS)
+    Ok(commits <= COMMITS as usize && objects <= OBJECTS as usize)
 }
 
 // The line of a stream that was replayed into an empty store, on a ref.

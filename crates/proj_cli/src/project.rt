@@ -44,9 +44,10 @@ fn line_of(
     head: &Name,
 ) -> Result<Bytes, Outcome>
     requires { map name_bytes commits.now ≡ reverse (map object_name (filter is_commit store.now)) }
-    ensures { Plainly NoObject (done (name_line (projection_below place.now (snapshots_in store.now) head.now.0))) result }
+    ensures { Plainly NoObject (done (name_line (projection_below place.now
+        (snapshots_in store.now) head.now.0))) result }
 {
-    // The outcome rests on what the store keeps.
+    // The store is looked at so that the proof has what each store keeps.
     let _ = store.get(head);
     match projection_line(alloc, store, commits, place, head) {
         Ok(line) => Ok(line),

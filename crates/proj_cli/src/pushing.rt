@@ -1,5 +1,6 @@
 // Making the original commit of a pushed one, in a store.
 ghost use Rattle.std.specs.Prelude.{◌≡◌, ◌^◌, ◌&&◌, ◌∷◌, [], true, map, nat_le, IfErr, IfOk, OnOk};
+ghost use Rattle.git_objects.specs.declared.limits.TheConstants.{TREE_DEPTH, TREE_FILES, TREE_PATH_BYTES};
 ghost use Rattle.git_objects.specs.Commits.{commit_name};
 ghost use Rattle.git_objects.specs.Trees.{under};
 ghost use Rattle.git_objects.specs.declared.kind.Kind.TheVariants.{Commit, Tree};
@@ -9,21 +10,25 @@ ghost use Rattle.filter_unapply.specs.Laying.{laid};
 ghost use Rattle.filter_unapply.specs.Lenses.{below};
 ghost use Rattle.object_store.specs.Fits.{tree_fits};
 ghost use Rattle.proj_cli.specs.Push.{IsLaidMade, IsPushMade};
-ghost use Rattle.proj_cli.specs.Pushes.{IsAccepted, IsCommitFault, IsLaidFault, IsOriginal, IsPushFault, fault_of, start_value};
-ghost use Rattle.small_streams.specs.Replay.{IsDirectoryOf, IsMadeIn, are_small, contents_in, trees_within, with_changes};
-ghost use Rattle.small_streams.specs.Replays.{AddsBlobs, IsFilesFault, IsOnlyCommit, IsPutFault, StandsOrNone, parent_of};
+ghost use Rattle.proj_cli.specs.Pushes.{IsAccepted, IsCommitFault, IsLaidFault, IsOriginal, IsPushFault, fault_of};
+ghost use Rattle.proj_cli.specs.Pushes.{start_value};
+ghost use Rattle.small_streams.specs.Replay.{IsDirectoryOf, IsMadeIn, are_small, contents_in, trees_within};
+ghost use Rattle.small_streams.specs.Replay.{with_changes};
+ghost use Rattle.small_streams.specs.Replays.{AddsBlobs, IsFilesFault, IsOnlyCommit, IsPutFault, StandsOrNone};
+ghost use Rattle.small_streams.specs.Replays.{parent_of};
 ghost use Rattle.object_store.specs.Growth.{IsGrownBy};
 ghost use Rattle.history_project.specs.Snapshots.{IsSnapshot};
 ghost use Rattle.small_streams.specs.Views.{change_of, head_value, small_value};
 
 use filter_unapply::{LayFault, laid_below};
+use git_objects::limits::{TREE_DEPTH, TREE_FILES, TREE_PATH_BYTES};
 use git_objects::{Kind, Name, name_of};
 use history_project::directory;
 use object_store::{Store, TreeStats};
 use path_names::Path;
 use path_trees::entry_at;
 use small_streams::{
-    CommitHead, FILES, ReplayFault, Row, SmallCommit, body_of, put, put_commit, put_files,
+    CommitHead, ReplayFault, Row, SmallCommit, body_of, put, put_commit, put_files,
 };
 use std::alloc::{AllocError, Global};
 
@@ -57,12 +62,6 @@ pub enum PushFault {
     OutOfMemory,
 }
 
-// The most components of a path of a stored tree.
-const DEPTH: u32 = 1_024;
-
-// The most bytes of such a path.
-const LONGEST: u32 = 16_384;
-
 // The fault of a replay.
 fn fault_of(fault: ReplayFault) -> PushFault
     ensures { result ≡ fault_of fault }
@@ -93,7 +92,7 @@ fn shown_root(store: &mut Store, tree: Name, place: &Path) -> Result<Name, Repla
     ensures err { IfErr result (IsPutFault (IsDirectoryOf (under (flat store.old tree.0) place.now)) store.new) }
     ensures store { IsGrownBy (IsDirectoryOf (under (flat store.old tree.0) place.now)) store.old store.new }
 {
-    // Every outcome rests on what the store keeps.
+    // The store is looked at so that the proof has what each store keeps.
     let _ = store.get(&tree);
     match directory_at(store, tree, place) {
         None => put(store, Kind::Tree, &[]),
@@ -101,7 +100,8 @@ fn shown_root(store: &mut Store, tree: Name, place: &Path) -> Result<Name, Repla
     }
 }
 
-// The tree that is shown below a path, and the pushed one, with these files put into it. Their blobs go behind the others.
+// The tree that is shown below a path, and the pushed one, with these files put into it. Their blobs go behind the
+// others.
 fn pushed_trees(
     alloc: Global,
     store: &mut Store,
@@ -112,12 +112,17 @@ fn pushed_trees(
 ) -> Result<(Name, Name), ReplayFault>
     requires { has Tree store.old tree.0 ≡ true }
     ensures shown { IfOk result (λ r. StandsFor store.new r.0.0 (under (flat store.old tree.0) place.now)) }
-    ensures pushed { IfOk result (λ r. StandsFor store.new r.1.0 (with_changes (under (flat store.old tree.0) place.now) (map change_of rows.now))) }
-    ensures small { OnOk result (are_small (trees_within (under (flat store.old tree.0) place.now) (map change_of rows.now)) ≡ true) }
-    ensures blobs { OnOk result (AddsBlobs store.new blobs.old.items blobs.new.items (contents_in (map change_of rows.now))) }
-    ensures err { IfErr result (IsFilesFault (IsMadeIn (under (flat store.old tree.0) place.now) (map change_of rows.now)) store.new
+    ensures pushed { IfOk result (λ r. StandsFor store.new r.1.0 (with_changes (under
+        (flat store.old tree.0) place.now) (map change_of rows.now))) }
+    ensures small { OnOk result (are_small (trees_within (under (flat store.old tree.0) place.now)
+        (map change_of rows.now)) ≡ true) }
+    ensures blobs { OnOk result (AddsBlobs store.new blobs.old.items blobs.new.items (contents_in
+        (map change_of rows.now))) }
+    ensures err { IfErr result (IsFilesFault (IsMadeIn (under (flat store.old tree.0) place.now)
+        (map change_of rows.now)) store.new
         (trees_within (under (flat store.old tree.0) place.now) (map change_of rows.now))) }
-    ensures store { IsGrownBy (IsMadeIn (under (flat store.old tree.0) place.now) (map change_of rows.now)) store.old store.new }
+    ensures store { IsGrownBy (IsMadeIn (under (flat store.old tree.0) place.now)
+        (map change_of rows.now)) store.old store.new }
 {
     match shown_root(store, tree, place) {
         Err(fault) => Err(fault),
@@ -130,9 +135,10 @@ fn pushed_trees(
 
 // Whether a tree of that size is within the limits of stored trees.
 fn within(stats: TreeStats) -> bool
-    ensures { result ≡ (nat_le stats.files (2 ^ 20) && nat_le stats.depth 1024 && nat_le stats.longest 16384) }
+    ensures { result ≡ (nat_le stats.files TREE_FILES && nat_le stats.depth TREE_DEPTH
+        && nat_le stats.longest TREE_PATH_BYTES) }
 {
-    stats.files <= FILES && stats.depth <= DEPTH && stats.longest <= LONGEST
+    stats.files <= TREE_FILES && stats.depth <= TREE_DEPTH && stats.longest <= TREE_PATH_BYTES
 }
 
 // Whether a stored tree is within the limits.
@@ -153,7 +159,12 @@ fn name_of_commit(
     parent: Option<Name>,
     head: &CommitHead<'_>,
 ) -> Result<Name, AllocError>
-    ensures { IfOk result (λ n. n.0 ≡ commit_name (record { tree = tree.0; parents = parent_of parent; letter = (head_value head.now).letter })) }
+    ensures { IfOk result (λ n. n.0 ≡ commit_name (record {
+      tree = tree.0;
+      parents = parent_of parent;
+      letter =
+          (head_value head.now).letter;
+    })) }
 {
     let body = body_of(alloc, tree, parent, head)?;
     Ok(name_of(Kind::Commit, &body))
@@ -170,12 +181,19 @@ fn put_original(
     requires tree { has Tree store.old tree.0 ≡ true }
     requires head { has Commit store.old start.now.head.0 ≡ true }
     ensures ok { IfOk result (λ n. IsSnapshot store.new n.0
-        (record { tree = flat store.old tree.0; parents = start.now.head.0 ∷ []; letter = (head_value head.now).letter })) }
+        (record {
+          tree = flat store.old tree.0;
+          parents = start.now.head.0 ∷ [];
+          letter =
+              (head_value head.now).letter;
+        })) }
     ensures fits { OnOk result (tree_fits (flat store.old tree.0) ≡ true) }
-    ensures err { IfErr result (IsCommitFault store.new (flat store.old tree.0) (start.now.head.0 ∷ []) (head_value head.now).letter) }
-    ensures store { IsGrownBy (IsOnlyCommit (flat store.old tree.0) (start.now.head.0 ∷ []) (head_value head.now).letter) store.old store.new }
+    ensures err { IfErr result (IsCommitFault store.new (flat store.old tree.0) (start.now.head.0 ∷ [])
+        (head_value head.now).letter) }
+    ensures store { IsGrownBy (IsOnlyCommit (flat store.old tree.0) (start.now.head.0 ∷ [])
+        (head_value head.now).letter) store.old store.new }
 {
-    // Every outcome rests on what the store keeps.
+    // The store is looked at so that the proof has what each store keeps.
     let _ = store.get(&tree);
     if !fits(store, &tree) {
         return Err(PushFault::TooLarge);
@@ -201,9 +219,11 @@ fn lay(
     ensures ok { let l = laid (below place.now) (flat store.old start.now.tree.0) (flat store.old pushed.0) in
         IfOk result (IsOriginal store.new (start_value store.old place.now start.now) (head_value head.now).letter l) }
     ensures err { let l = laid (below place.now) (flat store.old start.now.tree.0) (flat store.old pushed.0) in
-        IfErr result (IsLaidFault store.new (start_value store.old place.now start.now) (head_value head.now).letter l) }
+        IfErr result (IsLaidFault store.new (start_value store.old place.now start.now)
+        (head_value head.now).letter l) }
     ensures store { let l = laid (below place.now) (flat store.old start.now.tree.0) (flat store.old pushed.0) in
-        IsGrownBy (IsLaidMade (start_value store.old place.now start.now) (head_value head.now).letter l) store.old store.new }
+        IsGrownBy (IsLaidMade (start_value store.old place.now start.now)
+        (head_value head.now).letter l) store.old store.new }
 {
     match laid_below(alloc, store, place, start.tree, pushed) {
         Ok(tree) => put_original(alloc, store, start, tree, head),
@@ -224,9 +244,12 @@ pub fn push_commit(
 ) -> Result<Pushed, PushFault>
     requires tree { has Tree store.old start.now.tree.0 ≡ true }
     requires head { has Commit store.old start.now.head.0 ≡ true }
-    ensures ok { IfOk result (IsAccepted store.new (below place.now) (start_value store.old place.now start.now) (small_value small.now)) }
-    ensures err { IfErr result (IsPushFault store.new (below place.now) (start_value store.old place.now start.now) (small_value small.now)) }
-    ensures store { IsGrownBy (IsPushMade (below place.now) (start_value store.old place.now start.now) (small_value small.now)) store.old store.new }
+    ensures ok { IfOk result (IsAccepted store.new (below place.now) (start_value store.old place.now start.now)
+        (small_value small.now)) }
+    ensures err { IfErr result (IsPushFault store.new (below place.now)
+        (start_value store.old place.now start.now) (small_value small.now)) }
+    ensures store { IsGrownBy (IsPushMade (below place.now) (start_value store.old place.now start.now)
+        (small_value small.now)) store.old store.new }
 {
     let mut blobs = Vec::new(alloc);
     match pushed_trees(alloc, store, start.tree, place, &small.rows, &mut blobs) {

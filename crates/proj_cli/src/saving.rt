@@ -34,10 +34,18 @@ pub fn save<K: Keeper>(
     requires number { state.number ≡ K.number store.old }
     requires change { IsChange state.objects state.held.objects (change_of prepared.batch) }
     ensures made { let kept = keeper_view K.items K.number K.faults in (items : List Bytes) →
-        (K.items store.old ≡ Some items → IsCurrent items state × IsWithin state.objects state.held.objects (change_of prepared.batch)) →
-        IsMadeFrom NoObject (changing state.held (room_in state) prepared.report (plan_in state (change_of prepared.batch))) items (kept store.old) (kept store.new) result }
-    ensures done { OnOk result (changing state.held (room_in state) prepared.report (plan_in state (change_of prepared.batch))
-        ≡ record { outcome = Outcome.Done; output = prepared.report; change = plan_in state (change_of prepared.batch) }) }
+        (K.items store.old ≡ Some items → IsCurrent items state
+        × IsWithin state.objects state.held.objects (change_of prepared.batch)) →
+        IsMadeFrom NoObject (changing state.held (room_in state) prepared.report (plan_in state
+        (change_of prepared.batch))) items (kept store.old) (kept store.new) result }
+    ensures done { OnOk result (changing state.held (room_in state) prepared.report (plan_in state
+        (change_of prepared.batch))
+        ≡ record {
+          outcome = Outcome.Done;
+          output = prepared.report;
+          change = plan_in state
+              (change_of prepared.batch);
+        }) }
     ensures stored { OnOk result (IsStored (changed state (plan_in state (change_of prepared.batch)))) }
     ensures early { (result ≢ Err Outcome.WriteFault) × (result ≢ Err Outcome.ReadFault) }
     ensures cause { Counts (K.faults store.old) (K.faults store.new) (result ≡ Err Outcome.StoreFault) }

@@ -8,7 +8,7 @@ use Rattle.repo_state.specs.Items.{Held, Break, read_items}
 use Rattle.repo_state.specs.declared.state.LoadError.{LoadError}
 use Rattle.repo_state.specs.declared.state.LoadError.TheVariants.{StoreFault, Damaged, Collision, OutOfMemory}
 
--- What a state is seen as: all objects of its store in order of arrival, what its items hold, their number, and their bytes
+-- What a state is seen as: all objects of its store, the newest first, what its items hold, their number, and their bytes
 -- together.
 pub record Stored : Type 0 where
   pub objects : List Object

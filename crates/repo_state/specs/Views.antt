@@ -14,7 +14,7 @@ abbrev pub named : List Object → List Bytes → List Object
 named S [] = []
 named S (n ∷ names) = option_to_list (find_named S n) ++ named S names
 
--- a store's objects and the names of those that items hold, both in order of arrival
+-- a store's objects, the newest first, and the names of those that items hold, in order of arrival
 abbrev pub stored : List Object → List Name → Refs → ℕ → ℕ → Stored
 stored objects names refs number size = record {
   objects = objects;

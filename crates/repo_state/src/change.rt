@@ -21,7 +21,8 @@ fn hold_commit(
 ) -> Result<(), AllocError>
     requires { has Kind.Commit store.now name.0 ≡ true }
     ensures step { OnOk result (let S = store.now in
-        IsReady S held.old.keys (commit_objects S name.0) → IsStep S held.old.keys held.new.keys (commit_objects S name.0) []) }
+        IsReady S held.old.keys (commit_objects S name.0) →
+        IsStep S held.old.keys held.new.keys (commit_objects S name.0) []) }
     ensures extends { Extends held.old.keys held.new.keys }
 {
     let tree = tree_of(store, &name);

@@ -10,9 +10,10 @@ use git_objects::{Kind, Name};
 use object_store::Store;
 use std::alloc::{AllocError, Global};
 
-// The name, where it is a commit's.
+// A held object's name, where the object is a commit.
 fn commit_name(store: &Store, name: &Name) -> Option<Name>
-    ensures { map name_bytes (option_to_list result) ≡ map object_name (filter is_commit (found store.now (name.now ∷ []))) }
+    ensures { map name_bytes (option_to_list result) ≡ map object_name (filter is_commit (found store.now
+        (name.now ∷ []))) }
 {
     match store.get(name) {
         None => None,
@@ -23,13 +24,14 @@ fn commit_name(store: &Store, name: &Name) -> Option<Name>
     }
 }
 
-/// Those of these names that are commits'.
+/// Those of the names of held objects that are names of commits.
 pub(crate) fn commit_names(
     alloc: Global,
     store: &Store,
     names: &[Name],
 ) -> Result<Vec<Name>, AllocError>
-    ensures { IfOk result (λ v. map name_bytes v.items ≡ map object_name (filter is_commit (found store.now names.now))) }
+    ensures { IfOk result (λ v. map name_bytes v.items ≡ map object_name (filter is_commit
+        (found store.now names.now))) }
 {
     let mut commits = Vec::new(alloc);
     for name in names {

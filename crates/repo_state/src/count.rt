@@ -11,8 +11,8 @@ use indexmap::IndexSet;
 use object_store::Store;
 use std::alloc::{AllocError, Global};
 
-/// How many commits a batch brings where nothing is held, and how many objects in all: its blobs, its commits and the objects
-/// of their trees, each once.
+/// How many commits a batch brings where nothing is held, and how many objects in all: its blobs, its commits and the
+/// objects of their trees, each once.
 pub fn count_batch(
     alloc: Global,
     store: &Store,

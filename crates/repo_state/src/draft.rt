@@ -1,5 +1,6 @@
 // What a change appends, worked out before.
-ghost use Rattle.std.specs.Prelude.{◌≡◌, ◌<◌, ◌≤◌, ◌^◌, ◌+◌, ◌∷◌, ◌++◌, ◌&&◌, [], None, true, cond, drop, nat_le, map, filter, length, is_some, IfOk, OnOk, MatchResult};
+ghost use Rattle.std.specs.Prelude.{◌≡◌, ◌<◌, ◌≤◌, ◌^◌, ◌+◌, ◌∷◌, ◌++◌, ◌&&◌, [], None, true, cond, drop, nat_le};
+ghost use Rattle.std.specs.Prelude.{map, filter, length, is_some, IfOk, OnOk, MatchResult};
 ghost use Rattle.std.specs.Int.{to_be_bytes, w32};
 ghost use Rattle.std.specs.List.{flat_map, list_all};
 ghost use Rattle.git_objects.specs.declared.limits.TheConstants.{ITEMS, STORE_BYTES};
@@ -8,7 +9,8 @@ ghost use Rattle.git_objects.specs.Parts.{name_bytes};
 ghost use Rattle.object_store.specs.Objects.{IsStore};
 ghost use Rattle.repo_state.specs.Changes.{IsChange, objects_of, or_else, plan, with_refs};
 ghost use Rattle.repo_state.specs.Commits.{change_of};
-ghost use Rattle.repo_state.specs.Drafts.{DraftOrNot, IsNoDraft, NewsOrNot, WeighedOrNot, first_passed, found, is_short, ref_value, sized};
+ghost use Rattle.repo_state.specs.Drafts.{DraftOrNot, IsNoDraft, NewsOrNot, WeighedOrNot, first_passed, found};
+ghost use Rattle.repo_state.specs.Drafts.{is_short, ref_value, sized};
 ghost use Rattle.repo_state.specs.Growing.{Extends, Holds, IsReady, IsStep, held_of};
 ghost use Rattle.repo_state.specs.Items.{held_with, item_text, kind_byte, object_text, ref_text};
 ghost use Rattle.object_store.specs.Fits.{is_commit};
@@ -38,7 +40,7 @@ pub(crate) struct Draft {
     pub(crate) commits: u32,
 }
 
-// A length with so much more, where that is within the limit of an item.
+// `size + more`, or None above the limit of an item.
 fn add_size(size: usize, more: usize) -> Option<usize>
     requires { size ≤ 2 ^ 29 }
     ensures { result ≡ sized (size + more) }
@@ -50,7 +52,7 @@ fn add_size(size: usize, more: usize) -> Option<usize>
     }
 }
 
-// A length with an object's.
+// `size` and the bytes that an item takes for an object, or None above the limit of an item.
 fn add_object(store: &Store, name: &Name, size: usize) -> Option<usize>
     requires { size ≤ 2 ^ 29 }
     ensures { result ≡ sized (size + length (flat_map object_text (found store.now (name.now ∷ [])))) }
@@ -64,7 +66,7 @@ fn add_object(store: &Store, name: &Name, size: usize) -> Option<usize>
     }
 }
 
-// A length with these objects'.
+// `size` and the bytes that an item takes for these objects, or None above the limit of an item.
 fn add_objects(store: &Store, names: &[Name], size: usize) -> Option<usize>
     requires { size ≤ 2 ^ 29 }
     ensures { result ≡ sized (size + length (flat_map object_text (found store.now names.now))) }
@@ -79,7 +81,7 @@ fn add_objects(store: &Store, names: &[Name], size: usize) -> Option<usize>
     Some(size)
 }
 
-// A length with a ref's.
+// `size` and the bytes that an item takes for a ref, or None above the limit of an item.
 fn add_ref(moved: &MovedRef, size: usize) -> Option<usize>
     requires { size ≤ 2 ^ 29 }
     ensures { result ≡ sized (size + length (ref_text (ref_value moved.now))) }
@@ -90,7 +92,7 @@ fn add_ref(moved: &MovedRef, size: usize) -> Option<usize>
     }
 }
 
-// A length with these refs'.
+// `size` and the bytes that an item takes for these refs, or None above the limit of an item.
 fn add_refs(refs: &[MovedRef], size: usize) -> Option<usize>
     requires { size ≤ 2 ^ 29 }
     ensures { result ≡ sized (size + length (flat_map ref_text (map ref_value refs.now))) }
@@ -105,7 +107,7 @@ fn add_refs(refs: &[MovedRef], size: usize) -> Option<usize>
     Some(size)
 }
 
-// The length of the item of these objects and refs, where it is within the limit.
+// The length of the item of these objects and refs, or None above the limit of an item.
 #[tactic(auto, unfolding(crate::specs::Items::item_text))]
 fn item_size(store: &Store, names: &[Name], refs: &[MovedRef]) -> Option<usize>
     ensures { result ≡ sized (length (item_text (found store.now names.now) (map ref_value refs.now))) }
@@ -139,7 +141,7 @@ pub(crate) fn count_commits(store: &Store, names: &[Name]) -> usize
     count
 }
 
-// The first limit that is passed.
+// The first limit of a state that a change passes, by the numbers after it.
 fn first_passed(
     commits: usize,
     objects: usize,
@@ -161,9 +163,10 @@ fn first_passed(
     }
 }
 
-// The first limit of the items together that is passed.
+// The first limit on all items together that one item more passes.
 fn passed_by_items(length: usize, number: u32, size: u64) -> Option<Quantity>
-    ensures { result ≡ or_else (nat_le (number + 1) ITEMS) Quantity.Items (or_else (nat_le (size + length) STORE_BYTES) Quantity.Store None) }
+    ensures { result ≡ or_else (nat_le (number + 1) ITEMS) Quantity.Items (or_else (nat_le
+        (size + length) STORE_BYTES) Quantity.Store None) }
 {
     if number >= ITEMS {
         return Some(Quantity::Items);
@@ -295,7 +298,8 @@ fn build(
     })
 }
 
-// What the objects of these names and these refs make, where no limit is passed. So many objects are held with them.
+// The item of these objects and refs, and what the state is after it, or the first limit that it passes. `objects` is
+// the number of objects that are held with these.
 fn weigh(
     alloc: Global,
     store: &Store,
@@ -333,14 +337,15 @@ pub(crate) fn hold_change(
     requires whole { IsStore store.now }
     requires holds { Holds store.now held.old.keys }
     requires change { IsChange store.now (held_of store.now held.old.keys) (change_of batch.now) }
-    ensures step { OnOk result (let os = objects_of store.now (change_of batch.now) in IsStep store.now held.old.keys held.new.keys os []) }
+    ensures step { OnOk result (let os = objects_of store.now (change_of batch.now) in
+        IsStep store.now held.old.keys held.new.keys os []) }
     ensures extends { Extends held.old.keys held.new.keys }
 {
     hold_blobs(store, held, &batch.blobs)?;
     hold_commits(alloc, store, held, &batch.commits)
 }
 
-// The names from a place on.
+// The names of the held objects from a place on.
 fn names_from(held: &IndexSet<Name>, before: usize) -> &[Name]
     requires { before ≤ length held.now.keys }
     ensures { result.now ≡ drop before held.now.keys }
@@ -354,7 +359,7 @@ fn is_nothing(names: &[Name], moved: &[MovedRef]) -> bool
     names.is_empty() && moved.is_empty()
 }
 
-// What the names from a place on and these refs make. None: there are none of both.
+// The item of the objects held from a place on and of these refs. None: there are no such objects and no refs.
 fn weigh_news(
     alloc: Global,
     store: &Store,
@@ -369,7 +374,8 @@ fn weigh_news(
     requires short { list_all is_short (map ref_value moved.now) ≡ true }
     requires few { meter.commits ≤ 2 ^ 20 }
     ensures { let names = drop before held.now.keys in let nothing = is_nil names && is_nil (map ref_value moved.now) in
-        NewsOrNot nothing (found store.now names) (map ref_value moved.now) refs.now (length held.now.keys) meter result }
+        NewsOrNot nothing (found store.now names) (map ref_value moved.now) refs.now
+        (length held.now.keys) meter result }
 {
     let names = names_from(held, before);
     if is_nothing(names, moved) {
@@ -381,8 +387,8 @@ fn weigh_news(
     }
 }
 
-/// Holds a change's objects, and works out its item and what the state is after it. None: nothing is new. After an error
-/// names of the change may be held too.
+/// Holds a change's objects, and works out its item and what the state is after it. None: nothing is new. After an
+/// error names of the change may be held too.
 pub(crate) fn prepare(
     alloc: Global,
     store: &Store,
@@ -396,7 +402,8 @@ pub(crate) fn prepare(
     requires counted { meter.commits ≡ length (filter is_commit (held_of store.now held.old.keys)) }
     requires few { meter.commits ≤ 2 ^ 20 }
     requires change { IsChange store.now (held_of store.now held.old.keys) (change_of batch.now) }
-    ensures prepared { let S = store.now in let h = held_with (held_of S held.old.keys) refs.now in let p = plan S h (change_of batch.now) in MatchResult result
+    ensures prepared { let S = store.now in let h = held_with (held_of S held.old.keys) refs.now in
+        let p = plan S h (change_of batch.now) in MatchResult result
         (λ d. DraftOrNot S held.old.keys held.new.keys h meter.number meter.size p d)
         (λ e. IsNoDraft h meter.number meter.size p e) }
     ensures extends { Extends held.old.keys held.new.keys }

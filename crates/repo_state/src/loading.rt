@@ -1,5 +1,6 @@
 // Reading a keeper's items, one after another.
-ghost use Rattle.std.specs.Prelude.{◌≡◌, ◌≤◌, ◌+◌, ◌^◌, ◌&&◌, ◌↔◌, Ok, Err, true, nat_lt, nat_le, length, IfOk, IfSome, OnOk, MatchResult, sum_by};
+ghost use Rattle.std.specs.Prelude.{◌≡◌, ◌≤◌, ◌+◌, ◌^◌, ◌&&◌, ◌↔◌, Ok, Err, true, nat_lt, nat_le, length, IfOk};
+ghost use Rattle.std.specs.Prelude.{IfSome, OnOk, MatchResult, sum_by};
 ghost use Rattle.git_objects.specs.declared.limits.TheConstants.{ITEM_BYTES, ITEMS, STORE_BYTES};
 ghost use Rattle.proj_io.specs.Counts.{Counts};
 ghost use Rattle.proj_io.specs.Items.{Stays, item_of};
@@ -104,9 +105,11 @@ fn load_item<K: Keeper>(
     requires before { loaded.size ≤ 2 ^ 31 }
     requires heads { are_heads loaded.objects loaded.refs ≡ true }
     ensures item { IfSome (K.items keeper.old) (λ all. MatchResult result
-        (λ now. step number loaded.size (held_with loaded.objects loaded.refs) (item_of all number) ≡ Ok (held_with now.objects now.refs))
+        (λ now. step number loaded.size (held_with loaded.objects loaded.refs) (item_of all number) ≡ Ok
+        (held_with now.objects now.refs))
         (λ e. IsLoadFault e (step number loaded.size (held_with loaded.objects loaded.refs) (item_of all number)))) }
-    ensures size { IfOk result (λ now. IfSome (K.items keeper.old) (λ all. now.size ≡ loaded.size + length (item_of all number))) }
+    ensures size { IfOk result (λ now. IfSome (K.items keeper.old) (λ all. now.size ≡ loaded.size + length
+        (item_of all number))) }
     ensures sum { IfOk result (λ now. now.size ≤ 2 ^ 31) }
     ensures heads { IfOk result (λ now. are_heads now.objects now.refs ≡ true) }
     ensures same { K.number keeper.new ≡ K.number keeper.old }
@@ -135,7 +138,7 @@ fn load_item<K: Keeper>(
     }
 }
 
-/// Reads so many items, from the first on.
+/// Reads the first `count` items of a keeper.
 pub(crate) fn load_items<K: Keeper>(
     alloc: Global,
     keeper: &mut K,
@@ -145,7 +148,8 @@ pub(crate) fn load_items<K: Keeper>(
     ensures read { IfSome (K.items keeper.old) (λ all. count ≡ length all → MatchResult result
         (λ loaded. read_items all ≡ Ok (held_with loaded.objects loaded.refs))
         (λ e. IsLoadFault e (read_items all))) }
-    ensures size { IfOk result (λ loaded. IfSome (K.items keeper.old) (λ all. count ≡ length all → loaded.size ≡ sum_by length all)) }
+    ensures size { IfOk result (λ loaded. IfSome (K.items keeper.old) (λ all. count ≡ length all →
+        loaded.size ≡ sum_by length all)) }
     ensures heads { IfOk result (λ loaded. are_heads loaded.objects loaded.refs ≡ true) }
     ensures same { K.number keeper.new ≡ K.number keeper.old }
     ensures items { Stays (K.items keeper.old) (K.items keeper.new) }

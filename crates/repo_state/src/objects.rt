@@ -1,7 +1,9 @@
 // The objects of an item.
-ghost use Rattle.std.specs.Prelude.{◌≡◌, ◌<◌, ◌≤◌, ◌^◌, ◌&&◌, ◌++◌, ◌∷◌, [], ℕ, List, None, Ok, true, false, length, nat_le, IfErr, IfOk, OnOk, MatchResult};
+ghost use Rattle.std.specs.Prelude.{◌≡◌, ◌<◌, ◌≤◌, ◌^◌, ◌&&◌, ◌++◌, ◌∷◌, [], ℕ, List, None, Ok, true, false, length};
+ghost use Rattle.std.specs.Prelude.{nat_le, IfErr, IfOk, OnOk, MatchResult};
 ghost use Rattle.std.specs.Option.{option_map_or};
-ghost use Rattle.git_objects.specs.declared.limits.TheConstants.{COMMITS, MESSAGE_BYTES, OBJECTS, TREE_DEPTH, TREE_FILES, TREE_PATH_BYTES};
+ghost use Rattle.git_objects.specs.declared.limits.TheConstants.{COMMITS, MESSAGE_BYTES, OBJECTS, TREE_DEPTH};
+ghost use Rattle.git_objects.specs.declared.limits.TheConstants.{TREE_FILES, TREE_PATH_BYTES};
 ghost use Rattle.git_objects.specs.Names.{name};
 ghost use Rattle.git_objects.specs.CommitBodies.{commit_from};
 ghost use Rattle.object_store.specs.Objects.{Object, has, has_name, IsStore};
@@ -15,7 +17,9 @@ ghost use Rattle.repo_state.specs.Stops.{IsStop, are_heads};
 use crate::cursor::{Cursor, Stop};
 use crate::ref_fields::set_refs;
 use crate::ref_table::RefTable;
-use git_objects::limits::{BLOB_BYTES, COMMITS, MESSAGE_BYTES, OBJECTS, TREE_DEPTH, TREE_FILES, TREE_PATH_BYTES};
+use git_objects::limits::{
+    BLOB_BYTES, COMMITS, MESSAGE_BYTES, OBJECTS, TREE_DEPTH, TREE_FILES, TREE_PATH_BYTES,
+};
 use git_objects::{CommitView, Kind, Name};
 use indexmap::IndexSet;
 use object_store::{PutError, Store, TreeStats};
@@ -106,7 +110,8 @@ fn add(
 }
 
 fn stats_fit(stats: TreeStats) -> bool
-    ensures { result ≡ (nat_le stats.files TREE_FILES && nat_le stats.depth TREE_DEPTH && nat_le stats.longest TREE_PATH_BYTES) }
+    ensures { result ≡ (nat_le stats.files TREE_FILES && nat_le stats.depth TREE_DEPTH
+        && nat_le stats.longest TREE_PATH_BYTES) }
 {
     stats.files <= TREE_FILES && stats.depth <= TREE_DEPTH && stats.longest <= TREE_PATH_BYTES
 }
@@ -123,7 +128,8 @@ fn tree_fits(store: &Store, name: &Name) -> bool
 
 // Whether a commit's message is within the limit.
 fn message_fits(body: &[u8]) -> bool
-    ensures { result ≡ option_map_or (λ c. nat_le (length c.letter.message) MESSAGE_BYTES) (commit_from body.now) false }
+    ensures { result ≡ option_map_or (λ c. nat_le (length c.letter.message) MESSAGE_BYTES)
+        (commit_from body.now) false }
 {
     match CommitView::of(body) {
         None => false,
@@ -134,7 +140,8 @@ fn message_fits(body: &[u8]) -> bool
 // Whether the object that arrived last is within the limits.
 fn fits(store: &Store, kind: Kind, key: &Name, body: &[u8]) -> bool
     requires { key.now.0 ≡ name kind body.now }
-    ensures { (S : List Object) → store.now ≡ record { kind = kind; body = body.now } ∷ S → result ≡ body_fits S kind body.now }
+    ensures { (S : List Object) → store.now ≡ record { kind = kind; body = body.now } ∷ S →
+        result ≡ body_fits S kind body.now }
 {
     match kind {
         Kind::Blob => body.len() <= BLOB_BYTES,
@@ -170,12 +177,13 @@ impl Objects {
         }
     }
 
-    // Takes in one object more. Its body stands at this place.
+    // Takes in one object more, whose body stands at a place of the item.
     fn take(self, kind: Kind, body: &[u8], at: u64) -> Result<Objects, Stop>
         ensures object { MatchResult result
             (λ objects. take_object self kind body.now at (refusal self kind body.now) ≡ Ok objects)
             (λ stop. IsStop stop (take_object self kind body.now at (refusal self kind body.now))) }
-        ensures commits { IfOk result (λ objects. (n : List ℕ) → has Kind.Commit self n ≡ true → has Kind.Commit objects n ≡ true) }
+        ensures commits { IfOk result (λ objects. (n : List ℕ) → has Kind.Commit self n ≡ true →
+            has Kind.Commit objects n ≡ true) }
     {
         let Objects {
             mut store,
@@ -202,7 +210,8 @@ impl Objects {
         ensures object { MatchResult result
             (λ objects. object_field self cursor.old ≡ Ok (objects, cursor.new))
             (λ stop. IsStop stop (object_field self cursor.old)) }
-        ensures commits { IfOk result (λ objects. (n : List ℕ) → has Kind.Commit self n ≡ true → has Kind.Commit objects n ≡ true) }
+        ensures commits { IfOk result (λ objects. (n : List ℕ) → has Kind.Commit self n ≡ true →
+            has Kind.Commit objects n ≡ true) }
     {
         let kind = kind_field(cursor)?;
         let length = cursor.four_bytes()?;
@@ -211,12 +220,13 @@ impl Objects {
         self.take(kind, body, at)
     }
 
-    /// Reads so many objects.
+    /// Reads the objects of an item, so many as it says.
     pub(crate) fn read(self, cursor: &mut Cursor<'_>, count: u32) -> Result<Objects, Stop>
         ensures objects { MatchResult result
             (λ objects. objects_field count self cursor.old ≡ Ok (objects, cursor.new))
             (λ stop. IsStop stop (objects_field count self cursor.old)) }
-        ensures commits { IfOk result (λ objects. (n : List ℕ) → has Kind.Commit self n ≡ true → has Kind.Commit objects n ≡ true) }
+        ensures commits { IfOk result (λ objects. (n : List ℕ) → has Kind.Commit self n ≡ true →
+            has Kind.Commit objects n ≡ true) }
     {
         let mut objects = self;
         for i in 0..count {
@@ -228,7 +238,7 @@ impl Objects {
         Ok(objects)
     }
 
-    /// Sets so many refs, each to a commit of these objects.
+    /// Sets the refs of an item, each to a commit of the objects that are held.
     pub(crate) fn set_refs(
         &self,
         alloc: Global,

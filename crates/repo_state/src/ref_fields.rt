@@ -31,7 +31,7 @@ fn rises(before: Option<&[u8]>, name: &[u8]) -> bool
     }
 }
 
-// A ref name, above the one before.
+// The field of a ref name, which has to stand above the one before in byte order.
 fn ref_field<'a>(cursor: &mut Cursor<'a>, before: Option<&[u8]>) -> Result<&'a [u8], Stop>
     ensures { MatchResult result
         (λ name. ref_field (option_copied before.entry) cursor.old ≡ Ok (name.now, cursor.new))
@@ -57,7 +57,7 @@ fn has_commit(store: &Store, name: &Name) -> bool
     }
 }
 
-// The name in 20 bytes.
+// The name of which a field has the 20 bytes.
 fn name_in(bytes: &[u8]) -> Option<Name>
     ensures { option_map name_bytes result ≡ cond (length bytes.now == 20) (Some bytes.now) None }
 {
@@ -70,7 +70,7 @@ fn name_in(bytes: &[u8]) -> Option<Name>
     }
 }
 
-// The name of a commit that is held.
+// The field of a commit's name, which has to be held.
 fn head_field(cursor: &mut Cursor<'_>, store: &Store) -> Result<Name, Stop>
     ensures field { MatchResult result
         (λ name. head_field store.now cursor.old ≡ Ok (name.0, cursor.new))
@@ -101,7 +101,8 @@ fn set_ref<'a>(
 ) -> Result<&'a [u8], Stop>
     requires { are_heads store.now table.old ≡ true }
     ensures one { MatchResult result
-        (λ name. one_ref store.now (option_copied before.entry) table.old cursor.old ≡ Ok ((name.now, table.new), cursor.new))
+        (λ name. one_ref store.now (option_copied before.entry) table.old cursor.old ≡ Ok
+        ((name.now, table.new), cursor.new))
         (λ stop. IsStop stop (one_ref store.now (option_copied before.entry) table.old cursor.old)) }
     ensures heads { OnOk result (are_heads store.now table.new ≡ true) }
 {
@@ -116,7 +117,7 @@ fn set_ref<'a>(
     }
 }
 
-/// Sets so many refs.
+/// Sets the refs of an item, so many as the item says.
 pub(crate) fn set_refs(
     alloc: Global,
     cursor: &mut Cursor<'_>,

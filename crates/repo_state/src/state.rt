@@ -45,7 +45,7 @@ pub struct State {
     pub(crate) refs: RefTable,
     // The names of the objects that items hold, in order of arrival.
     pub(crate) held: IndexSet<Name>,
-    // How many of these are commits.
+    // How many of the held objects are commits.
     pub(crate) commits: u32,
     // How many items there are, and their bytes together.
     pub(crate) number: u32,
@@ -66,7 +66,7 @@ impl Model for State {
 }
 
 impl State {
-    // The state of what was read of so many items.
+    // The state of what was read of `number` items.
     fn of(alloc: Global, loaded: Loaded, number: u32) -> State
         requires { are_heads loaded.objects loaded.refs ≡ true }
         ensures held { result.held ≡ held_with loaded.objects loaded.refs }
@@ -134,7 +134,8 @@ impl State {
 
     /// The names of the commits that items hold, in order of arrival.
     pub fn commits(&self) -> Result<Vec<Name>, AllocError>
-        ensures { IfOk result (λ v. map name_bytes v.items ≡ reverse (map object_name (filter is_commit self.now.held.objects))) }
+        ensures { IfOk result (λ v. map name_bytes v.items ≡ reverse (map object_name
+            (filter is_commit self.now.held.objects))) }
     {
         match commit_names(self.alloc, &self.store, self.held.as_slice()) {
             Ok(commits) => Ok(commits),

@@ -2,30 +2,15 @@
 use Rattle.std.proofs.Common.{◌≡◌, ◌+◌, ◌≤◌, ℕ, zero, suc, Bool, true, false, cond, [], ◌∷◌, length, take, drop, Option, Some, None, Ok, Err, refl, sym, ap, ◌∙◌, arith, eqb, leb, leb-true}
 use Rattle.std.specs.Option.{option_map}
 use Rattle.std.proofs.lemmas.List.{drop-drop, length-drop}
-use Rattle.stream_lex.specs.declared.cursor.Stop.TheVariants.{LongLine, StreamTooLong}
+use Rattle.git_objects.specs.declared.limits.TheConstants.{STREAM_BYTES}
+use Rattle.stream_lex.specs.declared.stop.Stop.TheVariants.{Fault}
+use Rattle.stream_lex.specs.declared.stop.LimitFault.TheVariants.{LongLine, StreamTooLong}
 use Rattle.git_objects.specs.Paths.{Bytes}
-use Rattle.stream_lex.specs.Lines.{Input, Line, Read, ◌>>=◌, split_line, stream_max, is_long, line_from, last_line, any_line, line_at, line_within, past_comment, is_comment, block_at, block_end, short_block}
+use Rattle.git_objects.specs.Results.{◌>>=◌}
+use Rattle.stream_lex.specs.Lines.{Input, Line, Lex, split_line, is_long, line_from, last_line, any_line, line_at, line_within, past_comment, is_comment, block_at, block_end, short_block}
 use Rattle.stream_lex.specs.Cutting.{Advances, Steps}
+use Rattle.stream_lex.proofs.Combining.{stays, bind_steps}
 use Rattle.stream_lex.proofs.Scan.{got_line, got_block}
-
-pub stays : (i : Input) → Advances i i
-stays i = record { by = 0; at = omega arith; rest = refl; within = omega arith }
-
-pub then : (i j k : Input) → Advances i j → Advances j k → Advances i k
-then i j k p q = record {
-  by = p.by + q.by;
-  at = q.at ∙ omega (arith, p.at);
-  rest = q.rest ∙ ap (drop q.by) p.rest ∙ drop-drop q.by p.by i.rest;
-  within = omega (arith, p.within, q.within, ap length p.rest, length-drop p.by i.rest);
-}
-
-steps_later : {A : Type 0} (i j : Input) (r : Read A) → Advances i j → Steps j r → Steps i r
-steps_later i j (Ok y) h g = then i j y.1 h g
-steps_later i j (Err e) h g = tt
-
-pub bind_steps : {A B : Type 0} (i : Input) (r : Read A) (f : A × Input → Read B) → Steps i r → ((x : A) (j : Input) → Steps j (f (x, j))) → Steps i (r >>= f)
-bind_steps i (Ok x) f h k = steps_later i x.1 (f x) h (k x.0 x.1)
-bind_steps i (Err e) f h k = tt
 
 -- the bytes of a line and those behind it
 abbrev Behind : Bytes → Option (Bytes × Bytes) → Type 0
@@ -55,17 +40,17 @@ last_steps true i (x ∷ xs) h = record { by = length (x ∷ xs); at = refl; res
 
 from_steps : (ended : Bool) (i : Input) (o : Option (Bytes × Bytes)) → Behind i.rest o → Steps i (line_from ended i o)
 from_steps ended i (Some r) h =
-    elim (is_long i.at (length r.0)) as (λ b. Steps i (cond b (Err (LongLine i.at)) (cond (leb (i.at + (length r.0 + 1)) stream_max) (got_line i.at r.0 (i.at + (length r.0 + 1)) r.1) (Err StreamTooLong)))) [
+    elim (is_long i.at (length r.0)) as (λ b. Steps i (cond b (Err (Fault (LongLine i.at))) (cond (leb (i.at + (length r.0 + 1)) STREAM_BYTES) (got_line i.at r.0 (i.at + (length r.0 + 1)) r.1) (Err (Fault StreamTooLong))))) [
       | true ↦ tt
-      | false ↦ elim (leb (i.at + (length r.0 + 1)) stream_max) as (λ b. Steps i (cond b (got_line i.at r.0 (i.at + (length r.0 + 1)) r.1) (Err StreamTooLong))) [
+      | false ↦ elim (leb (i.at + (length r.0 + 1)) STREAM_BYTES) as (λ b. Steps i (cond b (got_line i.at r.0 (i.at + (length r.0 + 1)) r.1) (Err (Fault StreamTooLong)))) [
         | true ↦ record { by = length r.0 + 1; at = refl; rest = h.0; within = h.1 }
         | false ↦ tt
       ]
     ]
 from_steps ended i None h =
-    elim (is_long i.at (length i.rest)) as (λ b. Steps i (cond b (Err (LongLine i.at)) (cond (leb (i.at + length i.rest) stream_max) (last_line ended i i.rest) (Err StreamTooLong)))) [
+    elim (is_long i.at (length i.rest)) as (λ b. Steps i (cond b (Err (Fault (LongLine i.at))) (cond (leb (i.at + length i.rest) STREAM_BYTES) (last_line ended i i.rest) (Err (Fault StreamTooLong))))) [
       | true ↦ tt
-      | false ↦ elim (leb (i.at + length i.rest) stream_max) as (λ b. Steps i (cond b (last_line ended i i.rest) (Err StreamTooLong))) [
+      | false ↦ elim (leb (i.at + length i.rest) STREAM_BYTES) as (λ b. Steps i (cond b (last_line ended i i.rest) (Err (Fault StreamTooLong)))) [
         | true ↦ last_steps ended i i.rest refl
         | false ↦ tt
       ]
@@ -75,7 +60,7 @@ pub any_line-steps : (ended : Bool) (i : Input) → Steps i (any_line ended i)
 unfolding any_line
 any_line-steps ended i = from_steps ended i (split_line i.rest) (line_behind i.rest)
 
-comment_steps : (f : Input → Read (Option Line)) → ((j : Input) → Steps j (f j)) → (x : Option Line) (j : Input) → Steps j (past_comment f (x, j))
+comment_steps : (f : Input → Lex (Option Line)) → ((j : Input) → Steps j (f j)) → (x : Option Line) (j : Input) → Steps j (past_comment f (x, j))
 comment_steps f h None j = stays j
 comment_steps f h (Some l) j =
     elim (is_comment l.bytes) as (λ b. Steps j (cond b (f j) (Ok (Some l, j)))) [ true ↦ h j | false ↦ stays j ]
@@ -90,11 +75,11 @@ line_at-steps ended i = within_steps (length i.rest + 1) ended i
 
 -- the LF behind a block
 end_here : (n : ℕ) (b : Bytes) (x : ℕ) (xs : Bytes) (i : Input) → n ≤ length i.rest → x ∷ xs ≡ drop n i.rest →
-    Steps i (cond (eqb x 10) (cond (leb (i.at + (n + 1)) stream_max) (got_block b (i.at + (n + 1)) xs) (Err StreamTooLong)) (got_block b (i.at + n) (x ∷ xs)))
+    Steps i (cond (eqb x 10) (cond (leb (i.at + (n + 1)) STREAM_BYTES) (got_block b (i.at + (n + 1)) xs) (Err (Fault StreamTooLong))) (got_block b (i.at + n) (x ∷ xs)))
 end_here n b x xs i h g =
-    elim (eqb x 10) as (λ t. Steps i (cond t (cond (leb (i.at + (n + 1)) stream_max) (got_block b (i.at + (n + 1)) xs) (Err StreamTooLong)) (got_block b (i.at + n) (x ∷ xs)))) [
+    elim (eqb x 10) as (λ t. Steps i (cond t (cond (leb (i.at + (n + 1)) STREAM_BYTES) (got_block b (i.at + (n + 1)) xs) (Err (Fault StreamTooLong))) (got_block b (i.at + n) (x ∷ xs)))) [
       | false ↦ record { by = n; at = refl; rest = g; within = h }
-      | true ↦ elim (leb (i.at + (n + 1)) stream_max) as (λ t. Steps i (cond t (got_block b (i.at + (n + 1)) xs) (Err StreamTooLong))) [
+      | true ↦ elim (leb (i.at + (n + 1)) STREAM_BYTES) as (λ t. Steps i (cond t (got_block b (i.at + (n + 1)) xs) (Err (Fault StreamTooLong)))) [
         | true ↦ record { by = n + 1; at = refl; rest = ap (drop 1) g ∙ drop-drop 1 n i.rest; within = omega (arith, ap length g, length-drop n i.rest) }
         | false ↦ tt
       ]
@@ -114,10 +99,10 @@ pub block_at-steps : (n : ℕ) (ended : Bool) (i : Input) → Steps i (block_at 
 unfolding block_at
 block_at-steps n ended i =
     elim (leb n (length i.rest)) as (λ t. leb n (length i.rest) ≡ t → Steps i
-    (cond t (cond (leb (i.at + n) stream_max) (block_end ended n (take n i.rest) (drop n i.rest) i) (Err StreamTooLong)) (cond (leb (i.at + length i.rest) stream_max) (short_block ended i) (Err StreamTooLong)))) [
-      | true ↦ λ e. elim (leb (i.at + n) stream_max) as (λ t. Steps i (cond t (block_end ended n (take n i.rest) (drop n i.rest) i) (Err StreamTooLong))) [
+    (cond t (cond (leb (i.at + n) STREAM_BYTES) (block_end ended n (take n i.rest) (drop n i.rest) i) (Err (Fault StreamTooLong))) (cond (leb (i.at + length i.rest) STREAM_BYTES) (short_block ended i) (Err (Fault StreamTooLong))))) [
+      | true ↦ λ e. elim (leb (i.at + n) STREAM_BYTES) as (λ t. Steps i (cond t (block_end ended n (take n i.rest) (drop n i.rest) i) (Err (Fault StreamTooLong)))) [
         | true ↦ end_steps ended n (take n i.rest) (drop n i.rest) i (leb-true n (length i.rest) e) refl
         | false ↦ tt
       ]
-      | false ↦ λ e. elim (leb (i.at + length i.rest) stream_max) as (λ t. Steps i (cond t (short_block ended i) (Err StreamTooLong))) [ true ↦ short_steps ended i | false ↦ tt ]
+      | false ↦ λ e. elim (leb (i.at + length i.rest) STREAM_BYTES) as (λ t. Steps i (cond t (short_block ended i) (Err (Fault StreamTooLong)))) [ true ↦ short_steps ended i | false ↦ tt ]
     ] refl

@@ -1,10 +1,14 @@
 -- Reading a line ends, and goes on behind each comment.
 use Rattle.std.proofs.Common.{◌≡◌, ◌+◌, ◌<◌, ◌≤◌, ℕ, zero, suc, Bool, true, false, cond, [], ◌∷◌, length, Option, Some, None, Ok, Err, refl, ap, ◌∙◌, arith, eqb, leb, leb-true, subst}
 use Rattle.std.specs.Option.{option_map}
-use Rattle.stream_lex.specs.declared.cursor.Stop.{Stop}
-use Rattle.stream_lex.specs.declared.cursor.Stop.TheVariants.{LongLine, StreamTooLong}
+use Rattle.git_objects.specs.declared.limits.TheConstants.{STREAM_BYTES}
+use Rattle.stream_lex.specs.declared.stop.Stop.{Stop}
+use Rattle.stream_lex.specs.declared.stop.LimitFault.{LimitFault}
+use Rattle.stream_lex.specs.declared.stop.Stop.TheVariants.{Fault}
+use Rattle.stream_lex.specs.declared.stop.LimitFault.TheVariants.{LongLine, StreamTooLong}
 use Rattle.git_objects.specs.Paths.{Bytes}
-use Rattle.stream_lex.specs.Lines.{Input, Line, Read, ◌>>=◌, split_line, stream_max, is_long, line_from, last_line, any_line, line_at, line_within, past_comment, is_comment}
+use Rattle.git_objects.specs.Results.{◌>>=◌}
+use Rattle.stream_lex.specs.Lines.{Input, Line, Lex, split_line, is_long, line_from, last_line, any_line, line_at, line_within, past_comment, is_comment}
 use Rattle.stream_lex.proofs.Scan.{got_line}
 
 -- the bytes of a line and those behind it
@@ -25,30 +29,30 @@ parts (x ∷ xs) =
     ]
 
 -- a line takes bytes, and ends within the limit
-abbrev pub Moves : Input → Read (Option Line) → Type 0
-Moves i (Ok (Some l, j)) = (length j.rest < length i.rest) × (j.at ≤ stream_max)
-Moves i (Ok (None, j)) = (length j.rest ≤ length i.rest) × (j.at ≤ stream_max)
+abbrev pub Moves : Input → Lex (Option Line) → Type 0
+Moves i (Ok (Some l, j)) = (length j.rest < length i.rest) × (j.at ≤ STREAM_BYTES)
+Moves i (Ok (None, j)) = (length j.rest ≤ length i.rest) × (j.at ≤ STREAM_BYTES)
 Moves i (Err e) = Unit
 
-last_moves : (ended : Bool) (i : Input) (xs : Bytes) → length xs ≤ length i.rest → i.at + length xs ≤ stream_max → Moves i (last_line ended i xs)
+last_moves : (ended : Bool) (i : Input) (xs : Bytes) → length xs ≤ length i.rest → i.at + length xs ≤ STREAM_BYTES → Moves i (last_line ended i xs)
 last_moves false i xs h g = tt
 last_moves true i [] h g = (omega arith, omega arith)
 last_moves true i (x ∷ xs) h g = (omega arith, g)
 
 from_moves : (ended : Bool) (i : Input) (o : Option (Bytes × Bytes)) → Parts i.rest o → Moves i (line_from ended i o)
 from_moves ended i (Some r) h =
-    elim (is_long i.at (length r.0)) as (λ b. Moves i (cond b (Err (LongLine i.at)) (cond (leb (i.at + (length r.0 + 1)) stream_max) (got_line i.at r.0 (i.at + (length r.0 + 1)) r.1) (Err StreamTooLong)))) [
+    elim (is_long i.at (length r.0)) as (λ b. Moves i (cond b (Err (Fault (LongLine i.at))) (cond (leb (i.at + (length r.0 + 1)) STREAM_BYTES) (got_line i.at r.0 (i.at + (length r.0 + 1)) r.1) (Err (Fault StreamTooLong))))) [
       | true ↦ tt
-      | false ↦ elim (leb (i.at + (length r.0 + 1)) stream_max) as (λ b. leb (i.at + (length r.0 + 1)) stream_max ≡ b → Moves i (cond b (got_line i.at r.0 (i.at + (length r.0 + 1)) r.1) (Err StreamTooLong))) [
-        | true ↦ λ e. (omega arith, leb-true (i.at + (length r.0 + 1)) stream_max e)
+      | false ↦ elim (leb (i.at + (length r.0 + 1)) STREAM_BYTES) as (λ b. leb (i.at + (length r.0 + 1)) STREAM_BYTES ≡ b → Moves i (cond b (got_line i.at r.0 (i.at + (length r.0 + 1)) r.1) (Err (Fault StreamTooLong)))) [
+        | true ↦ λ e. (omega arith, leb-true (i.at + (length r.0 + 1)) STREAM_BYTES e)
         | false ↦ λ e. tt
       ] refl
     ]
 from_moves ended i None h =
-    elim (is_long i.at (length i.rest)) as (λ b. Moves i (cond b (Err (LongLine i.at)) (cond (leb (i.at + length i.rest) stream_max) (last_line ended i i.rest) (Err StreamTooLong)))) [
+    elim (is_long i.at (length i.rest)) as (λ b. Moves i (cond b (Err (Fault (LongLine i.at))) (cond (leb (i.at + length i.rest) STREAM_BYTES) (last_line ended i i.rest) (Err (Fault StreamTooLong))))) [
       | true ↦ tt
-      | false ↦ elim (leb (i.at + length i.rest) stream_max) as (λ b. leb (i.at + length i.rest) stream_max ≡ b → Moves i (cond b (last_line ended i i.rest) (Err StreamTooLong))) [
-        | true ↦ λ e. last_moves ended i i.rest (omega arith) (leb-true (i.at + length i.rest) stream_max e)
+      | false ↦ elim (leb (i.at + length i.rest) STREAM_BYTES) as (λ b. leb (i.at + length i.rest) STREAM_BYTES ≡ b → Moves i (cond b (last_line ended i i.rest) (Err (Fault StreamTooLong)))) [
+        | true ↦ λ e. last_moves ended i i.rest (omega arith) (leb-true (i.at + length i.rest) STREAM_BYTES e)
         | false ↦ λ e. tt
       ] refl
     ]
@@ -58,7 +62,7 @@ unfolding any_line
 any_line-moves ended i = from_moves ended i (split_line i.rest) (parts i.rest)
 
 -- enough comments are allowed for
-comment_same : (f g : Input → Read (Option Line)) (i : Input) (r : Read (Option Line)) → Moves i r → ((j : Input) → length j.rest < length i.rest → f j ≡ g j) → (r >>= past_comment f) ≡ (r >>= past_comment g)
+comment_same : (f g : Input → Lex (Option Line)) (i : Input) (r : Lex (Option Line)) → Moves i r → ((j : Input) → length j.rest < length i.rest → f j ≡ g j) → (r >>= past_comment f) ≡ (r >>= past_comment g)
 comment_same f g i (Ok (Some l, j)) h k = ap (λ s. cond (is_comment l.bytes) s (Ok (Some l, j))) (k j h.0)
 comment_same f g i (Ok (None, j)) h k = refl
 comment_same f g i (Err e) h k = refl
@@ -78,7 +82,7 @@ line_at-is ended i =
     (λ j k. same_within (length i.rest) (length j.rest + 1) ended j (omega arith) (omega arith))
 
 module _ (ended : Bool) (i j : Input) where
-  pub line_err : (s : Stop) → any_line ended i ≡ Err s → line_at ended i ≡ Err s
+  pub line_err : (s : Stop LimitFault) → any_line ended i ≡ Err s → line_at ended i ≡ Err s
   line_err s e = line_at-is ended i ∙ ap (λ r. r >>= past_comment (line_at ended)) e
 
   pub line_none : any_line ended i ≡ Ok (None, j) → line_at ended i ≡ Ok (None, j)
@@ -90,20 +94,20 @@ module _ (ended : Bool) (i j : Input) where
   pub line_skip : (l : Line) → any_line ended i ≡ Ok (Some l, j) → is_comment l.bytes ≡ true → line_at ended i ≡ line_at ended j
   line_skip l e h = line_at-is ended i ∙ ap (λ r. r >>= past_comment (line_at ended)) e ∙ ap (λ b. cond b (line_at ended j) (Ok (Some l, j))) h
 
-  pub moves_none : any_line ended i ≡ Ok (None, j) → j.at ≤ stream_max
+  pub moves_none : any_line ended i ≡ Ok (None, j) → j.at ≤ STREAM_BYTES
   moves_none e = (subst (Moves i) e (any_line-moves ended i)).1
 
-  pub moves_some : (l : Line) → any_line ended i ≡ Ok (Some l, j) → (length j.rest < length i.rest) × (j.at ≤ stream_max)
+  pub moves_some : (l : Line) → any_line ended i ≡ Ok (Some l, j) → (length j.rest < length i.rest) × (j.at ≤ STREAM_BYTES)
   moves_some l e = subst (Moves i) e (any_line-moves ended i)
 
 -- ---- the next line takes bytes too
 
-weaker : (i j : Input) (r : Read (Option Line)) → length j.rest ≤ length i.rest → Moves j r → Moves i r
+weaker : (i j : Input) (r : Lex (Option Line)) → length j.rest ≤ length i.rest → Moves j r → Moves i r
 weaker i j (Ok (Some l, k)) h g = (omega (arith, g.0), g.1)
 weaker i j (Ok (None, k)) h g = (omega (arith, g.0), g.1)
 weaker i j (Err e) h g = tt
 
-comment_moves : (f : Input → Read (Option Line)) → ((j : Input) → Moves j (f j)) → (i : Input) (r : Read (Option Line)) → Moves i r → Moves i (r >>= past_comment f)
+comment_moves : (f : Input → Lex (Option Line)) → ((j : Input) → Moves j (f j)) → (i : Input) (r : Lex (Option Line)) → Moves i r → Moves i (r >>= past_comment f)
 comment_moves f k i (Ok (Some l, j)) h =
     elim (is_comment l.bytes) as (λ b. Moves i (cond b (f j) (Ok (Some l, j)))) [ true ↦ weaker i j (f j) (omega (arith, h.0)) (k j) | false ↦ h ]
 comment_moves f k i (Ok (None, j)) h = h

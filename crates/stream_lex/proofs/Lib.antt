@@ -1,3 +1,4 @@
+pub mod Combining
 pub mod Scan
 pub mod Settling
 pub mod Fuel

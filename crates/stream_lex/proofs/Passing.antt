@@ -1,11 +1,14 @@
 -- Comments that were looked at are not looked at again.
-use Rattle.std.proofs.Common.{◌≡◌, ◌+◌, ◌-◌, ◌≤◌, ℕ, Bool, true, false, [], ◌++◌, length, take, drop, Option, Some, Ok, refl, sym, ap, ◌∙◌, arith, subst, append_assoc, append-nil, length-drop}
+use Rattle.std.proofs.Common.{◌≡◌, ◌+◌, ◌-◌, ◌≤◌, ℕ, Bool, true, false, [], ◌++◌, length, take, drop, Option, Some, Ok, Err, refl, sym, ap, ◌∙◌, arith, subst, append_assoc, append-nil, length-drop}
 use Rattle.std.proofs.lemmas.List.{drop-drop, take_rest}
 use Rattle.git_objects.specs.Paths.{Bytes}
-use Rattle.stream_lex.specs.Lines.{Input, Line, Read, any_line, line_at, is_comment}
+use Rattle.stream_lex.specs.Lines.{Input, Line, Lex, any_line, line_at, is_comment}
 use Rattle.stream_lex.specs.Cutting.{grown, Agrees, Advances}
 use Rattle.stream_lex.specs.Passed.{IsPast}
-use Rattle.stream_lex.specs.Lexing.{Lexed}
+use Rattle.stream_lex.specs.declared.stop.Stop.TheVariants.{Fault}
+use Rattle.stream_lex.specs.declared.stop.LimitFault.{LimitFault}
+use Rattle.stream_lex.specs.declared.stop.LimitFault.TheVariants.{LongLine, StreamTooLong}
+use Rattle.stream_lex.specs.Lexing.{Lexed, lex_fault, Refuses}
 use Rattle.stream_lex.proofs.Settling.{any_line-settles}
 use Rattle.stream_lex.proofs.Fuel.{line_skip}
 
@@ -73,7 +76,7 @@ module _ (base : ℕ) (bytes all : Bytes) (used from : ℕ) (ended : Bool) (same
   abbrev there : Input
   there = record { at = base + from; rest = take (length all - from) (drop from all) }
 
-  pub told_here : (r : Read (Option Line)) → line_at ended there ≡ r → line_at now.ended now.input ≡ r
+  pub told_here : (r : Lex (Option Line)) → line_at ended there ≡ r → line_at now.ended now.input ≡ r
   told_here r e =
       (λ k. line_at (sym view k).ended (sym view k).input)
       ∙ past_now ended (at_offset base bytes used) (at_offset base bytes from) past
@@ -86,6 +89,11 @@ module _ (base : ℕ) (bytes all : Bytes) (used from : ℕ) (ended : Bool) (same
 
     pub left_within : from ≤ length bytes → (used + (k.at - (base + used)) ≤ length bytes) × (k.at ≡ base + (used + (k.at - (base + used))))
     left_within room = reached_room base bytes used from there k (slice_at base bytes all from same) least room steps
+
+-- a fault of reading is told
+pub refused : {A : Type 0} {read : Lex A} (f : LimitFault) (l : Lexed) → read ≡ Err (Fault f) → Refuses (lex_fault f) l l read
+refused (LongLine at) l e = (e, refl)
+refused StreamTooLong l e = (e, refl)
 
 -- ---- what was handed out is given up
 

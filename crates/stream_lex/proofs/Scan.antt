@@ -6,10 +6,12 @@ use Rattle.std.proofs.lemmas.Bool.{ne_eqb, lt-leb, cases_lt, eqb-true, eq-eqb}
 use Rattle.std.proofs.lemmas.List.{length-take}
 use Rattle.std.proofs.lemmas.List.Edits.{get_or-between}
 use Rattle.std.proofs.lemmas.List.Edits.{length-between}
+use Rattle.git_objects.specs.declared.limits.TheConstants.{LINE_BYTES, STREAM_BYTES}
 use Rattle.memchr.specs.Find.{Nowhere, Passes, is_byte}
-use Rattle.stream_lex.specs.declared.cursor.Stop.TheVariants.{LongLine, StreamTooLong}
+use Rattle.stream_lex.specs.declared.stop.Stop.TheVariants.{Fault}
+use Rattle.stream_lex.specs.declared.stop.LimitFault.TheVariants.{LongLine, StreamTooLong}
 use Rattle.git_objects.specs.Paths.{Bytes}
-use Rattle.stream_lex.specs.Lines.{Input, Line, Read, split_line, HasNone, line_max, stream_max, is_long, line_from, last_line, any_line}
+use Rattle.stream_lex.specs.Lines.{Input, Line, Lex, split_line, HasNone, is_long, line_from, last_line, any_line}
 
 not_lf : (x : ℕ) → x ≢ 10 → eqb x 10 ≡ false
 not_lf x h = ne_eqb x 10 h
@@ -57,58 +59,58 @@ ends_later (x ∷ xs) (suc n) f =
 
 -- ---- a line that an LF ends
 
-pub long_false : (at n : ℕ) → n ≤ line_max → is_long at n ≡ false
-long_false at n h = rw (lt-leb (line_max + 1) n (let k : n < line_max + 1 = omega (arith, h) in k)) refl
+pub long_false : (at n : ℕ) → n ≤ LINE_BYTES → is_long at n ≡ false
+long_false at n h = rw (lt-leb (LINE_BYTES + 1) n (let k : n < LINE_BYTES + 1 = omega (arith, h) in k)) refl
 
 module _ (ended : Bool) (at : ℕ) (xs : Bytes) where
   abbrev here : Input
   here = record { at = at; rest = xs }
 
-  pub whole : (n : ℕ) (r : Bytes × Bytes) → length r.0 ≡ n → n ≤ line_max → at + (n + 1) ≤ stream_max →
+  pub whole : (n : ℕ) (r : Bytes × Bytes) → length r.0 ≡ n → n ≤ LINE_BYTES → at + (n + 1) ≤ STREAM_BYTES →
       line_from ended here (Some r) ≡ Ok (Some (record { place = at; bytes = r.0 }), record { at = at + (n + 1); rest = r.1 })
-  whole n r e h g = rw (e, long_false at n h, le-leb (at + (n + 1)) stream_max g) refl
+  whole n r e h g = rw (e, long_false at n h, le-leb (at + (n + 1)) STREAM_BYTES g) refl
 
-  beyond : (n : ℕ) (r : Bytes × Bytes) → length r.0 ≡ n → n ≤ line_max → stream_max < at + (n + 1) → line_from ended here (Some r) ≡ Err StreamTooLong
-  beyond n r e h g = rw (e, long_false at n h, lt-leb (at + (n + 1)) stream_max g) refl
+  beyond : (n : ℕ) (r : Bytes × Bytes) → length r.0 ≡ n → n ≤ LINE_BYTES → STREAM_BYTES < at + (n + 1) → line_from ended here (Some r) ≡ Err (Fault StreamTooLong)
+  beyond n r e h g = rw (e, long_false at n h, lt-leb (at + (n + 1)) STREAM_BYTES g) refl
 
-  pub line_whole : (n : ℕ) → split_line xs ≡ Some (take n xs, drop (n + 1) xs) → (n < length xs) × (n ≤ line_max) → at + (n + 1) ≤ stream_max →
+  pub line_whole : (n : ℕ) → split_line xs ≡ Some (take n xs, drop (n + 1) xs) → (n < length xs) × (n ≤ LINE_BYTES) → at + (n + 1) ≤ STREAM_BYTES →
       any_line ended here ≡ Ok (Some (record { place = at; bytes = take n xs }), record { at = at + (n + 1); rest = drop (n + 1) xs })
   unfolding any_line
   line_whole n e h g = ap (line_from ended here) e ∙ whole n (take n xs, drop (n + 1) xs) (omega (arith, length-take n xs)) h.1 g
 
-  pub line_beyond : (n : ℕ) → split_line xs ≡ Some (take n xs, drop (n + 1) xs) → (n < length xs) × (n ≤ line_max) → stream_max < at + (n + 1) →
-      any_line ended here ≡ Err StreamTooLong
+  pub line_beyond : (n : ℕ) → split_line xs ≡ Some (take n xs, drop (n + 1) xs) → (n < length xs) × (n ≤ LINE_BYTES) → STREAM_BYTES < at + (n + 1) →
+      any_line ended here ≡ Err (Fault StreamTooLong)
   unfolding any_line
   line_beyond n e h g = ap (line_from ended here) e ∙ beyond n (take n xs, drop (n + 1) xs) (omega (arith, length-take n xs)) h.1 g
 
   -- ---- a line that none ends
 
-  long_line : (o : Option (Bytes × Bytes)) → EndsLater (line_max + 1) xs o → line_max < length xs → at + line_max + 1 ≤ stream_max → line_from ended here o ≡ Err (LongLine at)
-  long_line None h l g = rw (le-leb (line_max + 1) (length xs) (omega arith), le-leb (at + line_max + 1) stream_max g) refl
-  long_line (Some r) h l g = rw (le-leb (line_max + 1) (length r.0) h.0, le-leb (at + line_max + 1) stream_max g) refl
+  long_line : (o : Option (Bytes × Bytes)) → EndsLater (LINE_BYTES + 1) xs o → LINE_BYTES < length xs → at + LINE_BYTES + 1 ≤ STREAM_BYTES → line_from ended here o ≡ Err (Fault (LongLine at))
+  long_line None h l g = rw (le-leb (LINE_BYTES + 1) (length xs) (omega arith), le-leb (at + LINE_BYTES + 1) STREAM_BYTES g) refl
+  long_line (Some r) h l g = rw (le-leb (LINE_BYTES + 1) (length r.0) h.0, le-leb (at + LINE_BYTES + 1) STREAM_BYTES g) refl
 
-  pub line_long : HasNone xs (line_max + 1) → line_max < length xs → at + line_max + 1 ≤ stream_max → any_line ended here ≡ Err (LongLine at)
+  pub line_long : HasNone xs (LINE_BYTES + 1) → LINE_BYTES < length xs → at + LINE_BYTES + 1 ≤ STREAM_BYTES → any_line ended here ≡ Err (Fault (LongLine at))
   unfolding any_line
-  line_long f l g = long_line (split_line xs) (ends_later xs (line_max + 1) f) l g
+  line_long f l g = long_line (split_line xs) (ends_later xs (LINE_BYTES + 1) f) l g
 
-  cut_line : (o : Option (Bytes × Bytes)) → EndsLater (line_max + 1) xs o → line_max < length xs → stream_max < at + line_max + 1 → line_from ended here o ≡ Err StreamTooLong
-  cut_line None h l g = rw (lt-leb (at + line_max + 1) stream_max g, and-false (leb (line_max + 1) (length xs)), lt-leb (at + length xs) stream_max (omega arith)) refl
-  cut_line (Some r) h l g = rw (lt-leb (at + line_max + 1) stream_max g, and-false (leb (line_max + 1) (length r.0)), lt-leb (at + (length r.0 + 1)) stream_max (omega arith)) refl
+  cut_line : (o : Option (Bytes × Bytes)) → EndsLater (LINE_BYTES + 1) xs o → LINE_BYTES < length xs → STREAM_BYTES < at + LINE_BYTES + 1 → line_from ended here o ≡ Err (Fault StreamTooLong)
+  cut_line None h l g = rw (lt-leb (at + LINE_BYTES + 1) STREAM_BYTES g, and-false (leb (LINE_BYTES + 1) (length xs)), lt-leb (at + length xs) STREAM_BYTES (omega arith)) refl
+  cut_line (Some r) h l g = rw (lt-leb (at + LINE_BYTES + 1) STREAM_BYTES g, and-false (leb (LINE_BYTES + 1) (length r.0)), lt-leb (at + (length r.0 + 1)) STREAM_BYTES (omega arith)) refl
 
-  pub line_cut : HasNone xs (line_max + 1) → line_max < length xs → stream_max < at + line_max + 1 → any_line ended here ≡ Err StreamTooLong
+  pub line_cut : HasNone xs (LINE_BYTES + 1) → LINE_BYTES < length xs → STREAM_BYTES < at + LINE_BYTES + 1 → any_line ended here ≡ Err (Fault StreamTooLong)
   unfolding any_line
-  line_cut f l g = cut_line (split_line xs) (ends_later xs (line_max + 1) f) l g
+  line_cut f l g = cut_line (split_line xs) (ends_later xs (LINE_BYTES + 1) f) l g
 
-  short : HasNone xs (line_max + 1) → length xs ≤ line_max → split_line xs ≡ None
+  short : HasNone xs (LINE_BYTES + 1) → length xs ≤ LINE_BYTES → split_line xs ≡ None
   short f l = split_none xs (λ k h. f k h (omega arith))
 
-  pub line_last : HasNone xs (line_max + 1) → length xs ≤ line_max → at + length xs ≤ stream_max → any_line ended here ≡ last_line ended here xs
+  pub line_last : HasNone xs (LINE_BYTES + 1) → length xs ≤ LINE_BYTES → at + length xs ≤ STREAM_BYTES → any_line ended here ≡ last_line ended here xs
   unfolding any_line
-  line_last f l g = ap (line_from ended here) (short f l) ∙ rw (long_false at (length xs) l, le-leb (at + length xs) stream_max g) refl
+  line_last f l g = ap (line_from ended here) (short f l) ∙ rw (long_false at (length xs) l, le-leb (at + length xs) STREAM_BYTES g) refl
 
-  pub line_over : HasNone xs (line_max + 1) → length xs ≤ line_max → stream_max < at + length xs → any_line ended here ≡ Err StreamTooLong
+  pub line_over : HasNone xs (LINE_BYTES + 1) → length xs ≤ LINE_BYTES → STREAM_BYTES < at + length xs → any_line ended here ≡ Err (Fault StreamTooLong)
   unfolding any_line
-  line_over f l g = ap (line_from ended here) (short f l) ∙ rw (long_false at (length xs) l, lt-leb (at + length xs) stream_max g) refl
+  line_over f l g = ap (line_from ended here) (short f l) ∙ rw (long_false at (length xs) l, lt-leb (at + length xs) STREAM_BYTES g) refl
 
 pub last_some : (i : Input) (xs : Bytes) → 0 < length xs → last_line true i xs ≡ Ok (Some (record { place = i.at; bytes = xs }), record { at = i.at + length xs; rest = [] })
 last_some i [] h = absurd (omega arith)
@@ -118,7 +120,7 @@ pub last_none : (i : Input) (xs : Bytes) → length xs ≡ 0 → last_line true 
 last_none i [] h = refl
 last_none i (x ∷ xs) h = absurd (omega arith)
 
-abbrev pub got_line : ℕ → Bytes → ℕ → Bytes → Read (Option Line)
+abbrev pub got_line : ℕ → Bytes → ℕ → Bytes → Lex (Option Line)
 got_line place text at rest = Ok (Some (record { place = place; bytes = text }), record { at = at; rest = rest })
 
 pub eqb_pos : (n : ℕ) → eqb n 0 ≡ false → 0 < n
@@ -128,7 +130,7 @@ eqb_pos (suc n) h = omega arith
 pub nothing_left : (xs : Bytes) → [] ≡ take (length xs - length xs) (drop (length xs) xs)
 nothing_left xs = let k : length xs - length xs ≡ 0 = omega arith in rw k refl
 
-abbrev pub got_block : Bytes → ℕ → Bytes → Read (Option Bytes)
+abbrev pub got_block : Bytes → ℕ → Bytes → Lex (Option Bytes)
 got_block b at rest = Ok (Some b, record { at = at; rest = rest })
 
 -- ---- a search in a window of the bytes
@@ -166,8 +168,8 @@ pub fewer : (xs : Bytes) (n m : ℕ) → m ≤ n → HasNone xs n → HasNone xs
 fewer xs n m h f k a b = f k a (omega arith)
 
 -- a window that ends at the bytes' end or at the most that a line may have and one more
-pub at_most : (xs : Bytes) (n : ℕ) → (length xs ≤ n) ⊎ (n ≡ line_max + 1) → HasNone xs n → HasNone xs (line_max + 1)
+pub at_most : (xs : Bytes) (n : ℕ) → (length xs ≤ n) ⊎ (n ≡ LINE_BYTES + 1) → HasNone xs n → HasNone xs (LINE_BYTES + 1)
 at_most xs n h f k a b = f k a (elim h [ inl le ↦ omega arith | inr e ↦ omega arith ])
 
-pub min_cases : (xs : Bytes) (n : ℕ) → n ≡ min (length xs) (line_max + 1) → (length xs ≤ n) ⊎ (n ≡ line_max + 1)
-min_cases xs n e = elim (cases_lt (length xs) (line_max + 1)) [ inl lt ↦ inl (omega arith) | inr le ↦ inr (omega arith) ]
+pub min_cases : (xs : Bytes) (n : ℕ) → n ≡ min (length xs) (LINE_BYTES + 1) → (length xs ≤ n) ⊎ (n ≡ LINE_BYTES + 1)
+min_cases xs n e = elim (cases_lt (length xs) (LINE_BYTES + 1)) [ inl lt ↦ inl (omega arith) | inr le ↦ inr (omega arith) ]

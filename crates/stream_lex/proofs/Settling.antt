@@ -7,24 +7,14 @@ use Rattle.std.proofs.lemmas.List.{take-append-le, drop-append-le}
 use Rattle.stream_lex.proofs.Scan.{and-false, got_line, got_block}
 use Rattle.std.specs.Prelude.{◌&&◌}
 use Rattle.std.proofs.lemmas.Bool.{lt-leb, leb-false}
-use Rattle.stream_lex.specs.declared.cursor.Stop.TheVariants.{More, LongLine, StreamTooLong}
+use Rattle.git_objects.specs.declared.limits.TheConstants.{LINE_BYTES, STREAM_BYTES}
+use Rattle.stream_lex.specs.declared.stop.Stop.TheVariants.{More, Fault}
+use Rattle.stream_lex.specs.declared.stop.LimitFault.TheVariants.{LongLine, StreamTooLong}
 use Rattle.git_objects.specs.Paths.{Bytes}
-use Rattle.stream_lex.specs.Lines.{Input, Line, Read, ◌>>=◌, split_line, line_max, stream_max, is_long, line_from, any_line, line_at, line_within, past_comment, is_comment, block_at, block_end, short_block}
-use Rattle.stream_lex.specs.Cutting.{grown, Agrees, Reader, Settles}
-
--- ---- one step after another
-
-bind_agrees : {A B : Type 0} (more : Bytes) (r s : Read A) (f g : A × Input → Read B) → Agrees more r s → ((x : A) (i : Input) → Agrees more (f (x, i)) (g (x, grown more i))) → Agrees more (r >>= f) (s >>= g)
-bind_agrees more (Ok x) s f g h k = subst (λ t. Agrees more (f x) (t >>= g)) (sym h) (k x.0 x.1)
-bind_agrees more (Err More) s f g h k = tt
-bind_agrees more (Err (LongLine at)) s f g h k = ap (λ t. t >>= g) h
-bind_agrees more (Err StreamTooLong) s f g h k = ap (λ t. t >>= g) h
-
-pub bind_settles : {A B : Type 0} (f : Reader A) (g : A → Reader B) → Settles f → ((x : A) → Settles (g x)) → Settles (λ e i. f e i >>= λ x. g x.0 e x.1)
-bind_settles f g h k ended more i = bind_agrees more (f false i) (f ended (grown more i)) (λ x. g x.0 false x.1) (λ x. g x.0 ended x.1) (h ended more i) (λ x j. k x ended more j)
-
-pub return_settles : {A : Type 0} (x : A) → Settles {A = A} (λ e i. Ok (x, i))
-return_settles x ended more i = refl
+use Rattle.git_objects.specs.Results.{◌>>=◌}
+use Rattle.stream_lex.specs.Lines.{Input, Line, Lex, split_line, is_long, line_from, any_line, line_at, line_within, past_comment, is_comment, block_at, block_end, short_block}
+use Rattle.stream_lex.specs.Cutting.{grown, Agrees, Settles}
+use Rattle.stream_lex.proofs.Combining.{bind_agrees}
 
 -- ---- lines
 
@@ -58,48 +48,48 @@ module _ (ended : Bool) (more : Bytes) (i : Input) where
   some_agrees : (r : Bytes × Bytes) → Agrees more (line_from false i (Some r)) (line_from ended (grown more i) (Some (r.0, r.1 ++ more)))
   some_agrees r =
       elim (is_long i.at (length r.0)) as (λ b. Agrees more
-      (cond b (Err (LongLine i.at)) (cond (leb (i.at + (length r.0 + 1)) stream_max) (got_line i.at r.0 (i.at + (length r.0 + 1)) r.1) (Err StreamTooLong)))
-      (cond b (Err (LongLine i.at)) (cond (leb (i.at + (length r.0 + 1)) stream_max) (got_line i.at r.0 (i.at + (length r.0 + 1)) (r.1 ++ more)) (Err StreamTooLong)))) [
+      (cond b (Err (Fault (LongLine i.at))) (cond (leb (i.at + (length r.0 + 1)) STREAM_BYTES) (got_line i.at r.0 (i.at + (length r.0 + 1)) r.1) (Err (Fault StreamTooLong))))
+      (cond b (Err (Fault (LongLine i.at))) (cond (leb (i.at + (length r.0 + 1)) STREAM_BYTES) (got_line i.at r.0 (i.at + (length r.0 + 1)) (r.1 ++ more)) (Err (Fault StreamTooLong))))) [
         | true ↦ refl
-        | false ↦ elim (leb (i.at + (length r.0 + 1)) stream_max) as (λ b. Agrees more
-            (cond b (got_line i.at r.0 (i.at + (length r.0 + 1)) r.1) (Err StreamTooLong))
-            (cond b (got_line i.at r.0 (i.at + (length r.0 + 1)) (r.1 ++ more)) (Err StreamTooLong))) [ true ↦ refl | false ↦ refl ]
+        | false ↦ elim (leb (i.at + (length r.0 + 1)) STREAM_BYTES) as (λ b. Agrees more
+            (cond b (got_line i.at r.0 (i.at + (length r.0 + 1)) r.1) (Err (Fault StreamTooLong)))
+            (cond b (got_line i.at r.0 (i.at + (length r.0 + 1)) (r.1 ++ more)) (Err (Fault StreamTooLong)))) [ true ↦ refl | false ↦ refl ]
       ]
 
   -- the line has n bytes so far
   still_long : (n m : ℕ) → n ≤ m → is_long i.at n ≡ true → is_long i.at m ≡ true
   still_long n m h e =
-      let a : line_max + 1 ≤ n = leb-true (line_max + 1) n (first_so _ _ e) in
-      rw (le-leb (line_max + 1) m (omega arith)) (second_so (leb (line_max + 1) n) _ e)
+      let a : LINE_BYTES + 1 ≤ n = leb-true (LINE_BYTES + 1) n (first_so _ _ e) in
+      rw (le-leb (LINE_BYTES + 1) m (omega arith)) (second_so (leb (LINE_BYTES + 1) n) _ e)
 
-  still_long_line : (o : Option (Bytes × Bytes)) → EndsSame i.rest more None o → is_long i.at (length i.rest) ≡ true → line_from ended (grown more i) o ≡ Err (LongLine i.at)
+  still_long_line : (o : Option (Bytes × Bytes)) → EndsSame i.rest more None o → is_long i.at (length i.rest) ≡ true → line_from ended (grown more i) o ≡ Err (Fault (LongLine i.at))
   still_long_line None h e = rw (still_long (length i.rest) (length (i.rest ++ more)) (omega (arith, length-append i.rest more)) e) refl
   still_long_line (Some r) h e = rw (still_long (length i.rest) (length r.0) h e) refl
 
-  not_long : (n m : ℕ) → n ≤ m → is_long i.at n ≡ false → stream_max < i.at + n → is_long i.at m ≡ false
+  not_long : (n m : ℕ) → n ≤ m → is_long i.at n ≡ false → STREAM_BYTES < i.at + n → is_long i.at m ≡ false
   not_long n m h e g =
-      elim (leb (i.at + line_max + 1) stream_max) as (λ b. leb (i.at + line_max + 1) stream_max ≡ b → (leb (line_max + 1) n && b) ≡ false → (leb (line_max + 1) m && b) ≡ false) [
-        | false ↦ λ p q. and-false (leb (line_max + 1) m)
+      elim (leb (i.at + LINE_BYTES + 1) STREAM_BYTES) as (λ b. leb (i.at + LINE_BYTES + 1) STREAM_BYTES ≡ b → (leb (LINE_BYTES + 1) n && b) ≡ false → (leb (LINE_BYTES + 1) m && b) ≡ false) [
+        | false ↦ λ p q. and-false (leb (LINE_BYTES + 1) m)
         | true ↦ λ p q.
-            let a : i.at + line_max + 1 ≤ stream_max = leb-true (i.at + line_max + 1) stream_max p in
-            let b : line_max + 1 ≤ n = omega arith in
-            absurd (true≢false (sym (rw (le-leb (line_max + 1) n b) refl) ∙ q))
+            let a : i.at + LINE_BYTES + 1 ≤ STREAM_BYTES = leb-true (i.at + LINE_BYTES + 1) STREAM_BYTES p in
+            let b : LINE_BYTES + 1 ≤ n = omega arith in
+            absurd (true≢false (sym (rw (le-leb (LINE_BYTES + 1) n b) refl) ∙ q))
       ] refl e
 
-  still_over : (o : Option (Bytes × Bytes)) → EndsSame i.rest more None o → is_long i.at (length i.rest) ≡ false → stream_max < i.at + length i.rest → line_from ended (grown more i) o ≡ Err StreamTooLong
+  still_over : (o : Option (Bytes × Bytes)) → EndsSame i.rest more None o → is_long i.at (length i.rest) ≡ false → STREAM_BYTES < i.at + length i.rest → line_from ended (grown more i) o ≡ Err (Fault StreamTooLong)
   still_over None h e g =
       let k : length i.rest ≤ length (i.rest ++ more) = omega (arith, length-append i.rest more) in
-      rw (not_long (length i.rest) (length (i.rest ++ more)) k e g, lt-leb (i.at + length (i.rest ++ more)) stream_max (omega arith)) refl
+      rw (not_long (length i.rest) (length (i.rest ++ more)) k e g, lt-leb (i.at + length (i.rest ++ more)) STREAM_BYTES (omega arith)) refl
   still_over (Some r) h e g =
-      rw (not_long (length i.rest) (length r.0) h e g, lt-leb (i.at + (length r.0 + 1)) stream_max (omega arith)) refl
+      rw (not_long (length i.rest) (length r.0) h e g, lt-leb (i.at + (length r.0 + 1)) STREAM_BYTES (omega arith)) refl
 
   none_agrees : (o : Option (Bytes × Bytes)) → EndsSame i.rest more None o → Agrees more (line_from false i None) (line_from ended (grown more i) o)
   none_agrees o h =
-      elim (is_long i.at (length i.rest)) as (λ b. is_long i.at (length i.rest) ≡ b → Agrees more (cond b (Err (LongLine i.at)) (cond (leb (i.at + length i.rest) stream_max) (Err More) (Err StreamTooLong))) (line_from ended (grown more i) o)) [
+      elim (is_long i.at (length i.rest)) as (λ b. is_long i.at (length i.rest) ≡ b → Agrees more (cond b (Err (Fault (LongLine i.at))) (cond (leb (i.at + length i.rest) STREAM_BYTES) (Err More) (Err (Fault StreamTooLong)))) (line_from ended (grown more i) o)) [
         | true ↦ λ e. still_long_line o h e
-        | false ↦ λ e. elim (leb (i.at + length i.rest) stream_max) as (λ b. leb (i.at + length i.rest) stream_max ≡ b → Agrees {A = Option Line} more (cond b (Err More) (Err StreamTooLong)) (line_from ended (grown more i) o)) [
+        | false ↦ λ e. elim (leb (i.at + length i.rest) STREAM_BYTES) as (λ b. leb (i.at + length i.rest) STREAM_BYTES ≡ b → Agrees {A = Option Line} more (cond b (Err More) (Err (Fault StreamTooLong))) (line_from ended (grown more i) o)) [
           | true ↦ λ g. tt
-          | false ↦ λ g. still_over o h e (leb-false (i.at + length i.rest) stream_max g)
+          | false ↦ λ g. still_over o h e (leb-false (i.at + length i.rest) STREAM_BYTES g)
         ] refl
       ] refl
 
@@ -113,7 +103,7 @@ any_line-settles ended more i = from_agrees ended more i (split_line i.rest) (sp
 
 -- ---- behind comments
 
-comment_agrees : (more : Bytes) (f g : Input → Read (Option Line)) → ((i : Input) → Agrees more (f i) (g (grown more i))) → (x : Option Line) (i : Input) → Agrees more (past_comment f (x, i)) (past_comment g (x, grown more i))
+comment_agrees : (more : Bytes) (f g : Input → Lex (Option Line)) → ((i : Input) → Agrees more (f i) (g (grown more i))) → (x : Option Line) (i : Input) → Agrees more (past_comment f (x, i)) (past_comment g (x, grown more i))
 comment_agrees more f g h None i = refl
 comment_agrees more f g h (Some l) i =
     elim (is_comment l.bytes) as (λ b. Agrees more (cond b (f i) (Ok (Some l, i))) (cond b (g (grown more i)) (Ok (Some l, grown more i)))) [ true ↦ h i | false ↦ refl ]
@@ -139,40 +129,40 @@ module _ (ended : Bool) (more : Bytes) (i : Input) (n : ℕ) where
       end_here : (e : Bool) → Agrees more (block_end false n b (x ∷ xs) i) (block_end e n b (x ∷ xs ++ more) (grown more i))
       end_here e =
           elim (eqb x 10) as (λ t. Agrees more
-          (cond t (cond (leb (i.at + (n + 1)) stream_max) (got_block b (i.at + (n + 1)) xs) (Err StreamTooLong)) (got_block b (i.at + n) (x ∷ xs)))
-          (cond t (cond (leb (i.at + (n + 1)) stream_max) (got_block b (i.at + (n + 1)) (xs ++ more)) (Err StreamTooLong)) (got_block b (i.at + n) (x ∷ xs ++ more)))) [
+          (cond t (cond (leb (i.at + (n + 1)) STREAM_BYTES) (got_block b (i.at + (n + 1)) xs) (Err (Fault StreamTooLong))) (got_block b (i.at + n) (x ∷ xs)))
+          (cond t (cond (leb (i.at + (n + 1)) STREAM_BYTES) (got_block b (i.at + (n + 1)) (xs ++ more)) (Err (Fault StreamTooLong))) (got_block b (i.at + n) (x ∷ xs ++ more)))) [
             | false ↦ refl
-            | true ↦ elim (leb (i.at + (n + 1)) stream_max) as (λ t. Agrees more
-                (cond t (got_block b (i.at + (n + 1)) xs) (Err StreamTooLong))
-                (cond t (got_block b (i.at + (n + 1)) (xs ++ more)) (Err StreamTooLong))) [ true ↦ refl | false ↦ refl ]
+            | true ↦ elim (leb (i.at + (n + 1)) STREAM_BYTES) as (λ t. Agrees more
+                (cond t (got_block b (i.at + (n + 1)) xs) (Err (Fault StreamTooLong)))
+                (cond t (got_block b (i.at + (n + 1)) (xs ++ more)) (Err (Fault StreamTooLong)))) [ true ↦ refl | false ↦ refl ]
           ]
 
-  enough : n ≤ length i.rest → block_at n ended (grown more i) ≡ cond (leb (i.at + n) stream_max) (block_end ended n (take n i.rest) (drop n i.rest ++ more) (grown more i)) (Err StreamTooLong)
+  enough : n ≤ length i.rest → block_at n ended (grown more i) ≡ cond (leb (i.at + n) STREAM_BYTES) (block_end ended n (take n i.rest) (drop n i.rest ++ more) (grown more i)) (Err (Fault StreamTooLong))
   unfolding block_at
   enough h = rw (le-leb n (length (i.rest ++ more)) (omega (arith, length-append i.rest more)), take-append-le, drop-append-le) refl
 
-  too_few : length i.rest < n → stream_max < i.at + length i.rest → block_at n ended (grown more i) ≡ Err StreamTooLong
+  too_few : length i.rest < n → STREAM_BYTES < i.at + length i.rest → block_at n ended (grown more i) ≡ Err (Fault StreamTooLong)
   unfolding block_at
   too_few h g =
       let long = length-append i.rest more in
-      elim (leb n (length (i.rest ++ more))) as (λ t. cond t (cond (leb (i.at + n) stream_max) (block_end ended n (take n (i.rest ++ more)) (drop n (i.rest ++ more)) (grown more i)) (Err StreamTooLong)) (cond (leb (i.at + length (i.rest ++ more)) stream_max) (short_block ended (grown more i)) (Err StreamTooLong)) ≡ Err StreamTooLong) [
-        | true ↦ rw (lt-leb (i.at + n) stream_max (omega arith)) refl
-        | false ↦ rw (lt-leb (i.at + length (i.rest ++ more)) stream_max (omega arith)) refl
+      elim (leb n (length (i.rest ++ more))) as (λ t. cond t (cond (leb (i.at + n) STREAM_BYTES) (block_end ended n (take n (i.rest ++ more)) (drop n (i.rest ++ more)) (grown more i)) (Err (Fault StreamTooLong))) (cond (leb (i.at + length (i.rest ++ more)) STREAM_BYTES) (short_block ended (grown more i)) (Err (Fault StreamTooLong))) ≡ Err (Fault StreamTooLong)) [
+        | true ↦ rw (lt-leb (i.at + n) STREAM_BYTES (omega arith)) refl
+        | false ↦ rw (lt-leb (i.at + length (i.rest ++ more)) STREAM_BYTES (omega arith)) refl
       ]
 
 pub block_at-settles : (n : ℕ) → Settles (block_at n)
 unfolding block_at
 block_at-settles n ended more i =
     elim (leb n (length i.rest)) as (λ t. leb n (length i.rest) ≡ t → Agrees more
-    (cond t (cond (leb (i.at + n) stream_max) (block_end false n (take n i.rest) (drop n i.rest) i) (Err StreamTooLong)) (cond (leb (i.at + length i.rest) stream_max) (Err More) (Err StreamTooLong)))
+    (cond t (cond (leb (i.at + n) STREAM_BYTES) (block_end false n (take n i.rest) (drop n i.rest) i) (Err (Fault StreamTooLong))) (cond (leb (i.at + length i.rest) STREAM_BYTES) (Err More) (Err (Fault StreamTooLong))))
     (block_at n ended (grown more i))) [
       | true ↦ λ e. subst (Agrees more _) (sym (enough ended more i n (leb-true n (length i.rest) e)))
-          (elim (leb (i.at + n) stream_max) as (λ t. Agrees more
-          (cond t (block_end false n (take n i.rest) (drop n i.rest) i) (Err StreamTooLong))
-          (cond t (block_end ended n (take n i.rest) (drop n i.rest ++ more) (grown more i)) (Err StreamTooLong))) [ true ↦ end_agrees ended more i n (take n i.rest) (drop n i.rest) | false ↦ refl ])
+          (elim (leb (i.at + n) STREAM_BYTES) as (λ t. Agrees more
+          (cond t (block_end false n (take n i.rest) (drop n i.rest) i) (Err (Fault StreamTooLong)))
+          (cond t (block_end ended n (take n i.rest) (drop n i.rest ++ more) (grown more i)) (Err (Fault StreamTooLong)))) [ true ↦ end_agrees ended more i n (take n i.rest) (drop n i.rest) | false ↦ refl ])
       | false ↦ λ e.
-          elim (leb (i.at + length i.rest) stream_max) as (λ t. leb (i.at + length i.rest) stream_max ≡ t → Agrees {A = Option Bytes} more (cond t (Err More) (Err StreamTooLong)) (block_at n ended (grown more i))) [
+          elim (leb (i.at + length i.rest) STREAM_BYTES) as (λ t. leb (i.at + length i.rest) STREAM_BYTES ≡ t → Agrees {A = Option Bytes} more (cond t (Err More) (Err (Fault StreamTooLong))) (block_at n ended (grown more i))) [
             | true ↦ λ g. tt
-            | false ↦ λ g. too_few ended more i n (leb-false n (length i.rest) e) (leb-false (i.at + length i.rest) stream_max g)
+            | false ↦ λ g. too_few ended more i n (leb-false n (length i.rest) e) (leb-false (i.at + length i.rest) STREAM_BYTES g)
           ] refl
     ] refl

@@ -4,9 +4,12 @@ use Rattle.std.specs.Prelude.{◌&&◌}
 use Rattle.std.specs.Option.{option_map}
 use Rattle.std.specs.Cmp.{first_so, second_so}
 use Rattle.std.proofs.lemmas.Bool.{leb-false, not-true}
-use Rattle.stream_lex.specs.declared.cursor.Stop.TheVariants.{More, LongLine, StreamTooLong}
+use Rattle.git_objects.specs.declared.limits.TheConstants.{LINE_BYTES, STREAM_BYTES}
+use Rattle.stream_lex.specs.declared.stop.Stop.TheVariants.{More, Fault}
+use Rattle.stream_lex.specs.declared.stop.LimitFault.TheVariants.{LongLine, StreamTooLong}
 use Rattle.git_objects.specs.Paths.{Bytes}
-use Rattle.stream_lex.specs.Lines.{Input, Line, Read, ◌>>=◌, HasNone, split_line, line_max, stream_max, is_long, line_from, last_line, any_line, line_at, line_within, past_comment, is_comment}
+use Rattle.git_objects.specs.Results.{◌>>=◌}
+use Rattle.stream_lex.specs.Lines.{Input, Line, Lex, HasNone, split_line, is_long, line_from, last_line, any_line, line_at, line_within, past_comment, is_comment}
 use Rattle.stream_lex.specs.Cutting.{grown, Agrees}
 use Rattle.stream_lex.specs.Spelling.{no_lf, EndsAtLf, TakesLine, SkipsComments, NextLine, HasLine, IsWhole, HasWholeLine, IsLong, NextIsLong, NoLine}
 use Rattle.stream_lex.proofs.Scan.{got_line, long_false, whole, line_long}
@@ -41,13 +44,13 @@ split_all [] h = refl
 split_all (x ∷ l) h =
     let n : eqb x 10 ≡ false = not-true (eqb x 10) (first_so (not (eqb x 10)) (no_lf l) h) in rw (n, split_all l (second_so (not (eqb x 10)) (no_lf l) h)) refl
 
-short_line : (at n : ℕ) → is_long at n ≡ false → at + n ≤ stream_max → n ≤ line_max
+short_line : (at n : ℕ) → is_long at n ≡ false → at + n ≤ STREAM_BYTES → n ≤ LINE_BYTES
 short_line at n e h =
-    elim (leb (line_max + 1) n) as (λ b. leb (line_max + 1) n ≡ b → (b && leb (at + line_max + 1) stream_max) ≡ false → n ≤ line_max) [
-      | false ↦ λ p q. let k : n < line_max + 1 = leb-false (line_max + 1) n p in omega (arith, k)
+    elim (leb (LINE_BYTES + 1) n) as (λ b. leb (LINE_BYTES + 1) n ≡ b → (b && leb (at + LINE_BYTES + 1) STREAM_BYTES) ≡ false → n ≤ LINE_BYTES) [
+      | false ↦ λ p q. let k : n < LINE_BYTES + 1 = leb-false (LINE_BYTES + 1) n p in omega (arith, k)
       | true ↦ λ p q.
-          let k : line_max + 1 ≤ n = leb-true (line_max + 1) n p in
-          absurd (true≢false (sym (le-leb (at + line_max + 1) stream_max (omega (arith, k))) ∙ q))
+          let k : LINE_BYTES + 1 ≤ n = leb-true (LINE_BYTES + 1) n p in
+          absurd (true≢false (sym (le-leb (at + LINE_BYTES + 1) STREAM_BYTES (omega (arith, k))) ∙ q))
     ] refl e
 
 -- a byte before the first LF
@@ -57,14 +60,14 @@ plain_at (x ∷ l) m zero h g = λ e. true≢false (sym (eq-eqb x 10 e) ∙ not-
 plain_at (x ∷ l) m (suc k) h g = plain_at l m k (second_so (not (eqb x 10)) (no_lf l) h) (omega arith)
 
 -- what any_line tells of the bytes
-abbrev Told : Bool → Input → Read (Option Line) → Type 0
+abbrev Told : Bool → Input → Lex (Option Line) → Type 0
 Told ended i (Ok (Some l, j)) = TakesLine i l j × (EndsAtLf i l.bytes j ⊎ (ended ≡ true))
-Told ended i (Ok (None, j)) = (i.rest ≡ []) × (j ≡ i) × (i.at ≤ stream_max) × (ended ≡ true)
-Told ended i (Err More) = (ended ≡ false) × (i.at + length i.rest ≤ stream_max)
-Told ended i (Err (LongLine at)) = (at ≡ i.at) × IsLong i
-Told ended i (Err StreamTooLong) = stream_max < i.at + length i.rest
+Told ended i (Ok (None, j)) = (i.rest ≡ []) × (j ≡ i) × (i.at ≤ STREAM_BYTES) × (ended ≡ true)
+Told ended i (Err More) = (ended ≡ false) × (i.at + length i.rest ≤ STREAM_BYTES)
+Told ended i (Err (Fault (LongLine at))) = (at ≡ i.at) × IsLong i
+Told ended i (Err (Fault StreamTooLong)) = STREAM_BYTES < i.at + length i.rest
 
-last_told : (ended : Bool) (i : Input) (xs : Bytes) → xs ≡ i.rest → no_lf xs ≡ true → length xs ≤ line_max → i.at + length xs ≤ stream_max → Told ended i (last_line ended i xs)
+last_told : (ended : Bool) (i : Input) (xs : Bytes) → xs ≡ i.rest → no_lf xs ≡ true → length xs ≤ LINE_BYTES → i.at + length xs ≤ STREAM_BYTES → Told ended i (last_line ended i xs)
 last_told false i xs e h k g = (refl, omega (arith, ap length e))
 last_told true i [] e h k g = (sym e, refl, omega arith, refl)
 last_told true i (x ∷ xs) e h k g =
@@ -73,30 +76,30 @@ last_told true i (x ∷ xs) e h k g =
 -- so many bytes are too many
 long_one : (i : Input) (n : ℕ) → is_long i.at n ≡ true → n ≤ length i.rest → HasNone i.rest n → IsLong i
 long_one i n e h f =
-    let a : line_max + 1 ≤ n = leb-true (line_max + 1) n (first_so _ _ e) in
-    let b : i.at + line_max + 1 ≤ stream_max = leb-true (i.at + line_max + 1) stream_max (second_so (leb (line_max + 1) n) _ e) in
+    let a : LINE_BYTES + 1 ≤ n = leb-true (LINE_BYTES + 1) n (first_so _ _ e) in
+    let b : i.at + LINE_BYTES + 1 ≤ STREAM_BYTES = leb-true (i.at + LINE_BYTES + 1) STREAM_BYTES (second_so (leb (LINE_BYTES + 1) n) _ e) in
     record { some = omega arith; plain = λ k p q. f k p (omega arith); within = b }
 
 from_told : (ended : Bool) (i : Input) (o : Option (Bytes × Bytes)) → Cut i.rest o → Told ended i (line_from ended i o)
 from_told ended i (Some r) h =
     let long : length i.rest ≡ length r.0 + 1 + length r.1 = ap length h.1 ∙ length-append r.0 (10 ∷ r.1) ∙ omega arith in
-    elim (is_long i.at (length r.0)) as (λ b. is_long i.at (length r.0) ≡ b → Told ended i (cond b (Err (LongLine i.at)) (cond (leb (i.at + (length r.0 + 1)) stream_max) (got_line i.at r.0 (i.at + (length r.0 + 1)) r.1) (Err StreamTooLong)))) [
+    elim (is_long i.at (length r.0)) as (λ b. is_long i.at (length r.0) ≡ b → Told ended i (cond b (Err (Fault (LongLine i.at))) (cond (leb (i.at + (length r.0 + 1)) STREAM_BYTES) (got_line i.at r.0 (i.at + (length r.0 + 1)) r.1) (Err (Fault StreamTooLong))))) [
       | true ↦ λ e. (refl, long_one i (length r.0) e (omega arith) (λ k p q. subst (λ (t : Bytes). get_or t k 0 ≢ 10) (sym h.1) (plain_at r.0 (10 ∷ r.1) k h.0 q)))
-      | false ↦ λ e. elim (leb (i.at + (length r.0 + 1)) stream_max) as (λ b. leb (i.at + (length r.0 + 1)) stream_max ≡ b → Told ended i (cond b (got_line i.at r.0 (i.at + (length r.0 + 1)) r.1) (Err StreamTooLong))) [
+      | false ↦ λ e. elim (leb (i.at + (length r.0 + 1)) STREAM_BYTES) as (λ b. leb (i.at + (length r.0 + 1)) STREAM_BYTES ≡ b → Told ended i (cond b (got_line i.at r.0 (i.at + (length r.0 + 1)) r.1) (Err (Fault StreamTooLong)))) [
         | true ↦ λ g.
-            let w : i.at + (length r.0 + 1) ≤ stream_max = leb-true (i.at + (length r.0 + 1)) stream_max g in
+            let w : i.at + (length r.0 + 1) ≤ STREAM_BYTES = leb-true (i.at + (length r.0 + 1)) STREAM_BYTES g in
             (record { place = refl; plain = h.0; short = short_line i.at (length r.0) e (omega (arith, w)); within = w; ends = inl (h.1, refl) }, inl (h.1, refl))
-        | false ↦ λ g. let w : stream_max < i.at + (length r.0 + 1) = leb-false (i.at + (length r.0 + 1)) stream_max g in omega arith
+        | false ↦ λ g. let w : STREAM_BYTES < i.at + (length r.0 + 1) = leb-false (i.at + (length r.0 + 1)) STREAM_BYTES g in omega arith
       ] refl
     ] refl
 from_told ended i None h =
-    elim (is_long i.at (length i.rest)) as (λ b. is_long i.at (length i.rest) ≡ b → Told ended i (cond b (Err (LongLine i.at)) (cond (leb (i.at + length i.rest) stream_max) (last_line ended i i.rest) (Err StreamTooLong)))) [
+    elim (is_long i.at (length i.rest)) as (λ b. is_long i.at (length i.rest) ≡ b → Told ended i (cond b (Err (Fault (LongLine i.at))) (cond (leb (i.at + length i.rest) STREAM_BYTES) (last_line ended i i.rest) (Err (Fault StreamTooLong))))) [
       | true ↦ λ e. (refl, long_one i (length i.rest) e (omega arith) (λ k p q. subst (λ (t : Bytes). get_or t k 0 ≢ 10) (append-nil i.rest) (plain_at i.rest [] k h q)))
-      | false ↦ λ e. elim (leb (i.at + length i.rest) stream_max) as (λ b. leb (i.at + length i.rest) stream_max ≡ b → Told ended i (cond b (last_line ended i i.rest) (Err StreamTooLong))) [
+      | false ↦ λ e. elim (leb (i.at + length i.rest) STREAM_BYTES) as (λ b. leb (i.at + length i.rest) STREAM_BYTES ≡ b → Told ended i (cond b (last_line ended i i.rest) (Err (Fault StreamTooLong)))) [
         | true ↦ λ g.
-            let w : i.at + length i.rest ≤ stream_max = leb-true (i.at + length i.rest) stream_max g in
+            let w : i.at + length i.rest ≤ STREAM_BYTES = leb-true (i.at + length i.rest) STREAM_BYTES g in
             last_told ended i i.rest refl h (short_line i.at (length i.rest) e w) w
-        | false ↦ λ g. leb-false (i.at + length i.rest) stream_max g
+        | false ↦ λ g. leb-false (i.at + length i.rest) STREAM_BYTES g
       ] refl
     ] refl
 
@@ -109,9 +112,9 @@ last_again : (i : Input) (xs : Bytes) → 0 < length xs → last_line true i xs 
 last_again i [] h = absurd (omega arith)
 last_again i (x ∷ xs) h = refl
 
-at_end_again : (at : ℕ) (l : Bytes) → no_lf l ≡ true → length l ≤ line_max → at + length l ≤ stream_max → any_line true (record { at = at; rest = l }) ≡ last_line true (record { at = at; rest = l }) l
+at_end_again : (at : ℕ) (l : Bytes) → no_lf l ≡ true → length l ≤ LINE_BYTES → at + length l ≤ STREAM_BYTES → any_line true (record { at = at; rest = l }) ≡ last_line true (record { at = at; rest = l }) l
 unfolding any_line
-at_end_again at l h k g = ap (line_from true (record { at = at; rest = l })) (split_all l h) ∙ rw (long_false at (length l) k, le-leb (at + length l) stream_max g) refl
+at_end_again at l h k g = ap (line_from true (record { at = at; rest = l })) (split_all l h) ∙ rw (long_false at (length l) k, le-leb (at + length l) STREAM_BYTES g) refl
 
 -- a line that ends at an LF, whatever comes
 whole_again : (ended : Bool) (i : Input) (l : Line) (j : Input) → TakesLine i l j → EndsAtLf i l.bytes j → any_line ended i ≡ Ok (Some l, j)
@@ -133,7 +136,7 @@ line_again i l j t =
           ∙ (λ k. Ok (Some (record { place = sym t.place k; bytes = l.bytes }), sym e.2 k))
     ]
 
-none_again : (i : Input) → i.rest ≡ [] → i.at ≤ stream_max → any_line true i ≡ Ok (None, i)
+none_again : (i : Input) → i.rest ≡ [] → i.at ≤ STREAM_BYTES → any_line true i ≡ Ok (None, i)
 unfolding any_line
 none_again i e h =
     ap (λ xs. any_line true (record { at = i.at; rest = xs })) e
@@ -151,30 +154,30 @@ total i l j t =
     ]
 
 -- what line_at tells of the bytes
-abbrev pub Spelled : Bool → Input → Read (Option Line) → Type 0
+abbrev pub Spelled : Bool → Input → Lex (Option Line) → Type 0
 Spelled ended i (Ok (Some l, j)) = (h : NextLine i l j) × (IsWhole i l j h ⊎ (ended ≡ true))
 Spelled ended i (Ok (None, j)) = NoLine i j × (ended ≡ true)
-Spelled ended i (Err More) = (ended ≡ false) × (i.at + length i.rest ≤ stream_max)
-Spelled ended i (Err (LongLine at)) = NextIsLong i at
-Spelled ended i (Err StreamTooLong) = stream_max < i.at + length i.rest
+Spelled ended i (Err More) = (ended ≡ false) × (i.at + length i.rest ≤ STREAM_BYTES)
+Spelled ended i (Err (Fault (LongLine at))) = NextIsLong i at
+Spelled ended i (Err (Fault StreamTooLong)) = STREAM_BYTES < i.at + length i.rest
 
-behind_comment : (ended : Bool) (i m : Input) (k : Line) → TakesLine i k m → is_comment k.bytes ≡ true → (r : Read (Option Line)) → Spelled ended m r → Spelled ended i r
+behind_comment : (ended : Bool) (i m : Input) (k : Line) → TakesLine i k m → is_comment k.bytes ≡ true → (r : Lex (Option Line)) → Spelled ended m r → Spelled ended i r
 behind_comment ended i m k t c (Ok (Some l, j)) h = (record { comments = k.bytes ∷ h.0.comments; from = h.0.from; skips = (m, subst (λ p. TakesLine i (record { place = p; bytes = k.bytes }) m) t.place t, c, h.0.skips); takes = h.0.takes; plain = h.0.plain }, h.1)
 behind_comment ended i m k t c (Ok (None, j)) h = (record { comments = k.bytes ∷ h.0.comments; skips = (m, subst (λ p. TakesLine i (record { place = p; bytes = k.bytes }) m) t.place t, c, h.0.skips); within = h.0.within; nothing = h.0.nothing }, h.1)
 behind_comment ended i m k t c (Err More) h = (h.0, omega (arith, h.1, total i k m t))
-behind_comment ended i m k t c (Err (LongLine at)) h = record { comments = k.bytes ∷ h.comments; from = h.from; skips = (m, subst (λ p. TakesLine i (record { place = p; bytes = k.bytes }) m) t.place t, c, h.skips); place = h.place; long = h.long }
-behind_comment ended i m k t c (Err StreamTooLong) h = omega (arith, h, total i k m t)
+behind_comment ended i m k t c (Err (Fault (LongLine at))) h = record { comments = k.bytes ∷ h.comments; from = h.from; skips = (m, subst (λ p. TakesLine i (record { place = p; bytes = k.bytes }) m) t.place t, c, h.skips); place = h.place; long = h.long }
+behind_comment ended i m k t c (Err (Fault StreamTooLong)) h = omega (arith, h, total i k m t)
 
-one_spelled : (ended : Bool) (i : Input) (f : Input → Read (Option Line)) → ((j : Input) → length j.rest < length i.rest → Spelled ended j (f j)) → (r : Read (Option Line)) → Moves i r → Told ended i r → Spelled ended i (r >>= past_comment f)
+one_spelled : (ended : Bool) (i : Input) (f : Input → Lex (Option Line)) → ((j : Input) → length j.rest < length i.rest → Spelled ended j (f j)) → (r : Lex (Option Line)) → Moves i r → Told ended i r → Spelled ended i (r >>= past_comment f)
 one_spelled ended i f g (Ok (Some l, j)) v h =
     elim (is_comment l.bytes) as (λ b. is_comment l.bytes ≡ b → Spelled ended i (cond b (f j) (Ok (Some l, j)))) [
       | true ↦ λ e. behind_comment ended i j l h.0 e (f j) (g j v.0)
       | false ↦ λ e. (record { comments = []; from = i; skips = refl; takes = h.0; plain = e }, h.1)
     ] refl
-one_spelled ended i f g (Ok (None, j)) v h = (record { comments = []; skips = sym h.1; within = subst (λ (k : Input). k.at ≤ stream_max) (sym h.1) h.2; nothing = ap (λ (k : Input). k.rest) h.1 ∙ h.0 }, h.3)
+one_spelled ended i f g (Ok (None, j)) v h = (record { comments = []; skips = sym h.1; within = subst (λ (k : Input). k.at ≤ STREAM_BYTES) (sym h.1) h.2; nothing = ap (λ (k : Input). k.rest) h.1 ∙ h.0 }, h.3)
 one_spelled ended i f g (Err More) v h = h
-one_spelled ended i f g (Err (LongLine at)) v h = record { comments = []; from = i; skips = refl; place = h.0; long = h.1 }
-one_spelled ended i f g (Err StreamTooLong) v h = h
+one_spelled ended i f g (Err (Fault (LongLine at))) v h = record { comments = []; from = i; skips = refl; place = h.0; long = h.1 }
+one_spelled ended i f g (Err (Fault StreamTooLong)) v h = h
 
 within_spelled : (n : ℕ) (ended : Bool) (i : Input) → length i.rest < n → Spelled ended i (line_within n ended i)
 within_spelled zero ended i h = absurd (omega arith)
@@ -220,34 +223,34 @@ whole_line-again ended i l j h e =
     skips_before ended h.comments i h.from h.skips (omega (arith, ap length e.0, length-append l.bytes (10 ∷ j.rest)))
     ∙ line_some ended h.from j l (whole_again ended h.from l j h.takes e) h.plain
 
-pub long-again : (ended : Bool) (i : Input) (at : ℕ) → NextIsLong i at → line_at ended i ≡ Err (LongLine at)
+pub long-again : (ended : Bool) (i : Input) (at : ℕ) → NextIsLong i at → line_at ended i ≡ Err (Fault (LongLine at))
 long-again ended i at h =
     skips_before ended h.comments i h.from h.skips (omega (arith, h.long.some))
-    ∙ line_err ended h.from h.from (LongLine h.from.at) (line_long ended h.from.at h.from.rest h.long.plain h.long.some h.long.within)
-    ∙ ap (λ p. Err (LongLine p)) (sym h.place)
+    ∙ line_err ended h.from h.from (Fault (LongLine h.from.at)) (line_long ended h.from.at h.from.rest h.long.plain h.long.some h.long.within)
+    ∙ ap (λ p. Err (Fault (LongLine p))) (sym h.place)
 
 -- ---- where there is none
 
 -- what is told at the end is told before, or it waits
-at_the_end : (ended : Bool) (i : Input) → line_at ended i ≡ Err StreamTooLong → line_at true i ≡ Err StreamTooLong
+at_the_end : (ended : Bool) (i : Input) → line_at ended i ≡ Err (Fault StreamTooLong) → line_at true i ≡ Err (Fault StreamTooLong)
 at_the_end true i e = e
 at_the_end false i e = ap (line_at true) (λ k. record { at = i.at; rest = sym (append-nil i.rest) k }) ∙ subst (λ r. Agrees [] r (line_at true (grown [] i))) e (line_at-settles true [] i)
 
-pub over_has_none : (ended : Bool) (i : Input) → line_at ended i ≡ Err StreamTooLong → ¬ HasLine i
+pub over_has_none : (ended : Bool) (i : Input) → line_at ended i ≡ Err (Fault StreamTooLong) → ¬ HasLine i
 over_has_none ended i e h = let a = at_the_end ended i e in let b = line_at-again i h.0 h.1 h.2 in cc
 
-pub over_not_long : (ended : Bool) (i : Input) → line_at ended i ≡ Err StreamTooLong → (at : ℕ) → ¬ NextIsLong i at
+pub over_not_long : (ended : Bool) (i : Input) → line_at ended i ≡ Err (Fault StreamTooLong) → (at : ℕ) → ¬ NextIsLong i at
 over_not_long ended i e at h = let b = long-again ended i at h in cc
 
-pub over-again : (ended : Bool) (i : Input) → stream_max < i.at + length i.rest → ¬ HasLine i → ((at : ℕ) → ¬ NextIsLong i at) → line_at ended i ≡ Err StreamTooLong
+pub over-again : (ended : Bool) (i : Input) → STREAM_BYTES < i.at + length i.rest → ¬ HasLine i → ((at : ℕ) → ¬ NextIsLong i at) → line_at ended i ≡ Err (Fault StreamTooLong)
 over-again ended i t n o = go (line_at ended i) (line_at-spelled ended i)
   where
-    go : (r : Read (Option Line)) → Spelled ended i r → r ≡ Err StreamTooLong
+    go : (r : Lex (Option Line)) → Spelled ended i r → r ≡ Err (Fault StreamTooLong)
     go (Ok (Some l, j)) h = absurd (n (l, j, h.0))
     go (Ok (None, j)) h = absurd (omega (arith, h.0.within, skips_all h.0.comments i j h.0.skips, ap length h.0.nothing))
     go (Err More) h = absurd (omega (arith, h.1))
-    go (Err (LongLine at)) h = absurd (o at h)
-    go (Err StreamTooLong) h = refl
+    go (Err (Fault (LongLine at))) h = absurd (o at h)
+    go (Err (Fault StreamTooLong)) h = refl
 
 pub more_has_none : (ended : Bool) (i : Input) → line_at ended i ≡ Err More → ¬ HasWholeLine i
 more_has_none ended i e h = let b = whole_line-again ended i h.0 h.1 h.2 h.3 in cc
@@ -255,12 +258,12 @@ more_has_none ended i e h = let b = whole_line-again ended i h.0 h.1 h.2 h.3 in 
 pub more_not_long : (ended : Bool) (i : Input) → line_at ended i ≡ Err More → (at : ℕ) → ¬ NextIsLong i at
 more_not_long ended i e at h = let b = long-again ended i at h in cc
 
-pub more-again : (ended : Bool) (i : Input) → ended ≡ false → i.at + length i.rest ≤ stream_max → ¬ HasWholeLine i → ((at : ℕ) → ¬ NextIsLong i at) → line_at ended i ≡ Err More
+pub more-again : (ended : Bool) (i : Input) → ended ≡ false → i.at + length i.rest ≤ STREAM_BYTES → ¬ HasWholeLine i → ((at : ℕ) → ¬ NextIsLong i at) → line_at ended i ≡ Err More
 more-again ended i u t n o = go (line_at ended i) (line_at-spelled ended i)
   where
-    go : (r : Read (Option Line)) → Spelled ended i r → r ≡ Err More
+    go : (r : Lex (Option Line)) → Spelled ended i r → r ≡ Err More
     go (Ok (Some l, j)) h = elim h.1 [ inl w ↦ absurd (n (l, j, h.0, w)) | inr e ↦ absurd (true≢false (sym e ∙ u)) ]
     go (Ok (None, j)) h = absurd (true≢false (sym h.1 ∙ u))
     go (Err More) h = refl
-    go (Err (LongLine at)) h = absurd (o at h)
-    go (Err StreamTooLong) h = absurd (omega (arith, h))
+    go (Err (Fault (LongLine at))) h = absurd (o at h)
+    go (Err (Fault StreamTooLong)) h = absurd (omega (arith, h))

@@ -1,10 +1,12 @@
 -- Laws of lines and blocks.
 use Rattle.std.specs.Prelude.{◌≡◌, ◌≢◌, ◌↔◌, ◌+◌, ◌<◌, ◌≤◌, ℕ, Bool, true, false, List, length, Some, None, Ok, Err}
 use Rattle.std.specs.List.{concat}
+use Rattle.git_objects.specs.declared.limits.TheConstants.{STREAM_BYTES}
 use Rattle.git_objects.specs.Paths.{Bytes}
-use Rattle.stream_lex.specs.declared.cursor.Stop.TheVariants.{More, LongLine, StreamTooLong}
-use Rattle.stream_lex.specs.Lines.{Input, Line, stream_max, line_at, block_at}
-use Rattle.stream_lex.specs.Cutting.{Settles, Steps}
+use Rattle.stream_lex.specs.declared.stop.Stop.TheVariants.{More, Fault}
+use Rattle.stream_lex.specs.declared.stop.LimitFault.TheVariants.{LongLine, StreamTooLong}
+use Rattle.stream_lex.specs.Lines.{Input, Line, line_at, block_at}
+use Rattle.stream_lex.specs.Cutting.{IsReader}
 use Rattle.stream_lex.specs.Pieces.{Request, answers, start, whole_answers}
 use Rattle.stream_lex.specs.Spelling.{NextLine, IsWhole, HasLine, HasWholeLine, NextIsLong, NoLine, TakesBlock}
 
@@ -20,33 +22,31 @@ pub record LineLaw : Type 0 where
   pub line_before : (i : Input) (l : Line) (j : Input) → (line_at false i ≡ Ok (Some l, j)) ↔ ((h : NextLine i l j) × IsWhole i l j h)
   pub none_before : (i j : Input) → ¬ (line_at false i ≡ Ok (None, j))
   -- a limit is passed exactly there, and more is wanted exactly there
-  pub long : (ended : Bool) (i : Input) (at : ℕ) → (line_at ended i ≡ Err (LongLine at)) ↔ NextIsLong i at
+  pub long : (ended : Bool) (i : Input) (at : ℕ) → (line_at ended i ≡ Err (Fault (LongLine at))) ↔ NextIsLong i at
   pub over : (ended : Bool) (i : Input) →
-      (line_at ended i ≡ Err StreamTooLong) ↔ ((stream_max < fed i) × ¬ HasLine i × ((at : ℕ) → ¬ NextIsLong i at))
+      (line_at ended i ≡ Err (Fault StreamTooLong)) ↔ ((STREAM_BYTES < fed i) × ¬ HasLine i × ((at : ℕ) → ¬ NextIsLong i at))
   pub more : (ended : Bool) (i : Input) →
-      (line_at ended i ≡ Err More) ↔ ((ended ≡ false) × (fed i ≤ stream_max) × ¬ HasWholeLine i × ((at : ℕ) → ¬ NextIsLong i at))
+      (line_at ended i ≡ Err More) ↔ ((ended ≡ false) × (fed i ≤ STREAM_BYTES) × ¬ HasWholeLine i × ((at : ℕ) → ¬ NextIsLong i at))
 
 pub record BlockLaw : Type 0 where
   -- of a whole stream
   pub block : (n : ℕ) (i : Input) (b : Bytes) (j : Input) → (block_at n true i ≡ Ok (Some b, j)) ↔ (TakesBlock i b j × (length b ≡ n))
-  pub short : (n : ℕ) (i j : Input) → (block_at n true i ≡ Ok (None, j)) ↔ ((length i.rest < n) × (fed i ≤ stream_max) × (j ≡ i))
+  pub short : (n : ℕ) (i j : Input) → (block_at n true i ≡ Ok (None, j)) ↔ ((length i.rest < n) × (fed i ≤ STREAM_BYTES) × (j ≡ i))
   -- before the end, where the byte behind the block has come
   pub block_before : (n : ℕ) (i : Input) (b : Bytes) (j : Input) →
       (block_at n false i ≡ Ok (Some b, j)) ↔ ((h : TakesBlock i b j) × (length b ≡ n) × (0 < length h.rest))
   pub short_before : (n : ℕ) (i j : Input) → ¬ (block_at n false i ≡ Ok (None, j))
   -- a limit is passed exactly there, and more is wanted exactly there
-  pub long : (n : ℕ) (ended : Bool) (i : Input) (at : ℕ) → ¬ (block_at n ended i ≡ Err (LongLine at))
+  pub long : (n : ℕ) (ended : Bool) (i : Input) (at : ℕ) → ¬ (block_at n ended i ≡ Err (Fault (LongLine at)))
   pub over : (n : ℕ) (ended : Bool) (i : Input) →
-      (block_at n ended i ≡ Err StreamTooLong) ↔ ((stream_max < fed i) × ((b : Bytes) (j : Input) → TakesBlock i b j → length b ≢ n))
+      (block_at n ended i ≡ Err (Fault StreamTooLong)) ↔ ((STREAM_BYTES < fed i) × ((b : Bytes) (j : Input) → TakesBlock i b j → length b ≢ n))
   pub more : (n : ℕ) (ended : Bool) (i : Input) →
-      (block_at n ended i ≡ Err More) ↔ ((ended ≡ false) × (fed i ≤ stream_max) × (length i.rest ≤ n))
+      (block_at n ended i ≡ Err More) ↔ ((ended ≡ false) × (fed i ≤ STREAM_BYTES) × (length i.rest ≤ n))
 
--- Whatever pieces a stream is cut into, requests are told the same. What was told before more came is told again, and
--- what is told steps forward.
+-- Whatever pieces a stream is cut into, requests are told the same. What was told before more came is told again, what is
+-- left is what was there behind some bytes, and of a whole stream nothing is left open.
 pub record CuttingLaw : Type 0 where
   pub pieces : (requests : List Request) (pieces : List Bytes) →
       answers requests pieces start ≡ whole_answers requests (concat pieces)
-  pub lines : Settles line_at
-  pub blocks : (n : ℕ) → Settles (block_at n)
-  pub line_steps : (ended : Bool) (i : Input) → Steps i (line_at ended i)
-  pub block_steps : (n : ℕ) (ended : Bool) (i : Input) → Steps i (block_at n ended i)
+  pub lines : IsReader line_at
+  pub blocks : (n : ℕ) → IsReader (block_at n)

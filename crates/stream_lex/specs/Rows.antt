@@ -1,7 +1,8 @@
 -- Worked examples.
 use Rattle.std.specs.Prelude.{◌≡◌, refl, ℕ, true, false, [], ◌∷◌, ◌++◌, codes, replicate, Some, None, Ok, Err}
 use Rattle.git_objects.specs.Paths.{Bytes}
-use Rattle.stream_lex.specs.declared.cursor.Stop.TheVariants.{More, LongLine, StreamTooLong}
+use Rattle.stream_lex.specs.declared.stop.Stop.TheVariants.{More, Fault}
+use Rattle.stream_lex.specs.declared.stop.LimitFault.TheVariants.{LongLine, StreamTooLong}
 use Rattle.stream_lex.specs.Lines.{Input, Line, any_line, line_at, block_at}
 use Rattle.stream_lex.specs.Pieces.{NextLine, NextBlock, LineIs, NoLine, BlockIs, NoBlock, answers, start, whole_answers}
 
@@ -55,11 +56,11 @@ pub the_longest_line : any_line true (from 0 (replicate 65536 97)) ≡ Ok (Some 
 unfolding any_line
 the_longest_line = refl
 
-pub a_longer_line : line_at false (from 7 (replicate 65537 97)) ≡ Err (LongLine 7)
+pub a_longer_line : line_at false (from 7 (replicate 65537 97)) ≡ Err (Fault (LongLine 7))
 unfolding line_at any_line
 a_longer_line = refl
 
-pub a_longer_comment : line_at false (from 7 (codes "#a\n" ++ 35 ∷ replicate 65536 97)) ≡ Err (LongLine 10)
+pub a_longer_comment : line_at false (from 7 (codes "#a\n" ++ 35 ∷ replicate 65536 97)) ≡ Err (Fault (LongLine 10))
 unfolding line_at any_line
 a_longer_comment = refl
 
@@ -68,7 +69,7 @@ pub a_line_up_to_the_limit : line_at false (from 268435454 (codes "a\nb")) ≡ O
 unfolding line_at any_line
 a_line_up_to_the_limit = refl
 
-pub an_lf_past_the_limit : line_at false (from 268435455 (codes "a\n")) ≡ Err StreamTooLong
+pub an_lf_past_the_limit : line_at false (from 268435455 (codes "a\n")) ≡ Err (Fault StreamTooLong)
 unfolding line_at any_line
 an_lf_past_the_limit = refl
 
@@ -76,12 +77,12 @@ pub nothing_past_the_limit : line_at false (from 268435456 []) ≡ Err More
 unfolding line_at any_line
 nothing_past_the_limit = refl
 
-pub a_byte_past_the_limit : line_at false (from 268435456 (codes "b")) ≡ Err StreamTooLong
+pub a_byte_past_the_limit : line_at false (from 268435456 (codes "b")) ≡ Err (Fault StreamTooLong)
 unfolding line_at any_line
 a_byte_past_the_limit = refl
 
 -- 65,537 bytes that end one byte behind the limit
-pub too_far_for_a_long_line : line_at false (from 268369920 (replicate 65537 97)) ≡ Err StreamTooLong
+pub too_far_for_a_long_line : line_at false (from 268369920 (replicate 65537 97)) ≡ Err (Fault StreamTooLong)
 unfolding line_at any_line
 too_far_for_a_long_line = refl
 
@@ -123,7 +124,7 @@ pub a_block_up_to_the_limit : block_at 1 false (from 268435455 (codes "ab")) ≡
 unfolding block_at
 a_block_up_to_the_limit = refl
 
-pub the_lf_of_a_block_past_the_limit : block_at 1 false (from 268435455 (codes "a\n")) ≡ Err StreamTooLong
+pub the_lf_of_a_block_past_the_limit : block_at 1 false (from 268435455 (codes "a\n")) ≡ Err (Fault StreamTooLong)
 unfolding block_at
 the_lf_of_a_block_past_the_limit = refl
 

@@ -1,8 +1,9 @@
 -- What lines and blocks are, in the bytes of a whole input.
 use Rattle.std.specs.Prelude.{◌≡◌, ◌≢◌, ◌+◌, ◌<◌, ◌≤◌, ◌⊎◌, ℕ, Bool, true, false, not, ◌==◌, List, [], ◌∷◌, ◌++◌, length}
 use Rattle.std.specs.List.{list_all}
+use Rattle.git_objects.specs.declared.limits.TheConstants.{LINE_BYTES, STREAM_BYTES}
 use Rattle.git_objects.specs.Paths.{Bytes}
-use Rattle.stream_lex.specs.Lines.{Input, Line, line_max, stream_max, is_comment, HasNone}
+use Rattle.stream_lex.specs.Lines.{Input, Line, is_comment, HasNone}
 
 abbrev pub no_lf : Bytes → Bool
 no_lf l = list_all (λ x. not (x == 10)) l
@@ -18,8 +19,8 @@ EndsAtEnd i l j = (i.rest ≡ l) × (0 < length l) × (j ≡ record { at = i.at 
 pub record TakesLine (i : Input) (l : Line) (j : Input) : Type 0 where
   pub place : l.place ≡ i.at
   pub plain : no_lf l.bytes ≡ true
-  pub short : length l.bytes ≤ line_max
-  pub within : j.at ≤ stream_max
+  pub short : length l.bytes ≤ LINE_BYTES
+  pub within : j.at ≤ STREAM_BYTES
   pub ends : EndsAtLf i l.bytes j ⊎ EndsAtEnd i l.bytes j
 
 -- j is behind these comments
@@ -42,7 +43,7 @@ HasLine i = (l : Line) × (j : Input) × NextLine i l j
 pub record NoLine (i j : Input) : Type 0 where
   pub comments : List Bytes
   pub skips : SkipsComments comments i j
-  pub within : j.at ≤ stream_max
+  pub within : j.at ≤ STREAM_BYTES
   pub nothing : j.rest ≡ []
 
 -- the next line ends at an LF
@@ -54,9 +55,9 @@ HasWholeLine i = (l : Line) × (j : Input) × (h : NextLine i l j) × IsWhole i 
 
 -- a line that is too long: its first 65,537 bytes stand in the first 2^28 bytes of the stream and have no LF
 pub record IsLong (i : Input) : Type 0 where
-  pub some : line_max < length i.rest
-  pub plain : HasNone i.rest (line_max + 1)
-  pub within : i.at + line_max + 1 ≤ stream_max
+  pub some : LINE_BYTES < length i.rest
+  pub plain : HasNone i.rest (LINE_BYTES + 1)
+  pub within : i.at + LINE_BYTES + 1 ≤ STREAM_BYTES
 
 -- the next line behind any comments begins there and is too long
 pub record NextIsLong (i : Input) (at : ℕ) : Type 0 where
@@ -75,4 +76,4 @@ pub record TakesBlock (i : Input) (b : Bytes) (j : Input) : Type 0 where
   pub rest : Bytes
   pub front : i.rest ≡ b ++ rest
   pub past : PastLf (i.at + length b) rest j
-  pub within : j.at ≤ stream_max
+  pub within : j.at ≤ STREAM_BYTES

@@ -1,12 +1,13 @@
 // A lexer of a stream that is fed in pieces.
 ghost use Rattle.std.specs.Prelude.{◌≡◌, ◌+◌, ◌-◌, ◌≤◌, [], false, true, OnOk, OnErr, length, drop, vec_len};
-ghost use Rattle.stream_lex.specs.Lines.{line_at, block_at, stream_max};
+ghost use Rattle.git_objects.specs.declared.limits.TheConstants.{STREAM_BYTES};
+ghost use Rattle.stream_lex.specs.Lines.{line_at, block_at};
 ghost use Rattle.stream_lex.specs.Views.{input};
 ghost use Rattle.stream_lex.specs.Cutting.{grown};
-ghost use Rattle.stream_lex.specs.Lexing.{TellsLine, TellsBlock};
+ghost use Rattle.stream_lex.specs.Lexing.{TellsLine, TellsBlock, lex_fault};
 
 use crate::lines::look;
-use crate::{Cursor, Stop, block};
+use crate::{Cursor, LimitFault, Stop, block};
 use git_objects::Bytes;
 use std::alloc::{AllocError, Global};
 use std::marker::Model;
@@ -33,14 +34,25 @@ pub enum BlockAnswer {
     Short,
 }
 
-/// Why a line or a block is refused.
+/// Why a line or a block isn't handed out.
 #[derive(Clone, Copy, Debug, PartialEq, Eq)]
 pub enum LexFault {
-    /// A line of more than 65,536 bytes begins there.
+    /// A line of more bytes than `limits::LINE_BYTES` begins there.
     LongLine { at: u64 },
-    /// The stream has more than 2^28 bytes.
+    /// The stream has more bytes than `limits::STREAM_BYTES`.
     StreamTooLong,
     OutOfMemory,
+}
+
+impl From<LimitFault> for LexFault {
+    ghost from_gives = { λ l f. f ≡ lex_fault l };
+
+    fn from(fault: LimitFault) -> LexFault {
+        match fault {
+            LimitFault::LongLine { at } => LexFault::LongLine { at },
+            LimitFault::StreamTooLong => LexFault::StreamTooLong,
+        }
+    }
 }
 
 /// Keeps what was fed and isn't handed out.
@@ -120,8 +132,7 @@ impl Lexer {
                 self.clear = clear;
                 Ok(LineAnswer::More)
             }
-            Err(Stop::LongLine { at }) => Err(LexFault::LongLine { at }),
-            Err(Stop::StreamTooLong) => Err(LexFault::StreamTooLong),
+            Err(Stop::Fault(fault)) => Err(LexFault::from(fault)),
             Ok((None, after)) => {
                 let by = (after.at - start) as usize;
                 self.used += by;
@@ -153,8 +164,7 @@ impl Lexer {
         let at = self.base + self.used as u64;
         match block(size as usize, self.ended, Cursor { at, rest }) {
             Err(Stop::More) => Ok(BlockAnswer::More),
-            Err(Stop::LongLine { at }) => Err(LexFault::LongLine { at }),
-            Err(Stop::StreamTooLong) => Err(LexFault::StreamTooLong),
+            Err(Stop::Fault(fault)) => Err(LexFault::from(fault)),
             Ok((None, _)) => Ok(BlockAnswer::Short),
             Ok((Some(found), after)) => {
                 let Ok(bytes) = Vec::from_slice(self.alloc, found) else {
@@ -172,7 +182,7 @@ impl Lexer {
     /// What isn't handed out, lent: `line` and `block` of this crate read it without copies, and `pass` then hands it out.
     pub fn cursor(&self) -> Cursor<'_>
         ensures value { input result ≡ self.now.input }
-        ensures within { result.at ≤ stream_max }
+        ensures within { result.at ≤ STREAM_BYTES }
     {
         Cursor {
             at: self.base + self.used as u64,
@@ -189,7 +199,7 @@ impl Lexer {
 
     /// Hands out what stands before a place.
     pub fn pass(&mut self, to: u64)
-        requires within { to ≤ stream_max }
+        requires within { to ≤ STREAM_BYTES }
         requires from { self.old.input.at ≤ to }
         requires room { to ≤ self.old.input.at + length self.old.input.rest }
         ensures { self.new ≡ record {

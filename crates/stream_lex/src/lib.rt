@@ -6,11 +6,13 @@ mod cursor;
 mod laws;
 mod lexer;
 mod lines;
+mod stop;
 #[cfg(test)]
 mod tests;
 
 pub use blocks::block;
-pub use cursor::{Cursor, LineView, Stop};
+pub use cursor::{Cursor, LineView};
 pub use laws::{block_law, cutting_law, line_law};
 pub use lexer::{BlockAnswer, LexFault, Lexer, LineAnswer};
 pub use lines::{any_line, is_comment, line};
+pub use stop::{LimitFault, Stop};

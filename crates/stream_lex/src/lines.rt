@@ -1,16 +1,17 @@
 // Lines.
 ghost use Rattle.std.specs.Prelude.{◌≡◌, ◌≤◌, ◌<◌, ◌+◌, Some, false, length, take, drop, IfOk, IfNone, IfSome};
-ghost use Rattle.stream_lex.specs.Lines.{line_max, stream_max, split_line, any_line, line_at, is_comment, HasNone};
+ghost use Rattle.git_objects.specs.declared.limits.TheConstants.{LINE_BYTES, STREAM_BYTES};
+ghost use Rattle.stream_lex.specs.Lines.{split_line, any_line, line_at, is_comment, HasNone};
 ghost use Rattle.stream_lex.specs.Cutting.{Advances};
 ghost use Rattle.stream_lex.specs.Passed.{IsPast};
 ghost use Rattle.stream_lex.specs.Views.{Tells, WaitsClear, input, read_line};
 
-use crate::cursor::{LINE_MAX, STREAM_MAX};
-use crate::{Cursor, LineView, Stop};
+use crate::{Cursor, LimitFault, LineView, Stop};
+use git_objects::limits::{LINE_BYTES, STREAM_BYTES};
 use memchr::memchr;
 
 // A line with what is behind it, or none at the end.
-type Found<'a> = Result<(Option<LineView<'a>>, Cursor<'a>), Stop>;
+type Found<'a> = Result<(Option<LineView<'a>>, Cursor<'a>), Stop<LimitFault>>;
 
 /// Whether a line begins with `#`.
 pub fn is_comment(line: &[u8]) -> bool
@@ -23,18 +24,18 @@ pub fn is_comment(line: &[u8]) -> bool
 }
 
 /// The next line, a comment or not, or none at the end.
-pub fn any_line<'a>(ended: bool, i: Cursor<'a>) -> Result<(Option<LineView<'a>>, Cursor<'a>), Stop>
-    requires { i.at ≤ stream_max }
+pub fn any_line<'a>(ended: bool, i: Cursor<'a>) -> Result<(Option<LineView<'a>>, Cursor<'a>), Stop<LimitFault>>
+    requires { i.at ≤ STREAM_BYTES }
     ensures { Tells read_line result (any_line ended (input i.entry)) }
 {
     next_line(ended, i, 0)
 }
 
 /// The next line behind comments, or none at the end.
-pub fn line<'a>(ended: bool, i: Cursor<'a>) -> Result<(Option<LineView<'a>>, Cursor<'a>), Stop>
-    requires { i.at ≤ stream_max }
+pub fn line<'a>(ended: bool, i: Cursor<'a>) -> Result<(Option<LineView<'a>>, Cursor<'a>), Stop<LimitFault>>
+    requires { i.at ≤ STREAM_BYTES }
     ensures told { Tells read_line result (line_at ended (input i.entry)) }
-    ensures within { IfOk result (λ x. x.1.at ≤ stream_max) }
+    ensures within { IfOk result (λ x. x.1.at ≤ STREAM_BYTES) }
     ensures steps { IfOk result (λ x. Advances (input i.entry) (input x.1)) }
 {
     let (_, found) = look(ended, i, 0);
@@ -46,14 +47,14 @@ pub fn look<'a>(
     ended: bool,
     i: Cursor<'a>,
     clear: usize,
-) -> (Cursor<'a>, Result<(Option<LineView<'a>>, Cursor<'a>), Stop>)
-    requires at { i.at ≤ stream_max }
+) -> (Cursor<'a>, Result<(Option<LineView<'a>>, Cursor<'a>), Stop<LimitFault>>)
+    requires at { i.at ≤ STREAM_BYTES }
     requires room { clear ≤ length i.rest.now }
     requires clear { HasNone i.rest.now clear }
     ensures told { Tells read_line result.1 (line_at ended (input i.entry)) }
-    ensures within { IfOk result.1 (λ x. x.1.at ≤ stream_max) }
+    ensures within { IfOk result.1 (λ x. x.1.at ≤ STREAM_BYTES) }
     ensures steps { IfOk result.1 (λ x. Advances (input i.entry) (input x.1)) }
-    ensures from_within { result.0.at ≤ stream_max }
+    ensures from_within { result.0.at ≤ STREAM_BYTES }
     ensures from_steps { Advances (input i.entry) (input result.0) }
     ensures past { ended ≡ false → IsPast (input i.entry) (input result.0) }
     ensures waits { WaitsClear result.1 ended result.0.rest.now }
@@ -80,8 +81,8 @@ fn next_line<'a>(
     ended: bool,
     i: Cursor<'a>,
     clear: usize,
-) -> Result<(Option<LineView<'a>>, Cursor<'a>), Stop>
-    requires at { i.at ≤ stream_max }
+) -> Result<(Option<LineView<'a>>, Cursor<'a>), Stop<LimitFault>>
+    requires at { i.at ≤ STREAM_BYTES }
     requires room { clear ≤ length i.rest.now }
     requires clear { HasNone i.rest.now clear }
     ensures told { Tells read_line result (any_line ended (input i.entry)) }
@@ -92,8 +93,8 @@ fn next_line<'a>(
     let Some(n) = line_end(rest, clear) else {
         return unended(ended, i);
     };
-    if n as u64 + 1 > STREAM_MAX - at {
-        return Err(Stop::StreamTooLong);
+    if n as u64 + 1 > STREAM_BYTES - at {
+        return Err(Stop::Fault(LimitFault::StreamTooLong));
     }
     let line = LineView {
         at,
@@ -107,22 +108,22 @@ fn next_line<'a>(
 }
 
 // The next line where no LF ends it.
-fn unended<'a>(ended: bool, i: Cursor<'a>) -> Result<(Option<LineView<'a>>, Cursor<'a>), Stop>
-    requires at { i.at ≤ stream_max }
-    requires none { HasNone i.rest.now (line_max + 1) }
+fn unended<'a>(ended: bool, i: Cursor<'a>) -> Result<(Option<LineView<'a>>, Cursor<'a>), Stop<LimitFault>>
+    requires at { i.at ≤ STREAM_BYTES }
+    requires none { HasNone i.rest.now (LINE_BYTES + 1) }
     ensures told { Tells read_line result (any_line ended (input i.entry)) }
     ensures waits { WaitsClear result ended i.entry.rest.now }
 {
     let at = i.at;
     let rest = i.rest;
-    if rest.len() > LINE_MAX {
-        if at + LINE_MAX as u64 + 1 > STREAM_MAX {
-            return Err(Stop::StreamTooLong);
+    if rest.len() > LINE_BYTES {
+        if at + LINE_BYTES as u64 + 1 > STREAM_BYTES {
+            return Err(Stop::Fault(LimitFault::StreamTooLong));
         }
-        return Err(Stop::LongLine { at });
+        return Err(Stop::Fault(LimitFault::LongLine { at }));
     }
-    if rest.len() as u64 > STREAM_MAX - at {
-        return Err(Stop::StreamTooLong);
+    if rest.len() as u64 > STREAM_BYTES - at {
+        return Err(Stop::Fault(LimitFault::StreamTooLong));
     }
     if !ended {
         return Err(Stop::More);
@@ -143,10 +144,10 @@ fn line_end(rest: &[u8], clear: usize) -> Option<usize>
     requires room { clear ≤ length rest.now }
     requires clear { HasNone rest.now clear }
     ensures found { IfSome result (λ n. split_line rest.now ≡ Some (take n rest.now, drop (n + 1) rest.now)) }
-    ensures within { IfSome result (λ n. (n < length rest.now) × (n ≤ line_max)) }
-    ensures none { IfNone result (HasNone rest.now (line_max + 1)) }
+    ensures within { IfSome result (λ n. (n < length rest.now) × (n ≤ LINE_BYTES)) }
+    ensures none { IfNone result (HasNone rest.now (LINE_BYTES + 1)) }
 {
-    let end = rest.len().min(LINE_MAX + 1);
+    let end = rest.len().min(LINE_BYTES + 1);
     let from = clear.min(end);
     match memchr(b'\n', &rest[from..end]) {
         Some(n) => Some(from + n),

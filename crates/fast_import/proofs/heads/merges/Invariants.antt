@@ -1,5 +1,5 @@
 use Rattle.std.proofs.Common.{◌≡◌, ◌≤◌, []}
-use Rattle.stream_lex.specs.Lines.{stream_max}
+use Rattle.git_objects.specs.declared.limits.TheConstants.{STREAM_BYTES}
 use Rattle.stream_lex.specs.Views.{input}
 use Rattle.fast_import.specs.Heads.{merges}
 use Rattle.fast_import.proofs.heads.merges.Given as goal
@@ -7,7 +7,7 @@ use Rattle.fast_import.proofs.heads.merges.Given as goal
 abbrev pub invariant-merges : goal.invariant-merges
 invariant-merges l = record {
   same : merges l.most [] l.ended (input l.fn.i) ≡ merges l.left l.refs.items l.ended (input l.i);
-  within : l.i.at ≤ stream_max;
+  within : l.i.at ≤ STREAM_BYTES;
 }
 
 abbrev pub decreases-merges : goal.decreases-merges

@@ -3,7 +3,8 @@ use Rattle.stream_lex.specs.Views.{input, line}
 use Rattle.stream_lex.specs.Lines.{any_line}
 use Rattle.stream_lex.specs.Cutting.{Steps}
 use Rattle.stream_lex.proofs.Fuel.{line_err, line_none, line_some, line_skip, moves_none, moves_some}
-use Rattle.stream_lex.proofs.Advance.{any_line-steps, line_at-steps, then}
+use Rattle.stream_lex.proofs.Advance.{any_line-steps, line_at-steps}
+use Rattle.stream_lex.proofs.Combining.{further}
 use Rattle.stream_lex.proofs.Passing.{past_then, past_one}
 use Rattle.stream_lex.proofs.lines.look.Goals as goal
 
@@ -43,7 +44,7 @@ lines-preserved c =
       room = omega arith;
       clear = λ k a b. absurd (omega arith);
       same = sym (line_skip _ (input c.lines.i) after (line c.in-Ok-Some-default.line) told comment) ∙ c.lines.invariant.same;
-      steps = then _ (input c.lines.i) after c.lines.invariant.steps (subst (Steps (input c.lines.i)) told (any_line-steps c.args.ended (input c.lines.i)));
+      steps = further _ (input c.lines.i) after c.lines.invariant.steps (subst (Steps (input c.lines.i)) told (any_line-steps c.args.ended (input c.lines.i)));
       past = λ unended. past_then _ (input c.lines.i) after (c.lines.invariant.past unended)
           (past_one (input c.lines.i) after (line c.in-Ok-Some-default.line) (ap (λ e. any_line e (input c.lines.i)) (sym unended) ∙ told) comment);
     }

@@ -1,5 +1,5 @@
 use Rattle.std.proofs.Common.{◌∙◌, inr}
-use Rattle.fast_import.specs.declared.halt.Halt.TheVariants as halts
+use Rattle.stream_lex.specs.declared.stop.Stop.TheVariants as stops
 use Rattle.fast_import.specs.Readers.{reading}
 use Rattle.fast_import.proofs.Reading.{told_command, told_end, told_halt, before_same, skipped_before, shorter}
 use Rattle.fast_import.proofs.reader.Reader.next.Goals as goal
@@ -21,7 +21,7 @@ returns-in-Ok-Ends c =
 pub returns-in-Err-More : goal.returns-in-Err-More
 returns-in-Err-More c =
     let t = rw c.in-Err-More.field-0-is at c.in-Err-More.ensures in (
-      told_halt c.args.self.now (reading c.turns.self-inside.progress c.turns.self-inside.lexer) c.turns.invariant halts.More t.0,
+      told_halt c.args.self.now (reading c.turns.self-inside.progress c.turns.self-inside.lexer) c.turns.invariant stops.More t.0,
       before_same c.args.self.now (reading c.turns.self-inside.progress c.turns.self-inside.lexer) (reading c.advance.new.progress c.advance.new.lexer) c.turns.invariant t.1,
     )
 
@@ -29,7 +29,7 @@ pub returns-in-Err-Fault : goal.returns-in-Err-Fault
 returns-in-Err-Fault c =
     let t = rw c.in-Err-Fault.field-0-is at c.in-Err-Fault.ensures in
     inr (
-      told_halt c.args.self.now (reading c.turns.self-inside.progress c.turns.self-inside.lexer) c.turns.invariant (halts.Fault c.in-Err-Fault.fault) t.0,
+      told_halt c.args.self.now (reading c.turns.self-inside.progress c.turns.self-inside.lexer) c.turns.invariant (stops.Fault c.in-Err-Fault.fault) t.0,
       before_same c.args.self.now (reading c.turns.self-inside.progress c.turns.self-inside.lexer) (reading c.advance.new.progress c.advance.new.lexer) c.turns.invariant t.1,
     )
 

@@ -1,8 +1,9 @@
-use Rattle.std.proofs.Common.{◌∙◌, ◌+◌, ◌-◌, Ok, Err, Some, None, ap, sym, refl, arith}
+use Rattle.std.proofs.Common.{◌∙◌, ◌+◌, ◌-◌, Ok, Err, Some, None, ap, sym, refl, subst, arith}
 use Rattle.git_objects.specs.Paths.{Bytes}
 use Rattle.stream_lex.specs.Views.{input, line, maybe_line}
-use Rattle.stream_lex.specs.Lexing.{Lexed}
-use Rattle.stream_lex.proofs.Passing.{at_offset, told_here, told_left, left_within}
+use Rattle.stream_lex.specs.Lines.{line_at}
+use Rattle.stream_lex.specs.Lexing.{Lexed, Refuses}
+use Rattle.stream_lex.proofs.Passing.{refused, at_offset, told_here, told_left, left_within}
 use Rattle.stream_lex.proofs.lexer.Lexer.line.Goals as goal
 
 pub returns-in-Err-More : goal.returns-in-Err-More
@@ -12,19 +13,11 @@ returns-in-Err-More c = (
   c.self.view_is,
 )
 
-pub returns-in-Err-LongLine : goal.returns-in-Err-LongLine
-returns-in-Err-LongLine c = (
-  told_here c.self.inside.base c.self.inside.bytes.items c.deref.result.now c.self.inside.used c.self.inside.from c.self.inside.ended
-      c.deref.ensures.value c.self.invariant.past c.args.self.now c.self.view_is _ (rw c.in-Err-LongLine.is at c.look.ensures.told ∙ ap Err (rw c.in-Err-LongLine.is at c.in-Err-LongLine.field-0-is)),
-  refl,
-)
-
-pub returns-in-Err-StreamTooLong : goal.returns-in-Err-StreamTooLong
-returns-in-Err-StreamTooLong c = (
-  told_here c.self.inside.base c.self.inside.bytes.items c.deref.result.now c.self.inside.used c.self.inside.from c.self.inside.ended
-      c.deref.ensures.value c.self.invariant.past c.args.self.now c.self.view_is _ (rw c.in-Err-StreamTooLong.is at c.look.ensures.told ∙ ap Err (rw c.in-Err-StreamTooLong.is at c.in-Err-StreamTooLong.field-0-is)),
-  refl,
-)
+pub returns-in-Err-Fault : goal.returns-in-Err-Fault
+returns-in-Err-Fault c =
+    subst (λ e. Refuses e c.args.self.now c.args.self.now (line_at c.args.self.now.ended c.args.self.now.input)) (sym c.from.ensures)
+    (refused c.in-Err-Fault.fault c.args.self.now (told_here c.self.inside.base c.self.inside.bytes.items c.deref.result.now c.self.inside.used c.self.inside.from c.self.inside.ended
+    c.deref.ensures.value c.self.invariant.past c.args.self.now c.self.view_is _ (rw c.in-Err-Fault.is at c.look.ensures.told ∙ ap Err (rw c.in-Err-Fault.is at c.in-Err-Fault.field-0-is))))
 
 pub returns-in-Ok-None-default : goal.returns-in-Ok-None-default
 returns-in-Ok-None-default c =
