@@ -1,7 +1,9 @@
-//! Cases as lines of text: the words of a line, named texts, the values of words, and how an answer is printed.
+//! Cases as lines of text: the words of a line, named texts, the values of words, keepers, and how an answer is
+//! printed.
 #![tactic(auto)]
 
 mod fault;
+mod keepers;
 mod line;
 mod printing;
 mod texts;
@@ -9,6 +11,7 @@ mod values;
 mod word;
 
 pub use fault::Fault;
+pub use keepers::{add_item, failing_of, items_said, reopened};
 pub use line::{Line, read_line, said};
 pub use printing::printed;
 pub use texts::Texts;

@@ -14,8 +14,8 @@ pub enum Line {
     Asked(Vec<Word>),
 }
 
-/// Reads a line: `# ..` is a comment, `text NAME PIECES` names a text, a line behind two spaces goes on with it, and any other
-/// line asks something.
+/// Reads a line: `# ..` is a comment, `text NAME PIECES` names a text, a line behind two spaces goes on with it, and
+/// any other line asks something.
 pub fn read_line(alloc: Global, texts: &mut Texts, line: &str) -> Result<Line, Fault> {
     if line.is_empty() || line.starts_with('#') {
         return Ok(Line::Comment);

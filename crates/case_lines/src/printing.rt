@@ -6,8 +6,8 @@ fn is_plain(byte: u8) -> bool {
     (32..127).contains(&byte) && byte != b'"' && byte != b'\\'
 }
 
-/// A text as it is, or between double quotes where a byte is below 32, above 126, a double quote or a backslash: LF is `\n`,
-/// and each other such byte has three octal digits. Of more than 1,000 bytes only the number is said.
+/// A text as it is, or between double quotes where a byte is below 32, above 126, a double quote or a backslash: LF is
+/// `\n`, and each other such byte has three octal digits. Of more than 1,000 bytes only the number is said.
 pub fn printed(alloc: Global, text: &[u8]) -> Result<String, AllocError> {
     if text.len() > 1000 {
         return format!(in alloc; "({} bytes)", text.len());

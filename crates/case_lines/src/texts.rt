@@ -100,8 +100,8 @@ impl Texts {
         Ok(())
     }
 
-    // Adds what a word stands for: `$NAME` a text, `hex:DIGITS` bytes, `u8:N`, `u16:N` and `u32:N` a number whose highest
-    // byte comes first, and any other word itself.
+    // Adds what a word stands for: `$NAME` a text, `hex:DIGITS` bytes, `u8:N`, `u16:N` and `u32:N` a number whose
+    // highest byte comes first, and any other word itself.
     fn add_plain(&self, bytes: &mut Vec<u8>, text: &[u8]) -> Result<(), Fault> {
         if let Some(name) = text.strip_prefix(b"$") {
             bytes.extend_from_slice(self.get(name).ok_or(Fault::BadLine)?)?;

@@ -10,7 +10,8 @@ pub struct Word {
     pub is_quoted: bool,
 }
 
-/// The words of a line, which spaces part. One that begins with a double quote is read as git-fast-import(1) quotes paths.
+/// The words of a line, which spaces part. One that begins with a double quote is read as git-fast-import(1) quotes
+/// paths.
 pub fn words_of(alloc: Global, line: &[u8]) -> Result<Vec<Word>, Fault> {
     let mut words = Vec::new(alloc);
     let mut rest = line;

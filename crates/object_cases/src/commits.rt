@@ -6,9 +6,8 @@ ghost use Rattle.repo_state.specs.Commits.{setting};
 ghost use Rattle.object_cases.specs.Batches.{AreRefsOf, has_root};
 
 use crate::held::is_held;
-use crate::items::reopened;
 use crate::session::Session;
-use case_lines::{Fault, Word, name_of, ref_name_of};
+use case_lines::{Fault, Word, name_of, ref_name_of, reopened};
 use git_objects::{CommitView, Kind, Name};
 use object_store::{PutError, Store};
 use proj_io::MemKeeper;
@@ -137,8 +136,8 @@ fn commit_upon(
     commit_one(alloc, &mut state, keeper, blob, commit, refs)
 }
 
-/// Commits upon the keeper's items the objects that the session has ready, of which a blob and a commit are named, and refs to
-/// the commit. It says what came of it.
+/// Commits upon the keeper's items the objects that the session has ready, of which a blob and a commit are named, and
+/// refs to the commit. It says what came of it.
 pub fn commit(session: &mut Session, words: &[Word]) -> Result<String, Fault> {
     let [blob, commit, refs @ ..] = words else {
         return Err(Fault::BadLine);
@@ -147,7 +146,7 @@ pub fn commit(session: &mut Session, words: &[Word]) -> Result<String, Fault> {
     let blob = name_of(&session.texts, blob)?;
     let commit = name_of(&session.texts, commit)?;
     let refs = refs_to(alloc, refs, commit)?;
-    let mut keeper = reopened(session);
+    let mut keeper = reopened(alloc, &mut session.keeper);
     let said = commit_upon(alloc, &mut keeper, &session.made, blob, commit, refs);
     session.keeper = keeper;
     let text = match said? {

@@ -23,7 +23,11 @@ pub fn answer(session: &mut Session, form: &[u8], words: &[Word]) -> Result<Opti
             _ => return Err(Fault::BadLine),
         },
         b"length" => {
-            let word = if session.graph.is_empty() { ", empty" } else { "" };
+            let word = if session.graph.is_empty() {
+                ", empty"
+            } else {
+                ""
+            };
             format!(in alloc; "{}{word}", session.graph.len())?
         }
         _ => return Err(Fault::BadLine),

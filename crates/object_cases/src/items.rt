@@ -1,16 +1,15 @@
 // Items of a keeper, loaded and committed.
-ghost use Rattle.std.specs.Prelude.{◌≡◌, false};
-
 use crate::commits::{Made, commit};
 use crate::keepers::Misjudging;
 use crate::session::Session;
 use crate::stores::{held, object_name, object_of};
 use crate::values::digits_or_none;
-use case_lines::{Fault, Word, digits_of, number_of, printed, ref_name_of};
-use proj_io::{Failing, Keeper, MemKeeper};
+use case_lines::{
+    Fault, Word, add_item, digits_of, failing_of, items_said, number_of, ref_name_of, reopened,
+};
+use proj_io::{Keeper, MemKeeper};
 use repo_state::{LoadError, State};
 use std::alloc::Global;
-use std::mem;
 
 /// The answer to a line on items.
 pub fn answer(session: &mut Session, form: &[u8], words: &[Word]) -> Result<Option<String>, Fault> {
@@ -24,7 +23,7 @@ pub fn answer(session: &mut Session, form: &[u8], words: &[Word]) -> Result<Opti
         }
         b"add" => {
             let item = session.texts.spelled(words)?;
-            add(session, &item)?;
+            add_item(alloc, &mut session.keeper, &item)?;
             return Ok(None);
         }
         b"load" => load(session)?,
@@ -36,7 +35,7 @@ pub fn answer(session: &mut Session, form: &[u8], words: &[Word]) -> Result<Opti
             [refname] => digits_or_none(alloc, session.state.head(&ref_name_of(alloc, refname)?))?,
             _ => return Err(Fault::BadLine),
         },
-        b"list" => listed(session)?,
+        b"list" => items_said(alloc, &session.texts, &session.keeper)?,
         b"make" => {
             let (kind, body) = object_of(session, words)?;
             session.made.push(Made { kind, body })?;
@@ -46,42 +45,6 @@ pub fn answer(session: &mut Session, form: &[u8], words: &[Word]) -> Result<Opti
         _ => return Err(Fault::BadLine),
     };
     Ok(Some(said))
-}
-
-// The number of the call that fails, and `landed` where its item is left there.
-fn failing_of(alloc: Global, words: &[Word]) -> Result<Vec<Failing>, Fault> {
-    let mut failing = Vec::new(alloc);
-    let (call, landed) = match words {
-        [] => return Ok(failing),
-        [call] => (number_of(&call.bytes)?, false),
-        [call, word] if word.bytes.as_slice() == b"landed".as_slice() => {
-            (number_of(&call.bytes)?, true)
-        }
-        _ => return Err(Fault::BadLine),
-    };
-    failing.push(Failing { call, landed })?;
-    Ok(failing)
-}
-
-/// The keeper, opened again and taken out of the session.
-pub fn reopened(session: &mut Session) -> MemKeeper
-    ensures { result.broken ≡ false }
-{
-    let none = MemKeeper::new(session.alloc, Vec::new(session.alloc));
-    mem::replace(&mut session.keeper, none).reopen()
-}
-
-fn add(session: &mut Session, item: &[u8]) -> Result<(), Fault> {
-    if item.is_empty() || item.len() > 2_000_000 {
-        return Err(Fault::BadLine);
-    }
-    let mut keeper = reopened(session);
-    if keeper.items().len() > 1000 {
-        return Err(Fault::BadLine);
-    }
-    let added = keeper.append(item);
-    session.keeper = keeper;
-    added.ok().ok_or(Fault::BadLine)
 }
 
 // Why items are not loaded.
@@ -105,7 +68,7 @@ fn state_text(alloc: Global, loaded: &Result<State, LoadError>) -> Result<String
 }
 
 fn load(session: &mut Session) -> Result<String, Fault> {
-    let mut keeper = reopened(session);
+    let mut keeper = reopened(session.alloc, &mut session.keeper);
     let loaded = State::load(session.alloc, &mut keeper);
     session.keeper = keeper;
     let text = state_text(session.alloc, &loaded)?;
@@ -123,7 +86,7 @@ fn judged(session: &mut Session, words: &[Word]) -> Result<String, Fault> {
     let size = u32::try_from(number_of(&size.bytes)?);
     let size = size.ok().ok_or(Fault::BadLine)?;
     let mut keeper = Misjudging {
-        inner: reopened(session),
+        inner: reopened(session.alloc, &mut session.keeper),
         size,
     };
     let loaded = State::load(session.alloc, &mut keeper);
@@ -157,7 +120,12 @@ fn fronts(alloc: Global, item: &[u8]) -> Result<String, Fault> {
         }
         text = next;
     }
-    add_run(&mut lines, first, item.len().saturating_sub(1), text.as_str())?;
+    add_run(
+        &mut lines,
+        first,
+        item.len().saturating_sub(1),
+        text.as_str(),
+    )?;
     Ok(lines)
 }
 
@@ -166,22 +134,4 @@ fn add_run(lines: &mut String, first: usize, last: usize, text: &str) -> Result<
     let line = format!(in alloc; "{first} to {last}: {text}\n")?;
     lines.push_str(line.as_str())?;
     Ok(())
-}
-
-// The names of the texts that the items are. An item that is no text is told in hex.
-fn listed(session: &Session) -> Result<String, Fault> {
-    let alloc = session.alloc;
-    let mut lines = String::new(alloc);
-    for item in session.keeper.items() {
-        let line = match session.texts.name_of(item.bytes()) {
-            Some(name) => printed(alloc, name)?,
-            None => hex::encode(alloc, item.bytes())?,
-        };
-        lines.push_str(line.as_str())?;
-        lines.push('\n')?;
-    }
-    if lines.is_empty() {
-        return Ok(String::from_str(alloc, "no items")?);
-    }
-    Ok(lines)
 }

@@ -19,8 +19,8 @@ mod walks;
 
 use case_lines::Fault;
 use session::Session;
-use std::io::{BufRead, BufReader, BufWriter, Write};
 use std::io;
+use std::io::{BufRead, BufReader, BufWriter, Write};
 
 fn main(rt: HostRuntime) -> Result<(), Fault> {
     let alloc = rt.alloc();

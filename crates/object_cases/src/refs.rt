@@ -67,6 +67,10 @@ fn is_forward(alloc: Global, graph: &Graph, old: Name, new: Name) -> Result<Stri
     if graph.index_of(&old).is_none() || graph.index_of(&new).is_none() {
         return Err(Fault::BadLine);
     }
-    let word = if forward(alloc, graph, &old, &new)? { "forward" } else { "not forward" };
+    let word = if forward(alloc, graph, &old, &new)? {
+        "forward"
+    } else {
+        "not forward"
+    };
     Ok(String::from_str(alloc, word)?)
 }

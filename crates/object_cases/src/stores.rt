@@ -95,9 +95,7 @@ fn stats(alloc: Global, store: &Store, name: Name) -> Result<String, Fault> {
         None => Ok(String::from_str(alloc, "no tree")?),
         Some(sizes) => Ok(format!(in alloc;
             "files {} depth {} longest {}",
-            sizes.files,
-            sizes.depth,
-            sizes.longest
+            sizes.files, sizes.depth, sizes.longest
         )?),
     }
 }

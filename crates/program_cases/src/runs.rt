@@ -1,13 +1,13 @@
 // Calls of the program.
 use crate::session::{FailingCalls, Session};
-use case_lines::{Fault, Texts, Word, printed};
+use case_lines::{Fault, Texts, Word, items_said, printed, reopened};
 use proj_cli::{outcome_code, run};
-use proj_io::{MemKeeper, MemSink, MemSource};
+use proj_io::{MemSink, MemSource};
 use std::alloc::Global;
 use std::mem;
 
-/// Calls the program with the words in front of `<`, and what is spelled behind it as the input, and says how the call ended,
-/// what it wrote, and the items then.
+/// Calls the program with the words in front of `<`, and what is spelled behind it as the input, and says how the call
+/// ended, what it wrote, and the items then.
 pub fn run_words(session: &mut Session, words: &[Word]) -> Result<String, Fault> {
     let alloc = session.alloc;
     let (front, pieces) = parted(words);
@@ -18,21 +18,21 @@ pub fn run_words(session: &mut Session, words: &[Word]) -> Result<String, Fault>
     let mut input = MemSource::new(input, most, failing.input);
     let mut out = MemSink::new(alloc, most, failing.out);
     let mut err = MemSink::new(alloc, most, failing.err);
-    let mut keeper = session.reopened();
+    let mut keeper = reopened(alloc, &mut session.keeper);
     let outcome = run(alloc, &words, &mut input, &mut out, &mut err, &mut keeper);
     session.keeper = keeper;
     let mut text = format!(in alloc; "{}\n", outcome_code(&outcome))?;
     add_stream(alloc, &mut text, "out", out.bytes())?;
     add_stream(alloc, &mut text, "err", err.bytes())?;
-    add_items(alloc, &mut text, &session.texts, &session.keeper)?;
+    let items = items_said(alloc, &session.texts, &session.keeper)?;
+    text.push_str(items.as_str())?;
     Ok(text)
 }
 
 // The words of a call, and the pieces of its input.
 fn parted(words: &[Word]) -> (&[Word], &[Word]) {
-    let place = words
-        .iter()
-        .position(|word| !word.is_quoted && word.bytes.as_slice() == b"<".as_slice());
+    let place = words.iter().position(|word| !word.is_quoted
+        && word.bytes.as_slice() == b"<".as_slice());
     let at = place.unwrap_or(words.len());
     match words.split_at_checked(at) {
         Some((front, [_, pieces @ ..])) => (front, pieces),
@@ -56,24 +56,5 @@ fn add_stream(alloc: Global, text: &mut String, name: &str, bytes: &[u8]) -> Res
     }
     let line = format!(in alloc; "{name} {}\n", printed(alloc, bytes)?)?;
     text.push_str(line.as_str())?;
-    Ok(())
-}
-
-// Adds a line with the names of the texts that the items are. An item that is no text is told in hex.
-fn add_items(
-    alloc: Global,
-    text: &mut String,
-    texts: &Texts,
-    keeper: &MemKeeper,
-) -> Result<(), Fault> {
-    text.push_str(if keeper.items().is_empty() { "no items" } else { "items" })?;
-    for item in keeper.items() {
-        text.push(' ')?;
-        let name = match texts.name_of(item.bytes()) {
-            Some(name) => printed(alloc, name)?,
-            None => hex::encode(alloc, item.bytes())?,
-        };
-        text.push_str(name.as_str())?;
-    }
     Ok(())
 }

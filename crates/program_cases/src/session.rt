@@ -1,12 +1,9 @@
 // What lines of cases work on.
-ghost use Rattle.std.specs.Prelude.{◌≡◌, false};
-
 use crate::outcomes::outcome;
 use crate::runs::run_words;
-use case_lines::{Fault, Line, Texts, Word, number_of, read_line, said};
-use proj_io::{Failing, Keeper, MemKeeper};
+use case_lines::{Fault, Line, Texts, Word, add_item, failing_of, number_of, read_line, said};
+use proj_io::MemKeeper;
 use std::alloc::Global;
-use std::mem;
 
 /// What earlier lines made: texts, a store, and how the other devices of the next call behave.
 #[derive(Drop)]
@@ -75,7 +72,7 @@ impl Session {
             }
             b"keep" => {
                 let item = self.texts.spelled(inner)?;
-                self.keep(&item)?;
+                add_item(self.alloc, &mut self.keeper, &item)?;
                 Ok(None)
             }
             b"pieces" => {
@@ -88,28 +85,6 @@ impl Session {
             }
             _ => Err(Fault::BadLine),
         }
-    }
-
-    /// The keeper, opened again and taken out of the session.
-    pub fn reopened(&mut self) -> MemKeeper
-        ensures { result.broken ≡ false }
-    {
-        let none = MemKeeper::new(self.alloc, Vec::new(self.alloc));
-        mem::replace(&mut self.keeper, none).reopen()
-    }
-
-    // Appends an item to the store.
-    fn keep(&mut self, item: &[u8]) -> Result<(), Fault> {
-        if item.is_empty() || item.len() > 2_000_000 {
-            return Err(Fault::BadLine);
-        }
-        let mut keeper = self.reopened();
-        if keeper.items().len() > 1000 {
-            return Err(Fault::BadLine);
-        }
-        let added = keeper.append(item);
-        self.keeper = keeper;
-        added.ok().ok_or(Fault::BadLine)
     }
 
     // Lets a call of a device fail, in the next run alone.
@@ -126,21 +101,6 @@ impl Session {
         }
         Ok(())
     }
-}
-
-// The number of the store's call that fails, and `landed` where its item is left there.
-fn failing_of(alloc: Global, words: &[Word]) -> Result<Vec<Failing>, Fault> {
-    let mut failing = Vec::new(alloc);
-    let (call, landed) = match words {
-        [] => return Ok(failing),
-        [call] => (number_of(&call.bytes)?, false),
-        [call, word] if word.bytes.as_slice() == b"landed".as_slice() => {
-            (number_of(&call.bytes)?, true)
-        }
-        _ => return Err(Fault::BadLine),
-    };
-    failing.push(Failing { call, landed })?;
-    Ok(failing)
 }
 
 fn pieces_of(words: &[Word]) -> Result<usize, Fault> {
