@@ -9,7 +9,7 @@ use Rattle.git_objects.specs.declared.name.Name.{Name as ObjectName}
 use Rattle.git_objects.specs.declared.quantity.Quantity.TheVariants as limits
 use Rattle.path_names.specs.Quoting.{quote, quoted_byte}
 use Rattle.path_names.specs.RefNames.{is_ref_name}
-use Rattle.fast_import.specs.Words.{number}
+use Rattle.path_names.specs.Words.{number}
 use Rattle.fast_import.specs.declared.fault.Feature.TheVariants as features
 use Rattle.fast_import.specs.declared.fault.StreamFault.TheVariants as streams
 use Rattle.filter_text.specs.declared.filter.FilterFault.TheVariants as texts

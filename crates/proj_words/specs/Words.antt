@@ -7,7 +7,7 @@ use Rattle.std.specs.Str.{is_utf8}
 use Rattle.git_objects.specs.Paths.{Bytes, same_bytes}
 use Rattle.git_objects.specs.Idents.{cut_at}
 use Rattle.path_names.specs.RefNames.{is_ref_name}
-use Rattle.fast_import.specs.Words.{number}
+use Rattle.path_names.specs.Words.{number}
 
 pub data Command : Type 0 where
   -- of a stream, and whether a ref may move anywhere

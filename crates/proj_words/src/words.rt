@@ -1,11 +1,9 @@
 // The forms of the words.
 ghost use Rattle.std.specs.Prelude.{◌≡◌, true, map, string_bytes};
-ghost use Rattle.fast_import.specs.Words.{number};
-ghost use Rattle.git_objects.specs.Idents.{is_digit};
 ghost use Rattle.proj_words.specs.Views.{command_of};
 ghost use Rattle.proj_words.specs.Words.{command, is_formed, one_word, two_words, three_words, trial_number};
 
-use path_names::is_ref_name;
+use path_names::{is_ref_name, number};
 
 // The most commits of a trial.
 const TRIAL_COMMITS: u64 = 100_000;
@@ -38,30 +36,6 @@ fn one_word<'a>(word: &'a str) -> Command<'a>
         return Command::Batch;
     }
     Command::Unknown
-}
-
-fn is_digit(x: u8) -> bool
-    ensures { result ≡ is_digit x }
-{
-    48 <= x && x <= 57
-}
-
-// What 1 to 18 digits say.
-#[tactic(auto, unfolding(fast_import::specs::Words::number))]
-fn number(text: &[u8]) -> Option<u64>
-    ensures { result ≡ number text.now }
-{
-    if text.len() < 1 || text.len() > 18 {
-        return None;
-    }
-    let mut n: u64 = 0;
-    for (k, x) in text.iter().enumerate() {
-        if !is_digit(*x) {
-            return None;
-        }
-        n = 10 * n + u64::from(*x - 48);
-    }
-    Some(n)
 }
 
 // A number from 1 to 100,000 without a leading zero.

@@ -1,4 +1,4 @@
-use Rattle.std.proofs.Common.{◌≡◌, ◌<◌, true, Bool, length}
+use Rattle.std.proofs.Common.{◌≡◌, ◌<◌, true, length}
 use Rattle.std.proofs.lemmas.Result.{IfOk-weaker}
 use Rattle.path_trees.specs.Walked.{IsStep}
 use Rattle.path_trees.proofs.Walks.{step_some}
