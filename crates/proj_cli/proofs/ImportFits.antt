@@ -19,7 +19,7 @@ use Rattle.repo_state.specs.Changes as changes
 use Rattle.repo_state.specs.Changes.{IsWithin, commit_fits}
 use Rattle.object_store.specs.StoredSnapshots.{commit_named}
 use Rattle.repo_state.specs.Items.{Held, read_items}
-use Rattle.object_store.specs.Fits.{tree_fits}
+use Rattle.object_store.specs.Fits.{tree_fits, is_known}
 use Rattle.repo_state.specs.Repos.{repo_of}
 use Rattle.git_objects.specs.Snapshots.{Snapshot, snapshot_name}
 use Rattle.repo_state.proofs.HeldFits.{held-fits}
@@ -56,7 +56,7 @@ module _ (H : List Object) (blobs : List Bytes) where
     pub fits : tree_fits t ≡ true
     pub known : are_known H blobs t ≡ true
 
-  change-fine : (m : ℕ) (t : Flat) (c : Change) → IsFineTree t → is_small (with_change t c) ≡ true → IsShort m c → changes.is_known H blobs (record { kind = Blob; body = c.1 }) ≡ true → IsFineTree (with_change t c)
+  change-fine : (m : ℕ) (t : Flat) (c : Change) → IsFineTree t → is_small (with_change t c) ≡ true → IsShort m c → is_known H blobs (record { kind = Blob; body = c.1 }) ≡ true → IsFineTree (with_change t c)
   change-fine m t c h s w k = record {
     fits = put-fits t c.0 (FileLeaf c.1) h.fits w.path.few w.path.short (leb-true (length (with_change t c)) (2 ^ 20) s);
     known = known-put H blobs t c.0 (FileLeaf c.1) h.known (ap (λ b. b && true) k);
@@ -79,7 +79,7 @@ module _ (H : List Object) (blobs : List Bytes) where
   snapshots-fine m t ps (r ∷ ss) h s w k =
       let u = with_changes t r.changes in
       let both : (are_small (trees_within t r.changes) && are_small (trees_made u ss)) ≡ true = sym (list_all-append is_small (trees_within t r.changes) (trees_made u ss)) ∙ s in
-      let P = λ (b : Bytes). changes.is_known H blobs (record { kind = Blob; body = b }) ≡ true in
+      let P = λ (b : Bytes). is_known H blobs (record { kind = Blob; body = b }) ≡ true in
       let fine = changes-fine m t r.changes h (first_so _ _ both) w.0.changes (each-front P (contents_in r.changes) (contents ss) k) in (
         record { tree = fine; message = w.0.message },
         snapshots-fine m u (snapshot_name (snapshot t ps r) ∷ []) ss fine (second_so (are_small (trees_within t r.changes)) _ both) w.1 (each-back P (contents_in r.changes) (contents ss) k),

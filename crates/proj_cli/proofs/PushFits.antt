@@ -14,7 +14,7 @@ use Rattle.object_store.specs.Objects.{Object, IsStore, body_of, has}
 use Rattle.object_store.specs.TreeObjects.{leaf_objects}
 use Rattle.filter_routes.specs.Lenses.{Lens, carried, entered}
 use Rattle.filter_unapply.specs.Laying.{LaidTree, first_blocked, first_lost, laid, laid_from, pre, hidden}
-use Rattle.repo_state.specs.Changes as changes
+use Rattle.object_store.specs.Fits.{is_known}
 use Rattle.repo_state.specs.Changes.{IsWithin, commit_fits}
 use Rattle.object_store.specs.StoredSnapshots.{commit_named}
 use Rattle.repo_state.specs.Loads.{Stored}
@@ -40,13 +40,13 @@ laid_is None (Some b) v u e = cc
 laid_is None None v u e = cc
 
 module _ (H : List Object) (blobs : List Bytes) where
-  known-entered : (o : Option Path) (x : Leaf) (t : Flat) → list_all (changes.is_known H blobs) (leaf_objects x) ≡ true → are_known H blobs t ≡ true → are_known H blobs (entered o x t) ≡ true
+  known-entered : (o : Option Path) (x : Leaf) (t : Flat) → list_all (is_known H blobs) (leaf_objects x) ≡ true → are_known H blobs t ≡ true → are_known H blobs (entered o x t) ≡ true
   known-entered None x t h g = g
   known-entered (Some p) x t h g = known-entry H blobs p x t g h
 
   known-carried : (to : Path → Option Path) (s t : Flat) → are_known H blobs s ≡ true → are_known H blobs t ≡ true → are_known H blobs (carried to s t) ≡ true
   known-carried to [] t h g = g
-  known-carried to (e ∷ s) t h g = known-entered (to e.0) e.1 (carried to s t) (first_so _ _ h) (known-carried to s t (second_so (list_all (changes.is_known H blobs) (leaf_objects e.1)) _ h) g)
+  known-carried to (e ∷ s) t h g = known-entered (to e.0) e.1 (carried to s t) (first_so _ _ h) (known-carried to s t (second_so (list_all (is_known H blobs) (leaf_objects e.1)) _ h) g)
 
   -- the leaves of what is laid are those of the two trees
   known-laid : (f : Lens) (t n u : Flat) → laid f t n ≡ LaidTree u → are_known H blobs t ≡ true → are_known H blobs n ≡ true → are_known H blobs u ≡ true
@@ -74,7 +74,7 @@ module _ (s' : Stored) (place : Path) (n : Bytes) (f : Lens) (m : Small) (refnam
       let known = brought-known S H r.blobs.items (contents (m ∷ [])) new in
       let base = (upon-fine items s'.held S read s w i all (Some n) k).known in
       let tree = known-laid H all f start.tree (pushed_commit start m).tree a.original.tree a.original.laid base
-      (known-changes H all start.shown m.changes (known-under H all start.tree place base) (each-front (λ (c : Bytes). changes.is_known H all (record { kind = Blob; body = c }) ≡ true) (contents_in m.changes) [] known)) in
+      (known-changes H all start.shown m.changes (known-under H all start.tree place base) (each-front (λ (c : Bytes). is_known H all (record { kind = Blob; body = c }) ≡ true) (contents_in m.changes) [] known)) in
       let fine : IsFine H all mx (original S s s'.held f start m refname r p a) = record { tree = record { fits = a.original.fits; known = tree }; message = small.message } in
       record {
         blobs = ap (λ (ns : List Name). list_all (λ q. nat_le (length (body_of Blob S q)) (2 ^ 24)) (map name_bytes ns)) b.blobs ∙ blobs-within S mx r.blobs.items (contents (m ∷ [])) (omega arith) new (all-short mx (m ∷ []) (small, tt));

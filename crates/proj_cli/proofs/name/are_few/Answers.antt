@@ -14,20 +14,20 @@ use Rattle.proj_cli.proofs.name.are_few.Goals as goal
 pub count_batch-requires-clause-change : goal.count_batch-requires-clause-change
 count_batch-requires-clause-change c = brought-change c.args.store.now (map small_value c.args.smalls.now) c.args.batch.now c.requires
 
-pub returns-then-commits-le-COMMITS : goal.returns-then-commits-le-COMMITS
-returns-then-commits-le-COMMITS c = λ (cs : List Snapshot) e.
+pub returns-then-commits : goal.returns-then-commits
+returns-then-commits c = λ (cs : List Snapshot) e.
     let S = c.args.store.now in
     let os = fresh [] (objects_of S (change_of c.args.batch.now)) in
-    let few = sym (ap (λ n. nat_le n (2 ^ 20)) c.in_ok-commits.ensures.commits) ∙ le-leb c.in_ok-commits.commits 1048576 c.if-commits-le-COMMITS.true in
+    let few = sym (ap (λ n. nat_le n (2 ^ 20)) c.in_ok-commits.ensures.commits) ∙ le-leb c.in_ok-commits.commits 1048576 c.if-commits.true in
     ap (λ n. nat_le n (2 ^ 22)) c.in_ok-commits.ensures.objects
     ∙ sym (ap (λ b. b && nat_le (length os) (2 ^ 22)) few)
     ∙ ap (λ xs. has_few (fresh [] xs)) (brought-objects S (map small_value c.args.smalls.now) c.args.batch.now c.requires cs e)
 
-pub returns-else-commits-le-COMMITS : goal.returns-else-commits-le-COMMITS
-returns-else-commits-le-COMMITS c = λ (cs : List Snapshot) e.
+pub returns-else-commits : goal.returns-else-commits
+returns-else-commits c = λ (cs : List Snapshot) e.
     let S = c.args.store.now in
     let os = fresh [] (objects_of S (change_of c.args.batch.now)) in
-    let many : nat_le (length (filter is_commit os)) (2 ^ 20) ≡ false = sym (ap (λ n. nat_le n (2 ^ 20)) c.in_ok-commits.ensures.commits) ∙ lt-leb c.in_ok-commits.commits 1048576 c.if-commits-le-COMMITS.false in
-    lt-leb c.in_ok-commits.commits 1048576 c.if-commits-le-COMMITS.false
+    let many : nat_le (length (filter is_commit os)) (2 ^ 20) ≡ false = sym (ap (λ n. nat_le n (2 ^ 20)) c.in_ok-commits.ensures.commits) ∙ lt-leb c.in_ok-commits.commits 1048576 c.if-commits.false in
+    lt-leb c.in_ok-commits.commits 1048576 c.if-commits.false
     ∙ sym (ap (λ b. b && nat_le (length os) (2 ^ 22)) many)
     ∙ ap (λ xs. has_few (fresh [] xs)) (brought-objects S (map small_value c.args.smalls.now) c.args.batch.now c.requires cs e)
