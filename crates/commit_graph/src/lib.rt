@@ -4,7 +4,5 @@
 
 mod graph;
 mod marks;
-#[cfg(test)]
-mod tests;
 
 pub use graph::Graph;

@@ -15,8 +15,6 @@ mod mode;
 mod name;
 mod quantity;
 mod steps;
-#[cfg(test)]
-mod tests;
 mod tree_laws;
 mod tree_view;
 

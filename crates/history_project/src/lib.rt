@@ -2,7 +2,5 @@
 #![tactic(auto)]
 
 mod projections;
-#[cfg(test)]
-mod tests;
 
 pub use projections::{Shown, directory, name_line, projection, projection_line};

@@ -3,11 +3,7 @@
 
 mod commits;
 mod laws;
-#[cfg(test)]
-mod sizes_tests;
 mod store;
-#[cfg(test)]
-mod tests;
 mod tree_stats;
 
 pub use commits::tree_of;

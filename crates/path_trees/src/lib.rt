@@ -10,8 +10,6 @@ mod laws;
 mod lookup;
 mod pairs;
 mod rebuild;
-#[cfg(test)]
-mod tests;
 mod walk;
 
 pub use edits::{put_at, remove_at};

@@ -2,19 +2,13 @@
 #![tactic(auto)]
 
 mod import;
-#[cfg(test)]
-mod import_tests;
 mod name;
 mod outcome;
 mod program;
 mod project;
 mod push;
-#[cfg(test)]
-mod push_tests;
 mod pushing;
 mod saving;
-#[cfg(test)]
-mod tests;
 mod texts;
 mod words;
 

@@ -4,8 +4,6 @@
 mod laws;
 mod moves;
 mod refs;
-#[cfg(test)]
-mod tests;
 
 pub use laws::set_law;
 pub use moves::forward;

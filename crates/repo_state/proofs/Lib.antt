@@ -19,7 +19,6 @@ pub mod RefRuns
 pub mod Settled
 pub mod States
 pub mod StoredCommits
-pub mod TestRoots
 pub mod TreeLaw
 pub mod Walks
 pub mod CommitNames

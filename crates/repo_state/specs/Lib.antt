@@ -13,4 +13,3 @@ pub mod Growing
 pub mod StoredObjects
 pub mod Wholes
 pub mod Rows
-pub mod TestChanges

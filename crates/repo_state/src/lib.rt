@@ -3,8 +3,6 @@
 
 mod change;
 mod commit;
-#[cfg(test)]
-mod commit_tests;
 mod commits;
 mod count;
 mod cursor;
@@ -15,8 +13,6 @@ mod objects;
 mod ref_fields;
 mod ref_table;
 mod state;
-#[cfg(test)]
-mod tests;
 mod walk;
 
 pub use commit::{Batch, CommitError, Setting};
