@@ -1,9 +1,9 @@
 -- A decision list seen as cells, without entries that earlier ones hide, and the way back from an image.
 use Rattle.std.specs.Prelude.{◌≡◌, refl, ℕ, ◌<◌, List, [], ◌∷◌, ◌++◌, length, Option, Some, None, cond, Bool, true, false, not, ◌&&◌, ◌⊎◌, ⊤, is_some}
-use Rattle.std.proofs.Common.{ap, ◌∙◌, sym, true≢false, inl, inr, subst}
+use Rattle.std.proofs.Common.{append-nil, ap, ◌∙◌, sym, true≢false, inl, inr, subst}
 use Rattle.std.proofs.lemmas.Bool.{or_cases, or_left, or_right}
 use Rattle.std.proofs.lemmas.Option.{none-some, same_Some}
-use Rattle.decision_lists.proofs.Clash.{CellClash, Comparable, Free, Fresh, InCell, Sound, alive-from, append-nothing, at-has, below-has, clashes-from, clashes-give, size, split}
+use Rattle.decision_lists.proofs.Clash.{CellClash, Comparable, Free, Fresh, InCell, Sound, alive-from, at-has, below-has, clashes-from, clashes-give, size, split}
 use Rattle.decision_lists.proofs.Compile.{proper-full, tail-is}
 use Rattle.decision_lists.proofs.Strip.{whole-some}
 use Rattle.decision_lists.specs.Cells.{Cell, any_clash, any_right, cells, cells_at, clashes, is_free, moved, origin, origin_at}
@@ -216,13 +216,13 @@ is-free (h ∷ hs) p f = ap (λ o. not (is_some o) && is_free hs p) f.0 ∙ is-f
 there : (c : Cone) (t q r : Path) → tail (moved c t) q ≡ Some r → (tail c (base c ++ r) ≡ Some r) × (q ≡ t ++ r)
 there (at s) t q r e =
     let h : (strip t q ≡ Some []) × (r ≡ []) = whole-some (strip t q) r e in
-    (ap (λ x. tail (at s) (s ++ x)) h.1 ∙ ap (tail (at s)) (append-nothing s) ∙ at-has s ∙ ap Some (sym h.1), tail-is (at t) q r e)
+    (ap (λ x. tail (at s) (s ++ x)) h.1 ∙ ap (tail (at s)) (append-nil s) ∙ at-has s ∙ ap Some (sym h.1), tail-is (at t) q r e)
 there (below s) t q r e = (below-has s r (proper-full (strip t q) r e), tail-is (below t) q r e)
 
 here : (c : Cone) (t p r : Path) → tail c p ≡ Some r → tail (moved c t) (t ++ r) ≡ Some r
 here (at s) t p r e =
     let h : (strip s p ≡ Some []) × (r ≡ []) = whole-some (strip s p) r e in
-    ap (λ x. tail (at t) (t ++ x)) h.1 ∙ ap (tail (at t)) (append-nothing t) ∙ at-has t ∙ ap Some (sym h.1)
+    ap (λ x. tail (at t) (t ++ x)) h.1 ∙ ap (tail (at t)) (append-nil t) ∙ at-has t ∙ ap Some (sym h.1)
 here (below s) t p r e = below-has t r (proper-full (strip s p) r e)
 
 origin_at-some : (b : Bool) (x p : Path) (other : Option Path) (X : Type 0) → (b ≡ true → x ≡ p → X) → (other ≡ Some p → X) → cond b (Some x) other ≡ Some p → X

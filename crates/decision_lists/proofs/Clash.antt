@@ -1,6 +1,6 @@
 -- When two cells meet, or have comparable images: a finite test, and that it is exact.
 use Rattle.std.specs.Prelude.{◌≡◌, refl, ℕ, ◌+◌, ◌<◌, ◌≤◌, List, [], ◌∷◌, ◌++◌, length, Option, Some, None, cond, Bool, true, false, not, ◌&&◌, ◌||◌, ◌⊎◌, ⊤, is_some}
-use Rattle.std.proofs.Common.{ap, ap₂, append_assoc, ◌∙◌, sym, true≢false, inl, inr, subst, arith}
+use Rattle.std.proofs.Common.{append-nil, ap, ap₂, append_assoc, ◌∙◌, sym, true≢false, inl, inr, subst, arith}
 use Rattle.std.proofs.lemmas.Bool.{or_cases, or_left, or_right, and_parts, and_from}
 use Rattle.std.proofs.lemmas.Option.{none-some}
 use Rattle.std.specs.List.{list_all}
@@ -58,14 +58,10 @@ is_some-not (Some r) e = absurd (true≢false e)
 pub is_some-is : (o : Option Path) (r : Path) → o ≡ Some r → is_some o ≡ true
 is_some-is o r e = ap is_some e
 
-pub append-nothing : (s : Path) → s ++ [] ≡ s
-append-nothing [] = refl
-append-nothing (c ∷ s) = ap (λ x. c ∷ x) (append-nothing s)
-
 at-is : (u p r : Path) → tail (at u) p ≡ Some r → p ≡ u
 at-is u p r e =
     let h : (strip u p ≡ Some []) × (r ≡ []) = whole-some (strip u p) r e in
-    strip-is u p [] h.0 ∙ append-nothing u
+    strip-is u p [] h.0 ∙ append-nil u
 
 -- what lies in m lies in a cone that has all of m
 pub covers-has : (h m : Cone) (p r : Path) → covers h m ≡ true → tail m p ≡ Some r → tail h p ≡ None → ⊥
@@ -136,7 +132,7 @@ pub below-has : (s r : Path) → Full r → tail (below s) (s ++ r) ≡ Some r
 below-has s r n = ap proper (strip-self s r) ∙ n
 
 pub at-has : (s : Path) → tail (at s) s ≡ Some []
-at-has s = ap (λ x. whole (strip s x)) (sym (append-nothing s)) ∙ ap whole (strip-self s [])
+at-has s = ap (λ x. whole (strip s x)) (sym (append-nil s)) ∙ ap whole (strip-self s [])
 
 -- a free path s ++ r, where r is comparable with v ++ r2
 comparable-more : (c d : List ℕ) (r x : Path) → Comparable (c ∷ r) (d ∷ x) → (c ≡ d) × Comparable r x
@@ -332,8 +328,8 @@ front-of x y = inl (y, refl)
 
 -- the picked path of a cone against v and x
 past-pick : (m : Cone) (v : Path) (x : List ℕ) → Comparable (v ++ x ∷ []) (v ++ pick_rest m x)
-past-pick (at u) v x = inr (x ∷ [], ap (λ y. y ++ x ∷ []) (sym (append-nothing v)))
-past-pick (below u) v x = inl ([], sym (append-nothing (v ++ x ∷ [])))
+past-pick (at u) v x = inr (x ∷ [], ap (λ y. y ++ x ∷ []) (sym (append-nil v)))
+past-pick (below u) v x = inl ([], sym (append-nil (v ++ x ∷ [])))
 
 touch-comparable : (m : Cone) (r v : Path) (x : List ℕ) → ((w : Path) × (v ≡ r ++ w)) ⊎ (r ≡ v ++ x ∷ []) → Comparable r (v ++ pick_rest m x)
 touch-comparable m r v x (inl h) = inl (h.0 ++ pick_rest m x, ap (λ y. y ++ pick_rest m x) h.1 ∙ append_assoc r h.0 (pick_rest m x))

@@ -1,6 +1,6 @@
 -- The parts of cones that a translation sends into others.
 use Rattle.std.specs.Prelude.{◌≡◌, refl, List, [], ◌∷◌, ◌++◌, Option, Some, None}
-use Rattle.std.proofs.Common.{ap, ap₂, append_assoc, ◌∙◌, sym}
+use Rattle.std.proofs.Common.{append-nil, ap, ap₂, append_assoc, ◌∙◌, sym}
 use Rattle.std.proofs.lemmas.Option.{none-some, same_Some}
 use Rattle.decision_lists.proofs.Strip.{proper-some, strip-apart, strip-in, strip-is, strip-past, strip-self, strip-two, whole-some}
 use Rattle.decision_lists.specs.Entries.{Cone, Entry, at, base, below, decide, run, tail}
@@ -56,10 +56,6 @@ pub full-behind : (a p : Path) → Full p → Full (a ++ p)
 full-behind [] p n = n
 full-behind (c ∷ a) p n = refl
 
-append-nothing : (s : Path) → s ++ [] ≡ s
-append-nothing [] = refl
-append-nothing (c ∷ s) = ap (λ x. c ∷ x) (append-nothing s)
-
 nothing_first : (o : Option Path) → o ≡ longer_by [] o
 nothing_first None = refl
 nothing_first (Some x) = refl
@@ -76,13 +72,13 @@ pull-below-at s t u r None e n = none-at (whole (strip u (t ++ r))) refl
     none-at None h = refl
     none-at (Some x) h =
         let k : (strip u (t ++ r) ≡ Some []) × (x ≡ []) = whole-some (strip u (t ++ r)) x h in
-        let same : u ≡ t ++ r = sym (strip-is u (t ++ r) [] k.0 ∙ append-nothing u) in
+        let same : u ≡ t ++ r = sym (strip-is u (t ++ r) [] k.0 ∙ append-nil u) in
         absurd (none-some r (sym e ∙ ap (λ y. proper (strip t y)) same ∙ ap proper (strip-self t r) ∙ n))
 
 pull-at : (s : Path) (o : Option Path) → o ≡ back (same_point s o) s
 pull-at s None = refl
 pull-at s (Some w) =
-    ap Some (sym (append-nothing w)) ∙ ap (λ o. longer_by w (whole o)) (sym (ap (strip s) (sym (append-nothing s)) ∙ strip-self s []))
+    ap Some (sym (append-nil w)) ∙ ap (λ o. longer_by w (whole o)) (sym (ap (strip s) (sym (append-nil s)) ∙ strip-self s []))
 
 pub pull-hit : (c : Cone) (t : Path) (d : Cone) (p r : Path) → tail c p ≡ Some r → tail d (t ++ r) ≡ back (pull c t d) p
 pull-hit (below s) t (below u) p r e =
@@ -93,8 +89,8 @@ pull-hit (below s) t (at u) p r e =
     ∙ ap (back (pull (below s) t (at u))) (sym (tail-is (below s) p r e))
 pull-hit (at s) t d p r e =
     let h : (strip s p ≡ Some []) × (r ≡ []) = whole-some (strip s p) r e in
-    ap (λ x. tail d (t ++ x)) h.1 ∙ ap (tail d) (append-nothing t) ∙ pull-at s (tail d t)
-    ∙ ap (back (pull (at s) t d)) (sym (strip-is s p [] h.0 ∙ append-nothing s))
+    ap (λ x. tail d (t ++ x)) h.1 ∙ ap (tail d) (append-nil t) ∙ pull-at s (tail d t)
+    ∙ ap (back (pull (at s) t d)) (sym (strip-is s p [] h.0 ∙ append-nil s))
 
 -- nothing of the part lies outside of the cone
 proper-none : (o : Option Path) (v : Path) → proper o ≡ None → proper (and_then o (strip v)) ≡ None
@@ -167,7 +163,7 @@ kept-is None p q e = absurd (none-some q e)
 kept-is (Some x) p q e = same_Some p q e
 
 pub whole-self : (a : Path) → whole (strip a a) ≡ Some []
-whole-self a = ap (λ x. whole (strip a x)) (sym (append-nothing a)) ∙ ap whole (strip-self a [])
+whole-self a = ap (λ x. whole (strip a x)) (sym (append-nil a)) ∙ ap whole (strip-self a [])
 
 -- one entry that takes off a front and puts another on
 pub one-sub : (o : Option Path) → decide o (Some []) None ≡ o

@@ -1,9 +1,9 @@
 -- The list of a filter folded from the left: only what may be covered is tested.
 use Rattle.std.specs.Prelude.{◌≡◌, refl, List, [], ◌∷◌, ◌++◌, Option, Some, None, Bool, true, false, not, ◌&&◌, ⊤, is_some}
-use Rattle.std.proofs.Common.{ap, ◌∙◌, sym, true≢false, append_assoc, subst}
+use Rattle.std.proofs.Common.{append-nil, ap, ◌∙◌, sym, true≢false, append_assoc, subst}
 use Rattle.std.proofs.lemmas.Option.{none-some, same_Some}
 use Rattle.decision_lists.proofs.Cells.{decide-none, decide-same, thin-run}
-use Rattle.decision_lists.proofs.Clash.{Free, alive-at, alive-from, append-nothing, at-has, covers-has, is_some-got, is_some-is}
+use Rattle.decision_lists.proofs.Clash.{Free, alive-at, alive-from, at-has, covers-has, is_some-got, is_some-is}
 use Rattle.decision_lists.proofs.Compile.{back, flip-at, pull-miss, pulled-hit, run-app, tail-is}
 use Rattle.decision_lists.proofs.Strip.{strip-is, strip-self}
 use Rattle.decision_lists.specs.Entries.{Cone, Entry, at, base, below, decide, run, tail}
@@ -144,7 +144,7 @@ after_left-run es g p =
 
 pub covers-self : (c : Cone) → covers c c ≡ true
 covers-self (at s) = is_some-is (tail (at s) s) [] (at-has s)
-covers-self (below s) = is_some-is (strip s s) [] (ap (strip s) (sym (append-nothing s)) ∙ strip-self s [])
+covers-self (below s) = is_some-is (strip s s) [] (ap (strip s) (sym (append-nil s)) ∙ strip-self s [])
 
 is_some-from : (o : Option Path) → (o ≡ None → ⊥) → is_some o ≡ true
 is_some-from None f = absurd (f refl)

@@ -1,4 +1,5 @@
 -- What the index of a decision list needs.
+use Rattle.std.proofs.Math.Bool.{or-false}
 use Rattle.std.specs.Prelude.{◌≡◌, refl, ℕ, ◌+◌, ◌<◌, suc, zero, nat_eq, List, [], ◌∷◌, ◌++◌, length, drop, take, slice_get, Option, Some, None, option_map, cond, Bool, true, false, not, ◌&&◌, ◌||◌, is_some}
 use Rattle.std.proofs.Common.{ap, ap₂, ◌∙◌, sym, arith, true≢false, append_assoc, append-nil, length-append, ⊎_elim}
 use Rattle.std.proofs.lemmas.Bool.{cases_eq, ne_eqb}
@@ -63,14 +64,10 @@ either-kind None = refl
 either-kind (Some []) = refl
 either-kind (Some (c ∷ r)) = refl
 
-or-false : (b : Bool) → b ≡ (b || false)
-or-false true = refl
-or-false false = refl
-
 covers-is : (c : Cone) (b : Bool) (s : Path) → covers c (cone_of b s) ≡ (some_front (λ f. same_cone c (below f)) s || same_cone c (cone_of b s))
 covers-is (at u) true s = sym (same-whole u s) ∙ ap (λ x. x || same_path u s) (sym (front-none s))
 covers-is (at u) false s = ap (λ x. x || false) (sym (front-none s))
-covers-is (below u) true s = sym (front-proper u s) ∙ or-false (some_front (same_path u) s)
+covers-is (below u) true s = sym (front-proper u s) ∙ sym (or-false (some_front (same_path u) s))
 covers-is (below u) false s = either-kind (strip u s) ∙ ap₂ (λ x y. x || y) (sym (front-proper u s)) (sym (same-whole u s))
 
 first-or : (b : Bool) (o : Option ℕ) → is_some (cond b (Some 0) (option_map suc o)) ≡ (b || is_some o)

@@ -1,12 +1,13 @@
 -- What the searches for a path and for an image need.
+use Rattle.std.proofs.Math.Bool.{and-true}
 use Rattle.std.specs.Prelude.{◌≡◌, refl, ℕ, ◌≤◌, List, [], ◌∷◌, ◌++◌, length, drop, take, ◌-◌, Option, Some, None, cond, Bool, true, false, not, ◌&&◌, is_some, slice_get}
-use Rattle.std.proofs.Common.{ap, ap₂, ◌∙◌, sym, arith, true≢false, subst}
+use Rattle.std.proofs.Common.{append-nil, ap, ap₂, ◌∙◌, sym, arith, true≢false, subst}
 use Rattle.std.proofs.lemmas.Option.{none-some}
 use Rattle.std.proofs.lemmas.List.{take_all}
 use Rattle.std.proofs.lemmas.List.Prefix.{front_rest}
 use Rattle.std.proofs.Common.{length-drop}
 use Rattle.decision_lists.proofs.Cells.{Gives, Has}
-use Rattle.decision_lists.proofs.Clash.{append-nothing, split}
+use Rattle.decision_lists.proofs.Clash.{is_some-got, split}
 use Rattle.decision_lists.proofs.Compile.{full-behind, proper-full, tail-is}
 use Rattle.decision_lists.proofs.Making.{strip-length, tail-strip}
 use Rattle.decision_lists.proofs.Strip.{strip-is, whole-some}
@@ -55,12 +56,8 @@ free-two (e ∷ es) hs p = free-two es (e.0 ∷ hs) p ∙ turn (is_some (tail e.
     turn true false z = refl
     turn false y z = refl
 
-and-yes : (b : Bool) → (b && true) ≡ b
-and-yes true = refl
-and-yes false = refl
-
 pub free_is : (es : List Entry) (p : Path) → is_free (heads es []) p ≡ free_in es p
-free_is es p = free-two es [] p ∙ and-yes (free_in es p)
+free_is es p = free-two es [] p ∙ and-true (free_in es p)
 
 -- ---- the way back, entry by entry
 
@@ -117,7 +114,7 @@ kind-hole b s t q r hs e f g =
 path-at : (c : Cone) (p r q t : Path) → Solid c → Valid t → Valid q → tail c p ≡ Some r → t ++ r ≡ q → IsPath p
 path-at (at s) p r q t h k v e f =
     let w : (strip s p ≡ Some []) × (r ≡ []) = whole-some (strip s p) r e in
-    subst IsPath (sym (strip-is s p [] w.0 ∙ append-nothing s)) h
+    subst IsPath (sym (strip-is s p [] w.0 ∙ append-nil s)) h
 path-at (below s) p r q t h k v e f =
     subst IsPath (sym (tail-is (below s) p r e))
     (path-from (s ++ r) (full-behind s r (proper-full (strip s p) r e)) (valid-both s r h (valid-behind t r (subst Valid (sym f) v))))
@@ -134,17 +131,13 @@ has-path (e ∷ es) hs p q h v x =
 
 -- ---- hits
 
-got : (o : Option Path) → is_some o ≡ true → (r : Path) × (o ≡ Some r)
-got None e = absurd (true≢false (sym e))
-got (Some r) e = (r, refl)
-
 decide-got : (o : Option Path) (r t : Path) (x : Option Path) (a : Option Path) → o ≡ Some r → a ≡ Some t → decide o a x ≡ Some (t ++ r)
 decide-got o r t x a e f = ap₂ (λ y z. decide y z x) e f
 
 pub image-hit : (es rest : List Entry) (i : ℕ) (e : Entry) (p t : Path) → slice_get es i ≡ Some e → drop i es ≡ e ∷ rest → run None (drop i es) p ≡ run None es p → is_some (tail e.0 p) ≡ true → e.1 ≡ Some t
     → onto_rest (target_of (slice_get es i)) (drop (length (base e.0)) p) ≡ run None es p
 image-hit es rest i e p t h d k s f =
-    let r : (r : Path) × (tail e.0 p ≡ Some r) = got (tail e.0 p) s in
+    let r : (r : Path) × (tail e.0 p ≡ Some r) = is_some-got (tail e.0 p) s in
     ap (λ o. onto_rest (target_of o) (drop (length (base e.0)) p)) h
     ∙ ap₂ (λ o x. onto_rest o x) f (front_rest p (base e.0) r.0 (tail-is e.0 p r.0 r.1))
     ∙ sym (decide-got (tail e.0 p) r.0 t (run None rest p) e.1 r.1 f)

@@ -1,9 +1,9 @@
 -- What the loops that make decision lists need.
+use Rattle.std.proofs.Math.Bool.{and-true}
 use Rattle.std.specs.Prelude.{◌≡◌, refl, ℕ, ◌+◌, ◌≤◌, List, [], ◌∷◌, ◌++◌, length, drop, take, ◌-◌, Option, Some, None, cond, Bool, true, false, not, ◌&&◌, is_some}
 use Rattle.std.proofs.Common.{ap, ap₂, ◌∙◌, sym, arith, true≢false, append_assoc, append-nil}
 use Rattle.std.proofs.lemmas.List.{take_all}
 use Rattle.std.proofs.Common.{length-drop}
-use Rattle.decision_lists.proofs.Clash.{append-nothing}
 use Rattle.decision_lists.specs.Entries.{Cone, Entry, at, base, below, tail}
 use Rattle.decision_lists.specs.Fronts.{proper, strip, whole}
 use Rattle.decision_lists.specs.Operations.{Part, alive, alive_in, are_live, block, covers, either_how, either_way, grown, heads, onward, picked, point, pull, pulled, put, refine, same_point, thin, thin_at}
@@ -17,10 +17,6 @@ alive-heads (e ∷ es) hs c = alive-heads es (e.0 ∷ hs) c ∙ turn (covers e.0
     turn true true z = refl
     turn true false z = refl
     turn false y z = refl
-
-and-true : (b : Bool) → (b && true) ≡ b
-and-true true = refl
-and-true false = refl
 
 pub alive_is : (es : List Entry) (c : Cone) → alive (heads es []) c ≡ alive_in es c
 alive_is es c = alive-heads es [] c ∙ and-true (alive_in es c)
@@ -75,7 +71,7 @@ pub point-none : (s t : Path) (d : Cone) (a : Option Path) → None ≡ tail d t
 point-none s t d a e = ap (λ o. put (same_point s o) a []) e
 
 pub point-some : (s t r : Path) (d : Cone) (a : Option Path) → Some r ≡ tail d t → (at (s ++ []), onward a r) ∷ [] ≡ put (pull (at s) t d) a []
-point-some s t r d a e = ap (λ x. (at x, onward a r) ∷ []) (append-nothing s) ∙ ap (λ o. put (same_point s o) a []) e
+point-some s t r d a e = ap (λ x. (at x, onward a r) ∷ []) (append-nil s) ∙ ap (λ o. put (same_point s o) a []) e
 
 pub below-none : (s t u : Path) (a : Option Path) → None ≡ strip t u → [] ≡ put (pull (below s) t (at u)) a []
 below-none s t u a e = ap (λ o. put (point s (proper o)) a []) e
@@ -89,7 +85,7 @@ below-same s t u [] a e n = ap (λ o. put (point s (proper o)) a []) e
 below-same s t u (c ∷ v) a e n = absurd (true≢false (sym n))
 
 pub all-within : (s t u w : Path) (a : Option Path) → Some w ≡ strip u t → (below (s ++ []), onward a w) ∷ [] ≡ put (pull (below s) t (below u)) a []
-all-within s t u w a e = ap (λ x. (below x, onward a w) ∷ []) (append-nothing s) ∙ ap (λ o. put (either_way s o (strip t u)) a []) e
+all-within s t u w a e = ap (λ x. (below x, onward a w) ∷ []) (append-nil s) ∙ ap (λ o. put (either_way s o (strip t u)) a []) e
 
 pub all-beyond : (s t u v : Path) (a : Option Path) → None ≡ strip u t → Some v ≡ strip t u → (below (s ++ v), onward a []) ∷ [] ≡ put (pull (below s) t (below u)) a []
 all-beyond s t u v a e f = ap₂ (λ o o'. put (either_way s o o') a []) e f
@@ -107,7 +103,7 @@ pulled-next c t e es = put-app (pull c t e.0) e.1 (pulled c t es)
 
 pub onward-nothing : (a : Option Path) → onward a [] ≡ a
 onward-nothing None = refl
-onward-nothing (Some t) = ap Some (append-nothing t)
+onward-nothing (Some t) = ap Some (append-nil t)
 
 -- ---- a list whose entries all have targets
 

@@ -1,4 +1,5 @@
 -- Carried leaves: what they are at a path, and what holds of all of them.
+use Rattle.git_objects.proofs.Levels.{ArePaths}
 use Rattle.std.proofs.Common.{◌≡◌, Bool, true, false, cond, T, [], ◌∷◌, refl, sym, ap, subst, ◌∙◌, Option, Some, None, true≢false}
 use Rattle.std.specs.Prelude.{filter}
 use Rattle.std.specs.List.{list_all}
@@ -14,9 +15,6 @@ use Rattle.git_objects.proofs.Order.{path_cmp-total, path_cmp-antisymmetric, pat
 use Rattle.git_objects.proofs.Maps.{first_some, at_rest, at-put_entry, same_flat}
 use Rattle.git_objects.proofs.Pointwise.{from-T, all_at}
 use Rattle.filter_routes.specs.Lenses.{entered, carried}
-
-abbrev pub ArePaths : Flat → Type 0
-ArePaths t = T (list_all (λ e. is_path e.0) t)
 
 -- ---- maps that agree on paths
 

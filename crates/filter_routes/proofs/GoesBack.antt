@@ -1,9 +1,9 @@
 -- A sound filter gives comparable images only to comparable paths, and equal images only to equal paths.
 use Rattle.std.specs.Prelude.{◌≡◌, refl, [], ◌∷◌, ◌++◌, Option, Some, None, true}
-use Rattle.std.proofs.Common.{ap, ◌∙◌, sym, inl, inr, subst}
+use Rattle.std.proofs.Common.{append-nil, ap, ◌∙◌, sym, inl, inr, subst}
 use Rattle.std.proofs.lemmas.Option.{none-some, same_Some}
 use Rattle.std.proofs.lemmas.Bool.{and_parts}
-use Rattle.decision_lists.proofs.Clash.{Comparable, append-nothing, comparable-behind, comparable-in, comparable-sym}
+use Rattle.decision_lists.proofs.Clash.{Comparable, comparable-behind, comparable-in, comparable-sym}
 use Rattle.decision_lists.proofs.Compare.{comparable-is, comparable-test}
 use Rattle.decision_lists.proofs.Compile.{kept-is, left_out-is}
 use Rattle.decision_lists.proofs.Strip.{proper-some, strip-is}
@@ -39,7 +39,7 @@ same-in (c ∷ a) x y e = same-in a x y (ap rest e)
     rest (c ∷ s) = s
 
 back-same : Back Same
-back-same = record { within = λ x y e. inl ([], sym e ∙ sym (append-nothing x)); behind = λ a x y e. ap (λ z. a ++ z) e; before = same-in; turned = λ x y e. sym e }
+back-same = record { within = λ x y e. inl ([], sym e ∙ sym (append-nil x)); behind = λ a x y e. ap (λ z. a ++ z) e; before = same-in; turned = λ x y e. sym e }
 
 -- a branch has no image that is comparable with one of the branches after it
 apart-first : (f : Filter) (fs : Filters) (p q x y : Path) → IsApart f fs → IsPath p → IsPath q → image f p ≡ Some x → first fs q ≡ Some y → Comparable x y → ⊥

@@ -1,12 +1,11 @@
 -- The origin of a path under a sound filter is the one path with this image.
 use Rattle.std.specs.Prelude.{◌≡◌, refl, [], ◌++◌, Option, Some, None, true}
-use Rattle.std.proofs.Common.{ap, ◌∙◌, sym, subst, inl, inr}
+use Rattle.std.proofs.Common.{append-nil, ap, ◌∙◌, sym, subst, inl, inr}
 use Rattle.std.proofs.lemmas.Bool.{and_parts}
 use Rattle.std.proofs.lemmas.Option.{none-some, same_Some}
 use Rattle.decision_lists.proofs.Compile.{full-behind, kept-is, left_out-is, proper-full}
 use Rattle.filter_routes.proofs.Branches.{meets-first}
 use Rattle.filter_routes.proofs.GoesBack.{the_law as route_law}
-use Rattle.decision_lists.proofs.Clash.{append-nothing}
 use Rattle.decision_lists.proofs.Compare.{comparable-test}
 use Rattle.decision_lists.proofs.Strip.{proper-some, strip-is, strip-self}
 use Rattle.filter_routes.proofs.ImagePaths.{image-path}
@@ -62,7 +61,7 @@ mutual
       and_then-path (back_through fs q) (origin f) p (λ x k l. origin-path f x p w.0 (back_through-path fs q x w.1 h k) l) e
 
 comparable-self : (x : Path) → comparable x x ≡ true
-comparable-self x = comparable-test x x (inl ([], sym (append-nothing x)))
+comparable-self x = comparable-test x x (inl ([], sym (append-nil x)))
 
 -- ---- the image of an origin
 

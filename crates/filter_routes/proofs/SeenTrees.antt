@@ -1,4 +1,5 @@
 -- What is seen of a tree through a lens is a tree.
+use Rattle.git_objects.proofs.Levels.{ArePaths}
 use Rattle.std.proofs.Common.{◌≡◌, Bool, true, T, [], refl, sym, ap, subst, ◌∙◌, Option, Some, None}
 use Rattle.std.specs.List.{list_all}
 use Rattle.std.specs.FinMap.{is_sorted}
@@ -7,7 +8,7 @@ use Rattle.git_objects.specs.Trees.{Leaf, is_leaf, Flat, at, IsTree}
 use Rattle.git_objects.proofs.Maps.{at_rest}
 use Rattle.git_objects.proofs.Pointwise.{from-T, all_at, leaf_at, at_apart, tree_from}
 use Rattle.filter_routes.specs.Lenses.{Lens, IsLens, SeenLaw, seen_through}
-use Rattle.filter_routes.proofs.Carried.{ArePaths, all-carried, sorted-carried, first_none, IsBack, at-carried}
+use Rattle.filter_routes.proofs.Carried.{all-carried, sorted-carried, first_none, IsBack, at-carried}
 
 valid : (b : Bool) → b ≡ true → T b
 valid b h = subst T (sym h) tt

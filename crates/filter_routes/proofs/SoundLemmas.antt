@@ -1,6 +1,7 @@
 -- The test of soundness is exact.
+use Rattle.filter_text.proofs.Resuming.{append-none, append-one}
 use Rattle.std.specs.Prelude.{◌≡◌, refl, [], true, false, not, Bool, List}
-use Rattle.std.proofs.Common.{ap, sym, subst, true≢false}
+use Rattle.std.proofs.Common.{sym, subst, true≢false}
 use Rattle.std.proofs.lemmas.Bool.{and_parts, and_from}
 use Rattle.filter_routes.proofs.ListLaws.{clash-seen, clash-told, list-all, list-chain, list-dir, list-exclude, list-file, list-join, list-none, list-nop, list-onto, list-sub, list-workspace}
 use Rattle.decision_lists.specs.Entries.{Entry}
@@ -9,14 +10,6 @@ use Rattle.filter_routes.specs.Lists.{IsListOf}
 use Rattle.decision_lists.specs.Operations.{after_left, either_left}
 use Rattle.filter_routes.specs.Soundness.{AreApart, AreSound, IsApart, IsSound}
 use Rattle.filter_routes.specs.SoundTests.{SoundTestLaw, are_apart, are_sound, chained, entries, is_apart, is_clash, is_sound, joined}
-
-append-none : (fs : Filters) → append fs no_more ≡ fs
-append-none no_more = refl
-append-none (more f fs) = ap (more f) (append-none fs)
-
-append-one : (gs : Filters) (f : Filter) (fs : Filters) → append (append gs (only f)) fs ≡ append gs (more f fs)
-append-one no_more f fs = refl
-append-one (more g gs) f fs = ap (more g) (append-one gs f fs)
 
 mutual
   pub entries-list : (f : Filter) → has_paths f ≡ true → IsListOf f (entries f)
@@ -34,14 +27,14 @@ mutual
   joined-list no_more gs es v h = subst (λ xs. IsListOf (join xs) es) (sym (append-none gs)) h
   joined-list (more f fs) gs es v h =
       let w : (has_paths f ≡ true) × (have_paths fs ≡ true) = and_parts (has_paths f) (have_paths fs) v in
-      subst (λ xs. IsListOf (join xs) (joined fs (either_left es (entries f)))) (append-one gs f fs)
+      subst (λ xs. IsListOf (join xs) (joined fs (either_left es (entries f)))) (sym (append-one gs fs f))
       (joined-list fs (append gs (only f)) (either_left es (entries f)) w.1 (list-join gs f es (entries f) h (entries-list f w.0)))
 
   pub chained-list : (fs gs : Filters) (es : List Entry) → have_paths fs ≡ true → IsListOf (chain gs) es → IsListOf (chain (append gs fs)) (chained fs es)
   chained-list no_more gs es v h = subst (λ xs. IsListOf (chain xs) es) (sym (append-none gs)) h
   chained-list (more f fs) gs es v h =
       let w : (has_paths f ≡ true) × (have_paths fs ≡ true) = and_parts (has_paths f) (have_paths fs) v in
-      subst (λ xs. IsListOf (chain xs) (chained fs (after_left es (entries f)))) (append-one gs f fs)
+      subst (λ xs. IsListOf (chain xs) (chained fs (after_left es (entries f)))) (sym (append-one gs fs f))
       (chained-list fs (append gs (only f)) (after_left es (entries f)) w.1 (list-chain gs f es (entries f) h (entries-list f w.0)))
 
 not-yes : (b : Bool) → not b ≡ true → b ≡ true → ⊥

@@ -10,6 +10,7 @@ mod search;
 mod table;
 mod tables;
 
+pub use any_list::list_within;
 pub use decision_lists::RouteHit;
 pub use fault::RouteFault;
 pub use faults::first_not_keeping;

@@ -1,4 +1,5 @@
 -- What is read of a workspace file is spelled so, and what is spelled so is read.
+use Rattle.std.proofs.Math.Bool.{or-true}
 use Rattle.std.proofs.Common.{◌≡◌, ◌⊎◌, inl, inr, ℕ, ◌+◌, ◌-◌, zero, suc, Bool, true, false, cond, ◌||◌, true≢false, List, [], ◌∷◌, ◌++◌, length, Option, Some, None, refl, sym, ap, ◌∙◌, append_assoc, append-nil, length-append, subst, arith}
 use Rattle.std.specs.Option.{option_map, option_and_then}
 use Rattle.git_objects.specs.Paths.{Bytes, Path, is_nil}
@@ -11,7 +12,7 @@ use Rattle.filter_text.specs.Spelling.{IsGap, SpellsTarget, IsLastGap, closed, o
 use Rattle.filter_text.proofs.PathNames.{stops, IsFront, some_is}
 use Rattle.filter_text.proofs.GapSpelling.{Gapped, gapped, firm, gap-read, last-read, last-stops, last-no-colon, break-stops, break-no-colon, target-read, target-spelled}
 use Rattle.filter_text.proofs.Grammar.{pieces_begin, pieces_read, member_firm}
-use Rattle.filter_text.proofs.Spelled.{then_gives, pieces-spelled}
+use Rattle.filter_text.proofs.Spelled.{or_first, then_gives, pieces-spelled}
 use Rattle.filter_text.proofs.Files.{members_step}
 
 -- ---- what is read is spelled so
@@ -72,10 +73,6 @@ last_at : (t : Bytes) → is_nil (texts.gap t).1 ≡ true → Gapped false t (te
 last_at t e (inl g) =
     subst IsLastGap (sym (g.is ∙ ap (λ x. g.gap ++ x) (nil_is (texts.gap t).1 e) ∙ append-nil g.gap)) (closed g.gap g.broken g.spelled)
 last_at t e (inr g) = subst IsLastGap (sym g.is) (open_comment g.gap g.line g.broken g.spelled g.plain)
-
-or_first : (a b : Bool) → (a || b) ≡ true → b ≡ false → a ≡ true
-or_first true b h e = refl
-or_first false b h e = absurd (true≢false (sym h ∙ e))
 
 -- a member, and what the file has behind it
 behind_entry : (t s : Bytes) (m : Member) (ys ms : List Member) → is_nil (texts.gap t).1 ≡ false → Gapped false t (texts.gap t) →
@@ -176,15 +173,11 @@ entries_firm : {w : Bytes} {ms : List Member} → SpellsEntries w ms → (r : By
 entries_firm (an_entry w m e) r = entry_firm e r
 entries_firm (entries w g v m ms e k es) r = ap firm (append_assoc w (g ++ v) r) ∙ entry_firm e ((g ++ v) ++ r)
 
-or_true : (b : Bool) → (b || true) ≡ true
-or_true true = refl
-or_true false = refl
-
 last_members : {h : Bytes} → IsLastGap h → members h ≡ Some []
 last_members {h} l = members_step h ∙ ap (members_of members) (last-read l)
 
 last_ends : {h : Bytes} → IsLastGap h → ends_member h ≡ true
-last_ends {h} l = ap (λ x. (texts.gap h).0 || is_nil x) (last-read l) ∙ or_true (texts.gap h).0
+last_ends {h} l = ap (λ x. (texts.gap h).0 || is_nil x) (last-read l) ∙ or-true (texts.gap h).0
 
 one_entry : {w : Bytes} {m : Member} → SpellsEntry w m → (r : Bytes) → stops r ≡ true → begins 58 r ≡ false → ends_member r ≡ true →
     members_of members (w ++ r) ≡ option_map (λ ms. m ∷ ms) (members r)

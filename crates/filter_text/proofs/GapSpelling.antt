@@ -1,10 +1,13 @@
 -- Gaps, blanks and targets, and how they are spelled.
+use Rattle.std.proofs.Math.Bool.{or-false}
 use Rattle.std.proofs.Common.{◌≡◌, ◌⊎◌, inl, inr, ℕ, Bool, true, false, not, cond, ◌&&◌, ◌||◌, true≢false, [], ◌∷◌, ◌++◌, Option, Some, None, refl, sym, ap, ◌∙◌, eqb, eqb-true, append_assoc, append-nil, subst}
 use Rattle.std.specs.Option.{option_map, option_and_then}
 use Rattle.std.specs.List.{list_all}
 use Rattle.git_objects.specs.Paths.{Bytes, Path}
 use Rattle.path_names.specs.PathTexts.{path_of}
-use Rattle.filter_text.specs.Texts.{Read, strip, begins, is_blank, is_break, ends_bare, going, gap_from, gap, past_blanks, name_at, equals, target_at}
+use Rattle.git_objects.specs.CommitBodies.{strip}
+use Rattle.git_objects.proofs.CommitReading.{strip-spelled}
+use Rattle.filter_text.specs.Texts.{Read, begins, is_blank, is_break, ends_bare, going, gap_from, gap, past_blanks, name_at, equals, target_at}
 use Rattle.filter_text.specs.Spelling.{SpellsName, bare, quoted, AreBlanks, no_lf, IsGap, nothing, blank, separator, comment, IsLastGap, closed, open_comment, SpellsTarget, without, target}
 use Rattle.filter_text.proofs.Quoteds.{quoted-begins}
 use Rattle.filter_text.proofs.PathNames.{stops, IsFront, some_is, bare-first, name-read, name-spelled}
@@ -28,10 +31,6 @@ break-is P x h a b =
       | true ↦ λ e g. subst P (sym (eqb-true x 44 e)) a
       | false ↦ λ e g. subst P (sym (eqb-true x 10 g)) b
     ] refl h
-
-or-none : (b : Bool) → b ≡ (b || false)
-or-none true = refl
-or-none false = refl
 
 or-all : (b : Bool) → (b || true) ≡ true
 or-all true = refl
@@ -86,7 +85,7 @@ record OpenComment (t : Bytes) (o : Bool × Bytes) : Type 0 where
   rest : o.1 ≡ []
 
 at_once : (b : Bool) (t : Bytes) → Gapped b t (b, t)
-at_once b t = inl (record { gap = []; broken = false; spelled = nothing; is = refl; flag = or-none b })
+at_once b t = inl (record { gap = []; broken = false; spelled = nothing; is = refl; flag = sym (or-false b) })
 
 after_break : (b : Bool) (x : ℕ) (t : Bytes) (o : Bool × Bytes) → is_break x ≡ true → Gapped true t o → Gapped b (x ∷ t) o
 after_break b x t o e (inl g) =
@@ -201,7 +200,7 @@ comment-read (x ∷ w) u b h =
     ] h
 
 pub gap-read : {g : Bytes} {d : Bool} → IsGap g d → (b : Bool) (t : Bytes) → firm t ≡ true → gap_from false b (g ++ t) ≡ ((b || d), t)
-gap-read nothing b t h = firm-stays b t h ∙ (λ i. (or-none b i, t))
+gap-read nothing b t h = firm-stays b t h ∙ (λ i. (sym (or-false b) i, t))
 gap-read (blank x s d e g) b t h =
     blank-is (λ y. gap_from false b (y ∷ (s ++ t)) ≡ ((b || d), t)) x e (gap-read g b t h) (gap-read g b t h) (gap-read g b t h)
 gap-read (separator x s d e g) b t h =
@@ -324,15 +323,6 @@ target-read (target w u v p n bu bv) s h =
     ∙ ap (λ x. option_map (λ r. (Some p, past_blanks r)) (strip (61 ∷ []) x)) (blanks-read u (61 ∷ (v ++ s)) bu refl)
     ∙ ap (λ x. Some (Some p, x)) (blanks-read v s bv (solid-at 58 s refl h))
 
-pub strip-front : (w t r : Bytes) → strip w t ≡ Some r → t ≡ w ++ r
-strip-front [] t r e = some_is t r e
-strip-front (w ∷ ws) [] r e = absurd (let h : ⊥ = cc in h)
-strip-front (w ∷ ws) (x ∷ t) r e =
-    elim (eqb x w) as (λ b. eqb x w ≡ b → cond b (strip ws t) None ≡ Some r → x ∷ t ≡ w ∷ (ws ++ r)) [
-      | true ↦ λ h g. λ i. eqb-true x w h i ∷ strip-front ws t r g i
-      | false ↦ λ h g. absurd (let k : ⊥ = cc in k)
-    ] refl e
-
 equals-spelled : (t : Bytes) (x : Path × Bytes) (o : Option Path) (r : Bytes) → name_at t ≡ Some x → equals x ≡ Some (o, r) → IsFront (λ w. SpellsTarget w o) t r
 equals-spelled t x o r n e =
     elim (strip (61 ∷ []) (past_blanks x.1)) as (λ q. strip (61 ∷ []) (past_blanks x.1) ≡ q → option_map {U = Option Path × Bytes} (λ s. (Some x.0, past_blanks s)) q ≡ Some (o, r) → IsFront (λ w. SpellsTarget w o) t r) [
@@ -344,7 +334,7 @@ equals-spelled t x o r n e =
           let after = blanks-front s in
           let rest_is : past_blanks s ≡ r = ap (λ z. z.1) both in
           let whole : t ≡ ((name.front ++ before.front) ++ 61 ∷ after.front) ++ r =
-          name.is ∙ ap (λ y. name.front ++ y) (before.is ∙ ap (λ y. before.front ++ y) (strip-front (61 ∷ []) (past_blanks x.1) s h
+          name.is ∙ ap (λ y. name.front ++ y) (before.is ∙ ap (λ y. before.front ++ y) (strip-spelled (61 ∷ []) (past_blanks x.1) s h
           ∙ ap (λ y. 61 ∷ y) (after.is ∙ ap (λ y. after.front ++ y) rest_is)))
           ∙ sym (append_assoc name.front before.front (61 ∷ (after.front ++ r)))
           ∙ sym (append_assoc (name.front ++ before.front) (61 ∷ after.front) r) in

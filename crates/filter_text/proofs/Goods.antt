@@ -1,4 +1,5 @@
 -- What is spelled is a filter as they are given away, and its paths are read again.
+use Rattle.std.proofs.lemmas.Bool.{or_parts}
 use Rattle.std.proofs.Common.{◌≡◌, Bool, true, false, not, cond, ◌||◌, true≢false, Option, Ok, refl, sym, ap, ◌∙◌, subst}
 use Rattle.git_objects.specs.Paths.{Bytes, Path, text}
 use Rattle.git_objects.proofs.Basics.{and_both}
@@ -146,10 +147,6 @@ made-good {fs = fs} st sp = target_good st fs (pieces_some sp) (pieces_good sp)
 
 -- ---- a filter without a workspace has it well placed
 
-or-no : (a b : Bool) → (a || b) ≡ false → (a ≡ false) × (b ≡ false)
-or-no false b h = (refl, h)
-or-no true b h = absurd (true≢false h)
-
 not_workspace : (f : Filter) → has_workspace f ≡ false → is_workspace f ≡ false
 not_workspace nop h = refl
 not_workspace (sub p) h = refl
@@ -167,7 +164,7 @@ may_stand b f h = (λ i. cond (not_workspace f h i) (not b) (not (h i)))
 all_placed : (b : Bool) (fs : Filters) → some_have_workspace fs ≡ false → has_one_place b fs ≡ true
 all_placed b no_more h = refl
 all_placed b (more f fs) h =
-    let both = or-no (has_workspace f) (some_have_workspace fs) h in
+    let both = or_parts (has_workspace f) (some_have_workspace fs) h in
     and_both (may_stand b f both.0) (all_placed (b || is_workspace f) fs both.1)
 
 pub none-placed : (f : Filter) → has_workspace f ≡ false → is_placed f ≡ true

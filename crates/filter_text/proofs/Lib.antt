@@ -1,4 +1,3 @@
-pub mod Fronts
 pub mod Shorter
 pub mod RowLists
 pub mod Steps

@@ -1,5 +1,7 @@
 -- Paths at the front of texts, and how they are spelled.
-use Rattle.std.proofs.Common.{◌≡◌, ◌+◌, ◌-◌, ◌≤◌, ℕ, zero, suc, Bool, true, false, not, cond, ◌&&◌, ◌||◌, true≢false, T, [], ◌∷◌, ◌++◌, length, take, drop, Option, Some, None, Ok, Err, refl, sym, ap, ◌∙◌, arith, eqb, eqb-true, append_assoc, append-nil, length-append, length-take}
+use Rattle.git_objects.proofs.Pointwise.{from-T}
+use Rattle.std.proofs.lemmas.Bool.{or_parts}
+use Rattle.std.proofs.Common.{◌≡◌, ◌+◌, ◌-◌, ◌≤◌, ℕ, zero, suc, Bool, true, false, not, cond, ◌&&◌, ◌||◌, true≢false, [], ◌∷◌, ◌++◌, length, take, drop, Option, Some, None, Ok, Err, refl, sym, ap, ◌∙◌, arith, eqb, eqb-true, append_assoc, append-nil, length-append, length-take}
 use Rattle.std.proofs.Math.ListN.{take-append-drop}
 use Rattle.std.specs.Prelude.{nat_eq}
 use Rattle.std.specs.Option.{option_map}
@@ -11,7 +13,8 @@ use Rattle.git_objects.proofs.Basics.{second}
 use Rattle.path_names.specs.PathTexts.{parts, path_of}
 use Rattle.path_names.specs.Quoting.{unquote}
 use Rattle.path_names.proofs.Readings.{path_text_law}
-use Rattle.filter_text.specs.Texts.{Read, begins, ends_bare, ok_path, as_path, quoted_at, cut, bare_len, without_slash, name_at, kept_name_at}
+use Rattle.path_names.specs.PathTexts.{ok_path}
+use Rattle.filter_text.specs.Texts.{Read, begins, ends_bare, as_path, quoted_at, cut, bare_len, without_slash, name_at, kept_name_at}
 use Rattle.filter_text.specs.Spelling.{SpellsName, bare, quoted}
 use Rattle.filter_text.proofs.Quoteds.{quoted-front, quoted-append, quoted-begins}
 
@@ -26,17 +29,13 @@ abbrev pub stops : Bytes → Bool
 stops [] = true
 stops (x ∷ t) = ends_bare x
 
-pub or-no : (a b : Bool) → (a || b) ≡ false → (a ≡ false) × (b ≡ false)
-or-no false b h = (refl, h)
-or-no true b h = absurd (true≢false h)
-
 -- ---- bare paths
 
 pub bare-append : (w r : Bytes) → list_any ends_bare w ≡ false → stops r ≡ true → bare_len (w ++ r) ≡ length w
 bare-append [] [] h s = refl
 bare-append [] (x ∷ r) h s = ap (λ b. cond (not b) (1 + bare_len r) 0) s
 bare-append (x ∷ w) r h s =
-    let both = or-no (ends_bare x) (list_any ends_bare w) h in
+    let both = or_parts (ends_bare x) (list_any ends_bare w) h in
     let ih = bare-append w r both.1 s in
     let more : 1 + bare_len (w ++ r) ≡ suc (length w) = omega arith in
     ap (λ b. cond (not b) (1 + bare_len (w ++ r)) 0) both.0 ∙ more
@@ -53,7 +52,7 @@ bare-take (suc k) (x ∷ t) h =
 any-append : (w v : Bytes) → list_any ends_bare w ≡ false → list_any ends_bare v ≡ false → list_any ends_bare (w ++ v) ≡ false
 any-append [] v h k = k
 any-append (x ∷ w) v h k =
-    let both = or-no (ends_bare x) (list_any ends_bare w) h in
+    let both = or_parts (ends_bare x) (list_any ends_bare w) h in
     ap (λ b. b || list_any ends_bare (w ++ v)) both.0 ∙ any-append w v both.1 k
 
 -- ---- no path's text is empty or ends in a slash
@@ -78,16 +77,12 @@ slash-parts (x ∷ v) =
       | false ↦ slash-onto x (parts (v ++ 47 ∷ [])) (slash-parts v)
     ]
 
-so : (b : Bool) → T b → b ≡ true
-so true h = refl
-so false h = absurd h
-
 path-parts : (t : Bytes) (p : Path) → path_of t ≡ Ok p → list_all is_component (parts t) ≡ true
 path-parts t p e =
     let ok = path_text_law.path t p e in
     ap (λ s. list_all is_component (parts s)) (sym (path_text_law.same_text t p e))
     ∙ ap (list_all is_component) (path_text_law.same_parts p ok)
-    ∙ so (list_all is_component p) (second (not (is_nil p)) (list_all is_component p) ok)
+    ∙ from-T (list_all is_component p) (second (not (is_nil p)) (list_all is_component p) ok)
 
 no-slash : (v : Bytes) (p : Path) → path_of (v ++ 47 ∷ []) ≡ Ok p → ⊥
 no-slash v p e = true≢false (sym (path-parts (v ++ 47 ∷ []) p e) ∙ slash-whole (parts (v ++ 47 ∷ [])) (slash-parts v))
@@ -101,7 +96,7 @@ pub bare-first : (k : ℕ) (w r : Bytes) (p : Path) → ends_bare k ≡ true →
 bare-first k [] r p e h q = absurd (no-empty p q)
 bare-first k (x ∷ w) r p e h q =
     elim (eqb x k) as (λ b. eqb x k ≡ b → b ≡ false) [
-      | true ↦ λ g. absurd (true≢false (sym (ap ends_bare (eqb-true x k g) ∙ e) ∙ (or-no (ends_bare x) (list_any ends_bare w) h).0))
+      | true ↦ λ g. absurd (true≢false (sym (ap ends_bare (eqb-true x k g) ∙ e) ∙ (or_parts (ends_bare x) (list_any ends_bare w) h).0))
       | false ↦ λ g. refl
     ] refl
 

@@ -1,5 +1,6 @@
 -- The canonical text of a filter spells it.
-use Rattle.std.proofs.Common.{◌≡◌, ◌≤◌, Bool, true, false, not, cond, ◌&&◌, true≢false, T, [], ◌∷◌, ◌++◌, length, Option, Some, None, Ok, Err, refl, sym, ap, ◌∙◌, append-nil, subst, leb, le-leb, ltb}
+use Rattle.git_objects.proofs.Pointwise.{from-T}
+use Rattle.std.proofs.Common.{◌≡◌, ◌≤◌, Bool, true, false, not, cond, ◌&&◌, true≢false, [], ◌∷◌, ◌++◌, length, Option, Some, None, Ok, Err, refl, sym, ap, ◌∙◌, append-nil, subst, leb, le-leb, ltb}
 use Rattle.std.specs.List.{list_all, list_any}
 use Rattle.std.specs.Cmp.{first_so, second_so}
 use Rattle.git_objects.specs.Paths.{Bytes, Path, text, is_bytes, is_component, is_nil}
@@ -20,10 +21,6 @@ use Rattle.filter_text.proofs.Spelled.{filter-spelled}
 
 -- ---- paths
 
-so : (b : Bool) → T b → b ≡ true
-so true h = refl
-so false h = absurd h
-
 bytes_append : (a b : Bytes) → is_bytes a ≡ true → is_bytes b ≡ true → is_bytes (a ++ b) ≡ true
 bytes_append [] b h k = k
 bytes_append (x ∷ a) b h k = and_both (first_so (ltb x 256) (is_bytes a) h) (bytes_append a b (second_so (ltb x 256) (is_bytes a) h) k)
@@ -40,7 +37,7 @@ text_bytes (c ∷ d ∷ p) h =
 
 readable_bytes : (p : Path) → IsReadable p → is_bytes (text p) ≡ true
 readable_bytes p r =
-    text_bytes p (so (list_all is_component p) (second (not (is_nil p)) (list_all is_component p) (path_text_law.path (text p) p r)))
+    text_bytes p (from-T (list_all is_component p) (second (not (is_nil p)) (list_all is_component p) (path_text_law.path (text p) p r)))
 
 name_spelt : (p : Path) → IsReadable p → SpellsName (path_text p) p
 name_spelt p r =

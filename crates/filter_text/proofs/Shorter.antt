@@ -5,7 +5,9 @@ use Rattle.git_objects.specs.Paths.{Bytes, Path}
 use Rattle.path_names.specs.PathTexts.{path_of}
 use Rattle.path_names.specs.Quoting.{unquote}
 use Rattle.filter_text.specs.Filters.{Filter, Filters, sub, onto, dir, file, exclude, join, workspace, no_more, more, only}
-use Rattle.filter_text.specs.Texts.{Read, strip, begins, is_blank, gap_byte, going, gap_from, gap, past_blanks, ok_path, as_path, quoted_at, cut, bare_len, without_slash, name_at, kept_name_at, equals, target_at}
+use Rattle.git_objects.specs.CommitBodies.{strip}
+use Rattle.path_names.specs.PathTexts.{ok_path}
+use Rattle.filter_text.specs.Texts.{Read, begins, is_blank, gap_byte, going, gap_from, gap, past_blanks, as_path, quoted_at, cut, bare_len, without_slash, name_at, kept_name_at, equals, target_at}
 use Rattle.filter_text.specs.Reading.{or_word, spellings, word_among, word_at, kept, inside, piece_of, with_first, more_pieces, made, member_of, goes_on, more_members, list_of, pieces_within, list_within, pieces_at, list_at}
 use Rattle.filter_text.specs.declared.word.Word.{Word}
 use Rattle.filter_text.specs.declared.word.Word.TheVariants as words

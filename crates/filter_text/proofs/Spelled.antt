@@ -5,13 +5,15 @@ use Rattle.std.specs.Option.{option_map, option_and_then}
 use Rattle.git_objects.specs.Paths.{Bytes, Path}
 use Rattle.filter_text.specs.Filters.{Filter, Filters, nop, sub, onto, dir, file, exclude, join, workspace, no_more, more, only}
 use Rattle.filter_text.specs.Texts as texts
-use Rattle.filter_text.specs.Texts.{Read, strip, begins, name_at, kept_name_at, target_at}
+use Rattle.git_objects.specs.CommitBodies.{strip}
+use Rattle.git_objects.proofs.CommitReading.{strip-spelled}
+use Rattle.filter_text.specs.Texts.{Read, begins, name_at, kept_name_at, target_at}
 use Rattle.filter_text.specs.Reading.{or_word, spellings, word_among, word_at, kept, inside, piece_of, with_first, more_pieces, linked, made, member_of, goes_on, more_members, list_of, pieces_within, list_within, pieces_at, whole, filter_of}
 use Rattle.filter_text.specs.declared.word.Word.{Word}
 use Rattle.filter_text.specs.declared.word.Word.TheVariants as words
 use Rattle.filter_text.specs.Spelling.{IsGap, SpellsPiece, a_nop, a_sub, a_prefix, a_dir, a_file, an_exclude, a_list, a_workspace, SpellsPieces, a_piece, pieces, SpellsMember, member, SpellsMembers, a_member, members, SpellsList, no_members, some_members, SpellsFilter}
 use Rattle.filter_text.proofs.PathNames.{IsFront, some_is, name-spelled, kept-spelled}
-use Rattle.filter_text.proofs.GapSpelling.{Gapped, gapped, target-spelled, target-none, strip-front}
+use Rattle.filter_text.proofs.GapSpelling.{Gapped, gapped, target-spelled, target-none}
 
 -- ---- steps backwards
 
@@ -61,7 +63,7 @@ among_front (k ∷ ws) t w r h e =
       | None ↦ λ g l. among_front ws t w r h.1 l
       | Some s ↦ λ g l.
           let both = some_is (k.1, s) (w, r) l in
-          strip-front k.0 t s g ∙ ap (λ x. x ++ s) h.0 ∙ (λ i. spelling ((ap (λ z. z.0) both) i) ++ (ap (λ z. z.1) both) i)
+          strip-spelled k.0 t s g ∙ ap (λ x. x ++ s) h.0 ∙ (λ i. spelling ((ap (λ z. z.0) both) i) ++ (ap (λ z. z.1) both) i)
     ] refl e
 
 word-front : (t : Bytes) (w : Word) (r : Bytes) → word_at t ≡ Some (w, r) → t ≡ spelling w ++ r
@@ -215,7 +217,7 @@ to_list t fs r l = to_list_of t fs r l l.rest
 abbrev ListsFronted : (Bytes → Read Filters) → Type 0
 ListsFronted list = (t : Bytes) (fs : Filters) (r : Bytes) → list t ≡ Some (fs, r) → ListFront t fs r
 
-or_first : (a b : Bool) → (a || b) ≡ true → b ≡ false → a ≡ true
+pub or_first : (a b : Bool) → (a || b) ≡ true → b ≡ false → a ≡ true
 or_first true b h e = refl
 or_first false b h e = absurd (true≢false (sym h ∙ e))
 

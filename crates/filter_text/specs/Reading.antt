@@ -3,7 +3,8 @@ use Rattle.std.specs.Prelude.{ℕ, zero, suc, ◌+◌, Bool, cond, ◌||◌, Lis
 use Rattle.std.specs.Option.{option_and_then}
 use Rattle.git_objects.specs.Paths.{Bytes, Path}
 use Rattle.filter_text.specs.Filters.{Filter, Filters, nop, sub, onto, dir, file, exclude, join, chain, workspace, no_more, more, append, only}
-use Rattle.filter_text.specs.Texts.{Read, strip, begins, gap, name_at, kept_name_at, target_at}
+use Rattle.git_objects.specs.CommitBodies.{strip}
+use Rattle.filter_text.specs.Texts.{Read, begins, gap, name_at, kept_name_at, target_at}
 use Rattle.filter_text.specs.declared.word.Word.{Word}
 use Rattle.filter_text.specs.declared.word.Word.TheVariants as words
 

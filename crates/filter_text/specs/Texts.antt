@@ -1,21 +1,15 @@
 -- The parts of filter texts below pieces: bytes, words at the front, gaps, names of paths.
-use Rattle.std.specs.Prelude.{ℕ, ◌-◌, Bool, true, false, not, cond, ◌||◌, ◌==◌, nat_le, nat_eq, [], ◌∷◌, length, take, drop, Option, Some, None, option_map, Result, Ok, Err}
+use Rattle.std.specs.Prelude.{ℕ, ◌-◌, Bool, true, false, not, cond, ◌||◌, ◌==◌, nat_le, nat_eq, [], ◌∷◌, length, take, drop, Option, Some, None, option_map}
 use Rattle.std.specs.Option.{option_and_then}
 use Rattle.std.specs.List.{position_or_len, ends_with}
+use Rattle.git_objects.specs.CommitBodies.{strip}
 use Rattle.git_objects.specs.Paths.{Bytes, Path}
-use Rattle.path_names.specs.PathTexts.{path_of}
+use Rattle.path_names.specs.PathTexts.{ok_path, path_of}
 use Rattle.path_names.specs.Quoting.{unquote}
-use Rattle.path_names.specs.declared.path.PathFault.{PathFault}
 
 -- what was read at the front of a text, and the text behind it
 abbrev pub Read : Type 0 → Type 0
 Read X = Option (X × Bytes)
-
--- the text behind a word that stands first
-abbrev pub strip : Bytes → Bytes → Option Bytes
-strip [] text = Some text
-strip (w ∷ word) [] = None
-strip (w ∷ word) (x ∷ text) = cond (x == w) (strip word text) None
 
 -- whether the byte stands first
 abbrev pub begins : ℕ → Bytes → Bool
@@ -64,10 +58,6 @@ past_blanks [] = []
 past_blanks (x ∷ t) = cond (is_blank x) (past_blanks t) (x ∷ t)
 
 -- ---- names of paths
-
-abbrev pub ok_path : Result Path PathFault → Option Path
-ok_path (Ok p) = Some p
-ok_path (Err e) = None
 
 -- the path of a text that was read, where it is one
 abbrev pub as_path : Read Bytes → Read Path

@@ -12,11 +12,6 @@ use Rattle.filter_text.specs.declared.filter.Item.{Item}
 use Rattle.filter_text.specs.declared.items.Member.{Member}
 use Rattle.filter_text.specs.declared.word.Word.{Word}
 
--- what a borrowed text holds
-abbrev pub behind : Option (Bor Bytes) → Option Bytes
-behind None = None
-behind (Some b) = Some b.now
-
 abbrev pub word_read : Option (Word × Bor Bytes) → Read Word
 word_read None = None
 word_read (Some r) = Some (r.0, r.1.now)

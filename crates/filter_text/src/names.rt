@@ -1,25 +1,13 @@
 // Paths in filter texts: bare, or between quotes.
 ghost use Rattle.std.specs.Prelude.{◌≡◌, ◌≤◌, IfOk, length, take, position, nat_eq};
 ghost use Rattle.std.specs.Option.{option_and_then};
-ghost use Rattle.path_names.specs.PathTexts.{path_of};
-ghost use Rattle.filter_text.specs.Texts.{ok_path, as_path, quoted_at, cut, ends_bare, bare_len, without_slash, name_at, kept_name_at, equals, target_at};
+ghost use Rattle.filter_text.specs.Texts.{as_path, quoted_at, cut, ends_bare, bare_len, without_slash, name_at, kept_name_at, equals, target_at};
 ghost use Rattle.filter_text.specs.Views.{path_read, target_read};
 
 use crate::gaps::past_blanks;
-use crate::word::{begins, strip};
-use path_names::{Path, PathFault, QuoteFault, unquote};
+use crate::word::begins;
+use path_names::{Path, QuoteFault, path_in, strip, unquote};
 use std::alloc::{AllocError, Global};
-
-// The path that a text names; None where it names none.
-fn path_in(alloc: Global, text: &[u8]) -> Result<Option<Path>, AllocError>
-    ensures { IfOk result (λ path. path ≡ ok_path (path_of text.now)) }
-{
-    match Path::parse(alloc, text) {
-        Ok(path) => Ok(Some(path)),
-        Err(PathFault::OutOfMemory) => Err(AllocError),
-        Err(_) => Ok(None),
-    }
-}
 
 // Whether a bare path ends before the byte.
 pub fn ends_bare(x: u8) -> bool

@@ -1,8 +1,10 @@
 // The words that pieces begin with, and what stands first in a text.
 ghost use Rattle.std.specs.Prelude.{◌≡◌, drop};
-ghost use Rattle.filter_text.specs.Texts.{strip, begins};
+ghost use Rattle.filter_text.specs.Texts.{begins};
 ghost use Rattle.filter_text.specs.Reading.{word_at};
-ghost use Rattle.filter_text.specs.Views.{behind, word_read};
+ghost use Rattle.filter_text.specs.Views.{word_read};
+
+use path_names::strip;
 
 // The word of a piece, up to its path or its bracket.
 #[derive(Clone, Copy, Debug, PartialEq, Eq)]
@@ -14,16 +16,6 @@ pub enum Word {
     Exclude,
     Join,
     Workspace,
-}
-
-// The text behind a word that stands first.
-pub fn strip<'a>(word: &[u8], text: &'a [u8]) -> Option<&'a [u8]>
-    ensures { behind result ≡ strip word.now text.now }
-{
-    match text.strip_prefix(word) {
-        None => None,
-        Some(rest) => Some(rest),
-    }
 }
 
 // Whether the byte stands first.

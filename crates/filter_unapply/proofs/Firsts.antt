@@ -2,17 +2,14 @@
 use Rattle.std.proofs.Common.{◌≡◌, Bool, true, false, cond, T, [], ◌∷◌, refl, sym, ap, subst, ◌∙◌, Option, Some, None, true≢false}
 use Rattle.std.specs.Prelude.{is_some}
 use Rattle.std.specs.Option.{option_map, option_and_then}
-use Rattle.std.specs.List.{list_all}
-use Rattle.std.specs.Ordering.{is_lt, ordering_reverse}
-use Rattle.std.specs.Cmp.{second_so, tied_itself}
+use Rattle.std.specs.Ordering.{is_lt}
+use Rattle.std.specs.Cmp.{second_so}
 use Rattle.std.specs.FinMap.{is_sorted}
-use Rattle.std.specs.FinMap.Entries.{below_all}
 use Rattle.git_objects.specs.Paths.{Path, same_path, path_cmp}
 use Rattle.git_objects.specs.Trees.{Leaf, Flat, at}
-use Rattle.git_objects.proofs.Basics.{both, first, second}
+use Rattle.git_objects.proofs.Basics.{first, second}
 use Rattle.git_objects.specs.Lists.{Each}
-use Rattle.git_objects.proofs.Order.{path_cmp-total, path_decides}
-use Rattle.git_objects.proofs.Pointwise.{all_at, each_at}
+use Rattle.git_objects.proofs.Order.{path_decides}
 use Rattle.filter_routes.specs.Lenses.{Lens}
 use Rattle.filter_unapply.specs.Laying.{first_path, is_other, is_blocked, first_blocked}
 use Rattle.filter_routes.proofs.TreeEntries.{below_path, not_before}

@@ -1,4 +1,5 @@
 -- The laws of laying, point by point.
+use Rattle.git_objects.proofs.Levels.{ArePaths}
 use Rattle.std.proofs.Common.{◌≡◌, Bool, true, false, cond, not, ◌&&◌, ◌||◌, T, [], ◌∷◌, refl, sym, ap, subst, ◌∙◌, Option, Some, None, true≢false}
 use Rattle.std.specs.Prelude.{is_some}
 use Rattle.std.specs.Option.{is_none}
@@ -15,7 +16,7 @@ use Rattle.filter_unapply.proofs.Firsts.{first-none, none-first, blocked-none, i
 use Rattle.filter_routes.proofs.TreeEntries.{each_entry}
 use Rattle.filter_routes.proofs.SeenTrees.{at-seen, seen-paths, seen-sorted, seen_from}
 use Rattle.filter_unapply.specs.Laying.{hidden, pre, first_path, first_lost, is_other, is_blocked, first_blocked, LaidTree, laid_from, laid}
-use Rattle.filter_routes.proofs.Carried.{ArePaths, nowhere, same_on_paths, all-carried, all-filter, sorted-carried, first_none, IsBack, at-carried}
+use Rattle.filter_routes.proofs.Carried.{nowhere, same_on_paths, all-carried, all-filter, sorted-carried, first_none, IsBack, at-carried}
 use Rattle.filter_unapply.proofs.HiddenLeaves.{sorted-hidden, at-hidden}
 
 valid : (b : Bool) → b ≡ true → T b

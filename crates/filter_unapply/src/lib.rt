@@ -4,8 +4,6 @@
 mod below;
 mod fault;
 mod laws;
-#[cfg(test)]
-mod tests;
 
 pub use below::laid_below;
 pub use fault::LayFault;
