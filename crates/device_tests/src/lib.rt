@@ -2,4 +2,10 @@
 #![tactic(auto)]
 
 #[cfg(test)]
+mod broken;
+#[cfg(test)]
 mod devices;
+#[cfg(test)]
+mod disks;
+#[cfg(test)]
+mod journals;
