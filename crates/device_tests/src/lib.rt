@@ -9,3 +9,5 @@ mod devices;
 mod disks;
 #[cfg(test)]
 mod journals;
+#[cfg(test)]
+mod opened;
