@@ -32,8 +32,8 @@ pub struct DiskWrite {
     sync: Option<u64>,
 }
 
-/// A disk in memory. Its calls are numbered from 0, and the number stays at its last value. It keeps each write, so that
-/// it answers for every moment since it was made.
+/// A disk in memory. Its calls are numbered from 0, and the number stays at its last value. It keeps each write, so
+/// that it answers for every moment since it was made.
 #[derive(Drop)]
 pub struct MemDisk {
     alloc: Global,
@@ -113,8 +113,8 @@ impl MemDisk {
         self.faults
     }
 
-    /// One of the images that a stop after the first `calls` calls leaves: in the ranges that weren't stable then stands
-    /// what stood there before, what was written, or the byte 1.
+    /// One of the images that a stop after the first `calls` calls leaves: in the ranges that weren't stable then
+    /// stands what stood there before, what was written, or the byte 1.
     pub fn image(&self, calls: u64, fill: Fill) -> Result<Vec<u8>, AllocError>
         requires { calls ≤ self.now.calls }
         ensures left { IfOk result (λ image. IsImage (view_after calls self.now) image.items) }

@@ -1,3 +1,4 @@
+pub mod Examples
 pub mod Gates
 pub mod Journals
 pub mod Rest

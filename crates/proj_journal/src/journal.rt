@@ -194,7 +194,8 @@ fn read_part<D: Disk>(disk: &mut D, at: u64, buf: &mut [u8], count: usize) -> Re
     ensures bytes { IfOk result (λ n. IfSome (D.content disk.old) (λ view. take n buf.new ≡ front_at at count view.bytes)) }
     ensures rest { IfOk result (λ n. drop n buf.new ≡ drop n buf.old) }
     ensures same { D.content disk.new ≡ D.content disk.old }
-    ensures time { Elapses (D.moment disk.old) (D.moment disk.new) (D.left_since disk.old) (D.left_since disk.new) (D.content disk.new) }
+    ensures time { Elapses (D.moment disk.old) (D.moment disk.new)
+        (D.left_since disk.old) (D.left_since disk.new) (D.content disk.new) }
     ensures cause { Counts (D.faults disk.old) (D.faults disk.new) (IsErr result) }
 {
     let read = disk.read(at, &mut buf[..count])?;

@@ -57,7 +57,8 @@ pub(crate) fn find_gate<D: Disk>(
     ensures bounds { IfOk result (λ gate. MayBeOpen number (size - at) gate) }
     ensures window { OnOk result (IsWindow (D.content disk.old) window.new) }
     ensures same { D.content disk.new ≡ D.content disk.old }
-    ensures stops { OnlyAdds (D.moment disk.old) (D.moment disk.new) (D.left_since disk.old) (D.left_since disk.new) Nothing }
+    ensures stops { OnlyAdds (D.moment disk.old) (D.moment disk.new)
+        (D.left_since disk.old) (D.left_since disk.new) Nothing }
     ensures cause { Counts (D.faults disk.old) (D.faults disk.new) (IsErr result) }
 {
     match window.look(disk, at) {
@@ -81,7 +82,8 @@ pub(crate) fn find_records<D: Disk>(
     ensures fit { IfOk result (λ found. AllFit found.places.items) }
     ensures broken { (place : ℕ) → result ≡ Err (JournalError.Broken place) → IsBrokenAt place (D.content disk.old) }
     ensures same { D.content disk.new ≡ D.content disk.old }
-    ensures stops { OnlyAdds (D.moment disk.old) (D.moment disk.new) (D.left_since disk.old) (D.left_since disk.new) Nothing }
+    ensures stops { OnlyAdds (D.moment disk.old) (D.moment disk.new)
+        (D.left_since disk.old) (D.left_since disk.new) Nothing }
     ensures cause { Counts (D.faults disk.old) (D.faults disk.new) (result ≡ Err JournalError.Failed) }
 {
     let Ok(mut window) = Window::new(alloc) else {
@@ -112,7 +114,8 @@ pub(crate) fn find_places<D: Disk>(alloc: Global, disk: &mut D) -> Result<Found,
     ensures fit { IfOk result (λ found. AllFit found.places.items) }
     ensures stable { OnOk result (D.content disk.new ≡ option_map (λ view. stable view.bytes) (D.content disk.old)) }
     ensures broken { (place : ℕ) → result ≡ Err (JournalError.Broken place) → IsBrokenAt place (D.content disk.old) }
-    ensures stops { OnlyAdds (D.moment disk.old) (D.moment disk.new) (D.left_since disk.old) (D.left_since disk.new) Nothing }
+    ensures stops { OnlyAdds (D.moment disk.old) (D.moment disk.new)
+        (D.left_since disk.old) (D.left_since disk.new) Nothing }
     ensures cause { Counts (D.faults disk.old) (D.faults disk.new) (result ≡ Err JournalError.Failed) }
 {
     let Ok(()) = settle(disk) else {
@@ -139,7 +142,8 @@ pub(crate) fn find_places<D: Disk>(alloc: Global, disk: &mut D) -> Result<Found,
 fn settle<D: Disk>(disk: &mut D) -> Result<(), Failed>
     ensures stable { OnOk result (D.content disk.new ≡ option_map (λ view. stable view.bytes) (D.content disk.old)) }
     ensures failed { IsErr result → D.content disk.new ≡ D.content disk.old }
-    ensures stops { OnlyAdds (D.moment disk.old) (D.moment disk.new) (D.left_since disk.old) (D.left_since disk.new) Nothing }
+    ensures stops { OnlyAdds (D.moment disk.old) (D.moment disk.new)
+        (D.left_since disk.old) (D.left_since disk.new) Nothing }
     ensures cause { Counts (D.faults disk.old) (D.faults disk.new) (IsErr result) }
 {
     disk.sync()
@@ -149,7 +153,8 @@ fn settle<D: Disk>(disk: &mut D) -> Result<(), Failed>
 fn find_header<D: Disk>(disk: &mut D) -> Result<bool, Failed>
     ensures header { IfOk result (λ found. IfSome (D.content disk.old) (λ view. IsTrue found ↔ (take 8 view.bytes ≡ header))) }
     ensures same { D.content disk.new ≡ D.content disk.old }
-    ensures stops { OnlyAdds (D.moment disk.old) (D.moment disk.new) (D.left_since disk.old) (D.left_since disk.new) Nothing }
+    ensures stops { OnlyAdds (D.moment disk.old) (D.moment disk.new)
+        (D.left_since disk.old) (D.left_since disk.new) Nothing }
     ensures cause { Counts (D.faults disk.old) (D.faults disk.new) (IsErr result) }
 {
     let mut head = [0u8; 8];

@@ -41,7 +41,8 @@ impl Window {
         ensures shown { IfOk result (λ skip. ShowsAt (D.content disk.old) at skip self.new) }
         ensures window { OnOk result (IsWindow (D.content disk.old) self.new) }
         ensures same { D.content disk.new ≡ D.content disk.old }
-        ensures stops { OnlyAdds (D.moment disk.old) (D.moment disk.new) (D.left_since disk.old) (D.left_since disk.new) Nothing }
+        ensures stops { OnlyAdds (D.moment disk.old) (D.moment disk.new)
+            (D.left_since disk.old) (D.left_since disk.new) Nothing }
         ensures cause { Counts (D.faults disk.old) (D.faults disk.new) (IsErr result) }
     {
         let skip = at.saturating_sub(self.from);
@@ -71,7 +72,8 @@ fn fill<D: Disk>(disk: &mut D, at: u64, bytes: &mut Vec<u8>) -> Result<usize, Fa
         take n bytes.new.items ≡ front_at at (length bytes.new.items) view.bytes)) }
     ensures room { length bytes.new.items ≡ length bytes.old.items }
     ensures same { D.content disk.new ≡ D.content disk.old }
-    ensures stops { OnlyAdds (D.moment disk.old) (D.moment disk.new) (D.left_since disk.old) (D.left_since disk.new) Nothing }
+    ensures stops { OnlyAdds (D.moment disk.old) (D.moment disk.new)
+        (D.left_since disk.old) (D.left_since disk.new) Nothing }
     ensures cause { Counts (D.faults disk.old) (D.faults disk.new) (IsErr result) }
 {
     disk.read(at, bytes)
