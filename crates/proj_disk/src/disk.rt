@@ -1,5 +1,6 @@
 // A disk.
-ghost use Rattle.std.specs.Prelude.{◌≡◌, ◌<◌, ◌≤◌, ◌+◌, ◌-◌, ◌^◌, List, ℕ, length, take, drop, Option, Some, IfOk, OnOk, IfSome, IsErr, IsErrOf};
+ghost use Rattle.std.specs.Prelude.{◌≡◌, ◌<◌, ◌≤◌, ◌+◌, ◌-◌, ◌^◌, List, ℕ, length, take, drop, Option, Some, IfOk};
+ghost use Rattle.std.specs.Prelude.{OnOk, IfSome, IsErr, IsErrOf};
 ghost use Rattle.std.specs.Option.{option_map};
 ghost use Rattle.proj_io.specs.Counts.{Counts};
 ghost use Rattle.proj_disk.specs.Disks.{DiskView, IsImage, IsLeftBy, IsTornIfKnown, Elapses, written, stable, front_at};

@@ -1,5 +1,6 @@
 // A keeper of items.
-ghost use Rattle.std.specs.Prelude.{◌≡◌, ◌<◌, ◌≤◌, ◌+◌, ◌-◌, ◌^◌, ◌⊎◌, ◌↔◌, List, ℕ, min, length, take, drop, Option, IfOk, OnOk, IfSome, IsErr, IsErrOf, IsSome, MatchResult};
+ghost use Rattle.std.specs.Prelude.{◌≡◌, ◌<◌, ◌≤◌, ◌+◌, ◌-◌, ◌^◌, ◌⊎◌, ◌↔◌, List, ℕ, min, length, take, drop, Option};
+ghost use Rattle.std.specs.Prelude.{IfOk, OnOk, IfSome, IsErr, IsErrOf, IsSome, MatchResult};
 ghost use Rattle.git_objects.specs.declared.limits.TheConstants.{ITEM_BYTES, ITEMS};
 ghost use Rattle.proj_io.specs.Counts.{Counts};
 ghost use Rattle.proj_io.specs.Items.{Stays, Gets, item_of};
@@ -16,8 +17,8 @@ pub enum KeepError {
     OutOfMemory,
 }
 
-/// Where items are kept: lists of 1 to `ITEM_BYTES` bytes, at most `ITEMS` of them, numbered from 0. Its count of faults
-/// is a u64 that stays at its last value.
+/// Where items are kept: lists of 1 to `ITEM_BYTES` bytes, at most `ITEMS` of them, numbered from 0. Its count of
+/// faults is a u64 that stays at its last value.
 pub trait Keeper {
     /// Whether it tells its items. No call changes that.
     ghost tells: { Self → Type 0 };
@@ -49,7 +50,8 @@ pub trait Keeper {
         ensures items { Stays (items self.old) (items self.new) }
         ensures is_open { is_open self.new }
         ensures told { tells self.new ↔ tells self.old }
-        ensures stops { OnlyAdds (moment self.old) (moment self.new) (left_since self.old) (left_since self.new) Nothing }
+        ensures stops { OnlyAdds (moment self.old) (moment self.new) (left_since self.old)
+            (left_since self.new) Nothing }
         ensures cause { Counts (faults self.old) (faults self.new) (IsErr result) };
 
     /// The length of an item in bytes, 0 where there is no such item.
@@ -61,7 +63,8 @@ pub trait Keeper {
         ensures items { Stays (items self.old) (items self.new) }
         ensures is_open { is_open self.new }
         ensures told { tells self.new ↔ tells self.old }
-        ensures stops { OnlyAdds (moment self.old) (moment self.new) (left_since self.old) (left_since self.new) Nothing }
+        ensures stops { OnlyAdds (moment self.old) (moment self.new) (left_since self.old)
+            (left_since self.new) Nothing }
         ensures cause { Counts (faults self.old) (faults self.new) (IsErr result) };
 
     /// Puts the item's bytes from a place on at the front of the buffer, and says how many these are.
@@ -76,7 +79,8 @@ pub trait Keeper {
         ensures items { Stays (items self.old) (items self.new) }
         ensures is_open { is_open self.new }
         ensures told { tells self.new ↔ tells self.old }
-        ensures stops { OnlyAdds (moment self.old) (moment self.new) (left_since self.old) (left_since self.new) Nothing }
+        ensures stops { OnlyAdds (moment self.old) (moment self.new) (left_since self.old)
+            (left_since self.new) Nothing }
         ensures cause { Counts (faults self.old) (faults self.new) (IsErr result) };
 
     /// Adds an item behind the others.

@@ -5,7 +5,8 @@ ghost use Rattle.proj_journal.specs.Gates.{IsGate, MayBeOpen};
 
 use git_objects::limits::{ITEM_BYTES, ITEMS};
 
-// What stands at the place of a gate: one that ends the list, one before an item of a size, or nothing that may stand there.
+// What stands at the place of a gate: one that ends the list, one before an item of a size, or nothing that may stand
+// there.
 #[derive(Clone, Copy, Debug, PartialEq, Eq)]
 pub(crate) enum Gate {
     Shut,

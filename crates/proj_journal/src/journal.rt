@@ -1,8 +1,10 @@
 // The journal, a keeper of items over a disk.
-ghost use Rattle.std.specs.Prelude.{◌≡◌, ◌≢◌, [], ◌<◌, ◌≤◌, ◌+◌, ◌^◌, ◌⊎◌, List, ℕ, length, take, drop, IsSome, IsErr, IfOk, IfErr, IfSome, MatchResult, false};
+ghost use Rattle.std.specs.Prelude.{◌≡◌, ◌≢◌, [], ◌<◌, ◌≤◌, ◌+◌, ◌^◌, ◌⊎◌, List, ℕ, length, take, drop, IsSome};
+ghost use Rattle.std.specs.Prelude.{IsErr, IfOk, IfErr, IfSome, MatchResult, false};
 ghost use Rattle.std.specs.Option.{option_map};
 ghost use Rattle.proj_io.specs.Stops.{OnlyAdds, Nothing};
-ghost use Rattle.proj_journal.specs.Journals.{AllFit, IsEmpty, IsOpen, IsReadAs, ListsLeft, disk_of, place_at, items_of, number_of, items_known, items_counted};
+ghost use Rattle.proj_journal.specs.Journals.{AllFit, IsEmpty, IsOpen, IsReadAs, ListsLeft, disk_of, place_at};
+ghost use Rattle.proj_journal.specs.Journals.{items_of, number_of, items_known, items_counted};
 ghost use Rattle.proj_io.specs.Counts.{Counts};
 ghost use Rattle.proj_disk.specs.Disks.{Elapses, front_at, stable};
 ghost use Rattle.proj_journal.specs.Settled.{settled_list};
@@ -71,7 +73,8 @@ impl<D: Disk> Journal<D> {
         ensures stops { MatchResult result
             (λ journal. OnlyAdds (D.moment disk) (D.moment (disk_of journal))
             (D.left_since disk) (D.left_since (disk_of journal)) Nothing)
-            (λ none. OnlyAdds (D.moment disk) (D.moment none.disk) (D.left_since disk) (D.left_since none.disk) Nothing) }
+            (λ none. OnlyAdds (D.moment disk) (D.moment none.disk) (D.left_since disk)
+            (D.left_since none.disk) Nothing) }
         ensures cause { MatchResult result
             (λ journal. D.faults disk ≤ D.faults (disk_of journal))
             (λ none. Counts (D.faults disk) (D.faults none.disk) (none.error ≡ JournalError.Failed)) }
@@ -130,7 +133,8 @@ impl<D: Disk> Keeper for Journal<D> {
 
     ghost counted = { λ journal. items_counted (D.content journal.disk) journal.places.items };
 
-    ghost settled = { λ journal list opened left. settled_list D.content D.moment D.left_since D.only_now journal list opened left };
+    ghost settled = { λ journal list opened left. settled_list D.content D.moment D.left_since D.only_now journal
+        list opened left };
 
     fn count(&mut self) -> Result<u32, Failed> {
         Ok(self.places.len() as u32)
@@ -191,7 +195,8 @@ fn find_place(places: &[Place], item: u32) -> Place
 fn read_part<D: Disk>(disk: &mut D, at: u64, buf: &mut [u8], count: usize) -> Result<usize, Failed>
     requires { count ≤ length buf.old }
     ensures bound { IfOk result (λ n. n ≤ count) }
-    ensures bytes { IfOk result (λ n. IfSome (D.content disk.old) (λ view. take n buf.new ≡ front_at at count view.bytes)) }
+    ensures bytes { IfOk result (λ n. IfSome (D.content disk.old) (λ view. take n buf.new
+        ≡ front_at at count view.bytes)) }
     ensures rest { IfOk result (λ n. drop n buf.new ≡ drop n buf.old) }
     ensures same { D.content disk.new ≡ D.content disk.old }
     ensures time { Elapses (D.moment disk.old) (D.moment disk.new)

@@ -1,5 +1,6 @@
 // Reading where the items of a journal stand.
-ghost use Rattle.std.specs.Prelude.{◌≡◌, ◌<◌, ◌≤◌, ◌+◌, ◌*◌, ◌^◌, ℕ, length, [], ◌-◌, take, ◌↔◌, IsTrue, OnOk, Err, IsErr, IfOk, IfSome};
+ghost use Rattle.std.specs.Prelude.{◌≡◌, ◌<◌, ◌≤◌, ◌+◌, ◌*◌, ◌^◌, ℕ, length, [], ◌-◌, take, ◌↔◌, IsTrue, OnOk, Err};
+ghost use Rattle.std.specs.Prelude.{IsErr, IfOk, IfSome};
 ghost use Rattle.std.specs.Option.{option_map};
 ghost use Rattle.git_objects.specs.declared.limits.TheConstants.{ITEM_BYTES, ITEMS};
 ghost use Rattle.proj_io.specs.Counts.{Counts};
@@ -151,7 +152,8 @@ fn settle<D: Disk>(disk: &mut D) -> Result<(), Failed>
 
 // Tells whether a disk begins with the header.
 fn find_header<D: Disk>(disk: &mut D) -> Result<bool, Failed>
-    ensures header { IfOk result (λ found. IfSome (D.content disk.old) (λ view. IsTrue found ↔ (take 8 view.bytes ≡ header))) }
+    ensures header { IfOk result (λ found. IfSome (D.content disk.old) (λ view. IsTrue found ↔ (take 8 view.bytes
+        ≡ header))) }
     ensures same { D.content disk.new ≡ D.content disk.old }
     ensures stops { OnlyAdds (D.moment disk.old) (D.moment disk.new)
         (D.left_since disk.old) (D.left_since disk.new) Nothing }

@@ -4,7 +4,8 @@ ghost use Rattle.git_objects.specs.declared.limits.TheConstants.{ITEM_BYTES, ITE
 ghost use Rattle.proj_io.specs.Counts.{Counts};
 ghost use Rattle.proj_io.specs.Stops.{OnlyAdds};
 ghost use Rattle.proj_journal.specs.Spelling.{listed};
-ghost use Rattle.proj_journal.specs.Rest.{IsAtRest, IsEmptyList, KeepsRest, IsStaged, KeepsList, Puts, Stages, AddsItem, MayAddItem, SpellsSame, SpellsOneMore};
+ghost use Rattle.proj_journal.specs.Rest.{IsAtRest, IsEmptyList, KeepsRest, IsStaged, KeepsList, Puts, Stages};
+ghost use Rattle.proj_journal.specs.Rest.{AddsItem, MayAddItem, SpellsSame, SpellsOneMore};
 
 use proj_disk::Disk;
 use proj_io::SinkError;
@@ -79,7 +80,8 @@ pub(crate) fn open_gate<D: Disk>(disk: &mut D, end: u64) -> Result<(), SinkError
     ensures stops { (item : List ℕ) → IsStaged end item (D.content disk.old) →
         OnlyAdds (D.moment disk.old) (D.moment disk.new) (D.left_since disk.old) (D.left_since disk.new)
         (SpellsOneMore item (D.content disk.old)) }
-    ensures stops_memory { IsErrOf result SinkError.OutOfMemory → (item : List ℕ) → IsStaged end item (D.content disk.old) →
+    ensures stops_memory { IsErrOf result SinkError.OutOfMemory → (item : List ℕ) →
+        IsStaged end item (D.content disk.old) →
         OnlyAdds (D.moment disk.old) (D.moment disk.new) (D.left_since disk.old) (D.left_since disk.new)
         (SpellsSame (D.content disk.old)) }
     ensures cause { Counts (D.faults disk.old) (D.faults disk.new) (IsErrOf result SinkError.Failed) }
