@@ -65,5 +65,5 @@ pieces_within (suc n) (x ∷ ps) p i h =
     (read_command p false i) ((command-reader p).settles true more i)
     ∙ sym (verdict-is p (grown more i))
 
-pub pieces_same : (ps : List Bytes) → told ps ≡ verdict (concat ps)
-pieces_same ps = pieces_within (turns ps start (from_start []) + 1) ps start (from_start []) (omega arith)
+pub pieces_same : (p : Progress) (ps : List Bytes) → told p ps ≡ verdict p (concat ps)
+pieces_same p ps = pieces_within (turns ps p (from_start []) + 1) ps p (from_start []) (omega arith)

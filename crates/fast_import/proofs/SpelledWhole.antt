@@ -177,7 +177,7 @@ not_whole p i f e cs h = no_fault f (Some f) refl (commands_are (stopped (Some f
 
 pub spelling_law : SpellingLaw
 spelling_law = record {
-  whole = λ b cs. (whole_was cs start (from_start b), whole_again cs start (from_start b));
+  whole = λ p b cs. (whole_was cs p (from_start b), whole_again cs p (from_start b));
   spelled = λ p q i j c e. subst (TurnSpelled p i) e (turn_spelled p i);
   read = turn_again;
   passed = λ p q i j e. subst (TurnSpelled p i) e (turn_spelled p i);
