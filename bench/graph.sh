@@ -3,6 +3,5 @@
 #
 #     bench/graph.sh [N]
 set -e
-cd "$(dirname "$0")/../crates/graph_bench"
-rt run -- 1000 > /dev/null 2>&1
-exec out/graph_bench "${1:-1000000}" time
+. "$(dirname "$0")/program.sh"
+timed graph time "${1:-1000000}"

@@ -4,9 +4,9 @@
 # before builds nothing.
 set -u
 cd "$(dirname "$0")/.." || exit 1
-proj=${PROJ:-$PWD/crates/proj_cli/out/proj_cli}
+proj=${PROJ:-$PWD/crates/proj/out/proj}
 if [ ! -x "$proj" ]; then
-    (cd crates/proj_cli && rt run -- name) </dev/null >/dev/null 2>&1
+    (cd crates/proj && rt run -- name) </dev/null >/dev/null 2>&1
     [ -x "$proj" ] || { printf 'git: the program is not built\n'; exit 1; }
 fi
 work=$(mktemp -d) || exit 1

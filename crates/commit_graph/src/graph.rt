@@ -1,5 +1,6 @@
 // Graphs of commits.
-ghost use Rattle.std.specs.Prelude.{◌≡◌, ℕ, ◌+◌, ◌<◌, ◌≤◌, ◌^◌, ◌↔◌, List, [], ◌∷◌, ◌++◌, length, take, None, slice_get, All, Contains, IsTrue, IfSome, IfOk, OnOk, OnErr};
+ghost use Rattle.std.specs.Prelude.{◌≡◌, ℕ, ◌+◌, ◌<◌, ◌≤◌, ◌^◌, ◌↔◌, List, [], ◌∷◌, ◌++◌, length, take, None};
+ghost use Rattle.std.specs.Prelude.{slice_get, All, Contains, IsTrue, IfSome, IfOk, OnOk, OnErr};
 ghost use Rattle.std.specs.List.Sorted.{IsStrictlyIncreasing};
 ghost use Rattle.commit_graph.specs.Graphs.{Row, IsGraph, place_of, Reaches};
 ghost use Rattle.commit_graph.specs.Marks.{MarksReached};
@@ -17,8 +18,8 @@ struct Node {
     parents: Vec<u32>,
 }
 
-/// Commits with distinct names in order of arrival, each after its parents. A commit's place is how many came before it,
-/// and parents are named by their places.
+/// Commits with distinct names in order of arrival, each after its parents. A commit's place is how many came before
+/// it, and parents are named by their places.
 #[derive(Drop)]
 pub struct Graph {
     nodes: IndexMap<Name, Node>,
@@ -51,7 +52,8 @@ impl Graph {
         requires fresh { place_of name.0 self.old ≡ None }
         requires placed { All (λ p. p < length self.old) parents.items }
         requires room { length self.old < 2 ^ 30 }
-        ensures ok { OnOk result (self.new ≡ self.old ++ record { name = name.0; tree = tree.0; parents = parents.items } ∷ []) }
+        ensures ok { OnOk result (self.new
+            ≡ self.old ++ record { name = name.0; tree = tree.0; parents = parents.items } ∷ []) }
         ensures err { OnErr result (self.new ≡ self.old) }
     {
         self.nodes.insert(name, Node { tree, parents })?;

@@ -1,4 +1,5 @@
-//! Graphs of commits: each with its name, its tree's name and its parents, in order of arrival, parents before children.
+//! Graphs of commits: each with its name, its tree's name and its parents, in order of arrival, parents before
+//! children.
 #![tactic(auto)]
 
 mod graph;

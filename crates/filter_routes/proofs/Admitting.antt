@@ -3,15 +3,17 @@ use Rattle.std.specs.Prelude.{◌≡◌, refl, List, [], ◌∷◌, Option, Some
 use Rattle.std.proofs.Common.{◌∙◌, sym, subst, inl, true≢false}
 use Rattle.std.proofs.lemmas.Bool.{and_parts, and_from}
 use Rattle.std.proofs.lemmas.Option.{none-some}
+use Rattle.filter_routes.proofs.Branches.{meets-first}
 use Rattle.filter_routes.proofs.ListLaws.{clash-seen, clash-told, list-all, list-chain, list-dir, list-exclude, list-file, list-join, list-none, list-nop, list-onto, list-sub, list-workspace}
-use Rattle.filter_routes.specs.Cells.{any_clash, cells}
-use Rattle.filter_routes.specs.Entries.{Entry, at, below}
-use Rattle.filter_routes.specs.Images.{first, image, or_else}
-use Rattle.filter_routes.specs.Laws.{has_paths, have_paths}
-use Rattle.filter_routes.specs.Lists.{IsPath, Listed}
-use Rattle.filter_routes.specs.Operations.{after_left, either_left, turned}
+use Rattle.decision_lists.specs.Cells.{any_clash, cells}
+use Rattle.decision_lists.specs.Entries.{Entry, at, below}
+use Rattle.decision_lists.specs.Fronts.{or_else}
+use Rattle.filter_routes.specs.Images.{first, image}
+use Rattle.filter_text.specs.Filters.{has_paths, have_paths, Filter, Filters, append, chain, dir, exclude, file, join, more, no_more, nop, only, onto, sub, workspace}
+use Rattle.decision_lists.specs.Lists.{IsPath}
+use Rattle.filter_routes.specs.Lists.{Listed}
+use Rattle.decision_lists.specs.Operations.{after_left, either_left, turned}
 use Rattle.filter_routes.specs.Soundness.{AreApart, AreSound, Clash, IsApart, IsSound, are_keeping, is_keeping}
-use Rattle.filter_text.specs.Filters.{Filter, Filters, append, chain, dir, exclude, file, join, more, no_more, nop, only, onto, sub, workspace}
 use Rattle.git_objects.specs.Paths.{Path}
 
 -- no member clashes with g
@@ -46,21 +48,9 @@ pub list-meets : (fs : Filters) (g : Filter) → NoneMeets fs g → Clash (join 
 list-meets no_more g n c = none-some c.x c.image_p
 list-meets (more f fs) g n c = meets-at f g fs c (image f c.p) refl n.0 (list-meets fs g n.1) c.image_p
 
--- a path has no image under f and one of the branches after it
-other-at : (f g : Filter) (gs : Filters) (p x y : Path) (o : Option Path) → image g p ≡ o → (Clash f g → ⊥) → (first gs p ≡ Some y → ⊥)
-    → IsPath p → image f p ≡ Some x → or_else o (first gs p) ≡ Some y → ⊥
-other-at f g gs p x y None e a l n h k = l k
-other-at f g gs p x y (Some b) e a l n h k =
-    a (record { p = p; q = p; x = x; y = y; path_p = n; path_q = n; image_p = h; image_q = e ∙ k; meet = inl refl })
-
-other-first : (f : Filter) (fs : Filters) (p x y : Path) → IsApart f fs → IsPath p → image f p ≡ Some x → first fs p ≡ Some y → ⊥
-other-first f no_more p x y a n h k = none-some y k
-other-first f (more g gs) p x y a n h k =
-    other-at f g gs p x y (image g p) refl a.0 (λ l. other-first f gs p x y a.1 n h l) n h k
-
 rest-at : (f : Filter) (fs : Filters) (p x : Path) (o : Option Path) → image f p ≡ o → IsApart f fs → IsPath p → first fs p ≡ Some x → or_else o (first fs p) ≡ Some x
 rest-at f fs p x None e a n k = k
-rest-at f fs p x (Some u) e a n k = absurd (other-first f fs p u x a n e k)
+rest-at f fs p x (Some u) e a n k = absurd (meets-first f fs p p u x a n n e k (inl refl))
 
 head-at : (o o' : Option Path) (x : Path) → o ≡ Some x → or_else o o' ≡ Some x
 head-at None o' x e = absurd (none-some x e)

@@ -6,15 +6,15 @@ use Rattle.std.proofs.lemmas.Option.{none-some, same_Some}
 use Rattle.filter_text.specs.Filters.{Filter, Filters, nop, sub, onto, dir, file, exclude, join, chain, workspace, no_more, more, only, append, pieces}
 use Rattle.filter_text.specs.Shapes.{shape, shapes}
 use Rattle.filter_text.specs.declared.filter.Filter as code
-use Rattle.filter_routes.specs.Cells.{any_clash, cells}
-use Rattle.filter_routes.specs.Entries.{Entry}
+use Rattle.decision_lists.specs.Cells.{any_clash, cells}
+use Rattle.decision_lists.specs.Entries.{Entry}
 use Rattle.filter_routes.specs.Soundness.{Clash}
 use Rattle.filter_routes.specs.Lists.{IsListOf}
 use Rattle.filter_routes.specs.Faults.{Piece, nodes, nodes_all, member, PairAt, IsBefore}
 use Rattle.filter_routes.specs.Searching.{AreListsOf, ClashBehind, clash_of, clash_at, FirstClash, NoPairAt, FirstPairOf, NoPair, FirstPair, Refused, Searched}
 use Rattle.filter_routes.specs.declared.fault.RouteFault.{RouteFault}
 use Rattle.filter_routes.specs.declared.fault.RouteFault.TheVariants.{NotKeeping, Overlap, OutOfMemory}
-use Rattle.filter_routes.proofs.Clash.{split}
+use Rattle.decision_lists.proofs.Clash.{split}
 use Rattle.filter_routes.proofs.ListLaws.{clash-told, clash-seen}
 use Rattle.filter_routes.proofs.Walking.{nodes-count}
 
@@ -81,6 +81,13 @@ branches_of (workspace a) = no_more
 
 other-clear : (f : Filter) → is_list f ≡ false → IsClear (false, f)
 other-clear f h fs e = absurd (true≢false (sym (ap (λ (v : Piece). is_list v.1) e) ∙ h))
+
+-- of fewer than two branches no two clash
+pub few-apart : (ms : List code.Filter) → length ms < 2 → NoPairAt (shapes ms)
+few-apart [] l a b p = none-some p.g p.is_g
+few-apart (m ∷ []) l a zero p = omega (arith, p.ordered)
+few-apart (m ∷ []) l a (suc b) p = none-some p.g p.is_g
+few-apart (m ∷ k ∷ ms) l a b p = omega (arith, l)
 
 pub list-clear : (fs : Filters) → NoPairAt fs → IsClear (false, join fs)
 list-clear fs n gs e = subst NoPairAt (ap (λ (v : Piece). branches_of v.1) e) n

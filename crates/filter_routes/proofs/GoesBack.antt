@@ -3,16 +3,18 @@ use Rattle.std.specs.Prelude.{◌≡◌, refl, [], ◌∷◌, ◌++◌, Option, 
 use Rattle.std.proofs.Common.{ap, ◌∙◌, sym, inl, inr, subst}
 use Rattle.std.proofs.lemmas.Option.{none-some, same_Some}
 use Rattle.std.proofs.lemmas.Bool.{and_parts}
-use Rattle.filter_routes.proofs.Clash.{Comparable, append-nothing, comparable-behind, comparable-in, comparable-sym}
-use Rattle.filter_routes.proofs.Compare.{comparable-is, comparable-test}
-use Rattle.filter_routes.proofs.Compile.{kept-is, left_out-is}
-use Rattle.filter_routes.proofs.Strip.{proper-some, strip-is}
-use Rattle.filter_routes.proofs.Valid.{image-path}
-use Rattle.filter_routes.specs.Images.{and_then, first, image, or_else, proper, strip, through, whole}
-use Rattle.filter_routes.specs.Laws.{RouteLaw, has_paths, have_paths}
-use Rattle.filter_routes.specs.Lists.{IsPath}
-use Rattle.filter_routes.specs.Soundness.{AreApart, AreSound, Clash, IsApart, IsSound}
-use Rattle.filter_text.specs.Filters.{Filter, Filters, chain, dir, exclude, file, join, more, no_more, nop, onto, sub, workspace}
+use Rattle.decision_lists.proofs.Clash.{Comparable, append-nothing, comparable-behind, comparable-in, comparable-sym}
+use Rattle.decision_lists.proofs.Compare.{comparable-is, comparable-test}
+use Rattle.decision_lists.proofs.Compile.{kept-is, left_out-is}
+use Rattle.decision_lists.proofs.Strip.{proper-some, strip-is}
+use Rattle.filter_routes.proofs.Branches.{meets-first}
+use Rattle.filter_routes.proofs.ImagePaths.{image-path}
+use Rattle.decision_lists.specs.Fronts.{and_then, or_else, proper, strip, whole}
+use Rattle.filter_routes.specs.Images.{first, image, through}
+use Rattle.filter_text.specs.Filters.{has_paths, have_paths, Filter, Filters, chain, dir, exclude, file, join, more, no_more, nop, onto, sub, workspace}
+use Rattle.filter_routes.specs.Laws.{RouteLaw}
+use Rattle.decision_lists.specs.Lists.{IsPath}
+use Rattle.filter_routes.specs.Soundness.{AreApart, AreSound, IsApart, IsSound}
 use Rattle.git_objects.specs.Paths.{Path}
 
 -- a relation that goes back from images to paths, and is at least as wide as what a list excludes
@@ -39,17 +41,9 @@ same-in (c ∷ a) x y e = same-in a x y (ap rest e)
 back-same : Back Same
 back-same = record { within = λ x y e. inl ([], sym e ∙ sym (append-nothing x)); behind = λ a x y e. ap (λ z. a ++ z) e; before = same-in; turned = λ x y e. sym e }
 
--- the branch f and a branch of fs
-apart-at : (f g : Filter) (gs : Filters) (p q x y : Path) (o : Option Path) → image g q ≡ o → (Clash f g → ⊥) → (first gs q ≡ Some y → ⊥)
-    → IsPath p → IsPath q → image f p ≡ Some x → or_else o (first gs q) ≡ Some y → Comparable x y → ⊥
-apart-at f g gs p q x y None e apart later n m h k c = later k
-apart-at f g gs p q x y (Some b) e apart later n m h k c =
-    apart (record { p = p; q = q; x = x; y = y; path_p = n; path_q = m; image_p = h; image_q = e ∙ k; meet = inr (comparable-test x y c) })
-
+-- a branch has no image that is comparable with one of the branches after it
 apart-first : (f : Filter) (fs : Filters) (p q x y : Path) → IsApart f fs → IsPath p → IsPath q → image f p ≡ Some x → first fs q ≡ Some y → Comparable x y → ⊥
-apart-first f no_more p q x y a n m h k c = none-some y k
-apart-first f (more g gs) p q x y a n m h k c =
-    apart-at f g gs p q x y (image g q) refl a.0 (λ l. apart-first f gs p q x y a.1 n m h l c) n m h k c
+apart-first f fs p q x y a n m h k c = meets-first f fs p q x y a n m h k (inr (comparable-test x y c))
 
 first-at : (R : Path → Path → Type 0) → Back R → (f : Filter) (fs : Filters) (p q x y : Path) (o o' : Option Path) → image f p ≡ o → image f q ≡ o' → IsApart f fs → IsPath p → IsPath q
     → (image f p ≡ Some x → image f q ≡ Some y → R p q) → (first fs p ≡ Some x → first fs q ≡ Some y → R p q)

@@ -16,8 +16,8 @@ use Rattle.filter_text.proofs.Printable.{filter_spelt}
 use Rattle.filter_routes.specs.Interned.{HasAt, HasNone, AreDistinct, Interns, number_at, AreNumbered, IsStored}
 use Rattle.filter_routes.specs.Laws.{TablesLaw}
 use Rattle.filter_routes.specs.TableValues.{Table}
-use Rattle.filter_routes.proofs.Clash.{split}
-use Rattle.filter_routes.proofs.Strip.{eq-self}
+use Rattle.decision_lists.proofs.Clash.{split}
+use Rattle.decision_lists.proofs.Strip.{eq-self}
 
 -- ---- places in a list of tables
 

@@ -1,18 +1,21 @@
 -- Decision lists of filters, and what the finite test says of two of them.
 use Rattle.std.specs.Prelude.{◌≡◌, refl, ℕ, ◌+◌, List, [], ◌∷◌, Option, Some, None, true, ◌⊎◌}
 use Rattle.std.proofs.Common.{ap, ap₂, ◌∙◌, sym, arith, inl, inr}
-use Rattle.filter_routes.proofs.Cells.{TableClash, table-clash-from, table-clash-give}
-use Rattle.filter_routes.proofs.Clash.{Comparable}
-use Rattle.filter_routes.proofs.Compare.{comparable-is, comparable-test}
-use Rattle.filter_routes.proofs.Compile.{and_then-same, one-kept, one-sub, tail-is, through-full}
-use Rattle.filter_routes.proofs.Each.{each-after, each-either, each-turned, good-list, length-long, long, long-component, total}
-use Rattle.filter_routes.proofs.Fold.{after_left-run, after_left-thin, either_left-run, either_left-thin, turned-run, turned-thin}
-use Rattle.filter_routes.proofs.Valid.{full-path, valid-path}
-use Rattle.filter_routes.specs.Cells.{any_clash, cells}
-use Rattle.filter_routes.specs.Entries.{Entry, at, below, decide, run}
-use Rattle.filter_routes.specs.Images.{and_then, first, image, left_out, or_else, proper, strip, through, whole}
-use Rattle.filter_routes.specs.Lists.{IsListOf, IsPath}
-use Rattle.filter_routes.specs.Operations.{after_left, either_left, turned}
+use Rattle.decision_lists.proofs.Cells.{TableClash, table-clash-from, table-clash-give}
+use Rattle.decision_lists.proofs.Clash.{Comparable}
+use Rattle.decision_lists.proofs.Compare.{comparable-is, comparable-test}
+use Rattle.filter_routes.proofs.ImagePaths.{through-full}
+use Rattle.decision_lists.proofs.Compile.{and_then-same, one-kept, one-sub, tail-is}
+use Rattle.decision_lists.proofs.Each.{each-after, each-either, each-turned, good-list, length-long, long, long-component, total}
+use Rattle.decision_lists.proofs.Fold.{after_left-run, after_left-thin, either_left-run, either_left-thin, turned-run, turned-thin}
+use Rattle.decision_lists.proofs.Valid.{full-path, valid-path}
+use Rattle.decision_lists.specs.Cells.{any_clash, cells}
+use Rattle.decision_lists.specs.Entries.{Entry, at, below, decide, run}
+use Rattle.decision_lists.specs.Fronts.{and_then, left_out, or_else, proper, strip, whole}
+use Rattle.filter_routes.specs.Images.{first, image, through}
+use Rattle.decision_lists.specs.Lists.{IsPath}
+use Rattle.filter_routes.specs.Lists.{IsListOf}
+use Rattle.decision_lists.specs.Operations.{after_left, either_left, turned}
 use Rattle.filter_routes.specs.Soundness.{Clash}
 use Rattle.filter_text.specs.Filters.{Filter, Filters, append, chain, dir, exclude, file, join, more, no_more, nop, only, onto, sub, workspace}
 use Rattle.git_objects.specs.Paths.{Path, comparable}

@@ -1,29 +1,12 @@
 -- What soundness is for, and what keeps faults and tables apart.
-use Rattle.std.specs.Prelude.{◌≡◌, ◌↔◌, ℕ, true, Bool, ◌&&◌, Some}
+use Rattle.std.specs.Prelude.{◌≡◌, ◌↔◌, ℕ, true, Some}
 use Rattle.git_objects.specs.Paths.{Bytes, Path, is_path, comparable}
-use Rattle.filter_text.specs.Filters.{Filter, Filters, nop, sub, onto, dir, file, exclude, join, chain, workspace, no_more, more}
+use Rattle.filter_text.specs.Filters.{Filter, has_paths}
 use Rattle.filter_text.specs.Printing.{printed}
 use Rattle.filter_text.specs.Spelling.{SpellsFilter}
 use Rattle.filter_routes.specs.Images.{image}
 use Rattle.filter_routes.specs.Soundness.{IsSound}
 use Rattle.filter_routes.specs.Faults.{IsNotKeeping, IsOverlap}
-
--- each path of the filter is a path
-abbrev mutual
-  pub has_paths : Filter → Bool
-  has_paths nop = true
-  has_paths (sub a) = is_path a
-  has_paths (onto a) = is_path a
-  has_paths (dir a) = is_path a
-  has_paths (file a) = is_path a
-  has_paths (exclude f) = has_paths f
-  has_paths (join fs) = have_paths fs
-  has_paths (chain fs) = have_paths fs
-  has_paths (workspace a) = is_path a
-
-  pub have_paths : Filters → Bool
-  have_paths no_more = true
-  have_paths (more f fs) = has_paths f && have_paths fs
 
 -- Under a sound filter comparable images come only from comparable paths, and equal images only from equal paths.
 pub record RouteLaw : Type 0 where

@@ -1,8 +1,8 @@
 -- What the search for the first overlap finds.
 use Rattle.std.specs.Prelude.{◌≡◌, ℕ, ◌+◌, ◌<◌, List, [], ◌∷◌, length, slice_get, Option, Some, None, Bool, true, false, Result, Ok, Err, ⊤}
 use Rattle.filter_text.specs.Filters.{Filters, no_more, more, join}
-use Rattle.filter_routes.specs.Entries.{Entry}
-use Rattle.filter_routes.specs.Cells.{any_clash, cells}
+use Rattle.decision_lists.specs.Entries.{Entry}
+use Rattle.decision_lists.specs.Cells.{any_clash, cells}
 use Rattle.filter_routes.specs.Lists.{IsListOf}
 use Rattle.filter_routes.specs.Faults.{Piece, PairAt, IsBefore}
 use Rattle.filter_routes.specs.declared.fault.RouteFault.{RouteFault}

@@ -2,9 +2,9 @@
 use Rattle.std.specs.Prelude.{◌≡◌, List, true}
 use Rattle.filter_text.specs.Shapes.{shape}
 use Rattle.filter_text.specs.declared.filter.Filter.{Filter}
-use Rattle.filter_routes.specs.Entries.{Entry}
+use Rattle.decision_lists.specs.Entries.{Entry}
 use Rattle.filter_routes.specs.Soundness.{IsSound}
-use Rattle.filter_routes.specs.Laws.{has_paths}
+use Rattle.filter_text.specs.Filters.{has_paths}
 use Rattle.filter_routes.specs.Lists.{IsListOf}
 
 -- a filter, and the decision list whose entries with a target are its routes

@@ -1,5 +1,8 @@
 // What soundness is for.
 ghost use Rattle.filter_routes.specs.Laws.{FaultLaw, RouteLaw, TablesLaw};
+ghost use Rattle.filter_routes.specs.Lenses.{SeenLaw};
+ghost use Rattle.filter_routes.specs.Origins.{LensLaw};
+ghost use Rattle.filter_routes.specs.SoundTests.{SoundTestLaw};
 
 /// Under a sound filter equal images come only from equal paths, and comparable images only from comparable paths; the
 /// image of a path is a path.
@@ -15,4 +18,19 @@ pub fn fault_law()
 /// Filters that texts spell have one canonical text exactly where they are one filter: tables are found by this text.
 pub fn tables_law()
     ensures { TablesLaw }
+{}
+
+/// A sound filter is a lens, and its origins are exactly the paths whose images they are.
+pub fn lens_law()
+    ensures { LensLaw }
+{}
+
+/// The test of soundness by decision lists says exactly which filters are sound.
+pub fn sound_test_law()
+    ensures { SoundTestLaw }
+{}
+
+/// What is seen of a tree through a lens is a tree, and has at each path the leaf of the path's origin.
+pub fn seen_law()
+    ensures { SeenLaw }
 {}

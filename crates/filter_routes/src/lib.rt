@@ -1,28 +1,19 @@
 //! Filters as routes of paths: which filters are sound, where a path goes, and where an image comes from.
 #![tactic(auto)]
 
-mod bounded;
-mod clashing;
-mod entry;
+mod any_list;
 mod fault;
 mod faults;
-mod hit;
-mod index;
-mod indexed;
 mod laws;
 mod lists;
-mod locate;
-mod operations;
 mod search;
 mod table;
 mod tables;
-#[cfg(test)]
-mod tests;
 
+pub use decision_lists::RouteHit;
 pub use fault::RouteFault;
 pub use faults::first_not_keeping;
-pub use hit::RouteHit;
-pub use laws::{fault_law, route_law, tables_law};
+pub use laws::{fault_law, lens_law, route_law, seen_law, sound_test_law, tables_law};
 pub use lists::is_sound;
 pub use search::check;
 pub use table::Table;

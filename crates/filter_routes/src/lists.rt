@@ -1,38 +1,17 @@
 // The decision list of a filter, and whether a filter is sound.
 ghost use Rattle.std.specs.Prelude.{◌≡◌, ◌↔◌, ◌&&◌, cond, [], ◌∷◌, IfOk, IsTrue, Some, None};
-ghost use Rattle.filter_routes.specs.Operations.{either_left};
-ghost use Rattle.filter_routes.specs.Cells.{any_clash, cells};
+ghost use Rattle.decision_lists.specs.Operations.{either_left};
+ghost use Rattle.decision_lists.specs.Cells.{any_clash, cells};
 ghost use Rattle.filter_text.specs.Filters.{join, chain};
 ghost use Rattle.filter_text.specs.Shapes.{shape, shapes};
-ghost use Rattle.filter_routes.specs.Entries.{cone_of, below};
+ghost use Rattle.decision_lists.specs.Entries.{below};
 ghost use Rattle.filter_routes.specs.Soundness.{IsSound};
 ghost use Rattle.filter_routes.specs.Lists.{Listed, entries_of};
 
-use crate::clashing::clashes_with_list;
-use crate::entry::{Entry, joined};
-use crate::indexed::Indexed;
-use crate::operations::{after, either, turned};
+use decision_lists::{Entry, Indexed, after, clashes_with_list, either, one_entry, turned};
 use filter_text::Filter;
 use git_objects::Component;
 use std::alloc::{AllocError, Global};
-
-// The list of one entry with a target.
-pub fn one_entry(
-    alloc: Global,
-    point: bool,
-    base: &[Component],
-    target: &[Component],
-) -> Result<Vec<Entry>, AllocError>
-    ensures { IfOk result (λ v. v.items ≡ (cone_of point base.now, Some target.now) ∷ []) }
-{
-    let mut list = Vec::new(alloc);
-    list.push(Entry {
-        point,
-        base: joined(alloc, base, &[])?,
-        target: Some(joined(alloc, target, &[])?),
-    })?;
-    Ok(list)
-}
 
 // The list of a leaf that takes off a front or puts one on, where such may stand.
 fn moving(
@@ -99,7 +78,7 @@ fn with_branch(
     if apart && clashes_with_list(alloc, &list, branch.as_slice())? {
         return Ok(None);
     }
-    Ok(Some(either(alloc, list, branch)?))
+    Ok(Some(either(alloc, usize::MAX, list, branch)?))
 }
 
 #[cycle(listing)]
@@ -135,7 +114,7 @@ fn list_of_chain(
     for m in members {
         match list_of(alloc, m, apart)? {
             None => return Ok(None),
-            Some(next) => list = after(alloc, list, next.as_slice())?,
+            Some(next) => list = after(alloc, usize::MAX, list, next.as_slice())?,
         }
     }
     Ok(Some(list))

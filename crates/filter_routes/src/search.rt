@@ -9,11 +9,10 @@ ghost use Rattle.filter_routes.specs.Searching.{AreListsOf, ClashBehind, clash_o
 ghost use Rattle.filter_routes.specs.Soundness.{IsSound};
 
 use crate::RouteFault;
-use crate::bounded::list_within;
-use crate::clashing::any_clash;
+use crate::any_list::list_within;
 use crate::faults::first_not_keeping;
-use crate::indexed::Indexed;
 use crate::lists::is_sound;
+use decision_lists::{Indexed, any_clash};
 use filter_text::Filter;
 use std::alloc::{AllocError, Global};
 
@@ -141,11 +140,15 @@ fn lists_beside_first(
     Ok(lists)
 }
 
-// Refuses a list with two branches that clash by its number and the first two.
+// Refuses a list with two branches that clash by its number and the first two. The decision list of a lone branch isn't made:
+// it could fill any memory, where a list below it is refused at once.
 fn are_apart(alloc: Global, most: usize, members: &[Filter], number: u32) -> Result<(), RouteFault>
     ensures apart { OnOk result (NoPairAt (shapes members.now)) }
     ensures pair { IfErr result (FirstPairOf number (shapes members.now)) }
 {
+    if members.len() < 2 {
+        return Ok(());
+    }
     let lists = lists_beside_first(alloc, most, members, number)?;
     match first_clash(alloc, lists.as_slice())? {
         None => Ok(()),

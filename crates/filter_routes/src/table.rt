@@ -1,16 +1,14 @@
 // Tables of routes.
 ghost use Rattle.std.specs.Prelude.{◌≡◌, ◌≤◌, ◌<◌, ◌^◌, true, is_some, length, Some, IfOk, IfErr, IfSome};
-ghost use Rattle.filter_text.specs.Filters.{pieces};
+ghost use Rattle.filter_text.specs.Filters.{pieces, has_paths};
 ghost use Rattle.filter_text.specs.Shapes.{shape};
 ghost use Rattle.filter_routes.specs.Images.{image};
-ghost use Rattle.filter_routes.specs.Laws.{has_paths};
 ghost use Rattle.filter_routes.specs.Soundness.{IsSound};
 
-use crate::entry::Entry;
+use crate::RouteFault;
 use crate::lists::list_of;
-use crate::locate::{locate, locate_origin};
 use crate::search::fault_of;
-use crate::{RouteFault, RouteHit};
+use decision_lists::{Entry, RouteHit, locate, locate_origin};
 use filter_text::{Filter, copy};
 use git_objects::Component;
 use path_names::Path;
@@ -39,7 +37,8 @@ impl Model for Table {
 }
 
 impl Table {
-    ghost use Rattle.filter_routes.specs.Tables.{image_at, source_hit, target, source, IsOrigin, IsTableOf};
+    ghost use Rattle.decision_lists.specs.Hits.{image_at, source_hit};
+    ghost use Rattle.filter_routes.specs.Tables.{target, source, IsOrigin, IsTableOf};
     ghost use Rattle.filter_routes.specs.RouteFaults.{IsRouteFault};
 
     /// The filter's table, if the filter is sound. A workspace is read as the paths below its place.

@@ -56,6 +56,7 @@ impl Hash for Text {
 /// The tables of many filters, no two of one filter. A table's number is how many came before it.
 #[derive(Drop)]
 pub struct Tables {
+    alloc: Global,
     tables: Vec<Table>,
     // The number of a table with this canonical text. Filters of the language with one text are one filter.
     numbers: IndexMap<Text, usize>,
@@ -82,11 +83,12 @@ impl Tables {
     ghost use Rattle.filter_routes.specs.RouteFaults.{IsRouteFault};
     ghost use Rattle.filter_routes.specs.Tables.{IsTableOf};
 
-    /// No tables.
+    /// No tables; those that come take their memory from `alloc`.
     pub fn new(alloc: Global) -> Tables
         ensures { result ≡ [] }
     {
         Tables {
+            alloc,
             tables: Vec::new(alloc),
             numbers: IndexMap::new(alloc),
         }
@@ -114,12 +116,13 @@ impl Tables {
     }
 
     /// The number of the filter's table, which is made where there is none yet.
-    pub fn intern(&mut self, alloc: Global, filter: &Filter) -> Result<usize, RouteFault>
+    pub fn intern(&mut self, filter: &Filter) -> Result<usize, RouteFault>
         requires { pieces (shape filter.now) < 2 ^ 32 }
         ensures number { IfOk result (Interns self.old self.new (shape filter.now)) }
         ensures fault { IfErr result (IsRouteFault (shape filter.now)) }
         ensures err { OnErr result (self.new ≡ self.old) }
     {
+        let alloc = self.alloc;
         let text = Text {
             bytes: print(alloc, filter)?,
         };

@@ -19,3 +19,4 @@ pub mod FileGrammar
 pub mod Goods
 pub mod Printable
 pub mod ItemFilters
+pub mod ItemPaths

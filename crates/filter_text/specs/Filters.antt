@@ -1,6 +1,6 @@
 -- Filters as plain data, and what each filter of the language keeps to.
 use Rattle.std.specs.Prelude.{ℕ, ◌+◌, Bool, true, false, not, cond, ◌&&◌, ◌||◌, length}
-use Rattle.git_objects.specs.Paths.{Path, same_path}
+use Rattle.git_objects.specs.Paths.{Path, is_path, same_path}
 
 -- the filters `:nop`, `:/a`, `:prefix=a`, `::a/`, `::a`, `:exclude[f]`, `:[fs]`, the chain of fs, and `:workspace=a`
 mutual
@@ -151,6 +151,23 @@ abbrev mutual
   pub components_in : Filters → ℕ
   components_in no_more = 0
   components_in (more f fs) = components f + components_in fs
+
+-- whether each path of a filter is a path
+abbrev mutual
+  pub has_paths : Filter → Bool
+  has_paths nop = true
+  has_paths (sub p) = is_path p
+  has_paths (onto p) = is_path p
+  has_paths (dir p) = is_path p
+  has_paths (file p) = is_path p
+  has_paths (exclude f) = has_paths f
+  has_paths (join fs) = have_paths fs
+  has_paths (chain fs) = have_paths fs
+  has_paths (workspace p) = is_path p
+
+  pub have_paths : Filters → Bool
+  have_paths no_more = true
+  have_paths (more f fs) = has_paths f && have_paths fs
 
 -- whether two filters are the same
 abbrev mutual

@@ -1,8 +1,9 @@
 -- Workspace files: lists of items.
-use Rattle.std.specs.Prelude.{ℕ, zero, suc, ◌+◌, ◌-◌, Bool, not, cond, ◌&&◌, ◌||◌, nat_le, List, [], ◌∷◌, length, Option, None, Some, option_map, ◌<◌, ◌≡◌}
+use Rattle.std.specs.Prelude.{ℕ, zero, suc, ◌+◌, ◌-◌, Bool, true, not, cond, ◌&&◌, ◌||◌, nat_le, List, [], ◌∷◌, length, Option, None, Some, option_map, ◌<◌, ◌≡◌}
 use Rattle.std.specs.Option.{option_and_then}
-use Rattle.git_objects.specs.Paths.{Bytes, Path, is_nil}
-use Rattle.filter_text.specs.Filters.{Filter, nop, sub, onto, dir, file, exclude, join, chain, workspace, is_filter, has_workspace, pieces, components}
+use Rattle.git_objects.specs.Paths.{Bytes, Path, is_nil, is_path}
+use Rattle.git_objects.specs.declared.limits.TheConstants.{FILTER_BYTES, FILTER_COMPONENTS, FILTER_PIECES, WORKSPACE_BYTES}
+use Rattle.filter_text.specs.Filters.{Filter, nop, sub, onto, dir, file, exclude, join, chain, workspace, is_filter, has_paths, has_workspace, pieces, components}
 use Rattle.filter_text.specs.Texts.{Read, gap, target_at}
 use Rattle.filter_text.specs.Reading.{pieces_at, made}
 use Rattle.filter_text.specs.Limits.{too_deep}
@@ -24,7 +25,7 @@ member_at t = option_and_then (sized_member (length t)) (target_at t)
 -- what reading a member gives, or nothing where its text is too long
 abbrev pub IsLong : Read Member → Type 0
 IsLong None = Unit {0}
-IsLong (Some x) = 4096 < x.0.size
+IsLong (Some x) = FILTER_BYTES < x.0.size
 
 abbrev pub TellsMember : Read Member → Read Member → Type 0
 TellsMember whole None = IsLong whole
@@ -72,9 +73,13 @@ is_item_filter f = is_filter f && not (has_workspace f)
 abbrev pub Item : Type 0
 Item = Path × Filter
 
+-- the place of an item is a path, and its filter is made of paths
+abbrev pub IsMadeOfPaths : Item → Type 0
+IsMadeOfPaths i = (is_path i.0 ≡ true) × (has_paths i.1 ≡ true)
+
 -- a member that is short enough, has few enough components and no workspace
 abbrev pub is_fit : Member → Bool
-is_fit m = nat_le m.size 4096 && nat_le (components m.filter) 256 && not (has_workspace m.filter)
+is_fit m = nat_le m.size FILTER_BYTES && nat_le (components m.filter) FILTER_COMPONENTS && not (has_workspace m.filter)
 
 -- the member as an item, where it is one
 abbrev pub item_of : Member → Option Item
@@ -106,4 +111,4 @@ with_item (Some n) = option_map (λ is. n.0 ∷ is) (items_from n.1 n.2)
 
 -- the items of a file, or none where it is unreadable
 unfoldable pub items : Bytes → Option (List Item)
-items t = cond (nat_le (length t) 65536 && not (too_deep t)) (option_and_then (items_of 1024) (members t)) None
+items t = cond (nat_le (length t) WORKSPACE_BYTES && not (too_deep t)) (option_and_then (items_of FILTER_PIECES) (members t)) None

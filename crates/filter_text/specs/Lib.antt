@@ -9,4 +9,4 @@ pub mod Items
 pub mod Printing
 pub mod Spelling
 pub mod Laws
-pub mod Rows
+pub mod Examples

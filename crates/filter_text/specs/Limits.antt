@@ -1,6 +1,7 @@
 -- What a filter text is read as, and why another isn't.
 use Rattle.std.specs.Prelude.{ℕ, ◌+◌, ◌-◌, Bool, cond, ◌&&◌, ◌||◌, ◌==◌, nat_le, [], ◌∷◌, length, Option, None, Some, Result, Ok, Err}
 use Rattle.git_objects.specs.Paths.{Bytes}
+use Rattle.git_objects.specs.declared.limits.TheConstants.{FILTER_BYTES, FILTER_COMPONENTS, FILTER_NESTING, FILTER_PIECES}
 use Rattle.filter_text.specs.Filters.{Filter, is_placed, pieces, components}
 use Rattle.filter_text.specs.Reading.{filter_of}
 use Rattle.filter_text.specs.declared.filter.FilterFault.{FilterFault}
@@ -9,12 +10,12 @@ use Rattle.filter_text.specs.declared.filter.FilterFault.TheVariants.{TooLong, T
 abbrev pub one_if : Bool → ℕ
 one_if b = cond b 1 0
 
--- At some place at least 17 more bytes `[` (91) than bytes `]` (93) stand before, where so many were opened and closed
--- before the text. Every byte counts, also in quotes and in comments.
+-- At some place the bytes `[` (91) before it are more than FILTER_NESTING more than the bytes `]` (93), where so many were
+-- opened and closed before the text. Every byte counts, also in quotes and in comments.
 abbrev pub is_deep : ℕ → ℕ → Bytes → Bool
-is_deep opened closed [] = nat_le (17 + closed) opened
+is_deep opened closed [] = nat_le (FILTER_NESTING + 1 + closed) opened
 is_deep opened closed (x ∷ t) =
-    nat_le (17 + closed) opened || is_deep (opened + one_if (x == 91)) (closed + one_if (x == 93)) t
+    nat_le (FILTER_NESTING + 1 + closed) opened || is_deep (opened + one_if (x == 91)) (closed + one_if (x == 93)) t
 
 abbrev pub too_deep : Bytes → Bool
 too_deep t = is_deep 0 0 t
@@ -23,9 +24,9 @@ too_deep t = is_deep 0 0 t
 abbrev pub without : ℕ → ℕ → Option ℕ
 without room n = cond (nat_le n room) (Some (room - n)) None
 
--- at most 1,024 pieces, and at most 256 components over all paths
+-- few enough pieces, and few enough components over all paths
 abbrev pub is_small : Filter → Bool
-is_small f = nat_le (pieces f) 1024 && nat_le (components f) 256
+is_small f = nat_le (pieces f) FILTER_PIECES && nat_le (components f) FILTER_COMPONENTS
 
 abbrev pub judged : Option Filter → Result Filter FilterFault
 judged None = Err Syntax
@@ -33,4 +34,4 @@ judged (Some f) = cond (is_placed f) (cond (is_small f) (Ok f) (Err TooMany)) (E
 
 -- the filter, or the first fault
 unfoldable pub read : Bytes → Result Filter FilterFault
-read t = cond (nat_le (length t) 4096) (cond (too_deep t) (Err TooDeep) (judged (filter_of t))) (Err TooLong)
+read t = cond (nat_le (length t) FILTER_BYTES) (cond (too_deep t) (Err TooDeep) (judged (filter_of t))) (Err TooLong)

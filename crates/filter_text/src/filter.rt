@@ -31,10 +31,11 @@ pub enum Filter {
 /// Why a text is not read as a filter.
 #[derive(Clone, Copy, Debug, PartialEq, Eq, Error)]
 pub enum FilterFault {
-    /// More than 4,096 bytes.
+    /// More bytes than `limits::FILTER_BYTES`.
     #[error("filter too long")]
     TooLong,
-    /// At some place at least 17 more bytes `[` than bytes `]` stand before, wherever they stand.
+    /// At some place the bytes `[` before it are more than `limits::FILTER_NESTING` more than the bytes `]`, wherever they
+    /// stand.
     #[error("filter nested too deep")]
     TooDeep,
     #[error("no filter")]
@@ -42,7 +43,7 @@ pub enum FilterFault {
     /// A workspace inside brackets, or two of them.
     #[error("misplaced workspace")]
     WorkspacePlace,
-    /// More than 1,024 pieces, or more than 256 components over all paths.
+    /// More pieces than `limits::FILTER_PIECES`, or more components over all paths than `limits::FILTER_COMPONENTS`.
     #[error("filter too large")]
     TooMany,
     #[error("out of memory")]

@@ -2,26 +2,22 @@
 ghost use Rattle.std.specs.Prelude.{◌≡◌, ◌≤◌, ◌<◌, ◌⊎◌, [], Some, None, true, false, IfOk, IfSome, MatchResult, option_map, length, nat_le};
 ghost use Rattle.std.specs.Option.{option_and_then};
 ghost use Rattle.std.specs.List.{list_all};
+ghost use Rattle.git_objects.specs.Lists.{Each};
 ghost use Rattle.git_objects.specs.Paths.{is_nil};
+ghost use Rattle.git_objects.specs.declared.limits.TheConstants.{FILTER_PIECES};
 ghost use Rattle.filter_text.specs.Shapes.{shape};
-ghost use Rattle.filter_text.specs.Items.{sized_member, member_at, ends_member, members, kept_place, place, is_item_filter, is_fit, item_of, roomy_item, items_of, items_from, with_item, TellsMember, items};
+ghost use Rattle.filter_text.specs.Items.{IsMadeOfPaths, sized_member, member_at, ends_member, members, kept_place, place, is_item_filter, is_fit, item_of, roomy_item, items_of, items_from, with_item, TellsMember, items};
 ghost use Rattle.filter_text.specs.Views.{member_value, member_read, item_value, item_values, items_read, next_read};
 
 use crate::gaps::gap;
-use crate::limits::{
-    MOST_COMPONENTS, MOST_PIECES, has_workspace, too_deep, without_components, without_pieces,
-};
+use crate::limits::{has_workspace, too_deep, without_components, without_pieces};
 use crate::making::made;
 use crate::names::target_at;
 use crate::reader::pieces_to;
 use crate::{Filter, Item, ItemsFault};
+use git_objects::limits::{FILTER_BYTES, FILTER_COMPONENTS, FILTER_PIECES, WORKSPACE_BYTES};
 use path_names::Path;
 use std::alloc::{AllocError, Global};
-
-// The bytes of the longest file, and of the longest text of a member.
-const LONGEST_FILE: usize = 65536;
-
-const LONGEST_MEMBER: usize = 4096;
 
 // A member of a file's list.
 #[derive(Drop)]
@@ -52,7 +48,7 @@ fn sized_member<'a>(
     requires { length text.now ≤ before }
     ensures { IfOk result (λ read. TellsMember (sized_member before (target, text.now)) (member_read read)) }
 {
-    match pieces_to(alloc, text, before.saturating_sub(LONGEST_MEMBER))? {
+    match pieces_to(alloc, text, before.saturating_sub(FILTER_BYTES))? {
         None => Ok(None),
         Some((pieces, rest)) => {
             let size = before - rest.len();
@@ -109,8 +105,8 @@ fn kept_place(alloc: Global, filter: &Filter) -> Result<Option<Path>, AllocError
 fn is_fit(member: &Member) -> bool
     ensures { result ≡ is_fit (member_value member.now) }
 {
-    member.size <= LONGEST_MEMBER
-        && without_components(MOST_COMPONENTS, &member.filter).is_some()
+    member.size <= FILTER_BYTES
+        && without_components(FILTER_COMPONENTS, &member.filter).is_some()
         && !has_workspace(&member.filter)
 }
 
@@ -178,10 +174,10 @@ fn next_item<'a>(
 
 // The items of the list that a whole text is; None where it is none, or a member is no item.
 fn read_items(alloc: Global, text: &[u8]) -> Result<Option<Vec<Item>>, AllocError>
-    ensures { IfOk result (λ r. items_read r ≡ option_and_then (items_of 1024) (members text.now)) }
+    ensures { IfOk result (λ r. items_read r ≡ option_and_then (items_of FILTER_PIECES) (members text.now)) }
 {
     let mut items = Vec::new(alloc);
-    let mut room = MOST_PIECES;
+    let mut room = FILTER_PIECES;
     let mut rest = gap(text).1;
     while !rest.is_empty() {
         match next_item(alloc, room, rest)? {
@@ -201,7 +197,7 @@ fn items_in(alloc: Global, text: &[u8]) -> Result<Vec<Item>, ItemsFault>
     ensures { MatchResult result (λ v. items text.now ≡ Some (item_values v.items))
         (λ fault. (fault ≡ ItemsFault.OutOfMemory) ⊎ ((fault ≡ ItemsFault.Unreadable) × (items text.now ≡ None))) }
 {
-    if text.len() > LONGEST_FILE {
+    if text.len() > WORKSPACE_BYTES {
         return Err(ItemsFault::Unreadable);
     }
     if too_deep(text) {
@@ -214,12 +210,13 @@ fn items_in(alloc: Global, text: &[u8]) -> Result<Vec<Item>, ItemsFault>
     }
 }
 
-/// Reads the items of a workspace file.
+/// Reads the items of a workspace file. Each item's filter is one that other calls may be given, without a workspace, and its
+/// place and its filter are made of paths.
 pub fn parse_items(alloc: Global, text: &[u8]) -> Result<Vec<Item>, ItemsFault>
     ensures read { MatchResult result (λ v. items text.now ≡ Some (item_values v.items))
         (λ fault. (fault ≡ ItemsFault.OutOfMemory) ⊎ ((fault ≡ ItemsFault.Unreadable) × (items text.now ≡ None))) }
-    // Each item's filter is one that other calls may be given, without a workspace.
     ensures valid { IfOk result (λ v. list_all (λ i. is_item_filter i.1) (item_values v.items) ≡ true) }
+    ensures paths { IfOk result (λ v. Each IsMadeOfPaths (item_values v.items)) }
 {
     items_in(alloc, text)
 }

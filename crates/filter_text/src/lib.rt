@@ -12,8 +12,6 @@ mod names;
 mod parsing;
 mod printing;
 mod reader;
-#[cfg(test)]
-mod tests;
 mod values;
 mod word;
 

@@ -1,23 +1,18 @@
 // The limits of filter texts, and the place of a workspace.
 ghost use Rattle.std.specs.Prelude.{◌≡◌, ◌+◌, ◌&&◌, cond, not, false, nat_le};
+ghost use Rattle.git_objects.specs.declared.limits.TheConstants.{FILTER_NESTING};
 ghost use Rattle.filter_text.specs.Filters.{is_workspace, has_workspace, some_have_workspace, has_one_place, is_placed, pieces, pieces_in, components, components_in};
 ghost use Rattle.filter_text.specs.Shapes.{shape, shapes};
 ghost use Rattle.filter_text.specs.Limits.{one_if, too_deep, without, is_small};
 
 use crate::Filter;
+use git_objects::limits::{FILTER_COMPONENTS, FILTER_NESTING, FILTER_PIECES};
 
-// The most brackets that may be open.
-const DEEPEST: usize = 16;
-
-// The most pieces of a filter, and components of all its paths.
-pub const MOST_PIECES: usize = 1024;
-
-pub const MOST_COMPONENTS: usize = 256;
-
+// Whether more brackets are open than may be.
 fn is_passed(opened: usize, closed: usize) -> bool
-    ensures { result ≡ nat_le (17 + closed) opened }
+    ensures { result ≡ nat_le (FILTER_NESTING + 1 + closed) opened }
 {
-    opened > DEEPEST && opened - DEEPEST > closed
+    opened > FILTER_NESTING && opened - FILTER_NESTING > closed
 }
 
 fn one_if(yes: bool) -> usize
@@ -26,7 +21,7 @@ fn one_if(yes: bool) -> usize
     if yes { 1 } else { 0 }
 }
 
-// Whether at some place at least 17 more bytes `[` than bytes `]` stand before.
+// Whether at some place the bytes `[` before it are too many more than the bytes `]`.
 pub fn too_deep(text: &[u8]) -> bool
     ensures { result ≡ too_deep text.now }
 {
@@ -215,6 +210,6 @@ fn without_components_in(room: usize, members: &[Filter]) -> Option<usize>
 pub fn is_small(filter: &Filter) -> bool
     ensures { result ≡ is_small (shape filter.now) }
 {
-    without_pieces(MOST_PIECES, filter).is_some()
-        && without_components(MOST_COMPONENTS, filter).is_some()
+    without_pieces(FILTER_PIECES, filter).is_some()
+        && without_components(FILTER_COMPONENTS, filter).is_some()
 }

@@ -1,8 +1,9 @@
 // Reading a whole filter text.
-ghost use Rattle.std.specs.Prelude.{◌≡◌, ◌⊎◌, true, Ok, Err, Some, IfOk, MatchResult, option_map};
+ghost use Rattle.std.specs.Prelude.{◌≡◌, ◌≤◌, ◌⊎◌, true, Ok, Err, Some, IfOk, MatchResult, option_map};
+ghost use Rattle.git_objects.specs.declared.limits.TheConstants.{FILTER_PIECES};
 ghost use Rattle.filter_text.specs.Shapes.{shape};
 ghost use Rattle.filter_text.specs.Reading.{filter_of};
-ghost use Rattle.filter_text.specs.Filters.{is_filter};
+ghost use Rattle.filter_text.specs.Filters.{has_paths, is_filter, pieces};
 ghost use Rattle.filter_text.specs.Limits.{judged, read};
 ghost use Rattle.filter_text.specs.Spelling.{SpellsFilter};
 
@@ -10,10 +11,8 @@ use crate::limits::{is_placed, is_small, too_deep};
 use crate::making::linked;
 use crate::reader::pieces_at;
 use crate::{Filter, FilterFault};
+use git_objects::limits::FILTER_BYTES;
 use std::alloc::{AllocError, Global};
-
-// The bytes of the longest filter text.
-const LONGEST: usize = 4096;
 
 // The filter that a whole text is; None where it is none.
 fn filter_of(alloc: Global, text: &[u8]) -> Result<Option<Filter>, AllocError>
@@ -48,7 +47,7 @@ fn read_filter(alloc: Global, text: &[u8]) -> Result<Filter, FilterFault>
     ensures { MatchResult result (λ f. read text.now ≡ Ok (shape f))
         (λ fault. (fault ≡ FilterFault.OutOfMemory) ⊎ (read text.now ≡ Err fault)) }
 {
-    if text.len() > LONGEST {
+    if text.len() > FILTER_BYTES {
         return Err(FilterFault::TooLong);
     }
     if too_deep(text) {
@@ -61,13 +60,15 @@ fn read_filter(alloc: Global, text: &[u8]) -> Result<Filter, FilterFault>
     }
 }
 
-/// Reads a filter. The first of several faults is told.
+/// Reads a filter. The first of several faults is told. What is read is a filter that other calls may be given: it is
+/// spelled by the text, made of paths, and has few enough pieces.
 pub fn parse(alloc: Global, text: &[u8]) -> Result<Filter, FilterFault>
     ensures read { MatchResult result (λ f. read text.now ≡ Ok (shape f))
         (λ fault. (fault ≡ FilterFault.OutOfMemory) ⊎ (read text.now ≡ Err fault)) }
-    // What is read is spelled so, and is a filter that other calls may be given.
     ensures spelled { IfOk result (λ f. SpellsFilter text.now (shape f)) }
     ensures valid { IfOk result (λ f. is_filter (shape f) ≡ true) }
+    ensures paths { IfOk result (λ f. has_paths (shape f) ≡ true) }
+    ensures few { IfOk result (λ f. pieces (shape f) ≤ FILTER_PIECES) }
 {
     read_filter(alloc, text)
 }

@@ -1,37 +1,47 @@
 // Filters compared and copied.
-ghost use Rattle.std.specs.Prelude.{◌≡◌, ◌↔◌, IfOk, IsTrue};
-ghost use Rattle.git_objects.specs.Paths.{same_path};
-ghost use Rattle.filter_text.specs.Filters.{join, chain, same_filter, same_filters};
+ghost use Rattle.std.specs.Prelude.{◌≡◌, ◌↔◌, true, IfOk, IsTrue};
+ghost use Rattle.git_objects.specs.Paths.{is_path, same_path};
+ghost use Rattle.filter_text.specs.Filters.{join, chain, has_paths, have_paths, same_filter, same_filters};
 ghost use Rattle.filter_text.specs.Shapes.{shape, shapes};
 
 use crate::Filter;
 use path_names::Path;
 use std::alloc::{AllocError, Global};
 
-/// A copy of the filter.
+// A copy of a path. That it is a path is told of the one that is copied.
+fn copy_path(alloc: Global, path: &Path) -> Result<Path, AllocError>
+    ensures copy { IfOk result (λ p. p ≡ path.now) }
+    ensures path { is_path path.now ≡ true }
+{
+    Path::of_parts(alloc, path.components(), &[])
+}
+
+/// A copy of the filter, which is made of paths.
 #[cycle(copying)]
 pub fn copy(alloc: Global, filter: &Filter) -> Result<Filter, AllocError>
-    ensures { IfOk result (λ f. shape f ≡ shape filter.now) }
+    ensures copy { IfOk result (λ f. shape f ≡ shape filter.now) }
+    ensures paths { IfOk result (λ f. has_paths (shape f) ≡ true) }
 {
     match filter {
         Filter::Nop => Ok(Filter::Nop),
-        Filter::Sub(path) => Ok(Filter::Sub(path.copy(alloc)?)),
-        Filter::Prefix(path) => Ok(Filter::Prefix(path.copy(alloc)?)),
-        Filter::Dir(path) => Ok(Filter::Dir(path.copy(alloc)?)),
-        Filter::File(path) => Ok(Filter::File(path.copy(alloc)?)),
+        Filter::Sub(path) => Ok(Filter::Sub(copy_path(alloc, path)?)),
+        Filter::Prefix(path) => Ok(Filter::Prefix(copy_path(alloc, path)?)),
+        Filter::Dir(path) => Ok(Filter::Dir(copy_path(alloc, path)?)),
+        Filter::File(path) => Ok(Filter::File(copy_path(alloc, path)?)),
         Filter::Exclude(inner) => {
             let inner = copy(alloc, inner)?;
             Ok(Filter::Exclude(Box::new(alloc, inner)?))
         }
         Filter::Join(members) => Ok(Filter::Join(copy_all(alloc, members.as_slice())?)),
         Filter::Chain(members) => Ok(Filter::Chain(copy_all(alloc, members.as_slice())?)),
-        Filter::Workspace(path) => Ok(Filter::Workspace(path.copy(alloc)?)),
+        Filter::Workspace(path) => Ok(Filter::Workspace(copy_path(alloc, path)?)),
     }
 }
 
 #[cycle(copying)]
 fn copy_all(alloc: Global, members: &[Filter]) -> Result<Vec<Filter>, AllocError>
-    ensures { IfOk result (λ v. shapes v.items ≡ shapes members.now) }
+    ensures copies { IfOk result (λ v. shapes v.items ≡ shapes members.now) }
+    ensures paths { IfOk result (λ v. have_paths (shapes v.items) ≡ true) }
 {
     let mut copies = Vec::with_capacity(alloc, members.len())?;
     for m in members {

@@ -2,10 +2,9 @@
 use Rattle.std.proofs.Common.{◌≡◌, ℕ, zero, suc, ◌⊎◌, inl, inr, ◌+◌, ◌<◌, ◌≤◌, [], ◌∷◌, ◌++◌, length, take, drop, Some, None, refl, sym, ap, ◌∙◌, length-append, arith}
 use Rattle.std.proofs.lemmas.List.{take-append-drop, take_at}
 use Rattle.git_objects.specs.Paths.{Path}
-use Rattle.git_objects.specs.Trees.{Leaf, Flat, IsTree, at, LeafNode}
-use Rattle.path_trees.specs.Standing.{standing}
+use Rattle.git_objects.specs.Trees.{Leaf, Flat, IsTree, at, LeafNode, standing}
 use Rattle.filter_unapply.specs.Stored.{IsInWay, IsLeafInWay}
-use Rattle.filter_unapply.proofs.Carried.{nowhere}
+use Rattle.filter_routes.proofs.Carried.{nowhere}
 use Rattle.filter_unapply.proofs.Places.{leaf_stands}
 
 -- no leaf stands at a front of fewer components

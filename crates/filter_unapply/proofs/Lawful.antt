@@ -10,19 +10,18 @@ use Rattle.git_objects.specs.Lists.{Each}
 use Rattle.git_objects.proofs.Order.{path_decides}
 use Rattle.git_objects.proofs.Maps.{first_some, at_rest}
 use Rattle.git_objects.proofs.Pointwise.{from-T, all_at, leaf_at, at_apart, tree_from}
-use Rattle.filter_unapply.specs.Lenses.{Lens, IsLens}
-use Rattle.filter_unapply.proofs.Firsts.{first-none, none-first, each_entry, blocked-none, is_free}
-use Rattle.filter_unapply.specs.Laying.{carried, shown, unseen, pre, first_path, first_lost, is_other, is_blocked, first_blocked, LaidTree, laid_from, laid}
-use Rattle.filter_unapply.proofs.Carried.{ArePaths, nowhere, same_on_paths, all-carried, all-filter, sorted-carried, sorted-unseen, first_none, IsBack, at-carried, at-unseen}
+use Rattle.filter_routes.specs.Lenses.{Lens, IsLens, carried, seen_through}
+use Rattle.filter_unapply.proofs.Firsts.{first-none, none-first, blocked-none, is_free}
+use Rattle.filter_routes.proofs.TreeEntries.{each_entry}
+use Rattle.filter_routes.proofs.SeenTrees.{at-seen, seen-paths, seen-sorted, seen_from}
+use Rattle.filter_unapply.specs.Laying.{hidden, pre, first_path, first_lost, is_other, is_blocked, first_blocked, LaidTree, laid_from, laid}
+use Rattle.filter_routes.proofs.Carried.{ArePaths, nowhere, same_on_paths, all-carried, all-filter, sorted-carried, first_none, IsBack, at-carried}
+use Rattle.filter_unapply.proofs.HiddenLeaves.{sorted-hidden, at-hidden}
 
 valid : (b : Bool) → b ≡ true → T b
 valid b h = subst T (sym h) tt
 
 -- ---- options
-
-at_rest-some : (t : Flat) (o : Option Path) (x : Leaf) → at_rest t o ≡ Some x → (p : Path) × (o ≡ Some p) × (at t p ≡ Some x)
-at_rest-some t None x e = cc
-at_rest-some t (Some p) x e = (p, refl, e)
 
 no_image : {A : Type 0} (o : Option A) → is_some o ≡ false → o ≡ None
 no_image None e = refl
@@ -97,17 +96,11 @@ laid_parts None (Some b) u v e = cc
 laid_parts None None u v e = (refl, refl, cc)
 
 module _ (f : Lens) (is : IsLens f) where
-  shown_back : IsBack f.image f.origin
-  shown_back = record { there = is.image_origin; back = λ p q. is.origin_image q p }
-
   pre_back : IsBack f.origin f.image
   pre_back = record { there = λ q p. is.origin_image p q; back = is.image_origin }
 
-  pub at-shown : (t : Flat) → ArePaths t → (q : Path) → is_path q ≡ true → at (shown f t) q ≡ at_rest t (f.origin q)
-  at-shown t h q v = at-carried f.image f.origin shown_back t [] h q v ∙ first_none (at_rest t (f.origin q))
-
   pub at-pre : (t n : Flat) → ArePaths n → (p : Path) → is_path p ≡ true → at (pre f t n) p ≡ first_some (at_rest n (f.image p)) (cond (is_none (f.image p)) (at t p) None)
-  at-pre t n h p v = at-carried f.origin f.image pre_back n (unseen f t) h p v ∙ ap (first_some (at_rest n (f.image p))) (at-unseen f t p)
+  at-pre t n h p v = at-carried f.origin f.image pre_back n (hidden f t) h p v ∙ ap (first_some (at_rest n (f.image p))) (at-hidden f t p)
 
   pub at-image : (t n : Flat) → ArePaths n → (p q : Path) → is_path p ≡ true → f.image p ≡ Some q → at (pre f t n) p ≡ at n q
   at-image t n h p q v e = at-pre t n h p v ∙ ap (λ o. first_some (at_rest n o) (cond (is_none o) (at t p) None)) e ∙ first_none (at n q)
@@ -117,49 +110,18 @@ module _ (f : Lens) (is : IsLens f) where
 
   -- ---- what is shown is a tree
 
-  shown-paths : (t : Flat) → ArePaths t → ArePaths (shown f t)
-  shown-paths t h = all-carried (λ e. is_path e.0) (λ e. is_path e.0) f.image (λ e p v k. valid (is_path p) (is.image_path e.0 p (from-T (is_path e.0) v) k)) t [] h tt
-
-  shown-leaves : (t : Flat) → T (list_all (λ e. is_leaf e.1) t) → T (list_all (λ e. is_leaf e.1) (shown f t))
-  shown-leaves t h = all-carried (λ e. is_leaf e.1) (λ e. is_leaf e.1) f.image (λ e p v k. v) t [] h tt
-
-  pub shown-sorted : (t : Flat) → T (is_sorted path_cmp (shown f t))
-  shown-sorted t = sorted-carried f.image t [] tt
-
-  -- the path of t that is shown as q
-  shown_from : (t : Flat) → IsTree t → (q : Path) (x : Leaf) → at (shown f t) q ≡ Some x → (p : Path) × (is_path p ≡ true) × (f.image p ≡ Some q) × (at t p ≡ Some x)
-  shown_from t h q x e =
-      let v : is_path q ≡ true = from-T (is_path q) (all_at is_path (shown f t) q x (shown-paths t h.paths) e) in
-      let r = at_rest-some t (f.origin q) x (sym (at-shown t h.paths q v) ∙ e) in
-      (r.0, is.origin_path r.0 q v r.1, is.origin_image r.0 q v r.1, r.2)
-
-  shown-apart : (t : Flat) → IsTree t → (q s : Path) (x y : Leaf) → at (shown f t) q ≡ Some x → at (shown f t) s ≡ Some y → comparable q s ≡ true → q ≡ s
-  shown-apart t h q s x y e g c =
-      let a = shown_from t h q x e in
-      let b = shown_from t h s y g in
-      let same : a.0 ≡ b.0 = at_apart t h.apart a.0 b.0 x y a.3 b.3 (is.apart a.0 b.0 q s a.1 b.1 a.2 b.2 c) in
-      let images : Some q ≡ Some s = sym a.2 ∙ ap f.image same ∙ b.2 in
-      cc
-
-  pub shown-tree : (t : Flat) → IsTree t → IsTree (shown f t)
-  shown-tree t h =
-      tree_from (shown f t) (shown-sorted t)
-      (λ q x e. all_at is_path (shown f t) q x (shown-paths t h.paths) e)
-      (λ q x e. leaf_at is_leaf (shown f t) q x (shown-leaves t h.leaves) e)
-      (shown-apart t h)
-
   -- ---- what is laid is a tree
 
   pub pre-sorted : (t n : Flat) → T (is_sorted path_cmp t) → T (is_sorted path_cmp (pre f t n))
-  pre-sorted t n h = sorted-carried f.origin n (unseen f t) (sorted-unseen f t h)
+  pre-sorted t n h = sorted-carried f.origin n (hidden f t) (sorted-hidden f t h)
 
   pub pre-paths : (t n : Flat) → ArePaths t → ArePaths n → ArePaths (pre f t n)
   pre-paths t n h g =
-      all-carried (λ e. is_path e.0) (λ e. is_path e.0) f.origin (λ e p v k. valid (is_path p) (is.origin_path p e.0 (from-T (is_path e.0) v) k)) n (unseen f t) g
+      all-carried (λ e. is_path e.0) (λ e. is_path e.0) f.origin (λ e p v k. valid (is_path p) (is.origin_path p e.0 (from-T (is_path e.0) v) k)) n (hidden f t) g
       (all-filter (λ e. is_path e.0) (λ e. is_none (f.image e.0)) t h)
 
   pre-leaves : (t n : Flat) → T (list_all (λ e. is_leaf e.1) t) → T (list_all (λ e. is_leaf e.1) n) → T (list_all (λ e. is_leaf e.1) (pre f t n))
-  pre-leaves t n h g = all-carried (λ e. is_leaf e.1) (λ e. is_leaf e.1) f.origin (λ e p v k. v) n (unseen f t) g (all-filter (λ e. is_leaf e.1) (λ e. is_none (f.image e.0)) t h)
+  pre-leaves t n h g = all-carried (λ e. is_leaf e.1) (λ e. is_leaf e.1) f.origin (λ e p v k. v) n (hidden f t) g (all-filter (λ e. is_leaf e.1) (λ e. is_none (f.image e.0)) t h)
 
   pre-apart : (t n : Flat) → IsTree t → IsTree n → first_blocked f (pre f t n) ≡ None → (p q : Path) (x y : Leaf) → at (pre f t n) p ≡ Some x → at (pre f t n) q ≡ Some y → comparable p q ≡ true → p ≡ q
   pre-apart t n h g b p q x y e k c =
@@ -183,7 +145,7 @@ module _ (f : Lens) (is : IsLens f) where
 
   -- ---- the laws
 
-  parts : (t n u : Flat) → laid f t n ≡ LaidTree u → (first_lost f n ≡ None) × (first_blocked f (pre f t n) ≡ None) × (pre f t n ≡ u)
+  pub parts : (t n u : Flat) → laid f t n ≡ LaidTree u → (first_lost f n ≡ None) × (first_blocked f (pre f t n) ≡ None) × (pre f t n ≡ u)
   parts t n u e = laid_parts (first_lost f n) (first_blocked f (pre f t n)) (pre f t n) u e
 
   pub laid-tree : (t n u : Flat) → IsTree t → IsTree n → laid f t n ≡ LaidTree u → IsTree u
@@ -200,13 +162,13 @@ module _ (f : Lens) (is : IsLens f) where
       by None i = sym (missing (at n q) refl i)
       by (Some p) i = at-image t n g.paths p q (is.origin_path p q v i) (is.origin_image p q v i)
 
-  shown-pre : (t n : Flat) → IsTree t → IsTree n → first_lost f n ≡ None → shown f (pre f t n) ≡ n
+  shown-pre : (t n : Flat) → IsTree t → IsTree n → first_lost f n ≡ None → seen_through f (pre f t n) ≡ n
   shown-pre t n h g l =
-      same_on_paths (shown f (pre f t n)) n (shown-sorted (pre f t n)) g.sorted (shown-paths (pre f t n) (pre-paths t n h.paths g.paths)) g.paths
-      (λ q v. at-shown (pre f t n) (pre-paths t n h.paths g.paths) q v ∙ shown_at t n g l q v)
+      same_on_paths (seen_through f (pre f t n)) n (seen-sorted f is (pre f t n)) g.sorted (seen-paths f is (pre f t n) (pre-paths t n h.paths g.paths)) g.paths
+      (λ q v. at-seen f is (pre f t n) (pre-paths t n h.paths g.paths) q v ∙ shown_at t n g l q v)
 
-  pub shown-laid : (t n u : Flat) → IsTree t → IsTree n → laid f t n ≡ LaidTree u → shown f u ≡ n
-  shown-laid t n u h g e = let r = parts t n u e in ap (shown f) (sym r.2) ∙ shown-pre t n h g r.0
+  pub shown-laid : (t n u : Flat) → IsTree t → IsTree n → laid f t n ≡ LaidTree u → seen_through f u ≡ n
+  shown-laid t n u h g e = let r = parts t n u e in ap (seen_through f) (sym r.2) ∙ shown-pre t n h g r.0
 
   pub kept-laid : (t n u : Flat) → IsTree t → IsTree n → laid f t n ≡ LaidTree u → (p : Path) → f.image p ≡ None → at u p ≡ at t p
   kept-laid t n u h g e p i =
@@ -219,36 +181,36 @@ module _ (f : Lens) (is : IsLens f) where
 
   -- ---- laying what is shown
 
-  back_at : (t : Flat) → IsTree t → (p : Path) → is_path p ≡ true → at (pre f t (shown f t)) p ≡ at t p
+  back_at : (t : Flat) → IsTree t → (p : Path) → is_path p ≡ true → at (pre f t (seen_through f t)) p ≡ at t p
   back_at t h p v = by (f.image p) refl
     where
-      by : (o : Option Path) → f.image p ≡ o → at (pre f t (shown f t)) p ≡ at t p
-      by None i = at-kept t (shown f t) (shown-paths t h.paths) p v i
+      by : (o : Option Path) → f.image p ≡ o → at (pre f t (seen_through f t)) p ≡ at t p
+      by None i = at-kept t (seen_through f t) (seen-paths f is t h.paths) p v i
       by (Some q) i =
-          at-image t (shown f t) (shown-paths t h.paths) p q v i
-          ∙ at-shown t h.paths q (is.image_path p q v i)
+          at-image t (seen_through f t) (seen-paths f is t h.paths) p q v i
+          ∙ at-seen f is t h.paths q (is.image_path p q v i)
           ∙ ap (at_rest t) (is.image_origin p q v i)
 
-  pre-shown : (t : Flat) → IsTree t → pre f t (shown f t) ≡ t
-  pre-shown t h = same_on_paths (pre f t (shown f t)) t (pre-sorted t (shown f t) h.sorted) h.sorted (pre-paths t (shown f t) h.paths (shown-paths t h.paths)) h.paths (back_at t h)
+  pre-shown : (t : Flat) → IsTree t → pre f t (seen_through f t) ≡ t
+  pre-shown t h = same_on_paths (pre f t (seen_through f t)) t (pre-sorted t (seen_through f t) h.sorted) h.sorted (pre-paths t (seen_through f t) h.paths (seen-paths f is t h.paths)) h.paths (back_at t h)
 
-  shown-held : (t : Flat) → IsTree t → Each (λ d. is_some (f.origin d.0) ≡ true) (shown f t)
-  shown-held t h = each_entry (λ d. is_some (f.origin d.0) ≡ true) (shown f t) (shown-sorted t) (λ d e. let r = shown_from t h d.0 d.1 e in ap is_some (is.image_origin r.0 d.0 r.1 r.2))
+  shown-held : (t : Flat) → IsTree t → Each (λ d. is_some (f.origin d.0) ≡ true) (seen_through f t)
+  shown-held t h = each_entry (λ d. is_some (f.origin d.0) ≡ true) (seen_through f t) (seen-sorted f is t) (λ d e. let r = seen_from f is t h d.0 d.1 e in ap is_some (is.image_origin r.0 d.0 r.1 r.2))
 
-  pub laid-shown : (t : Flat) → IsTree t → laid f t (shown f t) ≡ LaidTree t
+  pub laid-shown : (t : Flat) → IsTree t → laid f t (seen_through f t) ≡ LaidTree t
   laid-shown t h =
       let same = pre-shown t h in
-      (λ i. laid_from (none_lost f (shown f t) (shown-held t h) i) (first_blocked f (same i)) (same i))
+      (λ i. laid_from (none_lost f (seen_through f t) (shown-held t h) i) (first_blocked f (same i)) (same i))
       ∙ ap (λ b. laid_from None b t) (free f t h)
 
   -- ---- laying again
 
-  unseen-laid : (t n u : Flat) → IsTree t → IsTree n → laid f t n ≡ LaidTree u → unseen f u ≡ unseen f t
-  unseen-laid t n u h g e =
+  hidden-laid : (t n u : Flat) → IsTree t → IsTree n → laid f t n ≡ LaidTree u → hidden f u ≡ hidden f t
+  hidden-laid t n u h g e =
       let w = laid-tree t n u h g e in
-      same_on_paths (unseen f u) (unseen f t) (sorted-unseen f u w.sorted) (sorted-unseen f t h.sorted)
+      same_on_paths (hidden f u) (hidden f t) (sorted-hidden f u w.sorted) (sorted-hidden f t h.sorted)
       (all-filter (λ d. is_path d.0) (λ d. is_none (f.image d.0)) u w.paths) (all-filter (λ d. is_path d.0) (λ d. is_none (f.image d.0)) t h.paths)
-      (λ p v. at-unseen f u p ∙ by p (f.image p) refl ∙ sym (at-unseen f t p))
+      (λ p v. at-hidden f u p ∙ by p (f.image p) refl ∙ sym (at-hidden f t p))
     where
       by : (p : Path) (o : Option Path) → f.image p ≡ o → cond (is_none o) (at u p) None ≡ cond (is_none o) (at t p) None
       by p None i = kept-laid t n u h g e p i
@@ -256,4 +218,4 @@ module _ (f : Lens) (is : IsLens f) where
 
   pub laid-again : (t n u m : Flat) → IsTree t → IsTree n → laid f t n ≡ LaidTree u → laid f u m ≡ laid f t m
   laid-again t n u m h g e =
-      ap (λ k. laid_from (first_lost f m) (first_blocked f (carried f.origin m k)) (carried f.origin m k)) (unseen-laid t n u h g e)
+      ap (λ k. laid_from (first_lost f m) (first_blocked f (carried f.origin m k)) (carried f.origin m k)) (hidden-laid t n u h g e)

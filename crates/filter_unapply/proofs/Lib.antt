@@ -1,4 +1,4 @@
-pub mod Carried
+pub mod HiddenLeaves
 pub mod Firsts
 pub mod Rests
 pub mod Lawful

@@ -6,11 +6,13 @@ use Rattle.std.specs.Cmp.{first_so, second_so}
 use Rattle.git_objects.specs.Paths.{Path, same_path, comparable}
 use Rattle.git_objects.specs.Trees.{Leaf, Flat, at, IsTree}
 use Rattle.git_objects.proofs.Order.{path_decides}
-use Rattle.filter_unapply.specs.Lenses.{Lens}
-use Rattle.filter_unapply.specs.Laying.{unseen, pre, first_path, first_lost, is_other, is_blocked, first_blocked, NotHeld, Blocked, LaidTree, laid_from, laid}
+use Rattle.filter_routes.specs.Lenses.{Lens}
+use Rattle.filter_unapply.specs.Laying.{hidden, pre, first_path, first_lost, is_other, is_blocked, first_blocked, NotHeld, Blocked, LaidTree, laid_from, laid}
 use Rattle.filter_unapply.specs.Laws.{IsFirst, IsLost, IsBlock}
-use Rattle.filter_unapply.proofs.Firsts.{each_entry, first-none, first-passes, first-first, is_stopped}
-use Rattle.filter_unapply.proofs.Carried.{sorted-carried, sorted-unseen}
+use Rattle.filter_routes.proofs.TreeEntries.{each_entry}
+use Rattle.filter_unapply.proofs.Firsts.{first-none, first-passes, first-first, is_stopped}
+use Rattle.filter_routes.proofs.Carried.{sorted-carried}
+use Rattle.filter_unapply.proofs.HiddenLeaves.{sorted-hidden}
 use Rattle.filter_unapply.proofs.Lawful.{free, none_lost}
 
 -- ---- tests as facts
@@ -98,13 +100,13 @@ module _ (f : Lens) where
     pub first-block : IsFirst (λ r. (s : Path) × IsBlock f u r s) p
     first-block = record {
       holds = (q, block);
-      first = λ r b. let x = leaf_of (at u r) b.1.path in first-first (is_blocked f u) u (sorted-carried f.origin n (unseen f t) (sorted-unseen f t h.sorted)) p stopped.0 r x.0 x.1 (is_block r b.0 b.1);
+      first = λ r b. let x = leaf_of (at u r) b.1.path in first-first (is_blocked f u) u (sorted-carried f.origin n (hidden f t) (sorted-hidden f t h.sorted)) p stopped.0 r x.0 x.1 (is_block r b.0 b.1);
     }
 
     pub first-way : IsFirst (IsBlock f u p) q
     first-way = record {
       holds = block;
-      first = λ s b. let x = leaf_of (at u s) b.by in first-first (is_other p) u (sorted-carried f.origin n (unseen f t) (sorted-unseen f t h.sorted)) q stopped.1 s x.0 x.1 (other_test p s b.comparable b.other);
+      first = λ s b. let x = leaf_of (at u s) b.by in first-first (is_other p) u (sorted-carried f.origin n (hidden f t) (sorted-hidden f t h.sorted)) q stopped.1 s x.0 x.1 (other_test p s b.comparable b.other);
     }
 
   pub else-tree : (t n : Flat) → IsTree n → ((s : Path) → IsLost f n s → ⊥) → IsTree (pre f t n) → laid f t n ≡ LaidTree (pre f t n)

@@ -8,18 +8,19 @@ use Rattle.std.specs.Cmp.{first_so, second_so}
 use Rattle.std.specs.Cmp.Lexicographic.{bytes_decides}
 use Rattle.std.specs.FinMap.{put as put_entry}
 use Rattle.git_objects.specs.Paths.{Path, same_bytes, same_path, is_path, is_prefix, comparable, path_cmp}
-use Rattle.git_objects.specs.Trees.{Leaf, Flat, at, IsTree, rest_below, moved, under, LeafNode, TreeNode, without, put_all, put, remove}
+use Rattle.git_objects.specs.Trees.{Leaf, Flat, at, IsTree, rest_below, moved, under, LeafNode, TreeNode, without, put_all, put, remove, if_full, standing}
 use Rattle.git_objects.proofs.Basics.{both, first, second, same_bytes-self, same_bytes-back}
 use Rattle.git_objects.specs.Lists.{Each}
 use Rattle.git_objects.proofs.Order.{path_decides}
 use Rattle.git_objects.proofs.Pointwise.{from-T, all_at, at_apart, put-tree}
 use Rattle.git_objects.proofs.Under.{cmp_rests, rest_short}
-use Rattle.path_trees.specs.Standing.{if_full, standing}
 use Rattle.path_trees.proofs.Editing.{front_comparable}
-use Rattle.filter_unapply.specs.Lenses.{Lens, IsLens, below}
-use Rattle.filter_unapply.specs.Laying.{carried, unseen, pre, first_path, first_lost, is_other, is_blocked, first_blocked, Blocked, LaidTree, laid_from, laid}
+use Rattle.filter_routes.specs.Lenses.{Lens, IsLens, carried}
+use Rattle.filter_unapply.specs.Laying.{below}
+use Rattle.filter_unapply.specs.Laying.{hidden, pre, first_path, first_lost, is_other, is_blocked, first_blocked, Blocked, LaidTree, laid_from, laid}
 use Rattle.filter_unapply.specs.Stored.{IsInWay}
-use Rattle.filter_unapply.proofs.Firsts.{each_entry, not_before, not_before_itself, none-first, first-at, blocked-none, blocked-some}
+use Rattle.filter_routes.proofs.TreeEntries.{each_entry, not_before, not_before_itself}
+use Rattle.filter_unapply.proofs.Firsts.{none-first, first-at, blocked-none, blocked-some}
 use Rattle.filter_unapply.proofs.Rests.{rest_is, rest_of_path, path_behind, below-lens}
 use Rattle.filter_unapply.proofs.Lawful.{free, at-image, at-kept, pre-sorted, pre-paths}
 
@@ -117,19 +118,19 @@ none_seen f u h =
       | false ↦ λ k. refl
     ] g
 
-empty_laid : (f : Lens) (t : Flat) → laid f t [] ≡ LaidTree (unseen f t)
-empty_laid f t = ap (λ b. laid_from None b (unseen f t)) (none_seen f (unseen f t) (all_kept (λ d. is_none (f.image d.0)) t))
+empty_laid : (f : Lens) (t : Flat) → laid f t [] ≡ LaidTree (hidden f t)
+empty_laid f t = ap (λ b. laid_from None b (hidden f t)) (none_seen f (hidden f t) (all_kept (λ d. is_none (f.image d.0)) t))
 
-all_unseen : (a : Path) (t : Flat) → under t a ≡ [] → unseen (below a) t ≡ t
+all_unseen : (a : Path) (t : Flat) → under t a ≡ [] → hidden (below a) t ≡ t
 all_unseen a [] e = refl
 all_unseen a (d ∷ t) e = by (rest_below a d.0) (all_unseen a t) e
   where
-    by : (o : Option Path) → (under t a ≡ [] → unseen (below a) t ≡ t) → cons_option (moved o d.1) (under t a) ≡ [] → cond (is_none o) (d ∷ unseen (below a) t) (unseen (below a) t) ≡ d ∷ t
+    by : (o : Option Path) → (under t a ≡ [] → hidden (below a) t ≡ t) → cons_option (moved o d.1) (under t a) ≡ [] → cond (is_none o) (d ∷ hidden (below a) t) (hidden (below a) t) ≡ d ∷ t
     by None r g = ap (λ (l : Flat). d ∷ l) (r g)
     by (Some q) r g = cc
 
 -- no leaf stands at the path, so all that goes on from it lies below it
-unseen_remove : (a : Path) (t : Flat) → IsTree t → at t a ≡ None → unseen (below a) t ≡ remove t a
+unseen_remove : (a : Path) (t : Flat) → IsTree t → at t a ≡ None → hidden (below a) t ≡ remove t a
 unfolding remove
 unseen_remove a t h e =
     filter_same (λ d. is_none (rest_below a d.0)) (λ d. not (is_prefix a d.0)) t
@@ -205,7 +206,7 @@ carried_behind a [] t = refl
 carried_behind a (e ∷ n) t = ap (put_entry path_cmp (a ++ e.0) e.1) (carried_behind a n t)
 
 -- no leaf stands in the way, so what is comparable lies below
-unseen_without : (a : Path) (t : Flat) → IsTree t → ((q r : Path) → q ++ r ≡ a → at t q ≡ None) → unseen (below a) t ≡ without t a
+unseen_without : (a : Path) (t : Flat) → IsTree t → ((q r : Path) → q ++ r ≡ a → at t q ≡ None) → hidden (below a) t ≡ without t a
 unseen_without a t h clear =
     filter_same (λ d. is_none (rest_below a d.0)) (λ d. not (comparable a d.0)) t
     (each_entry (λ d. is_none (rest_below a d.0) ≡ not (comparable a d.0)) t h.sorted (λ d g. ap not (rest_prefix a d.0 (other d g) ∙ sym (or_false (is_prefix a d.0) (is_prefix d.0 a) (ahead d g)))))
@@ -228,7 +229,7 @@ unseen_without a t h clear =
 
 pre_put : (a : Path) (t n : Flat) → IsTree t → ((q r : Path) → q ++ r ≡ a → at t q ≡ None) → pre (below a) t n ≡ put t a (TreeNode n)
 unfolding put
-pre_put a t n h clear = carried_behind a n (unseen (below a) t) ∙ ap (put_all a n) (unseen_without a t h clear)
+pre_put a t n h clear = carried_behind a n (hidden (below a) t) ∙ ap (put_all a n) (unseen_without a t h clear)
 
 pub laid_put : (a : Path) (t n : Flat) → is_path a ≡ true → IsTree t → IsTree n → ((q r : Path) → q ++ r ≡ a → at t q ≡ None) → laid (below a) t n ≡ LaidTree (put t a (TreeNode n))
 laid_put a t n v h g clear =

@@ -8,9 +8,9 @@ use Rattle.git_objects.specs.Trees.{Leaf, FileLeaf, is_leaf, Flat, IsTree, rest_
 use Rattle.git_objects.proofs.Basics.{both, first, second, same_bytes-self, list_all-append}
 use Rattle.git_objects.proofs.Pointwise.{from-T}
 use Rattle.git_objects.proofs.Under.{under-tree, comparable_below}
-use Rattle.filter_unapply.specs.Lenses.{IsLens, below}
-use Rattle.filter_unapply.specs.Laying.{entered, shown}
-use Rattle.filter_unapply.proofs.Carried.{put_front}
+use Rattle.filter_routes.specs.Lenses.{IsLens, entered, seen_through}
+use Rattle.filter_unapply.specs.Laying.{below}
+use Rattle.filter_routes.proofs.Carried.{put_front}
 
 pub rest_is : (a p q : Path) → rest_below a p ≡ Some q → p ≡ a ++ q
 rest_is [] [] q e = cc
@@ -65,7 +65,7 @@ tree-tail e t h = record {
   apart = second (list_all (λ d. not (comparable e.0 d.0)) t) _ h.apart;
 }
 
-pub shows-under : (a : Path) (t : Flat) → IsTree t → shown (below a) t ≡ under t a
+pub shows-under : (a : Path) (t : Flat) → IsTree t → seen_through (below a) t ≡ under t a
 shows-under a [] h = refl
 shows-under a (e ∷ t) h = ap (entered (rest_below a e.0) e.1) (shows-under a t (tree-tail e t h)) ∙ by (rest_below a e.0) (under-tree (e ∷ t) a h).sorted
   where

@@ -3,7 +3,7 @@ use Rattle.std.proofs.Common.{◌≡◌, true, false, not, ◌&&◌, List, [], �
 use Rattle.std.specs.Prelude.{IfErr}
 use Rattle.std.specs.Result.{IsErrAnd}
 use Rattle.git_objects.specs.Paths.{Bytes, Path, is_path, is_nil}
-use Rattle.git_objects.specs.Trees.{Leaf, Flat, IsTree, LeafNode, TreeNode, remove}
+use Rattle.git_objects.specs.Trees.{Leaf, Flat, IsTree, LeafNode, TreeNode, remove, standing}
 use Rattle.git_objects.specs.Entries.{is_dir}
 use Rattle.git_objects.specs.Bodies.{tree_entries}
 use Rattle.git_objects.specs.declared.entry.Entry.{Entry}
@@ -12,16 +12,16 @@ use Rattle.git_objects.specs.declared.mode.Mode.{Mode}
 use Rattle.git_objects.specs.declared.mode.Mode.TheVariants.{File, Exec, Link, Module, Dir}
 use Rattle.git_objects.specs.declared.name.Name.{Name}
 use Rattle.object_store.specs.Objects.{Object, IsStore, has, has_child, body_of}
-use Rattle.object_store.specs.Unfolding.{flat}
+use Rattle.object_store.specs.Unfolding.{flat, StandsFor}
 use Rattle.object_store.proofs.Unfolding.{flat_good, node as mode_node}
-use Rattle.path_trees.specs.Standing.{node, standing}
-use Rattle.path_trees.specs.Made.{StandsFor, IsOnWay, IsGrown, IsCollision, IsTreeFault}
+use Rattle.path_trees.specs.Standing.{node}
+use Rattle.path_trees.specs.Made.{IsOnWay, IsGrown, IsCollision, IsTreeFault}
 use Rattle.path_trees.specs.declared.found.Found.{Found}
 use Rattle.path_trees.specs.declared.found.TreeFault.{TreeFault}
 use Rattle.path_trees.specs.declared.found.TreeFault.TheVariants.{Collision, OutOfMemory}
 use Rattle.path_trees.proofs.Grown.{joined_in}
 use Rattle.path_trees.proofs.Trees.{stored_tree}
-use Rattle.filter_unapply.specs.Lenses.{below}
+use Rattle.filter_unapply.specs.Laying.{below}
 use Rattle.filter_unapply.specs.Laying.{Laid, Blocked, LaidTree, laid}
 use Rattle.filter_unapply.specs.Stored.{IsLaidTree, IsLaidBody, IsLayFault, IsInWay, fault_of, first_of}
 use Rattle.filter_unapply.specs.declared.fault.LayFault.{LayFault}

@@ -3,8 +3,9 @@ use Rattle.std.specs.Prelude.{◌≡◌, true, false, is_some, None}
 use Rattle.std.specs.Ordering.{is_lt}
 use Rattle.git_objects.specs.Paths.{Path, is_path, path_cmp, comparable}
 use Rattle.git_objects.specs.Trees.{Flat, IsTree, at, under}
-use Rattle.filter_unapply.specs.Lenses.{Lens, IsLens, below}
-use Rattle.filter_unapply.specs.Laying.{shown, pre, laid, NotHeld, Blocked, LaidTree}
+use Rattle.filter_routes.specs.Lenses.{Lens, IsLens, seen_through}
+use Rattle.filter_unapply.specs.Laying.{below}
+use Rattle.filter_unapply.specs.Laying.{pre, laid, NotHeld, Blocked, LaidTree}
 
 -- a path with a leaf
 abbrev pub HasLeaf : Flat → Path → Type 0
@@ -39,12 +40,12 @@ pub record OutcomeLaw : Type 0 where
 -- what is laid is a tree, and is shown again exactly
 pub record ShownAgainLaw : Type 0 where
   pub tree : (f : Lens) (t n u : Flat) → IsLens f → IsTree t → IsTree n → laid f t n ≡ LaidTree u → IsTree u
-  pub shown_again : (f : Lens) (t n u : Flat) → IsLens f → IsTree t → IsTree n → laid f t n ≡ LaidTree u → shown f u ≡ n
+  pub shown_again : (f : Lens) (t n u : Flat) → IsLens f → IsTree t → IsTree n → laid f t n ≡ LaidTree u → seen_through f u ≡ n
 
 -- what is shown of a tree is a tree, and laying it gives the tree back
 pub record GivenBackLaw : Type 0 where
-  pub tree : (f : Lens) (t : Flat) → IsLens f → IsTree t → IsTree (shown f t)
-  pub given_back : (f : Lens) (t : Flat) → IsLens f → IsTree t → laid f t (shown f t) ≡ LaidTree t
+  pub tree : (f : Lens) (t : Flat) → IsLens f → IsTree t → IsTree (seen_through f t)
+  pub given_back : (f : Lens) (t : Flat) → IsLens f → IsTree t → laid f t (seen_through f t) ≡ LaidTree t
 
 -- each path without an image keeps what it had
 abbrev pub UnseenLaw : Type 0
@@ -57,5 +58,5 @@ LaidAgainLaw = (f : Lens) (t n u m : Flat) → IsLens f → IsTree t → IsTree 
 -- the filter `:/a` is a lens, shows what lies below a, and holds every tree
 pub record BelowLaw : Type 0 where
   pub lens : (a : Path) → is_path a ≡ true → IsLens (below a)
-  pub shows : (a : Path) (t : Flat) → IsTree t → shown (below a) t ≡ under t a
+  pub shows : (a : Path) (t : Flat) → IsTree t → seen_through (below a) t ≡ under t a
   pub holds : (a : Path) (t n : Flat) (q : Path) → laid (below a) t n ≡ NotHeld q → ⊥

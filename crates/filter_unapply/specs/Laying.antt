@@ -1,34 +1,21 @@
--- What is shown of a tree, and a tree laid back into the one that it was shown of.
-use Rattle.std.specs.Prelude.{Bool, cond, not, ◌&&◌, [], ◌∷◌, Option, Some, None, filter, is_some}
+-- A tree laid back into the one that it was shown of.
+use Rattle.std.specs.Prelude.{Bool, cond, not, ◌&&◌, [], ◌∷◌, ◌++◌, Option, Some, None, filter, is_some}
 use Rattle.std.specs.Option.{is_none, option_map, option_and_then}
-use Rattle.std.specs.FinMap.{put as put_entry}
-use Rattle.git_objects.specs.Paths.{Path, path_cmp, comparable, same_path}
-use Rattle.git_objects.specs.Trees.{Leaf, Flat}
-use Rattle.filter_unapply.specs.Lenses.{Lens}
+use Rattle.git_objects.specs.Paths.{Path, comparable, same_path}
+use Rattle.git_objects.specs.Trees.{Flat, rest_below}
+use Rattle.filter_routes.specs.Lenses.{Lens, carried}
 
--- the leaf entered at the path, where there is one
-abbrev pub entered : Option Path → Leaf → Flat → Flat
-entered None x t = t
-entered (Some p) x t = put_entry path_cmp p x t
-
--- t with each leaf of s entered at what its path becomes
-abbrev pub carried : (Path → Option Path) → Flat → Flat → Flat
-carried to [] t = t
-carried to (e ∷ s) t = entered (to e.0) e.1 (carried to s t)
-
--- the leaf of each path that has an image, at that image
-abbrev pub shown : Lens → Flat → Flat
-shown f t = carried f.image t []
-
--- ---- laying
+-- the filter `:/a`: each path below a as its rest
+abbrev pub below : Path → Lens
+below a = record { image = rest_below a; origin = λ q. Some (a ++ q) }
 
 -- the leaf of each path without an image
-abbrev pub unseen : Lens → Flat → Flat
-unseen f t = filter (λ e. is_none (f.image e.0)) t
+abbrev pub hidden : Lens → Flat → Flat
+hidden f t = filter (λ e. is_none (f.image e.0)) t
 
 -- these, and the leaf of each path of n at its origin. Two of the paths may be comparable.
 abbrev pub pre : Lens → Flat → Flat → Flat
-pre f t n = carried f.origin n (unseen f t)
+pre f t n = carried f.origin n (hidden f t)
 
 -- the first path that passes the test
 abbrev pub first_path : (Path → Bool) → Flat → Option Path

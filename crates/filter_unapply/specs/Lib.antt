@@ -1,4 +1,3 @@
-pub mod Lenses
 pub mod Laying
 pub mod Stored
 pub mod Laws

@@ -2,8 +2,9 @@
 use Rattle.std.specs.Prelude.{◌≡◌, refl, cond, is_some, [], ◌∷◌, codes, Option, Some, None}
 use Rattle.git_objects.specs.Paths.{Bytes, Path, same_path}
 use Rattle.git_objects.specs.Trees.{Leaf, FileLeaf, rest_below}
-use Rattle.filter_unapply.specs.Lenses.{Lens, below}
-use Rattle.filter_unapply.specs.Laying.{shown, pre, laid, NotHeld, Blocked, LaidTree}
+use Rattle.filter_routes.specs.Lenses.{Lens, seen_through}
+use Rattle.filter_unapply.specs.Laying.{below}
+use Rattle.filter_unapply.specs.Laying.{pre, laid, NotHeld, Blocked, LaidTree}
 
 abbrev a : Bytes
 a = codes "a"
@@ -38,10 +39,10 @@ other = FileLeaf (codes "2")
 -- ---- a directory
 
 -- what lies below it, without the file itself or a neighbour with the same beginning
-pub below_shown : shown (below (a ∷ [])) ((text ∷ [], other) ∷ (a ∷ f ∷ [], leaf) ∷ (b ∷ [], other) ∷ []) ≡ (f ∷ [], leaf) ∷ []
+pub below_shown : seen_through (below (a ∷ [])) ((text ∷ [], other) ∷ (a ∷ f ∷ [], leaf) ∷ (b ∷ [], other) ∷ []) ≡ (f ∷ [], leaf) ∷ []
 below_shown = refl
 
-pub itself_not_shown : shown (below (a ∷ [])) ((a ∷ [], leaf) ∷ []) ≡ []
+pub itself_not_shown : seen_through (below (a ∷ [])) ((a ∷ [], leaf) ∷ []) ≡ []
 itself_not_shown = refl
 
 -- what was there and isn't pushed goes, and all else stays

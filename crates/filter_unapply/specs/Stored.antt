@@ -4,7 +4,8 @@ use Rattle.git_objects.specs.Paths.{Bytes, Path}
 use Rattle.git_objects.specs.Trees.{Leaf, Flat, at}
 use Rattle.git_objects.specs.declared.name.Name.{Name}
 use Rattle.object_store.specs.Objects.{Object}
-use Rattle.path_trees.specs.Made.{StandsFor, IsOnWay, IsCollision}
+use Rattle.path_trees.specs.Made.{IsOnWay, IsCollision}
+use Rattle.object_store.specs.Unfolding.{StandsFor}
 use Rattle.filter_unapply.specs.Laying.{Laid, NotHeld, Blocked, LaidTree}
 use Rattle.path_trees.specs.declared.found.TreeFault.{TreeFault}
 use Rattle.path_trees.specs.declared.found.TreeFault.TheVariants.{Collision as TreeCollision, OutOfMemory as TreeOutOfMemory}

@@ -3,12 +3,11 @@ ghost use Rattle.std.specs.Prelude.{◌≡◌, [], true, IfOk, IfErr, Some};
 ghost use Rattle.git_objects.specs.Entries.{is_dir};
 ghost use Rattle.git_objects.specs.Paths.{is_path};
 ghost use Rattle.git_objects.specs.declared.kind.Kind.TheVariants.{Tree};
-ghost use Rattle.object_store.specs.Errors.{newest};
 ghost use Rattle.object_store.specs.Objects.{has};
 ghost use Rattle.object_store.specs.Unfolding.{flat};
 ghost use Rattle.path_trees.specs.Made.{IsGrown};
 ghost use Rattle.filter_unapply.specs.Laying.{laid};
-ghost use Rattle.filter_unapply.specs.Lenses.{below};
+ghost use Rattle.filter_unapply.specs.Laying.{below};
 ghost use Rattle.filter_unapply.specs.Stored.{IsLaidBody, IsLaidTree, IsLayFault, IsLeafInWay, first_of};
 
 use crate::LayFault;
@@ -28,16 +27,16 @@ pub fn laid_below(
     base: Name,
     pushed: Name,
 ) -> Result<Name, LayFault>
-    requires base { has Tree (newest store.old) base.0 ≡ true }
-    requires pushed { has Tree (newest store.old) pushed.0 ≡ true }
-    ensures ok { IfOk result (IsLaidTree (newest store.new)
-        (laid (below place.now) (flat (newest store.old) base.0) (flat (newest store.old) pushed.0))) }
+    requires base { has Tree store.old base.0 ≡ true }
+    requires pushed { has Tree store.old pushed.0 ≡ true }
+    ensures ok { IfOk result (IsLaidTree store.new
+        (laid (below place.now) (flat store.old base.0) (flat store.old pushed.0))) }
     ensures err { IfErr result (IsLayFault
-        (laid (below place.now) (flat (newest store.old) base.0) (flat (newest store.old) pushed.0)) place.now
-        (newest store.new)) }
+        (laid (below place.now) (flat store.old base.0) (flat store.old pushed.0)) place.now
+        store.new) }
     ensures store { IsGrown (IsLaidBody
-        (laid (below place.now) (flat (newest store.old) base.0) (flat (newest store.old) pushed.0)) place.now)
-        (newest store.old) (newest store.new) }
+        (laid (below place.now) (flat store.old base.0) (flat store.old pushed.0)) place.now)
+        store.old store.new }
 {
     let _ = store.get(&base);
     match first_path(alloc, store, pushed)? {
@@ -46,16 +45,10 @@ pub fn laid_below(
     }
 }
 
-fn is_dir(mode: Mode) -> bool
-    ensures { result ≡ is_dir mode }
-{
-    mode == Mode::Dir
-}
-
 // The first path of a tree, in path order.
 fn first_path(alloc: Global, store: &Store, root: Name) -> Result<Option<Path>, AllocError>
-    requires { has Tree (newest store.now) root.0 ≡ true }
-    ensures { IfOk result (λ path. path ≡ first_of (flat (newest store.now) root.0)) }
+    requires { has Tree store.now root.0 ≡ true }
+    ensures { IfOk result (λ path. path ≡ first_of (flat store.now root.0)) }
 {
     let mut walk = Walk::new(alloc, store, root)?;
     if !walk.next()? {
@@ -66,18 +59,18 @@ fn first_path(alloc: Global, store: &Store, root: Name) -> Result<Option<Path>, 
 
 // Lays the empty tree: without the directory at the place.
 fn emptied(alloc: Global, store: &mut Store, place: &Path, base: Name) -> Result<Name, LayFault>
-    requires { has Tree (newest store.old) base.0 ≡ true }
-    ensures ok { IfOk result (IsLaidTree (newest store.new)
-        (laid (below place.now) (flat (newest store.old) base.0) [])) }
+    requires { has Tree store.old base.0 ≡ true }
+    ensures ok { IfOk result (IsLaidTree store.new
+        (laid (below place.now) (flat store.old base.0) [])) }
     ensures err { IfErr result (IsLayFault
-        (laid (below place.now) (flat (newest store.old) base.0) []) place.now (newest store.new)) }
+        (laid (below place.now) (flat store.old base.0) []) place.now store.new) }
     ensures store { IsGrown (IsLaidBody
-        (laid (below place.now) (flat (newest store.old) base.0) []) place.now)
-        (newest store.old) (newest store.new) }
+        (laid (below place.now) (flat store.old base.0) []) place.now)
+        store.old store.new }
 {
     let _ = store.get(&base);
     match entry_at(store, base, place) {
-        Some(found) if is_dir(found.mode) => Ok(remove_at(alloc, store, base, place)?),
+        Some(found) if found.mode.is_dir() => Ok(remove_at(alloc, store, base, place)?),
         _ => Ok(base),
     }
 }
@@ -91,17 +84,17 @@ fn replaced(
     pushed: Name,
     first: &Path,
 ) -> Result<Name, LayFault>
-    requires base { has Tree (newest store.old) base.0 ≡ true }
-    requires pushed { has Tree (newest store.old) pushed.0 ≡ true }
-    requires first { first_of (flat (newest store.old) pushed.0) ≡ Some first.now }
-    ensures ok { IfOk result (IsLaidTree (newest store.new)
-        (laid (below place.now) (flat (newest store.old) base.0) (flat (newest store.old) pushed.0))) }
+    requires base { has Tree store.old base.0 ≡ true }
+    requires pushed { has Tree store.old pushed.0 ≡ true }
+    requires first { first_of (flat store.old pushed.0) ≡ Some first.now }
+    ensures ok { IfOk result (IsLaidTree store.new
+        (laid (below place.now) (flat store.old base.0) (flat store.old pushed.0))) }
     ensures err { IfErr result (IsLayFault
-        (laid (below place.now) (flat (newest store.old) base.0) (flat (newest store.old) pushed.0)) place.now
-        (newest store.new)) }
+        (laid (below place.now) (flat store.old base.0) (flat store.old pushed.0)) place.now
+        store.new) }
     ensures store { IsGrown (IsLaidBody
-        (laid (below place.now) (flat (newest store.old) base.0) (flat (newest store.old) pushed.0)) place.now)
-        (newest store.old) (newest store.new) }
+        (laid (below place.now) (flat store.old base.0) (flat store.old pushed.0)) place.now)
+        store.old store.new }
 {
     let _ = store.get(&base);
     if let Some(by) = leaf_in_way(alloc, store, base, place)? {
@@ -122,8 +115,8 @@ fn leaf_in_way(
     root: Name,
     path: &Path,
 ) -> Result<Option<Path>, AllocError>
-    requires { has Tree (newest store.now) root.0 ≡ true }
-    ensures leaf { IfOk result (IsLeafInWay (flat (newest store.now) root.0) path.now) }
+    requires { has Tree store.now root.0 ≡ true }
+    ensures leaf { IfOk result (IsLeafInWay (flat store.now root.0) path.now) }
     ensures path { is_path path.now ≡ true }
 {
     let _ = store.get(&root);
@@ -131,7 +124,7 @@ fn leaf_in_way(
     'fronts: for last in 0..components.len() {
         let front = Path::of_parts(alloc, &components[..last + 1], &[])?;
         if let Some(found) = entry_at(store, root, &front) {
-            if !is_dir(found.mode) {
+            if !found.mode.is_dir() {
                 return Ok(Some(front));
             }
         }

@@ -1,7 +1,6 @@
 // Trees as Git makes them. The conditions of the calls are tested as the tests run.
 ghost use Rattle.std.specs.Prelude.{◌≡◌};
 ghost use Rattle.git_objects.specs.declared.kind.Kind.TheVariants.{Blob, Tree};
-ghost use Rattle.object_store.specs.Errors.{newest};
 ghost use Rattle.object_store.specs.Objects.{has};
 
 use crate::{LayFault, laid_below};
@@ -14,7 +13,7 @@ use std::test::Fail;
 
 // Whether an object of that name is a tree.
 fn is_tree(store: &Store, name: &Name) -> bool
-    ensures { result ≡ has Tree (newest store.now) name.now.0 }
+    ensures { result ≡ has Tree store.now name.now.0 }
 {
     match store.get(name) {
         None => false,
@@ -23,7 +22,7 @@ fn is_tree(store: &Store, name: &Name) -> bool
 }
 
 fn is_blob(store: &Store, name: &Name) -> bool
-    ensures { result ≡ has Blob (newest store.now) name.now.0 }
+    ensures { result ≡ has Blob store.now name.now.0 }
 {
     match store.get(name) {
         None => false,

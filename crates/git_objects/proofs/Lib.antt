@@ -16,3 +16,4 @@ pub mod Bodies
 pub mod Inserts
 pub mod Digests
 pub mod Tops
+pub mod Standing

@@ -104,7 +104,7 @@ first_less Less p ne h = refl
 first_less Equal p ne h = absurd (ne refl)
 first_less Greater p ne h = absurd h
 
-same_key : (c d : Bytes) (s t : Bool) → is_component c ≡ true → is_component d ≡ true → dir_key c s ≡ dir_key d t → c ≡ d
+pub same_key : (c d : Bytes) (s t : Bool) → is_component c ≡ true → is_component d ≡ true → dir_key c s ≡ dir_key d t → c ≡ d
 same_key c d false false h g e = e
 same_key c d false true h g e = absurd (no_slash c d h e)
 same_key c d true false h g e = absurd (no_slash d c g (sym e))

@@ -1,7 +1,7 @@
 -- Laws of trees, edits and bodies.
-use Rattle.std.specs.Prelude.{◌≡◌, ◌↔◌, true, List, ◌∷◌, map, Contains}
+use Rattle.std.specs.Prelude.{◌≡◌, ◌↔◌, true, List, ◌∷◌, map, Contains, IfSome}
 use Rattle.git_objects.specs.Paths.{Bytes, Path, is_path}
-use Rattle.git_objects.specs.Trees.{Leaf, is_leaf, Flat, IsTree, LeafNode, at, put, remove, under}
+use Rattle.git_objects.specs.Trees.{Leaf, is_leaf, Flat, IsTree, LeafNode, TreeNode, at, put, remove, under, copy, rename}
 use Rattle.git_objects.specs.Names.{body, tree_name, tops}
 use Rattle.git_objects.specs.Entries.{entry_component}
 use Rattle.git_objects.specs.Bodies.{IsTreeBody}
@@ -10,7 +10,10 @@ use Rattle.git_objects.specs.declared.entry.Entry.{Entry}
 -- what an edit leaves is a tree, and so is what lies below a path
 pub record EditLaw : Type 0 where
   pub puts : (t : Flat) (p : Path) (x : Leaf) → IsTree t → is_path p ≡ true → is_leaf x ≡ true → IsTree (put t p (LeafNode x))
+  pub puts_below : (t : Flat) (p : Path) (u : Flat) → IsTree t → is_path p ≡ true → IsTree u → IsTree (put t p (TreeNode u))
   pub removes : (t : Flat) (p : Path) → IsTree t → IsTree (remove t p)
+  pub renames : (t : Flat) (s p : Path) → IsTree t → is_path p ≡ true → IfSome (rename t s p) IsTree
+  pub copies : (t : Flat) (s p : Path) → IsTree t → is_path p ≡ true → IfSome (copy t s p) IsTree
   pub lies_below : (t : Flat) (p : Path) → IsTree t → IsTree (under t p)
 
 -- trees that answer alike at each path are equal, and so have equal names

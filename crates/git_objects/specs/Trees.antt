@@ -3,6 +3,7 @@ use Rattle.std.specs.Prelude.{Bool, true, not, cond, ◌&&◌, ◌==◌, T, List
 use Rattle.std.specs.List.{list_all, filter_map}
 use Rattle.std.specs.FinMap.{put as put_entry, is_sorted}
 use Rattle.git_objects.specs.Paths.{Path, Bytes, is_bytes, is_path, path_cmp, comparable, is_prefix, same_bytes, same_path}
+use Rattle.std.specs.Option.{option_map, option_or}
 
 -- a file, an executable or a link with a blob's bytes, or a module with the 20 bytes of a name
 pub data Leaf : Type 0 where
@@ -82,3 +83,22 @@ put t p x = put_all p (rests x) (without t p)
 -- removes p and all below it
 unfoldable pub remove : Flat → Path → Flat
 remove t p = filter (λ e. not (is_prefix p e.0)) t
+
+-- ---- what stands at a path, and the edits that move it
+
+-- a tree with a path, or nothing
+abbrev pub if_full : Flat → Option Node
+if_full [] = None
+if_full (e ∷ t) = Some (TreeNode (e ∷ t))
+
+-- the leaf at a path, or the tree of all that lies below it, where that has a path
+abbrev pub standing : Flat → Path → Option Node
+standing t p = option_or (option_map LeafNode (at t p)) (if_full (under t p))
+
+-- puts at p what stands at s. None: nothing does.
+abbrev pub copy : Flat → Path → Path → Option Flat
+copy t s p = option_map (put t p) (standing t s)
+
+-- takes out what stands at s, and then puts it at p
+abbrev pub rename : Flat → Path → Path → Option Flat
+rename t s p = option_map (put (remove t s) p) (standing t s)

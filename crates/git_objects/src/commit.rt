@@ -66,8 +66,8 @@ fn add_letter(body: &mut Vec<u8>, parts: &CommitParts) -> Result<(), AllocError>
     Ok(())
 }
 
-/// The body of a commit (Git object format): the lines of the tree, of each parent, of the author and of the committer, an
-/// empty line and the message.
+/// The body of a commit (Git object format): the lines of the tree, of each parent, of the author and of the
+/// committer, an empty line and the message.
 pub fn encode_commit(alloc: Global, parts: &CommitParts) -> Result<Vec<u8>, AllocError>
     requires { length parts.now.parents.items ≤ 16 }
     ensures body { IfOk result (λ body. body.items ≡ commit_body (commit_of parts.now)) }

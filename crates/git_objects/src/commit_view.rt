@@ -3,7 +3,8 @@ ghost use Rattle.std.specs.Prelude.{◌≡◌, ◌≤◌, true, None, IfSome, If
 ghost use Rattle.std.specs.List.{list_all};
 ghost use Rattle.std.specs.Option.{option_map};
 ghost use Rattle.git_objects.specs.Bodies.{is_name};
-ghost use Rattle.git_objects.specs.CommitBodies.{commit_from, field_from, ident_field, is_parent, letter_from, lower_name, name_field, rest_from, strip};
+ghost use Rattle.git_objects.specs.CommitBodies.{commit_from, field_from, ident_field, is_parent, letter_from};
+ghost use Rattle.git_objects.specs.CommitBodies.{lower_name, name_field, rest_from, strip};
 ghost use Rattle.git_objects.specs.ParentLines.{parents_at, with_parents};
 ghost use Rattle.git_objects.specs.Parts.{name_bytes};
 ghost use Rattle.git_objects.specs.Views.{letter_value};
@@ -24,7 +25,7 @@ struct LetterView<'a> {
 #[derive(Debug, Drop)]
 pub struct CommitView<'a> {
     tree: Name,
-    // From the first line of a parent on.
+    // The body from the first line of a parent on.
     parents: &'a [u8],
     count: usize,
     letter: LetterView<'a>,

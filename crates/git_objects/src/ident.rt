@@ -2,7 +2,8 @@
 ghost use Rattle.std.specs.Prelude.{◌≡◌, ◌==◌, ℕ, List, IfOk, IsErrOf, position, true, false};
 ghost use Rattle.std.specs.List.{list_all};
 ghost use Rattle.std.specs.Option.{option_map};
-ghost use Rattle.git_objects.specs.Idents.{is_ident, is_ident_name, is_ident_rest, is_ident_end, is_time, is_offset, is_quiet, is_number, is_digit, ends_in_space, cut_at};
+ghost use Rattle.git_objects.specs.Idents.{is_ident, is_ident_name, is_ident_rest, is_ident_end, is_time, is_offset};
+ghost use Rattle.git_objects.specs.Idents.{is_quiet, is_number, is_digit, ends_in_space, cut_at};
 
 use std::alloc::{AllocError, Global};
 use std::marker::Model;
@@ -70,7 +71,7 @@ fn first_of(byte: u8, text: &[u8]) -> Option<usize>
     text.iter().position(|x| *x == byte)
 }
 
-// What stands before the first such byte, and what after it.
+// What stands before the first byte of that value, and what stands after it.
 pub fn cut(byte: u8, text: &[u8]) -> Option<(&[u8], &[u8])>
     ensures { option_map (λ r. (r.0.now, r.1.now)) result ≡ cut_at byte text.now }
 {

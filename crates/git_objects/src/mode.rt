@@ -1,5 +1,6 @@
 // The modes of a tree's entries.
 ghost use Rattle.std.specs.Prelude.{◌≡◌};
+ghost use Rattle.git_objects.specs.Entries.{is_dir};
 ghost use Rattle.git_objects.specs.Names.{mode_text};
 
 /// What an entry of a tree is: a file, an executable, a link, a module (another repository's commit) or a directory.
@@ -10,6 +11,15 @@ pub enum Mode {
     Link,
     Module,
     Dir,
+}
+
+impl Mode {
+    /// Whether it is that of a directory.
+    pub fn is_dir(self) -> bool
+        ensures { result ≡ is_dir self }
+    {
+        self == Mode::Dir
+    }
 }
 
 // The digits in a tree's body.

@@ -79,8 +79,8 @@ pub fn digits(bytes: &[u8]) -> [u8; 40]
     digits
 }
 
-/// The name of an object of that kind with that body: the SHA-1 of the kind, a space, the body's length in decimal, a zero
-/// byte and the body (Git object format, FIPS 180-4).
+/// The name of an object of that kind with that body: the SHA-1 of the kind, a space, the body's length in decimal, a
+/// zero byte and the body (Git object format, FIPS 180-4).
 pub fn name_of(kind: Kind, body: &[u8]) -> Name
     ensures { result.0 ≡ name kind body.now }
 {
@@ -94,7 +94,7 @@ pub fn name_of(kind: Kind, body: &[u8]) -> Name
     Name(hasher.finalize())
 }
 
-// The same bytes, which are below 256.
+// The 20 bytes, of which the proof learns that each is below 256.
 fn in_range(bytes: &[u8]) -> &[u8]
     ensures same { result.now ≡ bytes.now }
     ensures bytes { is_bytes bytes.now ≡ true }

@@ -1,7 +1,8 @@
 // Laws of trees that other contracts cite.
 ghost use Rattle.git_objects.specs.TreeLaws.{EditLaw, NameLaw, ListingLaw};
 
-/// What `put` of a leaf, `remove` and `under` leave is a tree: in path order, each path once, no two comparable.
+/// What `put` of a leaf or a directory, `remove`, `rename`, `copy` and `under` leave is a tree: in path order, each
+/// path once, no two comparable.
 pub fn edit_law()
     ensures { EditLaw }
 {}

@@ -2,17 +2,16 @@
 ghost use Rattle.std.specs.Prelude.{◌≡◌, List, Some, ◌∷◌, [], drop, is_some, slice_get, true};
 ghost use Rattle.std.specs.Option.{ForSome};
 ghost use Rattle.std.specs.Option.{option_map};
-ghost use Rattle.std.specs.Ordering.{is_lt, nat_cmp};
-ghost use Rattle.std.specs.Cmp.Lexicographic.{slice_cmp};
-ghost use Rattle.git_objects.specs.Entries.{dir_key, entry_component, entry_dir, git_cmp, is_dir};
+ghost use Rattle.std.specs.Ordering.{is_lt};
+ghost use Rattle.git_objects.specs.Entries.{entry_component, entry_dir, git_cmp};
 ghost use Rattle.git_objects.specs.Bodies.{entry_from, mode_from, target_from, tree_entries};
 ghost use Rattle.git_objects.specs.Neighbours.{before_dir, fits_before, is_alone, spelled_entries, stands};
 ghost use Rattle.git_objects.specs.Views.{entry_value};
 ghost use Rattle.git_objects.specs.declared.entry.Entry.{Entry};
 
+use crate::entry_order::compare_components;
 use crate::ident::cut;
 use crate::{Mode, Name, is_component};
-use std::cmp::Ordering;
 use std::marker::Model;
 
 /// One entry of a tree's body.
@@ -67,7 +66,7 @@ impl<'a> TreeView<'a> {
         TreeView { rest: body }
     }
 
-    /// The same entries again.
+    /// A second view of the entries that are left.
     pub fn copy(&self) -> TreeView<'a>
         ensures { result ≡ self.now }
     {
@@ -136,40 +135,19 @@ fn first_entry<'a>(body: &'a [u8]) -> Option<(EntryView<'a>, &'a [u8])>
     target(mode, component, rest)
 }
 
-fn slash(is_dir: bool) -> &'static [u8]
-    ensures { result.now ≡ dir_key [] is_dir }
-{
-    if is_dir { b"/" } else { b"" }
-}
-
-// Git's order of entries' components.
-fn compare(a: &[u8], a_dir: bool, b: &[u8], b_dir: bool) -> Ordering
-    ensures { result ≡ slice_cmp nat_cmp (dir_key a.now a_dir) (dir_key b.now b_dir) }
-{
-    a.iter()
-        .chain(slash(a_dir).iter())
-        .cmp(b.iter().chain(slash(b_dir).iter()))
-}
-
-fn is_dir(mode: Mode) -> bool
-    ensures { result ≡ is_dir mode }
-{
-    mode == Mode::Dir
-}
-
 // Whether an entry stands before another.
 fn is_before(a: &EntryView<'_>, b: &EntryView<'_>) -> bool
     ensures { result
         ≡ is_lt (git_cmp entry_component entry_dir (entry_value a.now) (entry_value b.now)) }
 {
-    compare(a.component, is_dir(a.mode), b.component, is_dir(b.mode)).is_lt()
+    compare_components(a.component, a.mode.is_dir(), b.component, b.mode.is_dir()).is_lt()
 }
 
 // Whether an entry stands before a directory of that component.
 fn is_before_dir(entry: &EntryView<'_>, component: &[u8]) -> bool
     ensures { result ≡ before_dir component.now (entry_value entry.now) }
 {
-    compare(entry.component, is_dir(entry.mode), component, true).is_lt()
+    compare_components(entry.component, entry.mode.is_dir(), component, true).is_lt()
 }
 
 // Whether no entry, up to the place of a directory of that component, has the component.
@@ -196,7 +174,7 @@ fn fits_before(entry: &EntryView<'_>, after: &[u8]) -> bool
     match first_entry(after) {
         None => true,
         Some((next, _)) => {
-            is_before(entry, &next) && (is_dir(entry.mode) || is_alone(entry.component, after))
+            is_before(entry, &next) && (entry.mode.is_dir() || is_alone(entry.component, after))
         }
     }
 }

@@ -15,9 +15,9 @@ use Rattle.object_store.specs.Objects.{Object, IsStore, object_name, has, body_o
 use Rattle.object_store.specs.Unfolding.{flat}
 use Rattle.object_store.proofs.Held.{not_named, has-above}
 use Rattle.object_store.proofs.Unfolding.{growing_law}
-use Rattle.repo_state.specs.Items.{is_commit}
-use Rattle.repo_state.specs.Repos.{Snapshot, snapshot_of, snapshots_in}
-use Rattle.repo_state.specs.Changes.{commit_named}
+use Rattle.object_store.specs.Fits.{is_commit}
+use Rattle.object_store.specs.StoredSnapshots.{snapshot_of, snapshots_in, commit_named}
+use Rattle.git_objects.specs.Snapshots.{Snapshot}
 use Rattle.history_project.specs.Snapshots.{snapshots_at}
 use Rattle.history_project.proofs.HeldCommits.{some-held}
 

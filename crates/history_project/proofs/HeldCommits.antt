@@ -23,8 +23,8 @@ use Rattle.object_store.specs.Unfolding.{flat}
 use Rattle.object_store.proofs.Held.{named_kind, body_named, body_bytes, has_name-from, has-above}
 use Rattle.object_store.proofs.Finding.{has-found}
 use Rattle.object_store.proofs.Unfolding.{unfolding_law}
-use Rattle.repo_state.specs.Repos.{Snapshot, snapshot_of, snapshot_name}
-use Rattle.repo_state.specs.Changes.{commit_named}
+use Rattle.object_store.specs.StoredSnapshots.{snapshot_of, commit_named}
+use Rattle.git_objects.specs.Snapshots.{Snapshot, snapshot_name}
 use Rattle.history_project.specs.Projection.{Shown as Pair, distinct, projected, projection_below}
 use Rattle.history_project.specs.Snapshots.{snapshots_at}
 use Rattle.history_project.specs.Kept.{kept}

@@ -12,16 +12,13 @@ use Rattle.git_objects.specs.declared.kind.Kind.TheVariants.{Blob, Tree, Commit 
 use Rattle.git_objects.specs.declared.name.Name.{Name}
 use Rattle.git_objects.proofs.Basics.{same_bytes-self}
 use Rattle.object_store.specs.Objects.{Object, IsStore, object_name, find_named, has, body_of}
-use Rattle.object_store.specs.Errors.{newest}
 use Rattle.object_store.specs.Unfolding.{flat}
 use Rattle.object_store.proofs.Unfolding.{growing_law}
-use Rattle.repo_state.specs.Changes.{commit_named}
-use Rattle.repo_state.specs.Items.{Held}
-use Rattle.repo_state.specs.Loads.{IsStored, Stored}
-use Rattle.repo_state.specs.Repos.{repo_of, snapshot_name, snapshot_of, snapshots_in}
-use Rattle.repo_state.proofs.Fitting.{flat-part}
-use Rattle.repo_state.proofs.Grows.{AreIn, part-has}
-use Rattle.repo_state.proofs.StoredCommits.{commit-held}
+use Rattle.object_store.specs.StoredSnapshots.{commit_named, snapshot_of, snapshots_in}
+use Rattle.git_objects.specs.Snapshots.{snapshot_name}
+use Rattle.object_store.proofs.FlatParts.{flat-part}
+use Rattle.object_store.proofs.Parts.{AreIn, part-has}
+use Rattle.object_store.proofs.StoredCommits.{commit-held}
 use Rattle.history_project.specs.Snapshots.{base_tree}
 use Rattle.history_project.specs.Histories.{tree_at, tree_upon}
 use Rattle.history_project.proofs.AllCommits.{snapshot-newer}
@@ -110,16 +107,3 @@ held-tree S H n s h i k =
       at = tree-held H n c.0 h k c.1.read;
       same = flat-part S H c.0.tree s h i c.1.tree;
     }
-
--- the tree that a stream stands upon, by what is held and by the store
-pub upon-is : (S : List Object) (h : Held) (head : Option Name) → IsStore S → IsStore h.objects → AreIn S h.objects → IfSome head (λ n. has CommitKind h.objects n.0 ≡ true) →
-    tree_upon (repo_of h).commits (option_map name_bytes head) ≡ base_tree S head
-upon-is S h None s w i k = refl
-upon-is S h (Some n) s w i k =
-    let t = held-tree S h.objects n.0 s w i k in
-    t.at ∙ t.same ∙ sym (ap (λ o. option_map_or (λ (c : Commit). flat S c.tree) o []) t.named)
-
--- the same of a state
-pub stored-upon : (s : Stored) (head : Option Name) → IsStored s → IfSome head (λ n. has CommitKind s.held.objects n.0 ≡ true) →
-    tree_upon (repo_of s.held).commits (option_map name_bytes head) ≡ base_tree (newest s.objects) head
-stored-upon s head w k = upon-is (newest s.objects) s.held head w.whole w.held (within-in (newest s.objects) s.held.objects w.within) k

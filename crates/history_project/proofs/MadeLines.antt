@@ -10,8 +10,8 @@ use Rattle.git_objects.specs.Parts.{name_bytes}
 use Rattle.git_objects.specs.declared.kind.Kind.TheVariants.{Commit as CommitKind}
 use Rattle.git_objects.specs.declared.name.Name.{Name}
 use Rattle.object_store.specs.Objects.{Object, IsStore, has}
-use Rattle.repo_state.specs.Repos.{Snapshot, snapshot_of, snapshot_commit, snapshot_object}
-use Rattle.repo_state.specs.Changes.{commit_named}
+use Rattle.object_store.specs.StoredSnapshots.{snapshot_of, snapshot_object, commit_named}
+use Rattle.git_objects.specs.Snapshots.{Snapshot, snapshot_commit}
 use Rattle.history_project.specs.Snapshots.{AreSnapshots, IsSnapshot, snapshots_at}
 use Rattle.history_project.specs.Histories.{last_name}
 use Rattle.history_project.proofs.AllCommits.{both_true}

@@ -14,9 +14,8 @@ use Rattle.object_store.specs.Objects.{Object, IsStore, object_name, has, body_o
 use Rattle.object_store.specs.Unfolding.{flat}
 use Rattle.object_store.proofs.Held.{not_named, has-above}
 use Rattle.object_store.proofs.Unfolding.{growing_law}
-use Rattle.repo_state.specs.Changes.{commit_named}
-use Rattle.repo_state.specs.Repos.{snapshot_of, snapshots_in}
-use Rattle.repo_state.proofs.StoredCommits.{commit-held, stored-commit}
+use Rattle.object_store.specs.StoredSnapshots.{commit_named, snapshot_of, snapshots_in}
+use Rattle.object_store.proofs.StoredCommits.{commit-held, stored-commit}
 use Rattle.history_project.specs.Projection.{Shown, distinct, projected, projection}
 use Rattle.history_project.proofs.HeldTrees.{own-name}
 

@@ -12,7 +12,7 @@ use Rattle.git_objects.specs.declared.kind.Kind.TheVariants.{Commit as CommitKin
 use Rattle.git_objects.proofs.Basics.{same_bytes-back, same_bytes-self}
 use Rattle.object_store.specs.Objects.{Object, IsStore, has}
 use Rattle.object_store.specs.Unfolding.{flat}
-use Rattle.repo_state.specs.Repos.{snapshots_in}
+use Rattle.object_store.specs.StoredSnapshots.{snapshots_in}
 use Rattle.history_project.specs.Histories.{tree_at}
 use Rattle.history_project.specs.Projection.{Shown, distinct, projected, projection, shown_commit}
 use Rattle.history_project.proofs.HeldCommits.{some-held}

@@ -4,7 +4,7 @@ use Rattle.std.specs.Option.{is_none, option_map, option_or}
 use Rattle.std.specs.Cmp.{first_so}
 use Rattle.std.proofs.lemmas.Option.{none-some}
 use Rattle.git_objects.specs.Paths.{Bytes, Path, is_nil}
-use Rattle.git_objects.specs.Trees.{Leaf, Flat, LeafNode, TreeNode, IsTree, at, under}
+use Rattle.git_objects.specs.Trees.{Leaf, Flat, LeafNode, TreeNode, IsTree, at, under, if_full, standing}
 use Rattle.git_objects.specs.Names.{tree_name}
 use Rattle.git_objects.specs.Entries.{is_dir}
 use Rattle.git_objects.specs.declared.kind.Kind.TheVariants.{Blob, Tree}
@@ -15,7 +15,7 @@ use Rattle.git_objects.proofs.Under.{at-under, at-under_nil, under-tree}
 use Rattle.object_store.specs.Objects.{Object, IsStore, body_of, has, has_child}
 use Rattle.object_store.specs.Unfolding.{flat, node_of}
 use Rattle.object_store.proofs.Unfolding.{unfolding_law}
-use Rattle.path_trees.specs.Standing.{if_full, node, standing}
+use Rattle.path_trees.specs.Standing.{node}
 use Rattle.path_trees.specs.Listed.{directory_of}
 use Rattle.path_trees.specs.declared.found.Found.{Found}
 use Rattle.path_trees.proofs.Lookups.{clear_way}

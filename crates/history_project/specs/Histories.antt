@@ -2,7 +2,7 @@
 use Rattle.std.specs.Prelude.{Bool, true, false, cond, List, [], ◌∷◌, Option, Some, None}
 use Rattle.git_objects.specs.Paths.{Bytes, same_bytes}
 use Rattle.git_objects.specs.Trees.{Flat}
-use Rattle.repo_state.specs.Repos.{Snapshot, snapshot_name}
+use Rattle.git_objects.specs.Snapshots.{Snapshot, snapshot_name}
 
 -- the name of the last commit
 abbrev pub last_name : List Snapshot → Bytes

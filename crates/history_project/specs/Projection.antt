@@ -5,7 +5,7 @@ use Rattle.git_objects.specs.Paths.{Bytes, Path, is_nil, same_bytes}
 use Rattle.git_objects.specs.Trees.{Flat, under}
 use Rattle.git_objects.specs.Names.{tree_name}
 use Rattle.git_objects.specs.Commits.{Letter, commit_name, hex}
-use Rattle.repo_state.specs.Repos.{Snapshot, snapshot_name}
+use Rattle.git_objects.specs.Snapshots.{Snapshot, snapshot_name}
 
 -- the names of a projected commit and of its tree
 pub record Shown : Type 0 where

@@ -8,7 +8,7 @@ use Rattle.git_objects.specs.Paths.{Bytes}
 use Rattle.git_objects.specs.Trees.{FileLeaf}
 use Rattle.git_objects.specs.Names.{name, body, line}
 use Rattle.git_objects.specs.Commits.{Letter, commit_body, commit_name, hex}
-use Rattle.repo_state.specs.Repos.{Snapshot, snapshot_name}
+use Rattle.git_objects.specs.Snapshots.{Snapshot, snapshot_name}
 use Rattle.history_project.specs.Projection.{Shown, distinct, name_line, projection_below}
 
 abbrev a : Bytes

@@ -11,8 +11,8 @@ use Rattle.git_objects.specs.declared.kind.Kind.TheVariants.{Tree}
 use Rattle.git_objects.specs.declared.name.Name.{Name}
 use Rattle.object_store.specs.Objects.{Object, has, find_named}
 use Rattle.object_store.specs.Unfolding.{flat}
-use Rattle.repo_state.specs.Repos.{Snapshot, snapshot_of, snapshot_commit, snapshot_name, snapshot_object}
-use Rattle.repo_state.specs.Changes.{commit_named}
+use Rattle.object_store.specs.StoredSnapshots.{snapshot_of, snapshot_object, commit_named}
+use Rattle.git_objects.specs.Snapshots.{Snapshot, snapshot_commit, snapshot_name}
 
 -- the commits of these names, with the trees that they stand for
 abbrev pub snapshots_at : List Object → List Bytes → List Snapshot

@@ -9,11 +9,10 @@ ghost use Rattle.git_objects.specs.Parts.{name_bytes};
 ghost use Rattle.git_objects.specs.Paths.{same_bytes};
 ghost use Rattle.git_objects.specs.Trees.{Flat, under};
 ghost use Rattle.git_objects.specs.declared.kind.Kind.TheVariants.{Commit, Tree};
-ghost use Rattle.object_store.specs.Errors.{newest};
 ghost use Rattle.object_store.specs.Objects.{has, IsStore};
 ghost use Rattle.object_store.specs.Unfolding.{flat};
 ghost use Rattle.path_trees.specs.Listed.{directory_of};
-ghost use Rattle.repo_state.specs.Changes.{commit_named};
+ghost use Rattle.object_store.specs.StoredSnapshots.{commit_named};
 ghost use Rattle.history_project.specs.Projection.{distinct, name_line, projected, projection_below, shown_commit};
 ghost use Rattle.history_project.specs.Kept.{kept, with_shown, IsNameOf};
 ghost use Rattle.history_project.specs.Snapshots.{snapshots_at};
@@ -43,9 +42,9 @@ pub fn projection(
     place: &Path,
     head: &Name,
 ) -> Result<Option<Shown>, AllocError>
-    requires { list_all (λ n. has Commit (newest store.now) n) (map name_bytes commits.now) ≡ true }
+    requires { list_all (λ n. has Commit store.now n) (map name_bytes commits.now) ≡ true }
     ensures { IfOk result (λ shown. option_map shown_value shown
-        ≡ projection_below place.now (snapshots_at (newest store.now) (reverse (map name_bytes commits.now))) head.now.0) }
+        ≡ projection_below place.now (snapshots_at store.now (reverse (map name_bytes commits.now))) head.now.0) }
 {
     let mut made = IndexMap::with_capacity(alloc, commits.len())?;
     for name in commits {
@@ -77,9 +76,10 @@ pub fn projection_line(
     place: &Path,
     head: &Name,
 ) -> Result<Bytes, AllocError>
-    requires { list_all (λ n. has Commit (newest store.now) n) (map name_bytes commits.now) ≡ true }
+    requires { list_all (λ n. has Commit store.now n) (map name_bytes commits.now) ≡ true }
     ensures { IfOk result (λ line. line
-        ≡ name_line (projection_below place.now (snapshots_at (newest store.now) (reverse (map name_bytes commits.now))) head.now.0)) }
+        ≡ name_line (projection_below place.now (snapshots_at store.now (reverse
+        (map name_bytes commits.now))) head.now.0)) }
 {
     let shown = projection(alloc, store, commits, place, head)?;
     let line = name_line(alloc, shown)?;
@@ -94,10 +94,12 @@ fn project_commit(
     place: &Path,
     name: &Name,
 ) -> Result<Option<Shown>, AllocError>
-    requires { has Commit (newest store.now) name.now.0 ≡ true }
-    ensures shown { (c : CommitValue) → commit_named (newest store.now) name.now.0 ≡ Some c → IfOk result (λ shown. option_map shown_value shown
-        ≡ projected (under (flat (newest store.now) c.tree) place.now) c.letter (distinct (filter_map (kept made.now.entries) c.parents))) }
-    ensures store { IsStore (newest store.now) }
+    requires { has Commit store.now name.now.0 ≡ true }
+    ensures shown { (c : CommitValue) → commit_named store.now name.now.0 ≡ Some c →
+        IfOk result (λ shown. option_map shown_value shown
+        ≡ projected (under (flat store.now c.tree) place.now) c.letter (distinct (filter_map
+        (kept made.now.entries) c.parents))) }
+    ensures store { IsStore store.now }
 {
     let Some(object) = store.get(name) else {
         unreachable!()
@@ -112,9 +114,9 @@ fn project_commit(
 
 // The name of the tree of all that lies below a path, unless it is empty.
 fn shown_tree(store: &Store, root: Name, place: &Path) -> Option<Name>
-    requires tree { has Tree (newest store.now) root.0 ≡ true }
-    requires store { IsStore (newest store.now) }
-    ensures { IsNameOf (under (flat (newest store.now) root.0) place.now) result }
+    requires tree { has Tree store.now root.0 ≡ true }
+    requires store { IsStore store.now }
+    ensures { IsNameOf (under (flat store.now root.0) place.now) result }
 {
     match entry_at(store, root, place) {
         None => None,
@@ -246,7 +248,7 @@ fn shown_commit(
     })
 }
 
-// The commits' names.
+// The names of projected commits.
 fn names(alloc: Global, shown: &[Shown]) -> Result<Vec<Name>, AllocError>
     ensures { IfOk result (λ names. names.items ≡ map (λ p. p.commit) shown.now) }
 {

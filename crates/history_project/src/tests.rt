@@ -2,7 +2,6 @@
 ghost use Rattle.std.specs.Prelude.{◌≡◌};
 ghost use Rattle.std.specs.List.{list_all};
 ghost use Rattle.git_objects.specs.declared.kind.Kind.TheVariants.{Commit};
-ghost use Rattle.object_store.specs.Errors.{newest};
 ghost use Rattle.object_store.specs.Objects.{has};
 
 use crate::projections::{name_line, projection};
@@ -65,7 +64,7 @@ const SHOWN: [(&[u8], usize, &[u8]); 7] = [
 ];
 
 fn is_commit(store: &Store, name: &Name) -> bool
-    ensures { result ≡ has Commit (newest store.now) name.now.0 }
+    ensures { result ≡ has Commit store.now name.now.0 }
 {
     match store.get(name) {
         None => false,
@@ -74,7 +73,7 @@ fn is_commit(store: &Store, name: &Name) -> bool
 }
 
 fn are_commits(store: &Store, names: &[Name]) -> bool
-    ensures { result ≡ list_all (λ n. has Commit (newest store.now) n.0) names.now }
+    ensures { result ≡ list_all (λ n. has Commit store.now n.0) names.now }
 {
     names.iter().all(|name| is_commit(store, name))
 }

@@ -10,7 +10,7 @@ use Rattle.git_objects.specs.Names.{name}
 use Rattle.git_objects.specs.declared.kind.Kind.{Kind}
 use Rattle.git_objects.specs.declared.name.Name.{Name}
 use Rattle.object_store.specs.Objects.{Object, object_name, find_named, has_name, is_body, IsStore}
-use Rattle.object_store.specs.Places.{placed, placed_objects, IsPlaced, ArePlaced, AreSized, HoldsStore}
+use Rattle.object_store.specs.Places.{arrived_objects, placed, placed_objects, IsPlaced, ArePlaced, AreSized, HoldsStore}
 use Rattle.object_store.specs.Sizes.{sizes}
 use Rattle.object_store.specs.Unfolding.{body_flat}
 use Rattle.object_store.specs.declared.store.Place.{Place}
@@ -28,7 +28,7 @@ part-append arena more at len h =
 placed-append : (arena more : Bytes) (p : Place) → p.at + p.len ≤ length arena → placed (arena ++ more) p ≡ placed arena p
 placed-append arena more p h = ap (λ (b : Bytes). record { kind = p.kind; body = b }) (part-append arena more p.at p.len h)
 
-pub objects-append : (arena more : Bytes) (es : List (Name × Place)) → ArePlaced arena es → placed_objects (arena ++ more) es ≡ placed_objects arena es
+pub objects-append : (arena more : Bytes) (es : List (Name × Place)) → ArePlaced arena es → arrived_objects (arena ++ more) es ≡ arrived_objects arena es
 objects-append arena more [] h = refl
 objects-append arena more (e ∷ es) h = λ i. placed-append arena more e.1 h.0.within i ∷ objects-append arena more es h.1 i
 
@@ -62,15 +62,15 @@ module _ (kind : Kind) (key : Name) (arena body : Bytes) (stats : TreeStats) (es
       take-all [] = refl
       take-all (x ∷ b) = ap (λ (c : Bytes). x ∷ c) (take-all b)
 
-  pub objects-new : ArePlaced arena es → reverse (placed_objects (arena ++ body) (es ++ (key, new_place) ∷ [])) ≡ new_object ∷ reverse (placed_objects arena es)
+  pub objects-new : ArePlaced arena es → placed_objects (arena ++ body) (es ++ (key, new_place) ∷ []) ≡ new_object ∷ placed_objects arena es
   objects-new h =
       ap reverse (map-append (λ (e : Name × Place). placed (arena ++ body) e.1) es ((key, new_place) ∷ []) ∙ (λ i. objects-append arena body es h i ++ placed-new i ∷ []))
-      ∙ reverse-append (placed_objects arena es) (new_object ∷ [])
+      ∙ reverse-append (arrived_objects arena es) (new_object ∷ [])
 
-  pub holds-new : HoldsStore arena es → key.0 ≡ name kind body → find_named (reverse (placed_objects arena es)) key.0 ≡ None → is_body (reverse (placed_objects arena es)) kind body ≡ true → stats ≡ sizes (body_flat (reverse (placed_objects arena es)) kind body) →
+  pub holds-new : HoldsStore arena es → key.0 ≡ name kind body → find_named (placed_objects arena es) key.0 ≡ None → is_body (placed_objects arena es) kind body ≡ true → stats ≡ sizes (body_flat (placed_objects arena es) kind body) →
       HoldsStore (arena ++ body) (es ++ (key, new_place) ∷ [])
   holds-new h n f b z =
-      let S = reverse (placed_objects arena es) in
+      let S = placed_objects arena es in
       let fresh : has_name S key.0 ≡ false = found_name S key.0 ∙ ap is_some f in
       record {
         placed = ArePlaced-push (arena ++ body) es (key, new_place) (ArePlaced-append arena body es h.placed)
@@ -82,12 +82,12 @@ module _ (kind : Kind) (key : Name) (arena body : Bytes) (stats : TreeStats) (es
 
   -- the same of an arena and of places that are equal to these
   pub held-added : (arena' : Bytes) (es' : List (Name × Place)) → arena' ≡ arena ++ body → es' ≡ es ++ (key, new_place) ∷ [] → HoldsStore arena es → key.0 ≡ name kind body →
-      find_named (reverse (placed_objects arena es)) key.0 ≡ None → is_body (reverse (placed_objects arena es)) kind body ≡ true → stats ≡ sizes (body_flat (reverse (placed_objects arena es)) kind body) → HoldsStore arena' es'
+      find_named (placed_objects arena es) key.0 ≡ None → is_body (placed_objects arena es) kind body ≡ true → stats ≡ sizes (body_flat (placed_objects arena es) kind body) → HoldsStore arena' es'
   held-added arena' es' p q h n f b z = subst (λ (d : Bytes × List (Name × Place)). HoldsStore d.0 d.1) (sym (λ i. (p i, q i))) (holds-new h n f b z)
 
   pub objects-added : (arena' : Bytes) (es' : List (Name × Place)) → arena' ≡ arena ++ body → es' ≡ es ++ (key, new_place) ∷ [] → HoldsStore arena es →
-      reverse (placed_objects arena' es') ≡ new_object ∷ reverse (placed_objects arena es)
-  objects-added arena' es' p q h = (λ i. reverse (placed_objects (p i) (q i))) ∙ objects-new h.placed
+      placed_objects arena' es' ≡ new_object ∷ placed_objects arena es
+  objects-added arena' es' p q h = (λ i. placed_objects (p i) (q i)) ∙ objects-new h.placed
 
 pub from_ok : {T E X : Type 0} (r : Result T E) → false ≡ is_err r → OnOk r X → X
 from_ok (Ok x) e h = h

@@ -14,7 +14,7 @@ use Rattle.git_objects.specs.declared.name.Name.{Name}
 use Rattle.git_objects.proofs.Basics.{same_bytes-back}
 use Rattle.git_objects.proofs.Maps.{first_some}
 use Rattle.object_store.specs.Objects.{Object, object_name, same_kind, find_named, has, has_name, body_of, IsStore}
-use Rattle.object_store.specs.Places.{placed, placed_objects, ArePlaced, HoldsStore}
+use Rattle.object_store.specs.Places.{arrived_objects, placed, placed_objects, ArePlaced, HoldsStore}
 use Rattle.object_store.specs.declared.store.Place.{Place}
 use Rattle.object_store.proofs.Held.{has_name-from}
 
@@ -67,22 +67,22 @@ find-reverse (o ∷ S) n h =
 
 -- ---- by places
 
-find-placed : (arena : Bytes) (es : List (Name × Place)) (k : Name) → ArePlaced arena es → find_named (placed_objects arena es) k.0 ≡ option_map (placed arena) (lookup (λ (j : Name). same_bytes k.0 j.0) es)
+find-placed : (arena : Bytes) (es : List (Name × Place)) (k : Name) → ArePlaced arena es → find_named (arrived_objects arena es) k.0 ≡ option_map (placed arena) (lookup (λ (j : Name). same_bytes k.0 j.0) es)
 unfolding find_named
 find-placed arena [] k h = refl
 find-placed arena (e ∷ es) k h =
-    ap (λ b. cond b (Some (placed arena e.1)) (find_named (placed_objects arena es) k.0)) (ap (λ n. same_bytes n k.0) h.0.named ∙ same_bytes-back e.0.0 k.0)
-    ∙ elim (same_bytes k.0 e.0.0) as (λ b. cond b (Some (placed arena e.1)) (find_named (placed_objects arena es) k.0) ≡ option_map (placed arena) (cond b (Some e.1) (lookup (λ (j : Name). same_bytes k.0 j.0) es))) [
+    ap (λ b. cond b (Some (placed arena e.1)) (find_named (arrived_objects arena es) k.0)) (ap (λ n. same_bytes n k.0) h.0.named ∙ same_bytes-back e.0.0 k.0)
+    ∙ elim (same_bytes k.0 e.0.0) as (λ b. cond b (Some (placed arena e.1)) (find_named (arrived_objects arena es) k.0) ≡ option_map (placed arena) (cond b (Some e.1) (lookup (λ (j : Name). same_bytes k.0 j.0) es))) [
       | true ↦ refl
       | false ↦ find-placed arena es k h.1
     ]
 
 pub find-places : (arena : Bytes) (es : List (Name × Place)) (k : Name) → HoldsStore arena es →
-    find_named (reverse (placed_objects arena es)) k.0 ≡ option_map (placed arena) (lookup (λ (j : Name). same_bytes k.0 j.0) es)
+    find_named (placed_objects arena es) k.0 ≡ option_map (placed arena) (lookup (λ (j : Name). same_bytes k.0 j.0) es)
 find-places arena es k h =
-    let S = reverse (placed_objects arena es) in
+    let S = placed_objects arena es in
     sym (find-reverse S k.0 (store-apart S h.store))
-    ∙ ap (λ (R : List Object). find_named R k.0) (reverse-reverse (placed_objects arena es))
+    ∙ ap (λ (R : List Object). find_named R k.0) (reverse-reverse (arrived_objects arena es))
     ∙ find-placed arena es k h.placed
 
 pub place-within : (arena : Bytes) (es : List (Name × Place)) (test : Name → Bool) (p : Place) → ArePlaced arena es → lookup test es ≡ Some p → p.at + p.len ≤ length arena
@@ -93,7 +93,7 @@ place-within arena (d ∷ es) test p h e =
       | false ↦ λ g. place-within arena es test p h.1 g
     ] e
 
-pub nothing-placed : (arena : Bytes) (es : List (Name × Place)) (k : Name) → HoldsStore arena es → find_named (reverse (placed_objects arena es)) k.0 ≡ None → lookup (λ (j : Name). same_bytes k.0 j.0) es ≡ None
+pub nothing-placed : (arena : Bytes) (es : List (Name × Place)) (k : Name) → HoldsStore arena es → find_named (placed_objects arena es) k.0 ≡ None → lookup (λ (j : Name). same_bytes k.0 j.0) es ≡ None
 nothing-placed arena es k h e = unmapped (lookup (λ (j : Name). same_bytes k.0 j.0) es) (sym (find-places arena es k h) ∙ e)
   where
     unmapped : (o : Option Place) → option_map (placed arena) o ≡ None → o ≡ None

@@ -7,3 +7,8 @@ pub mod Sizes
 pub mod Adding
 pub mod Putting
 pub mod Parents
+pub mod Parts
+pub mod Children
+pub mod FlatParts
+pub mod StoredCommits
+pub mod Growth

@@ -20,7 +20,7 @@ use Rattle.git_objects.specs.declared.name.Name.{Name}
 use Rattle.git_objects.proofs.Basics.{second, same_bytes-self}
 use Rattle.object_store.specs.Objects.{Object, object_name, same_kind, is_named, has, has_name, has_child, body_of, missing_entry}
 use Rattle.object_store.specs.Unfolding.{below, joined, flat, entry_flat, body_flat}
-use Rattle.object_store.specs.Places.{is_full_tree, placed, placed_objects, AreSized, HoldsStore}
+use Rattle.object_store.specs.Places.{is_full_tree, arrived_objects, placed, placed_objects, AreSized, HoldsStore}
 use Rattle.object_store.specs.Sizes.{longest, held_number, sizes, stats_of, leaf_sizes, sizes_below, sizes_joined}
 use Rattle.object_store.specs.declared.store.Place.{Place}
 use Rattle.object_store.specs.declared.store.TreeStats.{TreeStats}
@@ -139,7 +139,7 @@ stats_at (Some p) = cond (same_kind Tree p.kind) (Some p.stats) None
 
 module _ (arena : Bytes) (es : List (Name × Place)) (k : Name) (h : HoldsStore arena es) where
   abbrev objects : List Object
-  objects = reverse (placed_objects arena es)
+  objects = placed_objects arena es
 
   abbrev at_key : Option Place
   at_key = lookup (λ (j : Name). same_bytes k.0 j.0) es

@@ -1,5 +1,5 @@
 -- The code's objects and errors, as the definitions have them.
-use Rattle.std.specs.Prelude.{List, reverse, Option, Some, None}
+use Rattle.std.specs.Prelude.{Option, Some, None}
 use Rattle.object_store.specs.Objects.{Object}
 use Rattle.object_store.specs.Puts.{Refusal, NotBody, Missing, Collides}
 use Rattle.object_store.specs.declared.store.ObjectRef.{ObjectRef}
@@ -21,7 +21,3 @@ abbrev pub error_of : Refusal → PutError
 error_of NotBody = NotCanonical
 error_of (Missing n) = MissingChild (record { 0 = n })
 error_of (Collides n) = Collision (record { 0 = n })
-
--- a store's objects, which contracts see in order of arrival, from the newest to the oldest
-abbrev pub newest : List Object → List Object
-newest objects = reverse objects

@@ -6,3 +6,7 @@ pub mod Errors
 pub mod Sizes
 pub mod Places
 pub mod Rows
+pub mod TreeObjects
+pub mod StoredSnapshots
+pub mod Fits
+pub mod Growth

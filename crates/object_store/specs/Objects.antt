@@ -1,5 +1,5 @@
 -- Objects, and the objects of a store from the newest to the oldest.
-use Rattle.std.specs.Prelude.{◌≡◌, Bool, true, false, not, cond, ◌&&◌, ◌||◌, List, [], ◌∷◌, Option, Some, None}
+use Rattle.std.specs.Prelude.{◌≡◌, Bool, true, false, not, cond, ◌&&◌, ◌||◌, List, [], ◌∷◌, Option, Some, None, ⊤}
 use Rattle.std.specs.Option.{is_none, option_map_or}
 use Rattle.git_objects.specs.Paths.{Bytes, is_bytes, is_nil, same_bytes}
 use Rattle.git_objects.specs.Names.{name}
@@ -85,3 +85,7 @@ is_body S CommitKind b = is_bytes b && option_map_or (λ c. is_none (missing_of_
 abbrev pub IsStore : List Object → Type 0
 IsStore [] = Unit
 IsStore (o ∷ older) = (is_body older o.kind o.body ≡ true) × (has_name older (object_name o) ≡ false) × IsStore older
+
+abbrev pub HasChildren : List Object → List Entry → Type 0
+HasChildren S [] = ⊤
+HasChildren S (e ∷ es) = (has_child S e.mode e.name.0 ≡ true) × HasChildren S es

@@ -17,9 +17,13 @@ placed arena p = record { kind = p.kind; body = slice_range arena p.at (p.at + p
 abbrev pub is_full_tree : Place → Bool
 is_full_tree p = same_kind Tree p.kind && not (p.len == 0)
 
--- the objects in order of arrival
+-- the objects at these places, in order of arrival
+abbrev pub arrived_objects : Bytes → List (Name × Place) → List Object
+arrived_objects arena places = map (λ e. placed arena e.1) places
+
+-- the objects at these places, the newest first
 abbrev pub placed_objects : Bytes → List (Name × Place) → List Object
-placed_objects arena places = map (λ e. placed arena e.1) places
+placed_objects arena places = reverse (arrived_objects arena places)
 
 -- the place lies in the arena, and its key is its object's name
 pub record IsPlaced (arena : Bytes) (e : Name × Place) : Type 0 where
@@ -37,5 +41,5 @@ AreSized S (e ∷ es) = (e.1.stats ≡ sizes (flat S e.0.0)) × AreSized S es
 
 pub record HoldsStore (arena : Bytes) (places : List (Name × Place)) : Type 0 where
   pub placed : ArePlaced arena places
-  pub store : IsStore (reverse (placed_objects arena places))
-  pub sized : AreSized (reverse (placed_objects arena places)) places
+  pub store : IsStore (placed_objects arena places)
+  pub sized : AreSized (placed_objects arena places) places

@@ -1,5 +1,5 @@
 -- The flat map that a name stands for in a store.
-use Rattle.std.specs.Prelude.{cond, List, [], ◌∷◌, ◌++◌, map}
+use Rattle.std.specs.Prelude.{cond, List, [], ◌∷◌, ◌++◌, map, ◌≡◌, true}
 use Rattle.std.specs.Option.{unwrap_or}
 use Rattle.git_objects.specs.Paths.{Bytes}
 use Rattle.git_objects.specs.Trees.{FileLeaf, ExecLeaf, LinkLeaf, ModuleLeaf, Flat, Node, LeafNode, TreeNode, rests}
@@ -9,7 +9,7 @@ use Rattle.git_objects.specs.declared.kind.Kind.{Kind}
 use Rattle.git_objects.specs.declared.kind.Kind.TheVariants.{Blob, Tree, Commit}
 use Rattle.git_objects.specs.declared.mode.Mode.{Mode}
 use Rattle.git_objects.specs.declared.mode.Mode.TheVariants.{File, Exec, Link, Module, Dir}
-use Rattle.object_store.specs.Objects.{Object, is_named, body_of}
+use Rattle.object_store.specs.Objects.{Object, is_named, body_of, has}
 
 -- what an entry stands for, by what names of blobs and of trees stand for
 abbrev pub node_of : (Bytes → Bytes) → (Bytes → Flat) → Mode → Bytes → Node
@@ -42,3 +42,8 @@ abbrev pub body_flat : List Object → Kind → Bytes → Flat
 body_flat S Tree b = joined (body_of Blob S) (flat S) (unwrap_or (tree_entries b) [])
 body_flat S Blob b = []
 body_flat S Commit b = []
+
+-- a tree of the store stands for this map
+pub record StandsFor (S : List Object) (n : Bytes) (t : Flat) : Type 0 where
+  pub held : has Tree S n ≡ true
+  pub map : flat S n ≡ t

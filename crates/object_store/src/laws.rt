@@ -1,8 +1,8 @@
 // Laws of the objects that other contracts cite.
 ghost use Rattle.object_store.specs.Laws.{GrowingLaw, UnfoldingLaw};
 
-/// The flat map of a stored tree is a tree, and the name of that tree is the stored name: so trees with one name have one
-/// flat map.
+/// The flat map of a stored tree is a tree, and the name of that tree is the stored name: so trees with one name have
+/// one flat map.
 pub fn unfolding_law()
     ensures { UnfoldingLaw }
 {}

@@ -1,6 +1,7 @@
 //! Objects by their names, children first.
 #![tactic(auto)]
 
+mod commits;
 mod laws;
 #[cfg(test)]
 mod sizes_tests;
@@ -9,5 +10,6 @@ mod store;
 mod tests;
 mod tree_stats;
 
+pub use commits::tree_of;
 pub use laws::{growing_law, unfolding_law};
 pub use store::{ObjectRef, PutError, Store, TreeStats};

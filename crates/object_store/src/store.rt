@@ -1,5 +1,6 @@
 // A store of objects.
-ghost use Rattle.std.specs.Prelude.{◌≡◌, ◌⊎◌, ◌+◌, ◌≤◌, ◌∷◌, [], length, IfOk, IfErr, IfSome, OnOk, OnErr, None, true, is_some};
+ghost use Rattle.std.specs.Prelude.{◌≡◌, ◌⊎◌, ◌+◌, ◌≤◌, ◌∷◌, [], length, IfOk, IfErr, IfSome, OnOk, OnErr, None};
+ghost use Rattle.std.specs.Prelude.{true, is_some};
 ghost use Rattle.std.specs.Option.{option_map};
 ghost use Rattle.std.specs.Result.{result_err};
 ghost use Rattle.git_objects.specs.Names.{name};
@@ -8,9 +9,10 @@ ghost use Rattle.git_objects.specs.Bodies.{tree_entries};
 ghost use Rattle.git_objects.specs.CommitBodies.{commit_from};
 ghost use Rattle.git_objects.specs.Views.{entry_value};
 ghost use Rattle.git_objects.specs.declared.kind.Kind.TheVariants.{Blob};
-ghost use Rattle.object_store.specs.Objects.{body_of, find_named, has, has_child, missing_entry, missing_of_commit, missing_parent, IsStore};
+ghost use Rattle.object_store.specs.Objects.{body_of, find_named, has, has_child, missing_entry, missing_of_commit};
+ghost use Rattle.object_store.specs.Objects.{missing_parent, IsStore};
 ghost use Rattle.object_store.specs.Puts.{if_missing, of_body, of_commit, of_tree, refusal, same_object, with_object};
-ghost use Rattle.object_store.specs.Errors.{object_value, refusal_told, error_of, newest};
+ghost use Rattle.object_store.specs.Errors.{object_value, refusal_told, error_of};
 ghost use Rattle.object_store.specs.Places.{is_full_tree, placed};
 ghost use Rattle.object_store.specs.Sizes.{leaf_sizes, sizes, stats_of};
 ghost use Rattle.object_store.specs.Unfolding.{below, body_flat, entry_flat, flat, joined};
@@ -52,7 +54,8 @@ pub struct TreeStats {
     pub longest: u32,
 }
 
-// Where an object's body stands in the arena, and how large its tree is: of what is no tree, without a path.
+// Where an object's body stands in the arena, and how large its tree is. The sizes of a blob or a commit are those of a
+// tree without a path.
 #[derive(Clone, Copy)]
 struct Place {
     kind: Kind,
@@ -120,8 +123,8 @@ impl Store {
 
     /// The object of that name. Needs no memory.
     pub fn get(&self, name: &Name) -> Option<ObjectRef<'_>>
-        ensures object { option_map object_value result ≡ find_named (newest self.now) name.now.0 }
-        ensures store { IsStore (newest self.now) }
+        ensures object { option_map object_value result ≡ find_named self.now name.now.0 }
+        ensures store { IsStore self.now }
     {
         match self.places.get(name) {
             None => None,
@@ -138,7 +141,7 @@ impl Store {
 
     /// How large the tree of that name is. It was worked out when the tree was put, and takes no memory.
     pub fn stats(&self, name: &Name) -> Option<TreeStats>
-        ensures { result ≡ stats_of (newest self.now) name.now.0 }
+        ensures { result ≡ stats_of self.now name.now.0 }
     {
         match self.places.get(name) {
             None => None,
@@ -154,7 +157,7 @@ impl Store {
 
     // Whether an object of that kind has that name.
     fn has(&self, kind: Kind, name: &Name) -> bool
-        ensures { result ≡ has kind (newest self.now) name.now.0 }
+        ensures { result ≡ has kind self.now name.now.0 }
     {
         match self.get(name) {
             None => false,
@@ -164,8 +167,8 @@ impl Store {
 
     // The sizes of a directory behind its component. None: no tree with a body is held under the name.
     fn dir_stats(&self, component: &[u8], name: &Name) -> Option<TreeStats>
-        ensures held { is_some result ≡ has_child (newest self.now) Mode.Dir name.now.0 }
-        ensures sizes { IfSome result (λ s. s ≡ sizes (below component.now (flat (newest self.now) name.now.0))) }
+        ensures held { is_some result ≡ has_child self.now Mode.Dir name.now.0 }
+        ensures sizes { IfSome result (λ s. s ≡ sizes (below component.now (flat self.now name.now.0))) }
     {
         match self.places.get(name) {
             None => None,
@@ -180,7 +183,7 @@ impl Store {
     }
 
     fn blob_stats(&self, component: &[u8], name: &Name) -> Option<TreeStats>
-        ensures held { is_some result ≡ has Blob (newest self.now) name.now.0 }
+        ensures held { is_some result ≡ has Blob self.now name.now.0 }
         ensures sizes { IfSome result (λ s. s ≡ leaf_sizes (length component.now)) }
     {
         if self.has(Kind::Blob, name) {
@@ -192,8 +195,8 @@ impl Store {
 
     // The sizes of what an entry adds. None: its child is not held.
     fn entry_stats(&self, entry: &EntryView<'_>) -> Option<TreeStats>
-        ensures held { is_some result ≡ has_child (newest self.now) entry.now.mode entry.now.name.0 }
-        ensures sizes { IfSome result (λ s. s ≡ sizes (entry_flat (newest self.now) (entry_value entry.now))) }
+        ensures held { is_some result ≡ has_child self.now entry.now.mode entry.now.name.0 }
+        ensures sizes { IfSome result (λ s. s ≡ sizes (entry_flat self.now (entry_value entry.now))) }
     {
         match entry.mode {
             Mode::File | Mode::Exec | Mode::Link => self.blob_stats(entry.component, &entry.name),
@@ -211,12 +214,12 @@ impl Store {
         stats: TreeStats,
     ) -> Result<(), AllocError>
         requires key { key.0 ≡ name kind body.now }
-        requires new { find_named (newest self.old) key.0 ≡ None }
-        requires body { of_body (newest self.old) kind body.now None ≡ None }
-        requires stats { stats ≡ sizes (body_flat (newest self.old) kind body.now) }
-        ensures ok { OnOk result (newest self.new ≡ record { kind = kind; body = body.now } ∷ newest self.old) }
+        requires new { find_named self.old key.0 ≡ None }
+        requires body { of_body self.old kind body.now None ≡ None }
+        requires stats { stats ≡ sizes (body_flat self.old kind body.now) }
+        ensures ok { OnOk result (self.new ≡ record { kind = kind; body = body.now } ∷ self.old) }
         ensures err { OnErr result (self.new ≡ self.old) }
-        ensures store { IsStore (newest self.new) }
+        ensures store { IsStore self.new }
     {
         let at = self.arena.len();
         self.arena.reserve(body.len())?;
@@ -236,7 +239,7 @@ impl Store {
 
     // Whether the object of that name has that kind and body. None: there is none.
     fn is_same(&self, name: &Name, kind: Kind, body: &[u8]) -> Option<bool>
-        ensures { result ≡ option_map (same_object kind body.now) (find_named (newest self.now) name.now.0) }
+        ensures { result ≡ option_map (same_object kind body.now) (find_named self.now name.now.0) }
     {
         match self.get(name) {
             None => None,
@@ -247,9 +250,9 @@ impl Store {
     // The sizes of a tree with these entries, or the first child that is not held.
     fn entries_stats(&self, mut entries: TreeView<'_>) -> Result<TreeStats, PutError>
         ensures fault { result_err result
-            ≡ option_map error_of (if_missing (missing_entry (newest self.now) entries.entry) None) }
+            ≡ option_map error_of (if_missing (missing_entry self.now entries.entry) None) }
         ensures sizes { IfOk result
-            (λ s. s ≡ sizes (joined (body_of Blob (newest self.now)) (flat (newest self.now)) entries.entry)) }
+            (λ s. s ≡ sizes (joined (body_of Blob self.now) (flat self.now) entries.entry)) }
     {
         let mut stats = NO_PATH;
         'entries: while let Some(entry) = entries.next() {
@@ -263,8 +266,8 @@ impl Store {
 
     // The sizes of a tree with that body, or what is wrong with it: that it is none, or a child that is not held.
     fn tree_stats(&self, body: &[u8]) -> Result<TreeStats, PutError>
-        ensures fault { result_err result ≡ option_map error_of (of_tree (newest self.now) (tree_entries body.now) None) }
-        ensures sizes { IfOk result (λ s. s ≡ sizes (body_flat (newest self.now) Kind.Tree body.now)) }
+        ensures fault { result_err result ≡ option_map error_of (of_tree self.now (tree_entries body.now) None) }
+        ensures sizes { IfOk result (λ s. s ≡ sizes (body_flat self.now Kind.Tree body.now)) }
     {
         match TreeView::of(body) {
             None => Err(PutError::NotCanonical),
@@ -274,7 +277,7 @@ impl Store {
 
     // The first of a commit's tree and parents that is not held.
     fn missing_of_commit(&self, commit: &CommitView<'_>) -> Option<Name>
-        ensures { option_map name_bytes result ≡ missing_of_commit (newest self.now) commit.now }
+        ensures { option_map name_bytes result ≡ missing_of_commit self.now commit.now }
     {
         let tree = commit.tree();
         if !self.has(Kind::Tree, &tree) {
@@ -293,7 +296,7 @@ impl Store {
 
     // What is wrong with a commit's body: that it is none, or a child that is not held.
     fn commit_fault(&self, body: &[u8]) -> Option<PutError>
-        ensures { result ≡ option_map error_of (of_commit (newest self.now) (commit_from body.now) None) }
+        ensures { result ≡ option_map error_of (of_commit self.now (commit_from body.now) None) }
     {
         match CommitView::of(body) {
             None => Some(PutError::NotCanonical),
@@ -303,8 +306,8 @@ impl Store {
 
     // The sizes of what a body of that kind stands for, or what is wrong with it.
     fn body_stats(&self, kind: Kind, body: &[u8]) -> Result<TreeStats, PutError>
-        ensures fault { result_err result ≡ option_map error_of (of_body (newest self.now) kind body.now None) }
-        ensures sizes { IfOk result (λ s. s ≡ sizes (body_flat (newest self.now) kind body.now)) }
+        ensures fault { result_err result ≡ option_map error_of (of_body self.now kind body.now None) }
+        ensures sizes { IfOk result (λ s. s ≡ sizes (body_flat self.now kind body.now)) }
     {
         match kind {
             Kind::Blob => Ok(NO_PATH),
@@ -316,27 +319,27 @@ impl Store {
         }
     }
 
-    /// Takes an object in, and gives its name. One that is held already changes nothing. Of several faults the body's comes
-    /// first, then the first child in the body's order, then a collision.
+    /// Takes an object in, and gives its name. One that is held already changes nothing. Of several faults the body's
+    /// comes first, then the first child in the body's order, then a collision.
     pub fn put(&mut self, kind: Kind, body: Vec<u8>) -> Result<Name, PutError>
-        ensures ok { IfOk result (λ n. (n.0 ≡ name kind body.items) × (refusal (newest self.old) kind body.items ≡ None)
-            × (newest self.new ≡ with_object (newest self.old) kind body.items)) }
+        ensures ok { IfOk result (λ n. (n.0 ≡ name kind body.items) × (refusal self.old kind body.items ≡ None)
+            × (self.new ≡ with_object self.old kind body.items)) }
         ensures err { IfErr result (λ e. (self.new ≡ self.old)
-            × ((e ≡ PutError.OutOfMemory) ⊎ (refusal (newest self.old) kind body.items ≡ refusal_told e))) }
-        ensures store { IsStore (newest self.new) }
+            × ((e ≡ PutError.OutOfMemory) ⊎ (refusal self.old kind body.items ≡ refusal_told e))) }
+        ensures store { IsStore self.new }
     {
         self.put_slice(kind, &body)
     }
 
-    /// The same as `put`, of a body that is lent.
+    /// Takes an object in as `put` does, from a body that is lent.
     pub fn put_slice(&mut self, kind: Kind, body: &[u8]) -> Result<Name, PutError>
-        ensures ok { IfOk result (λ n. (n.0 ≡ name kind body.now) × (refusal (newest self.old) kind body.now ≡ None)
-            × (newest self.new ≡ with_object (newest self.old) kind body.now)) }
+        ensures ok { IfOk result (λ n. (n.0 ≡ name kind body.now) × (refusal self.old kind body.now ≡ None)
+            × (self.new ≡ with_object self.old kind body.now)) }
         ensures err { IfErr result (λ e. (self.new ≡ self.old)
-            × ((e ≡ PutError.OutOfMemory) ⊎ (refusal (newest self.old) kind body.now ≡ refusal_told e))) }
-        ensures store { IsStore (newest self.new) }
+            × ((e ≡ PutError.OutOfMemory) ⊎ (refusal self.old kind body.now ≡ refusal_told e))) }
+        ensures store { IsStore self.new }
     {
-        // Every outcome rests on what the store keeps.
+        // The arena is looked at so that the proof has what each store keeps.
         let _ = &self.arena;
         let stats = self.body_stats(kind, body)?;
         let name = name_of(kind, body);

@@ -4,7 +4,7 @@ ghost use Rattle.object_store.specs.Sizes.{held_number, leaf_sizes, sizes_below,
 
 use crate::TreeStats;
 
-// Of a tree with no path.
+// The sizes of a tree with no path.
 pub const NO_PATH: TreeStats = TreeStats {
     files: 0,
     depth: 0,
@@ -18,7 +18,7 @@ fn held(n: usize) -> u32
     n.min(u32::MAX as usize) as u32
 }
 
-// Of a leaf at a component.
+// The sizes of a tree with one leaf, at a path of one component.
 pub fn leaf_stats(component: &[u8]) -> TreeStats
     ensures { result ≡ leaf_sizes (length component.now) }
 {
@@ -29,7 +29,7 @@ pub fn leaf_stats(component: &[u8]) -> TreeStats
     }
 }
 
-// Of a tree with a path, behind a component.
+// The sizes of a tree that has a path, where a component is put before each path.
 pub fn stats_below(component: &[u8], tree: TreeStats) -> TreeStats
     ensures { result ≡ sizes_below (length component.now) tree }
 {
@@ -42,7 +42,7 @@ pub fn stats_below(component: &[u8], tree: TreeStats) -> TreeStats
     }
 }
 
-// Of two trees' paths together.
+// The sizes of two trees' paths together.
 pub fn stats_joined(a: TreeStats, b: TreeStats) -> TreeStats
     ensures { result ≡ sizes_joined a b }
 {

@@ -18,14 +18,13 @@ use Rattle.git_objects.proofs.Basics.{and_both}
 use Rattle.git_objects.proofs.Digests.{name-is_name}
 use Rattle.git_objects.proofs.Pointwise.{IsNode}
 use Rattle.object_store.specs.Objects.{Object, has, has_child, IsStore}
-use Rattle.object_store.specs.Errors.{newest}
 use Rattle.object_store.specs.Puts.{of_body}
-use Rattle.object_store.specs.Unfolding.{flat}
+use Rattle.object_store.specs.Unfolding.{flat, StandsFor}
 use Rattle.object_store.proofs.Held.{has-above}
 use Rattle.object_store.proofs.Listings.{IsFullNode}
 use Rattle.object_store.proofs.Unfolding.{growing_law, IsHeld, flat_good, node_good}
 use Rattle.path_trees.specs.Standing.{node, IsClear}
-use Rattle.path_trees.specs.Made.{StandsFor, IsOnWay, AreMade, IsGrown, IsTreeFault}
+use Rattle.path_trees.specs.Made.{IsOnWay, AreMade, IsGrown, IsTreeFault}
 use Rattle.path_trees.specs.Listed.{listed_at, changed, edited}
 use Rattle.path_trees.specs.Levels.{IsDirectory, AreDirectories, IsTaken, IsRefused, IsAbove}
 use Rattle.path_trees.specs.declared.found.Found.{Found}
@@ -221,16 +220,16 @@ module _ (S0 : List Object) (s0 : IsStore S0) (root : Bytes) (held : has Tree S0
 
 -- ---- the last turn, whatever it answers
 
-module _ (S0 : List Object) (p : Path) (u : Flat) (new old : List Object) (b : Bytes) (level : IsLevel S0 p u 0 (newest old) b) where
-  pub finish_ok : (r : Result Name TreeFault) → under u (take 0 p) ≡ u → IfOk r (λ n. (n.0 ≡ name Tree b) × IsTaken (newest old) b (newest new)) → IfOk r (λ n. StandsFor (newest new) n.0 u)
-  finish_ok (Ok n) w h = subst (λ (m : Bytes). StandsFor (newest new) m u) (sym h.0) (subst (StandsFor (newest new) (name Tree b)) w (level.standing_for (newest new) h.1))
+module _ (S0 : List Object) (p : Path) (u : Flat) (new old : List Object) (b : Bytes) (level : IsLevel S0 p u 0 old b) where
+  pub finish_ok : (r : Result Name TreeFault) → under u (take 0 p) ≡ u → IfOk r (λ n. (n.0 ≡ name Tree b) × IsTaken old b new) → IfOk r (λ n. StandsFor new n.0 u)
+  finish_ok (Ok n) w h = subst (λ (m : Bytes). StandsFor new m u) (sym h.0) (subst (StandsFor new (name Tree b)) w (level.standing_for new h.1))
   finish_ok (Err e) w h = tt
 
-  pub finish_err : (r : Result Name TreeFault) → IfErr r (λ e. (new ≡ old) × IsRefused (newest old) b e) → IfErr r (IsTreeFault (IsOnWay u p) (newest new))
+  pub finish_err : (r : Result Name TreeFault) → IfErr r (λ e. (new ≡ old) × IsRefused old b e) → IfErr r (IsTreeFault (IsOnWay u p) new)
   finish_err (Ok n) h = tt
-  finish_err (Err e) h = subst (λ (R : List Object). IsTreeFault (IsOnWay u p) (newest R) e) (sym h.0) (level.refusing e h.1)
+  finish_err (Err e) h = subst (λ (R : List Object). IsTreeFault (IsOnWay u p) R e) (sym h.0) (level.refusing e h.1)
 
-  pub finish_store : (r : Result Name TreeFault) → IsGrown (IsOnWay u p) S0 (newest old) → IsStore (newest new) → IfOk r (λ n. (n.0 ≡ name Tree b) × IsTaken (newest old) b (newest new)) →
-      IfErr r (λ e. (new ≡ old) × IsRefused (newest old) b e) → IsGrown (IsOnWay u p) S0 (newest new)
-  finish_store (Ok n) g s h k = level.growing (newest new) s h.1
-  finish_store (Err e) g s h k = subst (λ (R : List Object). IsGrown (IsOnWay u p) S0 (newest R)) (sym k.0) g
+  pub finish_store : (r : Result Name TreeFault) → IsGrown (IsOnWay u p) S0 old → IsStore new → IfOk r (λ n. (n.0 ≡ name Tree b) × IsTaken old b new) →
+      IfErr r (λ e. (new ≡ old) × IsRefused old b e) → IsGrown (IsOnWay u p) S0 new
+  finish_store (Ok n) g s h k = level.growing new s h.1
+  finish_store (Err e) g s h k = subst (λ (R : List Object). IsGrown (IsOnWay u p) S0 R) (sym k.0) g

@@ -12,9 +12,8 @@ use Rattle.git_objects.specs.Trees.{Flat, IsTree, under}
 use Rattle.git_objects.specs.declared.name.Name.{Name}
 use Rattle.git_objects.specs.declared.kind.Kind.TheVariants.{Tree}
 use Rattle.object_store.specs.Objects.{Object, has, IsStore}
-use Rattle.object_store.specs.Unfolding.{flat}
+use Rattle.object_store.specs.Unfolding.{flat, StandsFor}
 use Rattle.object_store.proofs.Unfolding.{flat_good}
-use Rattle.path_trees.specs.Made.{StandsFor}
 use Rattle.path_trees.specs.Listed.{found_at, listed, directory_of}
 use Rattle.path_trees.specs.Levels.{IsDirectory, AreDirectories}
 use Rattle.path_trees.proofs.Lookups.{under_nil, under_front, step_down}

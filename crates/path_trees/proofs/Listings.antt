@@ -9,6 +9,7 @@ use Rattle.std.specs.FinMap.{slice_cmp-IsAntisymmetric, nat_cmp-IsAntisymmetric}
 use Rattle.git_objects.specs.Paths.{Bytes, same_bytes, is_component}
 use Rattle.git_objects.specs.Entries.{dir_key, git_cmp, Before, entry_component, entry_dir, AreEntries}
 use Rattle.git_objects.specs.declared.entry.Entry.{Entry}
+use Rattle.git_objects.proofs.Tops.{same_key}
 use Rattle.git_objects.proofs.Basics.{same_bytes-back, no_slash}
 use Rattle.git_objects.specs.Lists.{Each}
 use Rattle.git_objects.proofs.Order.{front}
@@ -26,12 +27,6 @@ abbrev pub Away : Bytes → List Entry → Type 0
 Away c es = Each (λ e. same_bytes c e.component ≡ false) es
 
 -- ---- Git's order
-
-pub same_key : (c d : Bytes) (s t : Bool) → is_component c ≡ true → is_component d ≡ true → dir_key c s ≡ dir_key d t → c ≡ d
-same_key c d false false h g e = e
-same_key c d false true h g e = absurd (no_slash c d h e)
-same_key c d true false h g e = absurd (no_slash d c g (sym e))
-same_key c d true true h g e = front c d e
 
 less : (o : Ordering) → is_lt o ≡ true → o ≡ Less
 less Less h = refl

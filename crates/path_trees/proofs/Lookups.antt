@@ -6,7 +6,7 @@ use Rattle.std.specs.Cmp.{first_so, second_so}
 use Rattle.std.proofs.lemmas.Bool.{not-true}
 use Rattle.std.proofs.Math.Seq.{drop-cons}
 use Rattle.git_objects.specs.Paths.{Bytes, Path, same_bytes, is_path, is_nil, is_prefix, comparable}
-use Rattle.git_objects.specs.Trees.{Leaf, Flat, IsTree, LeafNode, TreeNode, at, under, remove}
+use Rattle.git_objects.specs.Trees.{Leaf, Flat, IsTree, LeafNode, TreeNode, at, under, remove, standing, if_full}
 use Rattle.git_objects.specs.declared.entry.Entry.{Entry}
 use Rattle.git_objects.specs.declared.name.Name.{Name}
 use Rattle.git_objects.specs.declared.kind.Kind.TheVariants.{Tree}
@@ -18,10 +18,9 @@ use Rattle.git_objects.proofs.Basics.{same_bytes-self}
 use Rattle.git_objects.proofs.Pointwise.{all_at, at_apart}
 use Rattle.git_objects.proofs.Under.{at-under, at-under_nil, under_cons, under-tree}
 use Rattle.object_store.specs.Objects.{Object, has, has_child, body_of, IsStore}
-use Rattle.object_store.specs.Unfolding.{flat}
+use Rattle.object_store.specs.Unfolding.{flat, StandsFor}
 use Rattle.object_store.proofs.Unfolding.{AreHeld, IsFull, flat_good}
-use Rattle.path_trees.specs.Standing.{node, standing, if_full, IsClear}
-use Rattle.path_trees.specs.Made.{StandsFor}
+use Rattle.path_trees.specs.Standing.{node, IsClear}
 use Rattle.path_trees.specs.Listed.{entry_at, found, found_at, listed, directory_of}
 use Rattle.path_trees.specs.Levels.{IsDirectory}
 use Rattle.path_trees.specs.declared.found.Found.{Found}

@@ -25,7 +25,8 @@ use Rattle.path_trees.specs.Listed.{found, found_at}
 use Rattle.path_trees.specs.Merged.{Side, OnLeft, OnRight, OnBoth, by_order, among, merged, shared, with_names}
 use Rattle.path_trees.specs.declared.join.Shared.{Shared}
 use Rattle.path_trees.proofs.Grown.{joined_in}
-use Rattle.path_trees.proofs.Listings.{Away, away_before, same_key}
+use Rattle.path_trees.proofs.Listings.{Away, away_before}
+use Rattle.git_objects.proofs.Tops.{same_key}
 use Rattle.path_trees.proofs.Levels.{at-block, at-away}
 use Rattle.path_trees.proofs.Walks.{dir_rests}
 use Rattle.path_trees.proofs.Clashing.{at-together}

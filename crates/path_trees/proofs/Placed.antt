@@ -15,11 +15,10 @@ use Rattle.git_objects.specs.declared.mode.Mode.TheVariants.{Dir}
 use Rattle.git_objects.specs.declared.kind.Kind.TheVariants.{Tree}
 use Rattle.git_objects.specs.Lists.{Each}
 use Rattle.object_store.specs.Objects.{Object, IsStore, has, has_child}
-use Rattle.object_store.specs.Unfolding.{flat, below}
+use Rattle.object_store.specs.Unfolding.{flat, below, StandsFor}
 use Rattle.object_store.proofs.Unfolding.{node, IsFull, AreHeld, flat_good}
 use Rattle.path_trees.specs.Clashes.{clash}
 use Rattle.path_trees.specs.Listed.{found_at, listed, directory_of}
-use Rattle.path_trees.specs.Made.{StandsFor}
 use Rattle.path_trees.specs.Merged.{Side, OnLeft, OnBoth, merged, shared}
 use Rattle.path_trees.specs.Joins.{listing_of, IsPlaced, IsLinked, AreLinked}
 use Rattle.path_trees.specs.Levels.{IsDirectory}

@@ -18,14 +18,14 @@ use Rattle.git_objects.proofs.Maps.{first_some, same_flat}
 use Rattle.git_objects.proofs.Order.{path_decides}
 use Rattle.object_store.specs.Objects.{Object, IsStore, has, has_child, body_of}
 use Rattle.object_store.specs.Puts.{of_body}
-use Rattle.object_store.specs.Unfolding.{flat}
+use Rattle.object_store.specs.Unfolding.{flat, StandsFor}
 use Rattle.object_store.proofs.Held.{has-above}
 use Rattle.object_store.proofs.Unfolding.{IsFlat, flat_good, growing_law}
 use Rattle.path_trees.specs.Clashes.{IsShared, clash, together}
 use Rattle.path_trees.specs.Joins.{IsPlaced, IsLinked, AreLinked, listing_of}
 use Rattle.path_trees.specs.Levels.{IsTaken, IsRefused}
 use Rattle.path_trees.specs.Listed.{listed}
-use Rattle.path_trees.specs.Made.{StandsFor, IsGrown, IsTreeFault}
+use Rattle.path_trees.specs.Made.{IsGrown, IsTreeFault}
 use Rattle.path_trees.specs.Merged.{Side, merged, shared, with_names}
 use Rattle.path_trees.specs.declared.found.TreeFault.{TreeFault}
 use Rattle.path_trees.specs.declared.found.TreeFault.TheVariants.{Collision, OutOfMemory}

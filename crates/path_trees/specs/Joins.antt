@@ -5,7 +5,8 @@ use Rattle.git_objects.specs.Trees.{Flat, under}
 use Rattle.object_store.specs.Objects.{Object}
 use Rattle.path_trees.specs.Clashes.{IsShared, clash}
 use Rattle.path_trees.specs.Listed.{listed_at}
-use Rattle.path_trees.specs.Made.{StandsFor, IsCollision}
+use Rattle.path_trees.specs.Made.{IsCollision}
+use Rattle.object_store.specs.Unfolding.{StandsFor}
 use Rattle.path_trees.specs.Merged.{Side, merged, shared}
 use Rattle.path_trees.specs.declared.join.JoinFault.{JoinFault}
 use Rattle.path_trees.specs.declared.join.JoinFault.TheVariants.{Clash, Collision, OutOfMemory}

@@ -8,7 +8,7 @@ use Rattle.git_objects.specs.declared.mode.Mode.TheVariants.{Dir}
 use Rattle.git_objects.specs.declared.name.Name.{Name}
 use Rattle.object_store.specs.Objects.{Object, find_named}
 use Rattle.object_store.specs.Puts.{Collides, collision, with_object}
-use Rattle.path_trees.specs.Made.{StandsFor}
+use Rattle.object_store.specs.Unfolding.{StandsFor}
 use Rattle.path_trees.specs.declared.found.Found.{Found}
 use Rattle.path_trees.specs.declared.found.TreeFault.{TreeFault}
 use Rattle.path_trees.specs.declared.found.TreeFault.TheVariants.{Collision, OutOfMemory}

@@ -10,11 +10,6 @@ use Rattle.object_store.specs.Unfolding.{flat}
 use Rattle.path_trees.specs.declared.found.TreeFault.{TreeFault}
 use Rattle.path_trees.specs.declared.found.TreeFault.TheVariants.{Collision, OutOfMemory}
 
--- a tree of the store stands for this map
-pub record StandsFor (S : List Object) (n : Bytes) (t : Flat) : Type 0 where
-  pub held : has Tree S n ≡ true
-  pub map : flat S n ≡ t
-
 -- the body of a directory on the way to a path: of all that lies below a path that goes on to it
 pub record IsOnWay (t : Flat) (p : Path) (b : Bytes) : Type 0 where
   pub above : Path

@@ -1,8 +1,7 @@
 -- Worked examples.
 use Rattle.std.specs.Prelude.{◌≡◌, refl, [], ◌∷◌, codes, Some, None}
 use Rattle.git_objects.specs.Paths.{Bytes}
-use Rattle.git_objects.specs.Trees.{Leaf, FileLeaf, LeafNode, TreeNode, put, remove}
-use Rattle.path_trees.specs.Standing.{standing, copy, rename}
+use Rattle.git_objects.specs.Trees.{Leaf, FileLeaf, LeafNode, TreeNode, put, remove, standing, copy, rename}
 use Rattle.path_trees.specs.Clashes.{clash, together}
 
 abbrev a : Bytes

@@ -6,7 +6,6 @@ ghost use Rattle.git_objects.specs.Entries.{is_dir};
 ghost use Rattle.git_objects.specs.Paths.{Path, is_component, is_path};
 ghost use Rattle.git_objects.specs.Trees.{rests};
 ghost use Rattle.git_objects.specs.declared.kind.Kind.TheVariants.{Tree};
-ghost use Rattle.object_store.specs.Errors.{newest};
 ghost use Rattle.object_store.specs.Objects.{IsStore, has, has_child};
 ghost use Rattle.object_store.specs.Unfolding.{flat};
 ghost use Rattle.path_trees.specs.Clashes.{clash};
@@ -15,7 +14,7 @@ ghost use Rattle.path_trees.specs.Paired.{first_behind, pair_behind};
 ghost use Rattle.path_trees.specs.Standing.{node};
 
 use crate::Found;
-use crate::directory::{find, is_dir};
+use crate::directory::find;
 use crate::walk::{copied, entries_at, go_up, next_leaf};
 use git_objects::{Component, Mode, Name, TreeView};
 use object_store::Store;
@@ -29,13 +28,13 @@ pub struct Level<'a> {
     right: TreeView<'a>,
 }
 
-// The directories of these names.
+// What is left to read of the directories of these names, one of each tree, at the front of a path.
 fn level_at<'a>(store: &'a Store, left: &Name, right: &Name) -> Level<'a>
-    requires left { has Tree (newest store.now) left.now.0 ≡ true }
-    requires right { has Tree (newest store.now) right.now.0 ≡ true }
-    ensures left { listed (newest store.now) left.now.0 ≡ Some result.left }
-    ensures right { listed (newest store.now) right.now.0 ≡ Some result.right }
-    ensures store { IsStore (newest store.now) }
+    requires left { has Tree store.now left.now.0 ≡ true }
+    requires right { has Tree store.now right.now.0 ≡ true }
+    ensures left { listed store.now left.now.0 ≡ Some result.left }
+    ensures right { listed store.now right.now.0 ≡ Some result.right }
+    ensures store { IsStore store.now }
 {
     Level {
         left: entries_at(store, left),
@@ -51,9 +50,9 @@ pub fn first_clash(
     a: &Name,
     b: &Name,
 ) -> Result<Option<(Path, Path)>, AllocError>
-    requires first { has Tree (newest store.now) a.now.0 ≡ true }
-    requires second { has Tree (newest store.now) b.now.0 ≡ true }
-    ensures { IfOk result (λ found. found ≡ clash (flat (newest store.now) a.now.0) (flat (newest store.now) b.now.0)) }
+    requires first { has Tree store.now a.now.0 ≡ true }
+    requires second { has Tree store.now b.now.0 ≡ true }
+    ensures { IfOk result (λ found. found ≡ clash (flat store.now a.now.0) (flat store.now b.now.0)) }
 {
     let mut components = Vec::new(alloc);
     let mut levels = Vec::new(alloc);
@@ -84,10 +83,10 @@ pub fn first_clash(
 fn are_directories(a: Mode, b: Mode) -> bool
     ensures { result ≡ (is_dir a && is_dir b) }
 {
-    is_dir(a) && is_dir(b)
+    a.is_dir() && b.is_dir()
 }
 
-// The first path of what these components have in each tree, where one of the two is a leaf.
+// The first path of what two entries of one component have in each tree, where one of the two is a leaf.
 fn clash_at(
     alloc: Global,
     store: &Store,
@@ -96,13 +95,13 @@ fn clash_at(
     right: &Found,
 ) -> Result<(Path, Path), AllocError>
     requires path { is_path components.items ≡ true }
-    requires left { has_child (newest store.now) left.now.mode left.now.name.0 ≡ true }
-    requires right { has_child (newest store.now) right.now.mode right.now.name.0 ≡ true }
+    requires left { has_child store.now left.now.mode left.now.name.0 ≡ true }
+    requires right { has_child store.now right.now.mode right.now.name.0 ≡ true }
     requires leaf { (is_dir left.now.mode && is_dir right.now.mode) ≡ false }
     ensures { IfOk result (λ found. Some found ≡ option_map (pair_behind components.items)
-        (clash (rests (node (newest store.now) left.now)) (rests (node (newest store.now) right.now)))) }
+        (clash (rests (node store.now left.now)) (rests (node store.now right.now)))) }
 {
-    // Every answer rests on what the store keeps.
+    // The store is looked at so that the proof has what each store keeps.
     let _ = store.get(&left.name);
     let path = Path::of(components);
     let other = path.copy(alloc)?.into_components();
@@ -111,7 +110,7 @@ fn clash_at(
     Ok((own, by))
 }
 
-// The first path of what these components have.
+// The first path of what two entries of one component have in their trees.
 fn first_path(
     alloc: Global,
     store: &Store,
@@ -119,10 +118,10 @@ fn first_path(
     found: &Found,
 ) -> Result<Path, AllocError>
     requires path { is_path components.items ≡ true }
-    requires held { has_child (newest store.now) found.now.mode found.now.name.0 ≡ true }
-    ensures { IfOk result (λ path. Some path ≡ first_behind components.items (rests (node (newest store.now) found.now))) }
+    requires held { has_child store.now found.now.mode found.now.name.0 ≡ true }
+    ensures { IfOk result (λ path. Some path ≡ first_behind components.items (rests (node store.now found.now))) }
 {
-    if !is_dir(found.mode) {
+    if !found.mode.is_dir() {
         return Ok(Path::of(components));
     }
     let mut levels = Vec::new(alloc);

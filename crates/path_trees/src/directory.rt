@@ -2,20 +2,13 @@
 ghost use Rattle.std.specs.Prelude.{◌≡◌, is_some, true};
 ghost use Rattle.git_objects.specs.Bodies.{tree_entries};
 ghost use Rattle.std.specs.Option.{option_and_then};
-ghost use Rattle.git_objects.specs.Entries.{is_dir};
-ghost use Rattle.object_store.specs.Errors.{newest, object_value};
+ghost use Rattle.object_store.specs.Errors.{object_value};
 ghost use Rattle.object_store.specs.Objects.{IsStore};
 ghost use Rattle.path_trees.specs.Listed.{directory_of, entries_of, found_at, listed};
 
 use crate::Found;
 use git_objects::{Kind, Mode, Name, TreeView};
 use object_store::{ObjectRef, Store};
-
-pub fn is_dir(mode: Mode) -> bool
-    ensures { result ≡ is_dir mode }
-{
-    mode == Mode::Dir
-}
 
 // The entries of an object, unless it is no tree.
 fn entries_in<'a>(object: ObjectRef<'a>) -> Option<TreeView<'a>>
@@ -31,8 +24,8 @@ fn entries_in<'a>(object: ObjectRef<'a>) -> Option<TreeView<'a>>
 
 // What the tree of that name lists. None: no tree has the name.
 pub fn entries_of<'a>(store: &'a Store, name: &Name) -> Option<TreeView<'a>>
-    ensures entries { result ≡ listed (newest store.now) name.now.0 }
-    ensures store { IsStore (newest store.now) }
+    ensures entries { result ≡ listed store.now name.now.0 }
+    ensures store { IsStore store.now }
 {
     match store.get(name) {
         None => None,
@@ -57,8 +50,8 @@ pub fn find<'a>(mut entries: TreeView<'a>, component: &[u8]) -> Option<Found>
 
 // What a component has in the directory of that name.
 pub fn found_in(store: &Store, directory: &Name, component: &[u8]) -> Option<Found>
-    ensures found { result ≡ option_and_then (found_at component.now) (listed (newest store.now) directory.now.0) }
-    ensures store { IsStore (newest store.now) }
+    ensures found { result ≡ option_and_then (found_at component.now) (listed store.now directory.now.0) }
+    ensures store { IsStore store.now }
 {
     match entries_of(store, directory) {
         None => None,
@@ -69,11 +62,11 @@ pub fn found_in(store: &Store, directory: &Name, component: &[u8]) -> Option<Fou
 // The directory that a component has in the directory of that name.
 pub fn directory_in(store: &Store, directory: &Name, component: &[u8]) -> Option<Name>
     ensures name { result ≡ option_and_then directory_of
-        (option_and_then (found_at component.now) (listed (newest store.now) directory.now.0)) }
-    ensures store { IsStore (newest store.now) }
+        (option_and_then (found_at component.now) (listed store.now directory.now.0)) }
+    ensures store { IsStore store.now }
 {
     let found = found_in(store, directory, component)?;
-    if is_dir(found.mode) {
+    if found.mode.is_dir() {
         Some(found.name)
     } else {
         None

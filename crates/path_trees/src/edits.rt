@@ -3,11 +3,10 @@ ghost use Rattle.std.specs.Prelude.{◌≡◌, true, IfOk, IfErr, IfSome, IfNone
 ghost use Rattle.std.specs.Option.{option_map};
 ghost use Rattle.git_objects.specs.Trees.{put, remove};
 ghost use Rattle.git_objects.specs.declared.kind.Kind.TheVariants.{Tree};
-ghost use Rattle.object_store.specs.Errors.{newest};
 ghost use Rattle.object_store.specs.Objects.{has, has_child};
-ghost use Rattle.object_store.specs.Unfolding.{flat};
+ghost use Rattle.object_store.specs.Unfolding.{flat, StandsFor};
 ghost use Rattle.path_trees.specs.Standing.{IsClear, node};
-ghost use Rattle.path_trees.specs.Made.{IsGrown, IsOnWay, IsTreeFault, StandsFor};
+ghost use Rattle.path_trees.specs.Made.{IsGrown, IsOnWay, IsTreeFault};
 ghost use Rattle.git_objects.specs.Names.{name};
 ghost use Rattle.git_objects.specs.Entries.{body_text};
 ghost use Rattle.git_objects.specs.Bodies.{is_name};
@@ -34,18 +33,18 @@ pub fn put_at(
     path: &Path,
     found: Found,
 ) -> Result<Name, TreeFault>
-    requires root { has Tree (newest store.old) root.0 ≡ true }
-    requires found { has_child (newest store.old) found.mode found.name.0 ≡ true }
-    ensures ok { IfOk result (λ n. StandsFor (newest store.new) n.0
-        (put (flat (newest store.old) root.0) path.now (node (newest store.old) found))) }
+    requires root { has Tree store.old root.0 ≡ true }
+    requires found { has_child store.old found.mode found.name.0 ≡ true }
+    ensures ok { IfOk result (λ n. StandsFor store.new n.0
+        (put (flat store.old root.0) path.now (node store.old found))) }
     ensures err { IfErr result (IsTreeFault
-        (IsOnWay (put (flat (newest store.old) root.0) path.now (node (newest store.old) found)) path.now)
-        (newest store.new)) }
+        (IsOnWay (put (flat store.old root.0) path.now (node store.old found)) path.now)
+        store.new) }
     ensures store { IsGrown
-        (IsOnWay (put (flat (newest store.old) root.0) path.now (node (newest store.old) found)) path.now)
-        (newest store.old) (newest store.new) }
+        (IsOnWay (put (flat store.old root.0) path.now (node store.old found)) path.now)
+        store.old store.new }
 {
-    // A name has 20 bytes, a module's too.
+    // The name is looked at so that the proof has that it has 20 bytes, a module's too.
     let _ = found.name.bytes();
     edited(alloc, store, root, path, Some(found))
 }
@@ -58,15 +57,15 @@ pub fn remove_at(
     root: Name,
     path: &Path,
 ) -> Result<Name, TreeFault>
-    requires { has Tree (newest store.old) root.0 ≡ true }
-    ensures ok { IfOk result (λ n. StandsFor (newest store.new) n.0
-        (remove (flat (newest store.old) root.0) path.now)) }
+    requires { has Tree store.old root.0 ≡ true }
+    ensures ok { IfOk result (λ n. StandsFor store.new n.0
+        (remove (flat store.old root.0) path.now)) }
     ensures err { IfErr result (IsTreeFault
-        (IsOnWay (remove (flat (newest store.old) root.0) path.now) path.now) (newest store.new)) }
-    ensures store { IsGrown (IsOnWay (remove (flat (newest store.old) root.0) path.now) path.now)
-        (newest store.old) (newest store.new) }
+        (IsOnWay (remove (flat store.old root.0) path.now) path.now) store.new) }
+    ensures store { IsGrown (IsOnWay (remove (flat store.old root.0) path.now) path.now)
+        store.old store.new }
 {
-    // Every answer rests on what the store keeps.
+    // The store is looked at so that the proof has what each store keeps.
     let _ = store.get(&root);
     if entry_at(store, root, path).is_none() {
         return Ok(root);
@@ -74,7 +73,7 @@ pub fn remove_at(
     edited(alloc, store, root, path, None)
 }
 
-// The tree in which a path has this, or nothing.
+// The tree in which something, or nothing, stands at a path.
 fn edited(
     alloc: Global,
     store: &mut Store,
@@ -82,17 +81,17 @@ fn edited(
     path: &Path,
     change: Option<Found>,
 ) -> Result<Name, TreeFault>
-    requires root { has Tree (newest store.old) root.0 ≡ true }
-    requires held { IfSome change (λ f. (has_child (newest store.old) f.mode f.name.0 ≡ true) × (is_name f.name.0 ≡ true)) }
-    requires clear { IfNone change (IsClear (flat (newest store.old) root.0) path.now) }
-    ensures ok { IfOk result (λ n. StandsFor (newest store.new) n.0
-        (edited (flat (newest store.old) root.0) path.now (option_map (node (newest store.old)) change))) }
+    requires root { has Tree store.old root.0 ≡ true }
+    requires held { IfSome change (λ f. (has_child store.old f.mode f.name.0 ≡ true) × (is_name f.name.0 ≡ true)) }
+    requires clear { IfNone change (IsClear (flat store.old root.0) path.now) }
+    ensures ok { IfOk result (λ n. StandsFor store.new n.0
+        (edited (flat store.old root.0) path.now (option_map (node store.old) change))) }
     ensures err { IfErr result (IsTreeFault
-        (IsOnWay (edited (flat (newest store.old) root.0) path.now (option_map (node (newest store.old)) change)) path.now)
-        (newest store.new)) }
+        (IsOnWay (edited (flat store.old root.0) path.now (option_map (node store.old) change)) path.now)
+        store.new) }
     ensures store { IsGrown
-        (IsOnWay (edited (flat (newest store.old) root.0) path.now (option_map (node (newest store.old)) change)) path.now)
-        (newest store.old) (newest store.new) }
+        (IsOnWay (edited (flat store.old root.0) path.now (option_map (node store.old) change)) path.now)
+        store.old store.new }
 {
     let Ok(directories) = directories(alloc, store, root, path) else {
         return Err(TreeFault::OutOfMemory);
@@ -121,7 +120,7 @@ fn edited(
     taken_in(store, &body)
 }
 
-// The one that comes so many behind the first.
+// The component at an index.
 fn nth(directories: &[Name], level: usize) -> Option<Name>
     ensures { result ≡ slice_get directories.now level }
 {
@@ -135,11 +134,11 @@ fn directories(
     root: Name,
     path: &Path,
 ) -> Result<Vec<Name>, AllocError>
-    requires { has Tree (newest store.now) root.0 ≡ true }
-    ensures names { IfOk result (λ names. AreDirectories (newest store.now) (flat (newest store.now) root.0) path.now names.items) }
-    ensures store { IsStore (newest store.now) }
+    requires { has Tree store.now root.0 ≡ true }
+    ensures names { IfOk result (λ names. AreDirectories store.now (flat store.now root.0) path.now names.items) }
+    ensures store { IsStore store.now }
 {
-    // Every answer rests on what the store keeps.
+    // The store is looked at so that the proof has what each store keeps.
     let _ = store.get(&root);
     let mut directories = Vec::new(alloc);
     let mut directory = root;
@@ -153,7 +152,7 @@ fn directories(
     Ok(directories)
 }
 
-// The body of a directory, where the component has this, or nothing.
+// The body of a directory in which something, or nothing, stands at a component.
 fn body_at(
     alloc: Global,
     store: &Store,
@@ -162,7 +161,7 @@ fn body_at(
     change: Option<Found>,
 ) -> Result<Vec<u8>, TreeFault>
     ensures body { IfOk result (λ body. body.items
-        ≡ body_text (changed component.now change (listed_at (newest store.now) (option_map name_bytes directory)))) }
+        ≡ body_text (changed component.now change (listed_at store.now (option_map name_bytes directory)))) }
     ensures err { IfErr result (λ e. e ≡ TreeFault.OutOfMemory) }
 {
     match changed_body(alloc, store, directory, component, change) {
@@ -173,10 +172,10 @@ fn body_at(
 
 // Takes in the tree of a body whose children are there.
 pub fn taken_in(store: &mut Store, body: &[u8]) -> Result<Name, TreeFault>
-    requires { of_body (newest store.old) Tree body.now None ≡ None }
-    ensures ok { IfOk result (λ n. (n.0 ≡ name Tree body.now) × IsTaken (newest store.old) body.now (newest store.new)) }
-    ensures err { IfErr result (λ e. (store.new ≡ store.old) × IsRefused (newest store.old) body.now e) }
-    ensures store { IsStore (newest store.new) }
+    requires { of_body store.old Tree body.now None ≡ None }
+    ensures ok { IfOk result (λ n. (n.0 ≡ name Tree body.now) × IsTaken store.old body.now store.new) }
+    ensures err { IfErr result (λ e. (store.new ≡ store.old) × IsRefused store.old body.now e) }
+    ensures store { IsStore store.new }
 {
     match store.put_slice(Kind::Tree, body) {
         Ok(name) => Ok(name),
@@ -189,11 +188,11 @@ pub fn taken_in(store: &mut Store, body: &[u8]) -> Result<Name, TreeFault>
 
 // What the directory above has for a directory of that body: nothing for one that is left empty.
 fn above(store: &mut Store, body: &[u8]) -> Result<Option<Found>, TreeFault>
-    requires store { IsStore (newest store.old) }
-    requires body { of_body (newest store.old) Tree body.now None ≡ None }
-    ensures ok { IfOk result (λ found. IsAbove (newest store.old) body.now (newest store.new) found) }
-    ensures err { IfErr result (λ e. (store.new ≡ store.old) × IsRefused (newest store.old) body.now e) }
-    ensures store { IsStore (newest store.new) }
+    requires store { IsStore store.old }
+    requires body { of_body store.old Tree body.now None ≡ None }
+    ensures ok { IfOk result (λ found. IsAbove store.old body.now store.new found) }
+    ensures err { IfErr result (λ e. (store.new ≡ store.old) × IsRefused store.old body.now e) }
+    ensures store { IsStore store.new }
 {
     if body.is_empty() {
         return Ok(None);

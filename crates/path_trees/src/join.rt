@@ -4,12 +4,11 @@ ghost use Rattle.git_objects.specs.Entries.{body_text};
 ghost use Rattle.git_objects.specs.Trees.{Flat};
 ghost use Rattle.git_objects.specs.Paths.{is_nil};
 ghost use Rattle.git_objects.specs.declared.kind.Kind.TheVariants.{Tree};
-ghost use Rattle.object_store.specs.Errors.{newest};
 ghost use Rattle.object_store.specs.Objects.{IsStore, has};
-ghost use Rattle.object_store.specs.Unfolding.{flat};
+ghost use Rattle.object_store.specs.Unfolding.{flat, StandsFor};
 ghost use Rattle.path_trees.specs.Clashes.{IsShared, clash, together};
 ghost use Rattle.path_trees.specs.Joins.{AreLinked, IsJoinFault, IsPlaced, listing_of};
-ghost use Rattle.path_trees.specs.Made.{IsGrown, IsTreeFault, StandsFor};
+ghost use Rattle.path_trees.specs.Made.{IsGrown, IsTreeFault};
 ghost use Rattle.path_trees.specs.Merged.{shared, with_names};
 
 use crate::TreeFault;
@@ -42,16 +41,16 @@ pub struct Shared {
 
 /// The tree with the leaves of both. Only the directories that both have a path in are made anew.
 pub fn join_disjoint(alloc: Global, store: &mut Store, a: Name, b: Name) -> Result<Name, JoinFault>
-    requires first { has Tree (newest store.old) a.0 ≡ true }
-    requires second { has Tree (newest store.old) b.0 ≡ true }
-    ensures ok { IfOk result (λ n. (clash (flat (newest store.old) a.0) (flat (newest store.old) b.0) ≡ None)
-        × StandsFor (newest store.new) n.0 (together (flat (newest store.old) a.0) (flat (newest store.old) b.0))) }
-    ensures err { IfErr result (IsJoinFault (flat (newest store.old) a.0) (flat (newest store.old) b.0)
-        (newest store.old) (newest store.new)) }
-    ensures store { IsGrown (IsShared (flat (newest store.old) a.0) (flat (newest store.old) b.0))
-        (newest store.old) (newest store.new) }
+    requires first { has Tree store.old a.0 ≡ true }
+    requires second { has Tree store.old b.0 ≡ true }
+    ensures ok { IfOk result (λ n. (clash (flat store.old a.0) (flat store.old b.0) ≡ None)
+        × StandsFor store.new n.0 (together (flat store.old a.0) (flat store.old b.0))) }
+    ensures err { IfErr result (IsJoinFault (flat store.old a.0) (flat store.old b.0)
+        store.old store.new) }
+    ensures store { IsGrown (IsShared (flat store.old a.0) (flat store.old b.0))
+        store.old store.new }
 {
-    // Every answer rests on what the store keeps.
+    // The store is looked at so that the proof has what each store keeps.
     let _ = store.get(&a);
     match first_clash(alloc, store, &a, &b) {
         Err(_) => return Err(JoinFault::OutOfMemory),
@@ -72,24 +71,24 @@ pub fn join_disjoint(alloc: Global, store: &mut Store, a: Name, b: Name) -> Resu
 }
 
 fn is_empty(store: &Store, name: &Name) -> bool
-    requires { has Tree (newest store.now) name.now.0 ≡ true }
-    ensures empty { result ≡ is_nil (flat (newest store.now) name.now.0) }
-    ensures store { IsStore (newest store.now) }
+    requires { has Tree store.now name.now.0 ≡ true }
+    ensures empty { result ≡ is_nil (flat store.now name.now.0) }
+    ensures store { IsStore store.now }
 {
     entries_at(store, name).next().is_none()
 }
 
-// The tree with the leaves of both, which have some and no clash.
+// The tree with the leaves of two trees that have leaves and don't clash.
 fn joined(alloc: Global, store: &mut Store, a: Name, b: Name) -> Result<Name, TreeFault>
-    requires roots { IsPlaced (newest store.old) (flat (newest store.old) a.0) (flat (newest store.old) b.0)
+    requires roots { IsPlaced store.old (flat store.old a.0) (flat store.old b.0)
         (record { left = a; right = b }) }
-    requires clear { clash (flat (newest store.old) a.0) (flat (newest store.old) b.0) ≡ None }
-    ensures ok { IfOk result (λ n. StandsFor (newest store.new) n.0
-        (together (flat (newest store.old) a.0) (flat (newest store.old) b.0))) }
+    requires clear { clash (flat store.old a.0) (flat store.old b.0) ≡ None }
+    ensures ok { IfOk result (λ n. StandsFor store.new n.0
+        (together (flat store.old a.0) (flat store.old b.0))) }
     ensures err { IfErr result (IsTreeFault
-        (IsShared (flat (newest store.old) a.0) (flat (newest store.old) b.0)) (newest store.new)) }
-    ensures store { IsGrown (IsShared (flat (newest store.old) a.0) (flat (newest store.old) b.0))
-        (newest store.old) (newest store.new) }
+        (IsShared (flat store.old a.0) (flat store.old b.0)) store.new) }
+    ensures store { IsGrown (IsShared (flat store.old a.0) (flat store.old b.0))
+        store.old store.new }
 {
     let Ok((directories, firsts)) = shared_directories(alloc, store, a, b) else {
         return Err(TreeFault::OutOfMemory);
@@ -108,7 +107,7 @@ fn joined(alloc: Global, store: &mut Store, a: Name, b: Name) -> Result<Name, Tr
     Ok(names[0])
 }
 
-// The names in the first tree, in whose places the names of what is made come.
+// The names that directories of both trees have in the first tree. The names of what is made come in their places.
 fn left_names(alloc: Global, directories: &[Shared]) -> Result<Vec<Name>, AllocError>
     ensures { IfOk result (λ names. length names.items ≡ length directories.now) }
 {
@@ -125,13 +124,13 @@ fn shared_directories(
     a: Name,
     b: Name,
 ) -> Result<(Vec<Shared>, Vec<usize>), AllocError>
-    requires { IsPlaced (newest store.now) (flat (newest store.now) a.0) (flat (newest store.now) b.0)
+    requires { IsPlaced store.now (flat store.now a.0) (flat store.now b.0)
         (record { left = a; right = b }) }
-    ensures all { IfOk result (λ r. AreLinked (newest store.now) (flat (newest store.now) a.0) (flat (newest store.now) b.0)
+    ensures all { IfOk result (λ r. AreLinked store.now (flat store.now a.0) (flat store.now b.0)
         (record { left = a; right = b }) r.0.items r.1.items) }
-    ensures store { IsStore (newest store.now) }
+    ensures store { IsStore store.now }
 {
-    // Every answer rests on what the store keeps.
+    // The store is looked at so that the proof has what each store keeps.
     let _ = store.get(&a);
     let mut directories = Vec::new(alloc);
     let mut firsts = Vec::new(alloc);
@@ -144,16 +143,16 @@ fn shared_directories(
     Ok((directories, firsts))
 }
 
-// Adds the directories that both have in a directory.
+// Adds the directories that two directories of one path both have.
 fn add_shared(
     store: &Store,
     directory: &Shared,
     directories: &mut Vec<Shared>,
 ) -> Result<(), AllocError>
-    requires left { has Tree (newest store.now) directory.now.left.0 ≡ true }
-    requires right { has Tree (newest store.now) directory.now.right.0 ≡ true }
+    requires left { has Tree store.now directory.now.left.0 ≡ true }
+    requires right { has Tree store.now directory.now.right.0 ≡ true }
     ensures { OnOk result (directories.new.items
-        ≡ directories.old.items ++ shared (listing_of (newest store.now) directory.now)) }
+        ≡ directories.old.items ++ shared (listing_of store.now directory.now)) }
 {
     let mut left = entries_at(store, &directory.left);
     let mut right = entries_at(store, &directory.right);
@@ -168,7 +167,7 @@ fn add_shared(
     Ok(())
 }
 
-// The body of a directory that both have, where those below it have these names in turn.
+// The body of a directory that both trees have, where the directories below it that both have get these names in turn.
 fn joined_body(
     alloc: Global,
     store: &Store,
@@ -176,11 +175,11 @@ fn joined_body(
     names: &[Name],
     first: usize,
 ) -> Result<Vec<u8>, AllocError>
-    requires left { has Tree (newest store.now) directory.now.left.0 ≡ true }
-    requires right { has Tree (newest store.now) directory.now.right.0 ≡ true }
-    requires names { first + length (shared (listing_of (newest store.now) directory.now)) ≤ length names.now }
+    requires left { has Tree store.now directory.now.left.0 ≡ true }
+    requires right { has Tree store.now directory.now.right.0 ≡ true }
+    requires names { first + length (shared (listing_of store.now directory.now)) ≤ length names.now }
     ensures { IfOk result (λ body. body.items
-        ≡ body_text (with_names (listing_of (newest store.now) directory.now) (drop first names.now))) }
+        ≡ body_text (with_names (listing_of store.now directory.now) (drop first names.now))) }
 {
     let mut left = entries_at(store, &directory.left);
     let mut right = entries_at(store, &directory.right);

@@ -2,10 +2,10 @@
 ghost use Rattle.std.specs.Prelude.{◌≡◌, true, IfSome};
 ghost use Rattle.std.specs.Option.{option_map};
 ghost use Rattle.git_objects.specs.declared.kind.Kind.TheVariants.{Tree};
-ghost use Rattle.object_store.specs.Errors.{newest};
 ghost use Rattle.object_store.specs.Objects.{has, has_child};
 ghost use Rattle.object_store.specs.Unfolding.{flat};
-ghost use Rattle.path_trees.specs.Standing.{node, standing};
+ghost use Rattle.path_trees.specs.Standing.{node};
+ghost use Rattle.git_objects.specs.Trees.{standing};
 
 use crate::Found;
 use crate::directory::{directory_in, found_in};
@@ -15,10 +15,10 @@ use path_names::Path;
 
 /// What stands at a path of that tree: a leaf, or the directory of all that lies below it. Needs no memory.
 pub fn entry_at(store: &Store, root: Name, path: &Path) -> Option<Found>
-    requires { has Tree (newest store.now) root.0 ≡ true }
-    ensures found { option_map (node (newest store.now)) result
-        ≡ standing (flat (newest store.now) root.0) path.now }
-    ensures held { IfSome result (λ f. has_child (newest store.now) f.mode f.name.0 ≡ true) }
+    requires { has Tree store.now root.0 ≡ true }
+    ensures found { option_map (node store.now) result
+        ≡ standing (flat store.now root.0) path.now }
+    ensures held { IfSome result (λ f. has_child store.now f.mode f.name.0 ≡ true) }
 {
     let components = path.components();
     let last = components.len() - 1;

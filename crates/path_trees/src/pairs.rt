@@ -5,9 +5,7 @@ ghost use Rattle.git_objects.specs.Entries.{entry_component, entry_dir, git_cmp}
 ghost use Rattle.git_objects.specs.Views.{entry_value};
 ghost use Rattle.path_trees.specs.Merged.{merged, pair_value};
 
-use crate::directory::is_dir;
-use crate::rebuild::compare;
-use git_objects::{EntryView, TreeView};
+use git_objects::{EntryView, TreeView, compare_components};
 use std::cmp::Ordering;
 
 // An entry of one listing, or two of the same component.
@@ -21,7 +19,7 @@ pub enum Pair<'a> {
 fn order(a: &EntryView<'_>, b: &EntryView<'_>) -> Ordering
     ensures { result ≡ git_cmp entry_component entry_dir (entry_value a.now) (entry_value b.now) }
 {
-    compare(a.component, is_dir(a.mode), b.component, is_dir(b.mode))
+    compare_components(a.component, a.mode.is_dir(), b.component, b.mode.is_dir())
 }
 
 // The next of two listings in Git's order.

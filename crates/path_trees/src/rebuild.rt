@@ -6,41 +6,24 @@ ghost use Rattle.std.specs.Cmp.Lexicographic.{slice_cmp};
 ghost use Rattle.git_objects.specs.Entries.{body_text, dir_key};
 ghost use Rattle.git_objects.specs.Parts.{name_bytes};
 ghost use Rattle.git_objects.specs.Views.{entry_value};
-ghost use Rattle.object_store.specs.Errors.{newest};
 ghost use Rattle.git_objects.specs.declared.entry.Entry.{Entry};
 ghost use Rattle.path_trees.specs.Listed.{changed, is_before, listed_at, named, with_found};
 
 use crate::Found;
-use crate::directory::{entries_of, is_dir};
-use git_objects::{EntryView, Name, TreeView, add_entry};
+use crate::directory::entries_of;
+use git_objects::{EntryView, Name, TreeView, add_entry, compare_components};
 use object_store::Store;
 use std::alloc::{AllocError, Global};
-use std::cmp::Ordering;
 
-fn slash(is_dir: bool) -> &'static [u8]
-    ensures { result.now ≡ dir_key [] is_dir }
-{
-    if is_dir { b"/" } else { b"" }
-}
-
-// Git's order of entries' components.
-pub fn compare(a: &[u8], a_dir: bool, b: &[u8], b_dir: bool) -> Ordering
-    ensures { result ≡ slice_cmp nat_cmp (dir_key a.now a_dir) (dir_key b.now b_dir) }
-{
-    a.iter()
-        .chain(slash(a_dir).iter())
-        .cmp(b.iter().chain(slash(b_dir).iter()))
-}
-
-// Whether a component with this stands before an entry.
+// Whether the entry of a component stands before another entry in Git's order.
 fn is_before(component: &[u8], found: &Found, entry: &EntryView<'_>) -> bool
     ensures { result ≡ is_before (named component.now found.now) (entry_value entry.now) }
 {
-    compare(
+    compare_components(
         component,
-        is_dir(found.mode),
+        found.mode.is_dir(),
         entry.component,
-        is_dir(entry.mode),
+        entry.mode.is_dir(),
     )
     .is_lt()
 }
@@ -55,7 +38,7 @@ fn add_found(body: &mut Vec<u8>, component: &[u8], found: Option<Found>) -> Resu
     }
 }
 
-// The body of these entries, where the component has this, or nothing.
+// The body of a directory's entries with one component changed: it has what was found, or nothing.
 fn with_change(
     alloc: Global,
     mut entries: TreeView<'_>,
@@ -76,7 +59,7 @@ fn with_change(
     Ok(body)
 }
 
-// Adds the component's entry where it stands before this one, and gives it back where it doesn't.
+// Adds the component's entry where it stands before the next entry, and gives it back where it doesn't.
 fn add_before(
     body: &mut Vec<u8>,
     component: &[u8],
@@ -96,7 +79,7 @@ fn add_before(
     Ok(found)
 }
 
-// The body of a directory, where the component has this, or nothing. None: there is no directory.
+// The body of a directory with one component changed: it has what was found, or nothing. None: there is no directory.
 pub fn changed_body(
     alloc: Global,
     store: &Store,
@@ -105,7 +88,7 @@ pub fn changed_body(
     change: Option<Found>,
 ) -> Result<Vec<u8>, AllocError>
     ensures { IfOk result (λ body. body.items
-        ≡ body_text (changed component.now change (listed_at (newest store.now) (option_map name_bytes directory)))) }
+        ≡ body_text (changed component.now change (listed_at store.now (option_map name_bytes directory)))) }
 {
     let entries = match directory {
         None => None,

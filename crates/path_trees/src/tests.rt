@@ -1,7 +1,6 @@
 // Trees as Git makes them. The conditions of the calls are tested as the tests run.
 ghost use Rattle.std.specs.Prelude.{◌≡◌, ◌<◌, true, is_some, length, IfOk};
 ghost use Rattle.git_objects.specs.declared.kind.Kind.TheVariants.{Tree};
-ghost use Rattle.object_store.specs.Errors.{newest};
 ghost use Rattle.object_store.specs.Objects.{has, has_child};
 
 use crate::{Found, JoinFault, Leaf, TreeFault, Walk, entry_at, join_disjoint, put_at, remove_at};
@@ -42,7 +41,7 @@ fn leaf(store: &mut Store, mode: Mode, text: &[u8]) -> Result<Found, Fail> {
 
 // Whether an object of that name is a tree.
 fn is_tree(store: &Store, name: &Name) -> bool
-    ensures { result ≡ has Tree (newest store.now) name.now.0 }
+    ensures { result ≡ has Tree store.now name.now.0 }
 {
     match store.get(name) {
         None => false,
@@ -52,7 +51,7 @@ fn is_tree(store: &Store, name: &Name) -> bool
 
 // Whether a directory's tree is there, and has a body.
 fn is_full_tree(store: &Store, name: &Name) -> bool
-    ensures { result ≡ has_child (newest store.now) Mode.Dir name.now.0 }
+    ensures { result ≡ has_child store.now Mode.Dir name.now.0 }
 {
     match store.get(name) {
         None => false,
@@ -61,7 +60,7 @@ fn is_full_tree(store: &Store, name: &Name) -> bool
 }
 
 fn is_blob(store: &Store, name: &Name) -> bool
-    ensures { result ≡ has Kind.Blob (newest store.now) name.now.0 }
+    ensures { result ≡ has Kind.Blob store.now name.now.0 }
 {
     match store.get(name) {
         None => false,
@@ -71,7 +70,7 @@ fn is_blob(store: &Store, name: &Name) -> bool
 
 // Whether what this stands for is there.
 fn is_there(store: &Store, found: &Found) -> bool
-    ensures { result ≡ has_child (newest store.now) found.now.mode found.now.name.0 }
+    ensures { result ≡ has_child store.now found.now.mode found.now.name.0 }
 {
     match found.mode {
         Mode::File | Mode::Exec | Mode::Link => is_blob(store, &found.name),

@@ -5,14 +5,13 @@ ghost use Rattle.std.specs.List.{list_all};
 ghost use Rattle.git_objects.specs.Paths.{is_component};
 ghost use Rattle.git_objects.specs.Names.{leaf_mode, leaf_name};
 ghost use Rattle.git_objects.specs.declared.kind.Kind.TheVariants.{Tree};
-ghost use Rattle.object_store.specs.Errors.{newest};
 ghost use Rattle.object_store.specs.Objects.{IsStore, has};
 ghost use Rattle.object_store.specs.Unfolding.{flat};
 ghost use Rattle.path_trees.specs.Listed.{listed};
 ghost use Rattle.path_trees.specs.Walked.{AreLevels, IsHeldLeaf, IsStep, left_in, walked};
 
 use crate::Leaf;
-use crate::directory::{entries_of, is_dir};
+use crate::directory::entries_of;
 use git_objects::{Component, Name, TreeView};
 use object_store::Store;
 use path_names::Path;
@@ -30,23 +29,22 @@ pub struct Walk<'a> {
 }
 
 impl<'a> Model for Walk<'a> {
-    ghost use Rattle.object_store.specs.Errors.{newest};
     ghost use Rattle.path_trees.specs.Listed.{listed};
     ghost use Rattle.path_trees.specs.Walked.{IsWalk, Walked, walked};
 
     ghost Value = { Walked };
 
-    ghost view = { λ w. walked (newest w.store.now) w.levels.items w.current };
+    ghost view = { λ w. walked w.store.now w.levels.items w.current };
 
-    ghost invariant = { λ w. IsWalk (newest w.store.now) w.levels.items w.current };
+    ghost invariant = { λ w. IsWalk w.store.now w.levels.items w.current };
 }
 
 impl<'a> Walk<'a> {
-    /// In front of the first leaf of that tree.
+    /// A walk that stands in front of the first leaf of a tree.
     pub fn new(alloc: Global, store: &'a Store, root: Name) -> Result<Walk<'a>, AllocError>
-        requires { has Tree (newest store.now) root.0 ≡ true }
+        requires { has Tree store.now root.0 ≡ true }
         ensures { IfOk result (λ walk. walk
-            ≡ record { current = None; left = flat (newest store.now) root.0 }) }
+            ≡ record { current = None; left = flat store.now root.0 }) }
     {
         let mut levels = Vec::new(alloc);
         levels.push(entries_at(store, &root))?;
@@ -104,7 +102,7 @@ fn directory_of(path: Path) -> Vec<Component>
     components
 }
 
-// Without the last, if there is one.
+// The components without the last one, if there is one.
 pub fn go_up(components: &mut Vec<Component>)
     requires { list_all is_component components.old.items ≡ true }
     ensures directory { reverse components.new.items ≡ drop 1 (reverse components.old.items) }
@@ -123,9 +121,9 @@ pub fn copied(alloc: Global, component: &[u8]) -> Result<Component, AllocError>
 
 // The entries of the tree of that name.
 pub fn entries_at<'a>(store: &'a Store, name: &Name) -> TreeView<'a>
-    requires { has Tree (newest store.now) name.now.0 ≡ true }
-    ensures listed { listed (newest store.now) name.now.0 ≡ Some result }
-    ensures store { IsStore (newest store.now) }
+    requires { has Tree store.now name.now.0 ≡ true }
+    ensures listed { listed store.now name.now.0 ≡ Some result }
+    ensures store { IsStore store.now }
 {
     match entries_of(store, name) {
         Some(entries) => entries,
@@ -140,13 +138,13 @@ pub fn next_leaf<'a>(
     levels: &mut Vec<TreeView<'a>>,
     components: Vec<Component>,
 ) -> Result<Option<(Path, Leaf)>, AllocError>
-    requires levels { AreLevels (newest store.now) levels.old.items }
+    requires levels { AreLevels store.now levels.old.items }
     requires components { list_all is_component components.items ≡ true }
     ensures leaf { IfOk result (λ current. IsStep
-        (left_in (newest store.now) (reverse levels.old.items) (reverse components.items))
-        (is_some current) (walked (newest store.now) levels.new.items current)) }
-    ensures held { IfOk result (IsHeldLeaf (newest store.now)) }
-    ensures levels { AreLevels (newest store.now) levels.new.items }
+        (left_in store.now (reverse levels.old.items) (reverse components.items))
+        (is_some current) (walked store.now levels.new.items current)) }
+    ensures held { IfOk result (IsHeldLeaf store.now) }
+    ensures levels { AreLevels store.now levels.new.items }
 {
     let mut components = components;
     'levels: while let Some(mut level) = levels.pop() {
@@ -156,7 +154,7 @@ pub fn next_leaf<'a>(
         };
         levels.push(level)?;
         components.push(copied(alloc, entry.component)?)?;
-        if !is_dir(entry.mode) {
+        if !entry.mode.is_dir() {
             let leaf = Leaf {
                 mode: entry.mode,
                 name: entry.name,

@@ -13,16 +13,18 @@ use Rattle.git_objects.specs.declared.name.Name.{Name}
 use Rattle.git_objects.proofs.Basics.{same_bytes-self}
 use Rattle.object_store.specs.Objects.{Object, IsStore, has}
 use Rattle.object_store.specs.Unfolding.{flat}
-use Rattle.repo_state.specs.TreeObjects.{tree_objects}
-use Rattle.repo_state.specs.Repos.{Snapshot, snapshot_name, snapshot_object}
+use Rattle.object_store.specs.TreeObjects.{tree_objects}
+use Rattle.object_store.specs.StoredSnapshots.{snapshot_object, commit_named}
+use Rattle.git_objects.specs.Snapshots.{Snapshot, snapshot_name}
 use Rattle.repo_state.specs.Changes as changes
-use Rattle.repo_state.specs.Changes.{IsChange, are_distinct, commit_named, commit_objects, has_parents, objects_of}
+use Rattle.repo_state.specs.Changes.{IsChange, are_distinct, commit_objects, has_parents, objects_of}
 use Rattle.repo_state.specs.Commits.{change_of, setting}
 use Rattle.repo_state.specs.declared.commit.Batch.{Batch}
 use Rattle.repo_state.specs.declared.commit.Setting.{Setting}
 use Rattle.small_streams.specs.Streams.{Small}
 use Rattle.small_streams.specs.Replay.{blob_object, commits_objects, contents, replayed, snapshot, snapshots_made, stream_objects, with_changes}
-use Rattle.small_streams.specs.Replays.{AreBlobs, IsBrought}
+use Rattle.small_streams.specs.Replays.{AreBlobs}
+use Rattle.proj_cli.specs.Brought.{IsBrought}
 use Rattle.history_project.specs.Snapshots.{AreSnapshots, IsSnapshot}
 use Rattle.history_project.proofs.AllCommits.{both_true}
 use Rattle.history_project.proofs.FoundObjects.{has-found}

@@ -16,9 +16,12 @@ use Rattle.git_objects.specs.declared.name.Name.{Name}
 use Rattle.git_objects.specs.Lists.{Each}
 use Rattle.object_store.specs.Objects.{Object, IsStore, body_of, has}
 use Rattle.repo_state.specs.Changes as changes
-use Rattle.repo_state.specs.Changes.{IsWithin, commit_fits, commit_named}
-use Rattle.repo_state.specs.Items.{Held, read_items, tree_fits}
-use Rattle.repo_state.specs.Repos.{Snapshot, repo_of, snapshot_name}
+use Rattle.repo_state.specs.Changes.{IsWithin, commit_fits}
+use Rattle.object_store.specs.StoredSnapshots.{commit_named}
+use Rattle.repo_state.specs.Items.{Held, read_items}
+use Rattle.object_store.specs.Fits.{tree_fits}
+use Rattle.repo_state.specs.Repos.{repo_of}
+use Rattle.git_objects.specs.Snapshots.{Snapshot, snapshot_name}
 use Rattle.repo_state.proofs.HeldFits.{held-fits}
 use Rattle.small_streams.specs.Replay.{are_small, contents, contents_in, replayed, snapshot, snapshots_made, trees_made, trees_within, with_change, with_changes}
 use Rattle.small_streams.specs.Replays.{AreBlobs}

@@ -10,12 +10,13 @@ use Rattle.git_objects.specs.Paths.{Bytes, same_bytes}
 use Rattle.git_objects.specs.Parts.{name_bytes}
 use Rattle.git_objects.specs.declared.kind.Kind.TheVariants.{Blob, Commit}
 use Rattle.git_objects.specs.declared.name.Name.{Name}
-use Rattle.object_store.specs.Errors.{newest}
 use Rattle.object_store.specs.Objects.{Object, body_of, has}
-use Rattle.repo_state.specs.Items.{Held, bytes_cmp}
+use Rattle.repo_state.specs.Items.{Held}
+use Rattle.git_objects.specs.Refs.{bytes_cmp}
 use Rattle.repo_state.specs.Loads.{IsStored, Stored}
 use Rattle.repo_state.specs.Repos.{repo_of}
-use Rattle.repo_state.specs.Changes.{IsChange, are_distinct, commit_fits, commit_named, fresh, has_parents, moved, objects_of, plan}
+use Rattle.repo_state.specs.Changes.{IsChange, are_distinct, commit_fits, fresh, has_parents, moved, objects_of, plan}
+use Rattle.object_store.specs.StoredSnapshots.{commit_named}
 use Rattle.repo_state.specs.declared.commit.Setting.{Setting}
 use Rattle.repo_state.specs.Commits.{change_of, setting}
 use Rattle.proj_cli.specs.Answer.{IsInImport}
@@ -65,13 +66,13 @@ nothing-prepared s v p e r b c f =
     record {
       step_is = ap (λ (w : List SmallCommit). import_smalls s.held (room_in s) (map small_value w)) e
           ∙ (λ i. changing s.held (room_in s) (report i) (record {
-            objects = fresh s.held.objects (objects_of (newest s.objects) (record { blobs = map name_bytes (blobs i); commits = map name_bytes (commits i); refs = map setting (refs i) }));
+            objects = fresh s.held.objects (objects_of s.objects (record { blobs = map name_bytes (blobs i); commits = map name_bytes (commits i); refs = map setting (refs i) }));
             refs = moved s.held.refs (map setting (refs i));
           }));
       change = record {
-        blobs = ap (λ (ns : List Name). list_all (has Blob (newest s.objects)) (map name_bytes ns)) b;
-        commits = ap (λ (ns : List Name). list_all (has Commit (newest s.objects)) (map name_bytes ns)) c;
-        parents = ap (λ (ns : List Name). has_parents (newest s.objects) s.held.objects [] (map name_bytes ns)) c;
+        blobs = ap (λ (ns : List Name). list_all (has Blob s.objects) (map name_bytes ns)) b;
+        commits = ap (λ (ns : List Name). list_all (has Commit s.objects) (map name_bytes ns)) c;
+        parents = ap (λ (ns : List Name). has_parents s.objects s.held.objects [] (map name_bytes ns)) c;
         refs = ap (λ (rs : List Setting). are_distinct (map setting rs)) f;
         heads = ap (λ (rs : List Setting). list_all (λ (e : Bytes × Bytes). has Commit s.held.objects e.1 || list_any (same_bytes e.1) (map name_bytes p.batch.commits.items)) (map setting rs)) f;
       };
@@ -79,8 +80,8 @@ nothing-prepared s v p e r b c f =
 
 pub nothing-fits : (s : Stored) (v : List SmallCommit) (p : Prepared) → p.batch.blobs.items ≡ [] → p.batch.commits.items ≡ [] → FitsItems s (map small_value v) p
 nothing-fits s v p b c = λ items input read short spelled. record {
-  blobs = ap (λ (ns : List Name). list_all (λ n. nat_le (length (body_of Blob (newest s.objects) n)) (2 ^ 24)) (map name_bytes ns)) b;
-  commits = ap (λ (ns : List Name). list_all (λ n. option_map_or (commit_fits (newest s.objects) s.held.objects (map name_bytes p.batch.blobs.items)) (commit_named (newest s.objects) n) false) (map name_bytes ns)) c;
+  blobs = ap (λ (ns : List Name). list_all (λ n. nat_le (length (body_of Blob s.objects n)) (2 ^ 24)) (map name_bytes ns)) b;
+  commits = ap (λ (ns : List Name). list_all (λ n. option_map_or (commit_fits s.objects s.held.objects (map name_bytes p.batch.blobs.items)) (commit_named s.objects n) false) (map name_bytes ns)) c;
 }
 
 -- ---- a stream of some commits
@@ -138,30 +139,30 @@ module _ (h : Held) (room : Room) (v : List SmallCommit) (f : SmallCommit) (head
   -- what was replayed is prepared
   pub stream-prepared : (s s' : Stored) (r : Replayed) (p : Prepared) → s.held ≡ h → room_in s ≡ room → IsSameBut s s' → IsStored s' → is_same_name (head_value f.head).from (option_map name_bytes head) ≡ true
       → IfSome head (λ n. has Commit h.objects n.0 ≡ true) → tree_upon (repo_of h).commits (option_map name_bytes head) ≡ base_tree h.objects head
-      → IsReplayed (newest s'.objects) (base_tree h.objects head) (parent_of head) (map small_value v) r → IsBatchOf asks r p → IsPrepared s' (import_smalls h room (map small_value v)) p
+      → IsReplayed s'.objects (base_tree h.objects head) (parent_of head) (map small_value v) r → IsBatchOf asks r p → IsPrepared s' (import_smalls h room (map small_value v)) p
   stream-prepared s s' r p eh er same stored matches held base q b =
       let ss = map small_value v in
       let now : s'.held ≡ h = same.held ∙ eh in
       let room_now : room_in s' ≡ room = (λ i. record { number = same.number i; size = same.size i }) ∙ er in
-      let made = import-step (newest s'.objects) stored.whole h (base_tree h.objects head) (parent_of head) ss asks r p q b room in
+      let made = import-step s'.objects stored.whole h (base_tree h.objects head) (parent_of head) ss asks r p q b room in
       let back = sym now in
       let room_back = sym room_now in
       record {
-        step_is = same-parent matches base ∙ made ∙ (λ i. changing (back i) (room_back i) p.report (plan (newest s'.objects) (back i) (change_of p.batch)));
-        change = subst (λ (g : Held). IsChange (newest s'.objects) g.objects (change_of p.batch)) back
-            (import-change (newest s'.objects) stored.whole h (base_tree h.objects head) (parent_of head) ss asks r p q b (parents-held h.objects head held));
+        step_is = same-parent matches base ∙ made ∙ (λ i. changing (back i) (room_back i) p.report (plan s'.objects (back i) (change_of p.batch)));
+        change = subst (λ (g : Held). IsChange s'.objects g.objects (change_of p.batch)) back
+            (import-change s'.objects stored.whole h (base_tree h.objects head) (parent_of head) ss asks r p q b (parents-held h.objects head held));
       }
 
   -- and is within the limits
   pub stream-fits : (s s' : Stored) (r : Replayed) (p : Prepared) → s.held ≡ h → IsSameBut s s' → IsStored s' → IfSome head (λ n. has Commit h.objects n.0 ≡ true)
       → tree_upon (repo_of h).commits (option_map name_bytes head) ≡ base_tree h.objects head
-      → IsReplayed (newest s'.objects) (base_tree h.objects head) (parent_of head) (map small_value v) r → IsBatchOf asks r p → FitsItems s' (map small_value v) p
+      → IsReplayed s'.objects (base_tree h.objects head) (parent_of head) (map small_value v) r → IsBatchOf asks r p → FitsItems s' (map small_value v) p
   stream-fits s s' r p eh same stored held base q b = λ items input read short spelled.
       let now : h ≡ s'.held = sym (same.held ∙ eh) in
       let parents = parents-are head in
       let again : replayed (tree_upon (repo_of h).commits (option_map name_bytes head)) (option_to_list (option_map name_bytes head)) (map small_value v) ≡ Some q.snapshots =
       (λ i. replayed (base i) (parents i) (map small_value v)) ∙ q.replayed in
-      import-within items s'.held (newest s'.objects) read stored.whole stored.held stored.within input (map small_value v) (option_map name_bytes head) q.snapshots r.commits.items r.blobs.items (change_of p.batch)
+      import-within items s'.held s'.objects read stored.whole stored.held stored.within input (map small_value v) (option_map name_bytes head) q.snapshots r.commits.items r.blobs.items (change_of p.batch)
       (le-leb (length input) input_max short) spelled
       (subst (λ (g : Held). IfSome (option_map name_bytes head) (λ n. has Commit g.objects n ≡ true)) now (head-held h.objects head held))
       (subst (λ (g : Held). replayed (tree_upon (repo_of g).commits (option_map name_bytes head)) (option_to_list (option_map name_bytes head)) (map small_value v) ≡ Some q.snapshots) now again)

@@ -9,24 +9,24 @@ use Rattle.git_objects.specs.declared.name.Name.{Name}
 use Rattle.object_store.specs.Objects.{Object, has}
 use Rattle.object_store.specs.Unfolding.{flat}
 use Rattle.path_trees.specs.Made.{IsGrown, IsCollision}
-use Rattle.filter_unapply.specs.Lenses.{below}
+use Rattle.filter_unapply.specs.Laying.{below, Laid, first_blocked, first_lost, laid, pre}
 use Rattle.filter_unapply.specs.Laying as laying
-use Rattle.filter_unapply.specs.Laying.{Laid, first_blocked, first_lost, laid, pre}
 use Rattle.filter_unapply.specs.Stored.{IsLaidBody, IsLaidTree, IsLayFault}
 use Rattle.filter_unapply.specs.declared.fault.LayFault.{LayFault}
 use Rattle.filter_unapply.specs.declared.fault.LayFault.TheVariants.{NotHeld as NotHeldThere, Collision as CollisionThere}
 use Rattle.filter_unapply.proofs.Outcomes.{lost_of}
 use Rattle.filter_unapply.proofs.Places.{none_lost_below}
-use Rattle.repo_state.specs.Items.{tree_fits}
-use Rattle.repo_state.specs.Repos.{snapshot_object}
-use Rattle.small_streams.specs.Replays.{IsClash, IsGrownBy, IsOnlyCommit}
+use Rattle.object_store.specs.Fits.{tree_fits}
+use Rattle.object_store.specs.StoredSnapshots.{snapshot_object}
+use Rattle.small_streams.specs.Replays.{IsOnlyCommit}
+use Rattle.object_store.specs.Growth.{IsClash, IsGrownBy}
 use Rattle.history_project.specs.Snapshots.{IsSnapshot}
 use Rattle.proj_cli.specs.Push.{IsLaidMade, Start}
 use Rattle.proj_cli.specs.Pushes.{IsCommitFault, IsLaidFault, IsOriginal}
 use Rattle.proj_cli.specs.declared.pushing.PushFault.{PushFault}
 use Rattle.proj_cli.specs.declared.pushing.PushFault.TheVariants.{TooLarge, NoChange, Blocked, Collision, OutOfMemory}
 use Rattle.small_streams.proofs.Files.{all_made, clash_name}
-use Rattle.small_streams.proofs.Grows.{clash_as, grown_as, grown_then, has-grown}
+use Rattle.object_store.proofs.Growth.{clash_as, grown_as, grown_then, has-grown}
 
 -- a filter of one place holds every path
 pub never-lost : (a : Path) (t n : Flat) (q : Path) → laid (below a) t n ≡ laying.NotHeld q → ⊥

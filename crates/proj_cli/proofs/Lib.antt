@@ -19,3 +19,4 @@ pub mod LaidCommits
 pub mod PushedCommits
 pub mod ShownRoots
 pub mod Laws
+pub mod StoredTrees

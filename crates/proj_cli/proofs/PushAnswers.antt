@@ -6,12 +6,12 @@ use Rattle.std.specs.Cmp.Lexicographic.{bytes_decides}
 use Rattle.git_objects.specs.Paths.{Bytes, Path, is_path, same_bytes}
 use Rattle.git_objects.specs.declared.kind.Kind.TheVariants.{Commit as CommitKind}
 use Rattle.git_objects.proofs.Basics.{same_bytes-self}
-use Rattle.object_store.specs.Errors.{newest}
 use Rattle.object_store.specs.Objects.{has}
-use Rattle.filter_unapply.specs.Lenses.{below}
+use Rattle.filter_unapply.specs.Laying.{below}
 use Rattle.repo_state.specs.Changes.{changed, held_after, plan_in}
 use Rattle.repo_state.specs.Commits.{change_of}
-use Rattle.repo_state.specs.Items.{Held, bytes_cmp}
+use Rattle.repo_state.specs.Items.{Held}
+use Rattle.git_objects.specs.Refs.{bytes_cmp}
 use Rattle.repo_state.specs.Loads.{IsStored, Stored}
 use Rattle.proj_cli.specs.Answer.{IsInPush, IsInPushFrom}
 use Rattle.history_project.specs.Histories.{is_same_name}
@@ -86,7 +86,7 @@ module _ (s0 s1 : Stored) (refname : Bytes) (place : Path) (n : Bytes) (m : Smal
 
     pub small-prepared : is_same_name m.head.from from.end ≡ true → has CommitKind s0.held.objects n ≡ true → IsPrepared s1 (push_smalls refname place (room_in s0) s0.held n (m ∷ [])) p
     small-prepared e k =
-        let S = newest s1.objects in
+        let S = s1.objects in
         let back = sym same.held in
         let room : room_in s0 ≡ room_in s1 = (let a = sym same.number in let b = sym same.size in λ i. record { number = a i; size = b i }) in
         record {
@@ -100,7 +100,7 @@ module _ (s0 s1 : Stored) (refname : Bytes) (place : Path) (n : Bytes) (m : Smal
     pub small-fits : has CommitKind s0.held.objects n ≡ true → FitsItems s1 (m ∷ []) p
     small-fits k =
         push-fits s1 place n (below place) m m.head.refname q.made p q.stored.whole q.stored.held q.stored.within (held-now k)
-        (subst (λ (st : push.Start). IsAccepted (newest s1.objects) (below place) st m q.made) from-now q.accepted) q.batch
+        (subst (λ (st : push.Start). IsAccepted s1.objects (below place) st m q.made) from-now q.accepted) q.batch
 
     pub small-lawful : is_path place ≡ true → find bytes_cmp refname s0.held.refs ≡ Some n → IsStored (changed s1 (plan_in s1 (change_of p.batch)))
         → IsPushed place refname s0.held (held_after s0.held (plan_in s1 (change_of p.batch))) m p.report

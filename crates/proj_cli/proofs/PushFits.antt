@@ -11,12 +11,12 @@ use Rattle.git_objects.specs.Trees.{Flat, FileLeaf, Leaf}
 use Rattle.git_objects.specs.declared.kind.Kind.TheVariants.{Blob, Commit as CommitKind}
 use Rattle.git_objects.specs.declared.name.Name.{Name}
 use Rattle.object_store.specs.Objects.{Object, IsStore, body_of, has}
-use Rattle.object_store.specs.Errors.{newest}
-use Rattle.repo_state.specs.TreeObjects.{leaf_objects}
-use Rattle.filter_unapply.specs.Lenses.{Lens}
-use Rattle.filter_unapply.specs.Laying.{LaidTree, carried, entered, first_blocked, first_lost, laid, laid_from, pre, unseen}
+use Rattle.object_store.specs.TreeObjects.{leaf_objects}
+use Rattle.filter_routes.specs.Lenses.{Lens, carried, entered}
+use Rattle.filter_unapply.specs.Laying.{LaidTree, first_blocked, first_lost, laid, laid_from, pre, hidden}
 use Rattle.repo_state.specs.Changes as changes
-use Rattle.repo_state.specs.Changes.{IsWithin, commit_fits, commit_named}
+use Rattle.repo_state.specs.Changes.{IsWithin, commit_fits}
+use Rattle.object_store.specs.StoredSnapshots.{commit_named}
 use Rattle.repo_state.specs.Loads.{Stored}
 use Rattle.proj_cli.specs.Prepared.{FitsItems}
 use Rattle.proj_cli.specs.Push.{pushed_commit}
@@ -52,7 +52,7 @@ module _ (H : List Object) (blobs : List Bytes) where
   known-laid : (f : Lens) (t n u : Flat) → laid f t n ≡ LaidTree u → are_known H blobs t ≡ true → are_known H blobs n ≡ true → are_known H blobs u ≡ true
   known-laid f t n u e h g =
       subst (λ v. are_known H blobs v ≡ true) (laid_is (first_lost f n) (first_blocked f (pre f t n)) (pre f t n) u e)
-      (known-carried f.origin n (unseen f t) g (known-filter H blobs (λ x. is_none (f.image x.0)) t h))
+      (known-carried f.origin n (hidden f t) g (known-filter H blobs (λ x. is_none (f.image x.0)) t h))
 
   known-changes : (t : Flat) (cs : List Change) → are_known H blobs t ≡ true → AreBrought H blobs (contents_in cs) → are_known H blobs (with_changes t cs) ≡ true
   known-changes t [] h k = h
@@ -61,10 +61,10 @@ module _ (H : List Object) (blobs : List Bytes) where
 -- ---- the whole
 
 module _ (s' : Stored) (place : Path) (n : Bytes) (f : Lens) (m : Small) (refname : Bytes) (r : Pushed) (p : Prepared) where
-  pub push-fits : (s : IsStore (newest s'.objects)) (w : IsStore s'.held.objects) → AreWithin (newest s'.objects) s'.held.objects → has CommitKind s'.held.objects n ≡ true →
-      IsAccepted (newest s'.objects) f (start_below place s'.held n) m r → IsPushBatch refname r p → FitsItems s' (m ∷ []) p
+  pub push-fits : (s : IsStore s'.objects) (w : IsStore s'.held.objects) → AreWithin s'.objects s'.held.objects → has CommitKind s'.held.objects n ≡ true →
+      IsAccepted s'.objects f (start_below place s'.held n) m r → IsPushBatch refname r p → FitsItems s' (m ∷ []) p
   push-fits s w i k a b = λ items input read short spelled.
-      let S = newest s'.objects in
+      let S = s'.objects in
       let H = s'.held.objects in
       let start = start_below place s'.held n in
       let mx = input_max in

@@ -11,20 +11,20 @@ use Rattle.git_objects.specs.Names.{tree_name}
 use Rattle.git_objects.specs.CommitBodies.{commit_from}
 use Rattle.git_objects.specs.declared.kind.Kind.TheVariants.{Tree, Commit as CommitKind}
 use Rattle.object_store.specs.Objects.{Object, IsStore, has}
-use Rattle.object_store.specs.Errors.{newest}
 use Rattle.object_store.specs.Unfolding.{flat}
 use Rattle.object_store.proofs.Unfolding.{unfolding_law}
-use Rattle.filter_unapply.specs.Lenses.{below}
-use Rattle.filter_unapply.specs.Laying.{LaidTree, laid}
+use Rattle.filter_unapply.specs.Laying.{below, LaidTree, laid}
 use Rattle.filter_unapply.proofs.Lawful.{kept-laid, laid-tree, shown-laid}
 use Rattle.filter_unapply.proofs.Rests.{below-lens, shows-under}
-use Rattle.repo_state.specs.Items.{Held, bytes_cmp}
+use Rattle.repo_state.specs.Items.{Held}
+use Rattle.git_objects.specs.Refs.{bytes_cmp}
 use Rattle.repo_state.specs.Loads.{IsStored, Stored}
 use Rattle.repo_state.specs.Commits.{change_of}
-use Rattle.repo_state.specs.Changes.{Plan, changed, commit_named, held_after, is_empty, moved, plan_in, plan_text, with_refs}
-use Rattle.repo_state.specs.Repos.{Snapshot, snapshot_commit, snapshots_in}
-use Rattle.repo_state.proofs.Fitting.{flat-part}
-use Rattle.repo_state.proofs.Grows.{AreIn, part-has}
+use Rattle.repo_state.specs.Changes.{Plan, changed, held_after, is_empty, moved, plan_in, plan_text, with_refs}
+use Rattle.object_store.specs.StoredSnapshots.{commit_named, snapshots_in}
+use Rattle.git_objects.specs.Snapshots.{Snapshot, snapshot_commit}
+use Rattle.object_store.proofs.FlatParts.{flat-part}
+use Rattle.object_store.proofs.Parts.{AreIn, part-has}
 use Rattle.repo_state.proofs.Heads.{find-there}
 use Rattle.small_streams.specs.Streams.{Small}
 use Rattle.history_project.specs.Histories.{tree_at}
@@ -117,13 +117,13 @@ laid-at place t n u v h g e =
 
 by-law : (place : Path) (refname head : Bytes) (s' : Stored) (s : Small) (r : Pushed) (p : Prepared) → is_path place ≡ true →
     find bytes_cmp refname s'.held.refs ≡ Some head → has CommitKind s'.held.objects head ≡ true → IsStored s' →
-    IsAccepted (newest s'.objects) (below place) (start_below place s'.held head) s r → IsPushBatch refname r p → IsStored (changed s' (plan_in s' (change_of p.batch))) →
+    IsAccepted s'.objects (below place) (start_below place s'.held head) s r → IsPushBatch refname r p → IsStored (changed s' (plan_in s' (change_of p.batch))) →
     IsPushed place refname s'.held (held_after s'.held (plan_in s' (change_of p.batch))) s p.report
 by-law place refname head s' s r p v was k w a b c =
     let plan : Plan = plan_in s' (change_of p.batch) in
     let h : Held = s'.held in
     let g : Held = held_after h plan in
-    let S : List Object = newest s'.objects in
+    let S : List Object = s'.objects in
     let n : Bytes = r.original.0 in
     let start : push.Start = start_below place h head in
     let z : IsStored (after s' plan) = stored-after s' plan w c in
@@ -151,8 +151,8 @@ by-law place refname head s' s r p v was k w a b c =
 -- by what the code stands upon; the commit of a ref is held
 pub push-law : (place : Path) (refname head : Bytes) (s' : Stored) (start : push.Start) (s : Small) (r : Pushed) (p : Prepared) → is_path place ≡ true →
     find bytes_cmp refname s'.held.refs ≡ Some head → start ≡ start_below place s'.held head → IsStored s' →
-    IsAccepted (newest s'.objects) (below place) start s r → IsPushBatch refname r p → IsStored (changed s' (plan_in s' (change_of p.batch))) →
+    IsAccepted s'.objects (below place) start s r → IsPushBatch refname r p → IsStored (changed s' (plan_in s' (change_of p.batch))) →
     IsPushed place refname s'.held (held_after s'.held (plan_in s' (change_of p.batch))) s p.report
 push-law place refname head s' start s r p v was same w a b c =
     let there = find-there s'.held.refs refname head was in
-    by-law place refname head s' s r p v was (w.heads there.0 head there.1) w (subst (λ (t : push.Start). IsAccepted (newest s'.objects) (below place) t s r) same a) b c
+    by-law place refname head s' s r p v was (w.heads there.0 head there.1) w (subst (λ (t : push.Start). IsAccepted s'.objects (below place) t s r) same a) b c

@@ -10,11 +10,12 @@ use Rattle.git_objects.specs.declared.kind.Kind.TheVariants.{Blob, Commit as Com
 use Rattle.git_objects.specs.declared.name.Name.{Name}
 use Rattle.git_objects.proofs.Basics.{same_bytes-self}
 use Rattle.object_store.specs.Objects.{Object, IsStore, has}
-use Rattle.filter_unapply.specs.Lenses.{Lens}
+use Rattle.filter_routes.specs.Lenses.{Lens}
 use Rattle.repo_state.specs.Items.{Held}
-use Rattle.repo_state.specs.Repos.{Snapshot, snapshot_name}
+use Rattle.git_objects.specs.Snapshots.{Snapshot, snapshot_name}
 use Rattle.repo_state.specs.Changes as changes
-use Rattle.repo_state.specs.Changes.{IsChange, are_distinct, commit_named, fresh, has_parents, moved, objects_of, plan}
+use Rattle.repo_state.specs.Changes.{IsChange, are_distinct, fresh, has_parents, moved, objects_of, plan}
+use Rattle.object_store.specs.StoredSnapshots.{commit_named}
 use Rattle.repo_state.specs.Commits.{change_of}
 use Rattle.small_streams.specs.Replay.{contents, contents_in, stream_objects}
 use Rattle.small_streams.specs.Replays.{AreBlobs}

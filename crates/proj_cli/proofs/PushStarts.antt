@@ -7,7 +7,7 @@ use Rattle.git_objects.specs.declared.kind.Kind.TheVariants.{Commit}
 use Rattle.git_objects.specs.declared.name.Name.{Name}
 use Rattle.object_store.specs.Objects.{Object, IsStore, has}
 use Rattle.object_store.specs.Unfolding.{flat}
-use Rattle.repo_state.specs.Repos.{snapshots_in}
+use Rattle.object_store.specs.StoredSnapshots.{snapshots_in}
 use Rattle.history_project.specs.Histories.{tree_at}
 use Rattle.history_project.specs.Snapshots.{base_tree}
 use Rattle.history_project.proofs.HeldCommits.{some-held}

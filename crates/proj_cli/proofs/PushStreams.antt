@@ -3,7 +3,6 @@ use Rattle.std.proofs.Common.{◌≡◌, ◌≤◌, ◌<◌, List, [], ◌∷◌
 use Rattle.std.specs.Prelude.{IfErr, IfOk, OnOk}
 use Rattle.git_objects.specs.Paths.{Bytes, Path}
 use Rattle.git_objects.specs.Parts.{name_bytes}
-use Rattle.object_store.specs.Errors.{newest}
 use Rattle.repo_state.specs.Changes.{changed, fresh, held_after, moved, objects_of, plan_in}
 use Rattle.repo_state.specs.Commits.{change_of, setting}
 use Rattle.repo_state.specs.Items.{Held}
@@ -30,7 +29,7 @@ none-of (x ∷ v) h = absurd (omega (arith, h))
 nothing-new : (s : Stored) (p : Prepared) → p.batch.blobs.items ≡ [] → p.batch.commits.items ≡ [] → p.batch.refs.items ≡ [] → plan_in s (change_of p.batch) ≡ no_change
 unfolding fresh
 nothing-new s p b c f = λ i. record {
-  objects = fresh s.held.objects (objects_of (newest s.objects) (record { blobs = map name_bytes (b i); commits = map name_bytes (c i); refs = map setting (f i) }));
+  objects = fresh s.held.objects (objects_of s.objects (record { blobs = map name_bytes (b i); commits = map name_bytes (c i); refs = map setting (f i) }));
   refs = moved s.held.refs (map setting (f i));
 }
 

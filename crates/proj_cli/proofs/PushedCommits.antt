@@ -10,15 +10,16 @@ use Rattle.git_objects.specs.Commits.{commit_name}
 use Rattle.git_objects.specs.declared.kind.Kind.TheVariants.{Tree}
 use Rattle.git_objects.specs.declared.name.Name.{Name}
 use Rattle.object_store.specs.Objects.{Object, has}
-use Rattle.object_store.specs.Unfolding.{flat}
+use Rattle.object_store.specs.Unfolding.{flat, StandsFor}
 use Rattle.object_store.proofs.Unfolding.{unfolding_law}
-use Rattle.filter_unapply.specs.Lenses.{Lens, below}
+use Rattle.filter_routes.specs.Lenses.{Lens}
+use Rattle.filter_unapply.specs.Laying.{below, Laid, laid}
 use Rattle.filter_unapply.specs.Laying as laying
-use Rattle.filter_unapply.specs.Laying.{Laid, laid}
-use Rattle.repo_state.specs.Repos.{snapshot_name}
+use Rattle.git_objects.specs.Snapshots.{snapshot_name}
 use Rattle.small_streams.specs.Streams.{Change, Small}
 use Rattle.small_streams.specs.Replay.{IsDirectoryOf, IsMadeIn, are_small, contents_in, trees_within, with_changes}
-use Rattle.small_streams.specs.Replays.{AddsBlobs, AreBlobs, IsFilesFault, IsGrownBy, IsPutFault, StandsFor, parent_of}
+use Rattle.small_streams.specs.Replays.{AddsBlobs, AreBlobs, IsFilesFault, IsPutFault, parent_of}
+use Rattle.object_store.specs.Growth.{IsGrownBy}
 use Rattle.proj_cli.specs.Push as push
 use Rattle.proj_cli.specs.Push.{IsLaidMade, IsPushMade, accepted, by_laid, judged, pushed_commit}
 use Rattle.proj_cli.specs.Pushes.{IsAccepted, IsLaidFault, IsOriginal, IsPushFault, start_value}
@@ -28,7 +29,7 @@ use Rattle.proj_cli.specs.declared.pushing.PushFault.TheVariants.{TooLarge, NoCh
 use Rattle.proj_cli.specs.declared.pushing.Start.{Start}
 use Rattle.small_streams.specs.declared.replay.ReplayFault.{ReplayFault}
 use Rattle.small_streams.specs.declared.replay.ReplayFault.TheVariants as replay
-use Rattle.small_streams.proofs.Grows.{clash_as, flat-grown, grown_as, grown_then}
+use Rattle.object_store.proofs.Growth.{clash_as, flat-grown, grown_as, grown_then}
 use Rattle.proj_cli.proofs.Imports.{parents-are}
 use Rattle.small_streams.proofs.Replaying.{blobs-grown}
 use Rattle.small_streams.proofs.Upon.{in_first}

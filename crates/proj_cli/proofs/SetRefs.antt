@@ -7,7 +7,7 @@ use Rattle.std.specs.FinMap.Entries.{find-put}
 use Rattle.std.specs.Cmp.{tied_itself}
 use Rattle.std.specs.Cmp.Lexicographic.{bytes_decides, nat_list_cmp_total}
 use Rattle.git_objects.specs.Paths.{Bytes, same_bytes}
-use Rattle.repo_state.specs.Items.{Refs, bytes_cmp}
+use Rattle.git_objects.specs.Refs.{Refs, bytes_cmp}
 use Rattle.repo_state.specs.Changes.{is_moved, moved, with_refs}
 
 found-same : (n : Bytes) (o : Option Bytes) → not (option_map_or (same_bytes n) o false) ≡ false → o ≡ Some n

@@ -2,7 +2,7 @@
 use Rattle.std.proofs.Common.{◌≡◌, true, cond, List, [], ◌∷◌, Some, None, Result, Ok, Err, IfErr, IfOk, refl, sym, ap, ◌∙◌}
 use Rattle.std.specs.Cmp.{first_so}
 use Rattle.git_objects.specs.Paths.{Bytes, Path, is_nil}
-use Rattle.git_objects.specs.Trees.{Flat, IsTree, at, under}
+use Rattle.git_objects.specs.Trees.{Flat, IsTree, at, under, standing}
 use Rattle.git_objects.specs.Names.{body, name}
 use Rattle.git_objects.specs.Entries.{is_dir}
 use Rattle.git_objects.specs.declared.kind.Kind.TheVariants.{Blob, Tree}
@@ -10,17 +10,18 @@ use Rattle.git_objects.specs.declared.mode.Mode.{Mode}
 use Rattle.git_objects.specs.declared.mode.Mode.TheVariants.{File, Exec, Link, Module, Dir}
 use Rattle.git_objects.specs.declared.name.Name.{Name}
 use Rattle.object_store.specs.Objects.{Object, IsStore, body_of, find_named, has, has_child}
-use Rattle.object_store.specs.Unfolding.{flat, node_of}
+use Rattle.object_store.specs.Unfolding.{flat, node_of, StandsFor}
 use Rattle.object_store.proofs.Unfolding.{unfolding_law}
-use Rattle.path_trees.specs.Standing.{node, standing}
+use Rattle.path_trees.specs.Standing.{node}
 use Rattle.path_trees.specs.Listed.{directory_of}
 use Rattle.path_trees.specs.declared.found.Found.{Found}
 use Rattle.small_streams.specs.Replay.{IsDirectoryOf}
-use Rattle.small_streams.specs.Replays.{IsGrownBy, IsOnly, IsPutFault, StandsFor, StandsOrNone}
+use Rattle.small_streams.specs.Replays.{IsPutFault, StandsOrNone}
+use Rattle.object_store.specs.Growth.{IsGrownBy, IsOnly}
 use Rattle.small_streams.specs.declared.replay.ReplayFault.{ReplayFault}
 use Rattle.small_streams.specs.declared.replay.ReplayFault.TheVariants.{TooManyFiles, Collision, OutOfMemory}
 use Rattle.history_project.proofs.FoundObjects.{has-found}
-use Rattle.small_streams.proofs.Grows.{clash_as, grown_as}
+use Rattle.object_store.proofs.Growth.{clash_as, grown_as}
 use Rattle.history_project.proofs.ShownTrees.{shown-leaf, shown-none, tree-node}
 use Rattle.small_streams.proofs.Upon.{empty-flat}
 

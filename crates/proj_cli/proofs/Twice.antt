@@ -10,7 +10,7 @@ use Rattle.git_objects.proofs.Basics.{same_bytes-self}
 use Rattle.object_store.specs.Objects.{Object, object_name, same_kind, find_named}
 use Rattle.object_store.specs.Puts.{Collides, collision, same_object}
 use Rattle.proj_cli.specs.Answer.{IsTwice}
-use Rattle.small_streams.specs.Replays.{IsClash, IsGrownBy}
+use Rattle.object_store.specs.Growth.{IsClash, IsGrownBy}
 
 -- the object of a name is one of them, and has that name
 pub record IsFound (S : List Object) (n : Bytes) (o : Object) : Type 0 where

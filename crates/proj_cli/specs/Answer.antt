@@ -8,7 +8,8 @@ use Rattle.git_objects.specs.Paths.{Bytes, Path}
 use Rattle.object_store.specs.Objects.{Object, object_name}
 use Rattle.proj_io.specs.Counts.{Counts, Rose}
 use Rattle.proj_io.specs.Views.{SourceView, SinkView, KeeperView}
-use Rattle.repo_state.specs.Items.{Held, Break, bytes_cmp, read_items}
+use Rattle.repo_state.specs.Items.{Held, Break, read_items}
+use Rattle.git_objects.specs.Refs.{bytes_cmp}
 use Rattle.repo_state.specs.Repos.{is_kept, repo_of}
 use Rattle.repo_state.specs.Changes.{Plan, held_after, is_empty, plan_text}
 use Rattle.repo_state.specs.Commits.{GetsItem, KeepsItems}
@@ -18,7 +19,7 @@ use Rattle.small_streams.specs.Replay.{IsMadeBy}
 use Rattle.proj_cli.specs.Step.{Step, done, start_below}
 use Rattle.proj_cli.specs.Push.{IsPushMade, Start}
 use Rattle.proj_cli.specs.Texts.{filter_path}
-use Rattle.filter_unapply.specs.Lenses.{below}
+use Rattle.filter_unapply.specs.Laying.{below}
 use Rattle.history_project.specs.Histories.{tree_upon}
 use Rattle.proj_cli.specs.declared.outcome.Outcome.{Outcome}
 use Rattle.proj_cli.specs.declared.outcome.Outcome.TheVariants.{Done, OutOfMemory, Collision, ReadFault, WriteFault, StoreFault}

@@ -2,7 +2,6 @@
 use Rattle.std.specs.Prelude.{◌≡◌, ◌≢◌, ◌≤◌, ◌-◌, List, [], ◌∷◌, length, map, slice_get, Some, Ok}
 use Rattle.git_objects.specs.Paths.{Bytes}
 use Rattle.object_store.specs.Objects.{Object}
-use Rattle.object_store.specs.Errors.{newest}
 use Rattle.repo_state.specs.Items.{read_items}
 use Rattle.repo_state.specs.Loads.{Stored}
 use Rattle.repo_state.specs.Changes.{IsChange, IsWithin, plan_in}
@@ -28,11 +27,11 @@ pub record IsSameBut (before after : Stored) : Type 0 where
 -- what is committed is the step's change, and what is reported its output, where no limit is passed
 pub record IsPrepared (s : Stored) (step : Step) (p : Prepared) : Type 0 where
   pub step_is : step ≡ changing s.held (room_in s) p.report (plan_in s (change_of p.batch))
-  pub change : IsChange (newest s.objects) s.held.objects (change_of p.batch)
+  pub change : IsChange s.objects s.held.objects (change_of p.batch)
 
 -- where the items spell what is held, and the stream stood in an input
 abbrev pub FitsItems : Stored → List Small → Prepared → Type 0
-FitsItems s ss p = (items : List Bytes) (input : Bytes) → read_items items ≡ Ok s.held → length input ≤ input_max → stream input ≡ Some ss → IsWithin (newest s.objects) s.held.objects (change_of p.batch)
+FitsItems s ss p = (items : List Bytes) (input : Bytes) → read_items items ≡ Ok s.held → length input ≤ input_max → stream input ≡ Some ss → IsWithin s.objects s.held.objects (change_of p.batch)
 
 -- what a stream brought, with its ref at its last commit
 pub record IsBatchOf (refname : Bytes) (r : Replayed) (p : Prepared) : Type 0 where

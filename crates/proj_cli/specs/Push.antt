@@ -6,11 +6,12 @@ use Rattle.git_objects.specs.Trees.{Flat}
 use Rattle.git_objects.specs.Names.{tree_name}
 use Rattle.git_objects.specs.Commits.{Letter}
 use Rattle.object_store.specs.Objects.{Object}
-use Rattle.filter_unapply.specs.Lenses.{Lens}
+use Rattle.filter_routes.specs.Lenses.{Lens}
 use Rattle.filter_unapply.specs.Laying as laying
 use Rattle.filter_unapply.specs.Laying.{Laid, laid}
-use Rattle.repo_state.specs.Items.{tree_fits}
-use Rattle.repo_state.specs.Repos.{Snapshot, snapshot_object}
+use Rattle.object_store.specs.Fits.{tree_fits}
+use Rattle.object_store.specs.StoredSnapshots.{snapshot_object}
+use Rattle.git_objects.specs.Snapshots.{Snapshot}
 use Rattle.small_streams.specs.Streams.{Small}
 use Rattle.small_streams.specs.Replay.{IsDirectoryOf, IsMadeIn, are_small, snapshot, trees_within}
 use Rattle.history_project.specs.Projection.{projection}

@@ -7,8 +7,7 @@ use Rattle.git_objects.specs.Paths.{Bytes}
 use Rattle.git_objects.specs.Trees.{Flat, FileLeaf, put, under}
 use Rattle.git_objects.specs.Names.{name, body, line}
 use Rattle.git_objects.specs.Commits.{Letter}
-use Rattle.filter_unapply.specs.Lenses.{below}
-use Rattle.filter_unapply.specs.Laying.{laid}
+use Rattle.filter_unapply.specs.Laying.{below, laid}
 use Rattle.repo_state.specs.Items.{nothing}
 use Rattle.proj_cli.specs.Push.{Start, OtherRef, NotAtHead, NoChange, Blocked, Accepted, by_laid, judged, pushed_commit, verdict}
 use Rattle.proj_cli.specs.Step.{Room, done, push_line, push_made, push_smalls, refused}

@@ -4,8 +4,10 @@ use Rattle.std.specs.Option.{option_map}
 use Rattle.std.specs.FinMap.{find}
 use Rattle.git_objects.specs.Paths.{Bytes, Path}
 use Rattle.git_objects.specs.Trees.{at, rest_below}
-use Rattle.repo_state.specs.Items.{Break, Held, bytes_cmp, read_items}
-use Rattle.repo_state.specs.Repos.{repo_of, snapshot_name}
+use Rattle.repo_state.specs.Items.{Break, Held, read_items}
+use Rattle.git_objects.specs.Refs.{bytes_cmp}
+use Rattle.repo_state.specs.Repos.{repo_of}
+use Rattle.git_objects.specs.Snapshots.{snapshot_name}
 use Rattle.repo_state.specs.Changes.{held_after}
 use Rattle.history_project.specs.Histories.{tree_at}
 use Rattle.history_project.specs.Projection.{projection_below}

@@ -7,19 +7,19 @@ use Rattle.git_objects.specs.Trees.{Flat, IsTree, under}
 use Rattle.git_objects.specs.Names.{tree_name}
 use Rattle.git_objects.specs.Commits.{Letter}
 use Rattle.object_store.specs.Objects.{Object}
-use Rattle.object_store.specs.Errors.{newest}
 use Rattle.object_store.specs.Unfolding.{flat}
 use Rattle.repo_state.specs.Loads.{IsStored, Stored}
-use Rattle.filter_unapply.specs.Lenses.{Lens}
+use Rattle.filter_routes.specs.Lenses.{Lens}
 use Rattle.filter_unapply.specs.Laying as laying
 use Rattle.filter_unapply.specs.Laying.{Laid, laid}
-use Rattle.repo_state.specs.Items.{tree_fits}
-use Rattle.repo_state.specs.Repos.{snapshot_name}
+use Rattle.object_store.specs.Fits.{tree_fits}
+use Rattle.git_objects.specs.Snapshots.{snapshot_name}
 use Rattle.repo_state.specs.Commits.{setting}
 use Rattle.git_objects.specs.declared.name.Name.{Name}
 use Rattle.small_streams.specs.Streams.{Small}
 use Rattle.small_streams.specs.Replay.{are_small, contents_in, trees_within}
-use Rattle.small_streams.specs.Replays.{AreBlobs, IsClash, IsOnlyCommit}
+use Rattle.small_streams.specs.Replays.{AreBlobs, IsOnlyCommit}
+use Rattle.object_store.specs.Growth.{IsClash}
 use Rattle.history_project.specs.Snapshots.{IsSnapshot}
 use Rattle.proj_cli.specs.Step.{push_line}
 use Rattle.proj_cli.specs.Push as push
@@ -93,5 +93,5 @@ pub record IsPushBatch (refname : Bytes) (r : Pushed) (p : Prepared) : Type 0 wh
 pub record IsPreparedPush (s' : Stored) (f : Lens) (start : push.Start) (refname : Bytes) (s : Small) (p : Prepared) : Type 0 where
   pub stored : IsStored s'
   pub made : Pushed
-  pub accepted : IsAccepted (newest s'.objects) f start s made
+  pub accepted : IsAccepted s'.objects f start s made
   pub batch : IsPushBatch refname made p

@@ -2,16 +2,20 @@
 use Rattle.std.specs.Prelude.{ℕ, ◌^◌, Bool, true, false, cond, ◌&&◌, ◌||◌, nat_le, List, [], ◌∷◌, ◌++◌, length, reverse, filter, sum_by, codes, decimal, Option, Some, None, Result, Ok, Err}
 use Rattle.std.specs.Option.{is_some, is_none, option_map, option_to_list}
 use Rattle.std.specs.FinMap.{find}
+use Rattle.git_objects.specs.declared.limits.TheConstants.{COMMITS, OBJECTS}
 use Rattle.git_objects.specs.Paths.{Bytes, Path, same_bytes, text}
 use Rattle.git_objects.specs.Trees.{under}
 use Rattle.git_objects.specs.declared.name.Name.{Name as ObjectName}
 use Rattle.path_names.specs.Quoting.{quote}
-use Rattle.filter_unapply.specs.Lenses.{below}
+use Rattle.filter_unapply.specs.Laying.{below}
 use Rattle.git_objects.specs.Commits.{hex}
 use Rattle.object_store.specs.Objects.{Object}
 use Rattle.repo_state.specs.Fields.{BrokenAt, Clash}
-use Rattle.repo_state.specs.Items.{Held, Break, bytes_cmp, is_commit, read_items}
-use Rattle.repo_state.specs.Repos.{Snapshot, repo_of, snapshot_name}
+use Rattle.repo_state.specs.Items.{Held, Break, read_items}
+use Rattle.object_store.specs.Fits.{is_commit}
+use Rattle.git_objects.specs.Refs.{bytes_cmp}
+use Rattle.repo_state.specs.Repos.{repo_of}
+use Rattle.git_objects.specs.Snapshots.{Snapshot, snapshot_name}
 use Rattle.repo_state.specs.Changes.{Plan, fresh, is_empty, moved, passed}
 use Rattle.repo_state.specs.declared.state.LoadError.{LoadError}
 use Rattle.repo_state.specs.declared.state.LoadError.TheVariants as load
@@ -141,9 +145,9 @@ push_step refname place room input h = push_at refname place room input h (find 
 
 -- ---- name
 
--- at most 2^20 commits and 2^22 objects
+-- whether commits and objects are within the limits of a state
 abbrev pub has_few : List Object → Bool
-has_few os = nat_le (length (filter is_commit os)) (2 ^ 20) && nat_le (length os) (2 ^ 22)
+has_few os = nat_le (length (filter is_commit os)) COMMITS && nat_le (length os) OBJECTS
 
 abbrev pub name_at : Bytes → Path → Bytes → List Snapshot → Step
 name_at refname place head cs = cond (same_bytes head refname) (done (name_line (projection_below place (reverse cs) (last_name cs)))) (refused UnknownRef)

@@ -3,8 +3,8 @@ use Rattle.std.specs.Prelude.{ℕ, Bool, not, cond, ◌&&◌, ◌==◌, nat_le, 
 use Rattle.std.specs.Option.{option_and_then}
 use Rattle.std.specs.List.{list_all}
 use Rattle.git_objects.specs.Paths.{Bytes, Path}
-use Rattle.path_names.specs.PathTexts.{path_of}
-use Rattle.small_streams.specs.Texts.{ok_path, strip}
+use Rattle.path_names.specs.PathTexts.{path_of, ok_path}
+use Rattle.git_objects.specs.CommitBodies.{strip}
 
 -- a byte of a bare path: from 33 on, other than 127 and other than `:`, `,`, `[`, `]`, `=`, `"`, `#` and `*`
 abbrev pub is_bare : ℕ → Bool

@@ -4,7 +4,7 @@ use Rattle.std.specs.List.{starts_with}
 use Rattle.std.specs.Option.{option_and_then}
 use Rattle.git_objects.specs.Paths.{Bytes, same_bytes}
 use Rattle.path_names.specs.RefNames.{is_ref_name}
-use Rattle.small_streams.specs.Texts.{number}
+use Rattle.path_names.specs.Words.{number}
 
 pub data Command : Type 0 where
   -- of a stream, and whether a ref may move anywhere

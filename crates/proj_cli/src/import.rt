@@ -4,7 +4,6 @@ ghost use Rattle.std.specs.Option.{option_map};
 ghost use Rattle.git_objects.specs.Parts.{name_bytes};
 ghost use Rattle.git_objects.specs.Paths.{Bytes};
 ghost use Rattle.git_objects.specs.declared.kind.Kind.TheVariants.{Commit};
-ghost use Rattle.object_store.specs.Errors.{newest};
 ghost use Rattle.object_store.specs.Objects.{has};
 ghost use Rattle.proj_io.specs.Counts.{Counts};
 ghost use Rattle.proj_io.specs.Views.{keeper_view};
@@ -14,7 +13,8 @@ ghost use Rattle.repo_state.specs.Repos.{repo_of};
 ghost use Rattle.proj_cli.specs.Answer.{IsInHand, IsInImport, IsMadeFrom, IsMadeOf, IsStreamInHand};
 ghost use Rattle.proj_cli.specs.Prepared.{FitsItems, IsBatchOf, IsPlainRefusal, IsPrepared, IsSameBut, room_in};
 ghost use Rattle.small_streams.specs.Replay.{IsMadeBy};
-ghost use Rattle.small_streams.specs.Replays.{IsGrownBy, IsReplayFault, IsReplayed, parent_of};
+ghost use Rattle.small_streams.specs.Replays.{IsReplayFault, IsReplayed, parent_of};
+ghost use Rattle.object_store.specs.Growth.{IsGrownBy};
 ghost use Rattle.history_project.specs.Snapshots.{base_tree};
 ghost use Rattle.proj_cli.specs.Step.{import_smalls, import_step, import_stream, input_max, report_line, step};
 ghost use Rattle.history_project.specs.Histories.{is_same_name, tree_upon};
@@ -105,29 +105,36 @@ fn replay_stream(
     head: Option<Name>,
     smalls: &[SmallCommit<'_>],
 ) -> Result<Replayed, ReplayFault>
-    requires whole { newest state.old.objects ≡ state.old.held.objects }
+    requires whole { state.old.objects ≡ state.old.held.objects }
     requires head { IfSome head (λ n. has Commit state.old.held.objects n.0 ≡ true) }
     ensures same { IsSameBut state.old state.new }
     ensures stored { IsStored state.new }
-    ensures base { tree_upon (repo_of state.old.held).commits (option_map name_bytes head) ≡ base_tree state.old.held.objects head }
-    ensures ok { IfOk result (IsReplayed (newest state.new.objects) (base_tree state.old.held.objects head) (parent_of head) (map small_value smalls.now)) }
-    ensures err { IfErr result (IsReplayFault (newest state.new.objects) (base_tree state.old.held.objects head) (parent_of head) (map small_value smalls.now)) }
-    ensures store { IsGrownBy (IsMadeBy (base_tree state.old.held.objects head) (parent_of head) (map small_value smalls.now)) state.old.held.objects (newest state.new.objects) }
+    ensures base { tree_upon (repo_of state.old.held).commits (option_map name_bytes head)
+        ≡ base_tree state.old.held.objects head }
+    ensures ok { IfOk result (IsReplayed state.new.objects (base_tree state.old.held.objects head)
+        (parent_of head) (map small_value smalls.now)) }
+    ensures err { IfErr result (IsReplayFault state.new.objects (base_tree state.old.held.objects head)
+        (parent_of head) (map small_value smalls.now)) }
+    ensures store { IsGrownBy (IsMadeBy (base_tree state.old.held.objects head) (parent_of head)
+        (map small_value smalls.now)) state.old.held.objects state.new.objects }
 {
     replay_upon(alloc, &mut state.store, head, smalls)
 }
 
-/// Replays a stream upon the commit of its ref, which its first commit names, or upon nothing where there is no such ref.
+/// Replays a stream upon the commit of its ref, which its first commit names, or upon nothing where there is no such
+/// ref.
 pub fn prepare_import(
     alloc: Global,
     state: &mut State,
     smalls: &[SmallCommit<'_>],
 ) -> Result<Prepared, Outcome>
-    requires whole { newest state.old.objects ≡ state.old.held.objects }
+    requires whole { state.old.objects ≡ state.old.held.objects }
     ensures same { IsSameBut state.old state.new }
-    ensures ok { IfOk result (IsPrepared state.new (import_smalls state.old.held (room_in state.old) (map small_value smalls.now))) }
+    ensures ok { IfOk result (IsPrepared state.new (import_smalls state.old.held (room_in state.old)
+        (map small_value smalls.now))) }
     ensures fits { IfOk result (FitsItems state.new (map small_value smalls.now)) }
-    ensures err { IfErr result (IsPlainRefusal (IsInImport state.old.held (map small_value smalls.now)) (import_smalls state.old.held (room_in state.old) (map small_value smalls.now))) }
+    ensures err { IfErr result (IsPlainRefusal (IsInImport state.old.held (map small_value smalls.now))
+        (import_smalls state.old.held (room_in state.old) (map small_value smalls.now))) }
 {
     let Some(first) = smalls.first() else {
         return Ok(nothing(alloc));
@@ -156,10 +163,12 @@ fn import_text<K: Keeper>(
 ) -> Result<Bytes, Outcome>
     requires open { K.is_open store.old }
     requires number { state.number ≡ K.number store.old }
-    requires whole { newest state.objects ≡ state.held.objects }
+    requires whole { state.objects ≡ state.held.objects }
     requires short { length text.now ≤ input_max }
-    ensures made { let kept = keeper_view K.items K.number K.faults in (items : List Bytes) → (K.items store.old ≡ Some items → IsCurrent items state) →
-        IsMadeFrom (IsStreamInHand state.held (stream text.now)) (import_stream state.held (room_in state) (stream text.now)) items (kept store.old) (kept store.new) result }
+    ensures made { let kept = keeper_view K.items K.number K.faults in (items : List Bytes) →
+        (K.items store.old ≡ Some items → IsCurrent items state) →
+        IsMadeFrom (IsStreamInHand state.held (stream text.now)) (import_stream state.held (room_in state)
+        (stream text.now)) items (kept store.old) (kept store.new) result }
     ensures early { (result ≢ Err Outcome.WriteFault) × (result ≢ Err Outcome.ReadFault) }
     ensures cause { Counts (K.faults store.old) (K.faults store.new) (result ≡ Err Outcome.StoreFault) }
     ensures is_open { (result ≢ Err Outcome.StoreFault) → K.is_open store.new }
@@ -184,9 +193,11 @@ fn import_input<S: Source, K: Keeper>(
 ) -> Result<Bytes, Outcome>
     requires open { K.is_open store.old }
     requires number { state.number ≡ K.number store.old }
-    requires whole { newest state.objects ≡ state.held.objects }
-    ensures made { let kept = keeper_view K.items K.number K.faults in (items : List Bytes) → (K.items store.old ≡ Some items → IsCurrent items state) →
-        IsMadeOf (λ all. IsStreamInHand state.held (stream all)) (λ all. import_step (room_in state) all state.held) (S.left input.old) items (kept store.old) (kept store.new) result }
+    requires whole { state.objects ≡ state.held.objects }
+    ensures made { let kept = keeper_view K.items K.number K.faults in (items : List Bytes) →
+        (K.items store.old ≡ Some items → IsCurrent items state) →
+        IsMadeOf (λ all. IsStreamInHand state.held (stream all)) (λ all. import_step
+        (room_in state) all state.held) (S.left input.old) items (kept store.old) (kept store.new) result }
     ensures early { result ≢ Err Outcome.WriteFault }
     ensures read { Counts (S.faults input.old) (S.faults input.new) (result ≡ Err Outcome.ReadFault) }
     ensures cause { Counts (K.faults store.old) (K.faults store.new) (result ≡ Err Outcome.StoreFault) }
@@ -211,8 +222,10 @@ pub fn import<S: Source, K: Keeper>(
     store: &mut K,
 ) -> Result<Bytes, Outcome>
     requires { K.is_open store.old }
-    ensures made { let kept = keeper_view K.items K.number K.faults in (items : List Bytes) → K.items store.old ≡ Some items →
-        IsMadeOf (IsInHand (Import false) items) (step (Import false) items) (S.left input.old) items (kept store.old) (kept store.new) result }
+    ensures made { let kept = keeper_view K.items K.number K.faults in (items : List Bytes) →
+        K.items store.old ≡ Some items →
+        IsMadeOf (IsInHand (Import false) items) (step (Import false) items) (S.left input.old) items
+        (kept store.old) (kept store.new) result }
     ensures early { result ≢ Err Outcome.WriteFault }
     ensures read { Counts (S.faults input.old) (S.faults input.new) (result ≡ Err Outcome.ReadFault) }
     ensures cause { Counts (K.faults store.old) (K.faults store.new) (result ≡ Err Outcome.StoreFault) }

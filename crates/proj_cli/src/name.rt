@@ -3,20 +3,20 @@ ghost use Rattle.std.specs.Prelude.{◌≡◌, [], List, map, reverse, true, Som
 ghost use Rattle.std.specs.List.{list_all};
 ghost use Rattle.git_objects.specs.Parts.{name_bytes};
 ghost use Rattle.git_objects.specs.declared.kind.Kind.TheVariants.{Commit};
-ghost use Rattle.object_store.specs.Errors.{newest};
 ghost use Rattle.object_store.specs.Objects.{has, IsStore};
 ghost use Rattle.repo_state.specs.Changes.{fresh};
-ghost use Rattle.repo_state.specs.Repos.{Snapshot};
+ghost use Rattle.git_objects.specs.Snapshots.{Snapshot};
 ghost use Rattle.proj_cli.specs.Answer.{Plainly};
 ghost use Rattle.history_project.specs.Projection.{name_line, projection_below};
 ghost use Rattle.small_streams.specs.Replay.{IsMadeBy, replayed, stream_objects};
-ghost use Rattle.small_streams.specs.Replays.{IsBrought};
+ghost use Rattle.proj_cli.specs.Brought.{IsBrought};
 ghost use Rattle.history_project.specs.Snapshots.{AreSnapshots};
 ghost use Rattle.proj_cli.specs.Step.{has_few, name_made, name_smalls};
 ghost use Rattle.history_project.specs.Histories.{last_name};
 ghost use Rattle.small_streams.specs.Views.{small_value};
 
 use crate::outcome::Outcome;
+use git_objects::limits::{COMMITS, OBJECTS};
 use git_objects::{Bytes, Name};
 use history_project::{name_line, projection_line};
 use object_store::Store;
@@ -25,10 +25,6 @@ use repo_state::{Batch, count_batch};
 use small_streams::{ReplayFault, SmallCommit, replay_upon};
 use std::alloc::{AllocError, Global};
 
-const COMMITS: usize = 1_048_576;
-
-const OBJECTS: usize = 4_194_304;
-
 // The line of the last commit's projection, over these commits in order.
 fn last_line(
     alloc: Global,
@@ -36,9 +32,9 @@ fn last_line(
     commits: &[Name],
     place: &Path,
 ) -> Result<Bytes, AllocError>
-    requires whole { IsStore (newest store.now) }
-    requires held { list_all (λ n. has Commit (newest store.now) n) (map name_bytes commits.now) ≡ true }
-    ensures { (cs : List Snapshot) → AreSnapshots (newest store.now) commits.now cs → IfOk result
+    requires whole { IsStore store.now }
+    requires held { list_all (λ n. has Commit store.now n) (map name_bytes commits.now) ≡ true }
+    ensures { (cs : List Snapshot) → AreSnapshots store.now commits.now cs → IfOk result
         (λ line. line ≡ name_line (projection_below place.now (reverse cs) (last_name cs))) }
 {
     match commits.last() {
@@ -50,20 +46,21 @@ fn last_line(
     }
 }
 
-// Whether a stream that was replayed into an empty store brought no more commits and objects than a repository may have.
+// Whether a stream that was replayed into an empty store brought no more commits and objects than a repository may
+// have.
 fn are_few(
     alloc: Global,
     store: &Store,
     smalls: &[SmallCommit<'_>],
     batch: &Batch,
 ) -> Result<bool, AllocError>
-    requires { IsBrought (newest store.now) (map small_value smalls.now) batch.now }
+    requires { IsBrought store.now (map small_value smalls.now) batch.now }
     ensures { (cs : List Snapshot) → replayed [] [] (map small_value smalls.now) ≡ Some cs → IfOk result
         (λ few. few ≡ has_few (fresh [] (stream_objects (map small_value smalls.now) cs))) }
 {
     let _ = smalls;
     let (commits, objects) = count_batch(alloc, store, batch)?;
-    Ok(commits <= COMMITS && objects <= OBJECTS)
+    Ok(commits <= COMMITS as usize && objects <= OBJECTS as usize)
 }
 
 // The line of a stream that was replayed into an empty store, on a ref.
@@ -76,7 +73,7 @@ fn replayed_line(
     smalls: &[SmallCommit<'_>],
     batch: &Batch,
 ) -> Result<Bytes, Outcome>
-    requires { IsBrought (newest store.now) (map small_value smalls.now) batch.now }
+    requires { IsBrought store.now (map small_value smalls.now) batch.now }
     ensures { let ss = map small_value smalls.now in
         Plainly (IsMadeBy [] [] ss) (name_made refname.now place.now ss head.now (replayed [] [] ss)) result }
 {

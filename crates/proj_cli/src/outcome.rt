@@ -25,8 +25,8 @@ pub enum Outcome {
     OtherRef {
         at: u64,
     },
-    /// A pushed commit stands upon `got`, and not upon the projection of the ref's commit or the pushed commit before it, which is
-    /// `expected`. Each may be none.
+    /// A pushed commit stands upon `got`, and not upon the projection of the ref's commit or the pushed commit before
+    /// it, which is `expected`. Each may be none.
     NotAtHead {
         expected: Option<Name>,
         got: Option<Name>,
@@ -35,8 +35,8 @@ pub enum Outcome {
     NoChange {
         n: u32,
     },
-    /// The tree of the pushed commit of that number can't be laid into the original one: of two comparable paths `path`, in path
-    /// order, is the first that is pushed, and `by` the first other one. Both are original paths.
+    /// The tree of the pushed commit of that number can't be laid into the original one: of two comparable paths
+    /// `path`, in path order, is the first that is pushed, and `by` the first other one. Both are original paths.
     Blocked {
         n: u32,
         path: Path,
@@ -96,7 +96,8 @@ pub fn load_outcome(error: LoadError) -> Outcome
 }
 
 const USAGE: &[u8] =
-    b"usage: proj STORE (import [--force] | project REF FILTER | push REF FILTER | export REF FILTER | batch), proj name REF FILTER, proj trial N\n";
+    b"usage: proj STORE (import [--force] | project REF FILTER | push REF FILTER | export REF FILTER | batch), proj
+        name REF FILTER, proj trial N\n";
 
 fn collision_text(alloc: Global, name: &Name) -> Result<Vec<u8>, AllocError>
     ensures { IfOk result (λ text. text.items ≡ codes "collision: " ++ hex name.now.0 ++ codes "\n") }
@@ -116,7 +117,8 @@ fn add_number(text: &mut Vec<u8>, n: u64) -> Result<(), AllocError>
 }
 
 fn damaged_text(alloc: Global, item: u32, at: u64) -> Result<Vec<u8>, AllocError>
-    ensures { IfOk result (λ text. text.items ≡ codes "damaged: item " ++ decimal item ++ codes " at " ++ decimal at ++ codes "\n") }
+    ensures { IfOk result (λ text. text.items
+        ≡ codes "damaged: item " ++ decimal item ++ codes " at " ++ decimal at ++ codes "\n") }
 {
     let mut text = b"damaged: item ".to_vec(alloc)?;
     add_number(&mut text, item as u64)?;
@@ -150,7 +152,9 @@ fn not_at_head_text(
     expected: &Option<Name>,
     got: &Option<Name>,
 ) -> Result<Vec<u8>, AllocError>
-    ensures { IfOk result (λ text. text.items ≡ codes "not at head: expected " ++ name_text expected.now ++ codes ", got " ++ name_text got.now ++ codes "\n") }
+    ensures { IfOk result (λ text. text.items
+        ≡ codes "not at head: expected " ++ name_text expected.now ++ codes ", got " ++ name_text got.now ++ codes
+        "\n") }
 {
     let mut text = b"not at head: expected ".to_vec(alloc)?;
     add_name(&mut text, expected)?;
@@ -179,7 +183,8 @@ fn add_path(alloc: Global, line: &mut Vec<u8>, path: &Path) -> Result<(), AllocE
 }
 
 fn blocked_text(alloc: Global, n: u32, path: &Path, by: &Path) -> Result<Vec<u8>, AllocError>
-    ensures { IfOk result (λ line. line.items ≡ codes "blocked: commit " ++ decimal n ++ codes ": " ++ quote (text path.now) ++ codes " by " ++ quote (text by.now) ++ codes "\n") }
+    ensures { IfOk result (λ line. line.items ≡ codes "blocked: commit " ++ decimal n ++ codes ": " ++ quote
+        (text path.now) ++ codes " by " ++ quote (text by.now) ++ codes "\n") }
 {
     let mut line = b"blocked: commit ".to_vec(alloc)?;
     add_number(&mut line, n as u64)?;

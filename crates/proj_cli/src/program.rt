@@ -1,8 +1,8 @@
 // The top call.
-ghost use Rattle.std.specs.Prelude.{◌≡◌, ◌≢◌, ◌≤◌, ◌⊎◌, List, [], map, string_bytes, Some, Err, true, false, IsErr, IfOk};
+ghost use Rattle.std.specs.Prelude.{◌≡◌, ◌≢◌, ◌≤◌, ◌⊎◌, List, [], map, string_bytes, Some, Err, true, false, IsErr};
+ghost use Rattle.std.specs.Prelude.{IfOk};
 ghost use Rattle.git_objects.specs.Paths.{Bytes};
 ghost use Rattle.path_names.specs.RefNames.{is_ref_name};
-ghost use Rattle.object_store.specs.Errors.{newest};
 ghost use Rattle.proj_io.specs.Items.{Stays};
 ghost use Rattle.repo_state.specs.Items.{read_items};
 ghost use Rattle.proj_io.specs.Counts.{Counts};
@@ -10,8 +10,10 @@ ghost use Rattle.proj_io.specs.Views.{source_view, sink_view, keeper_view};
 ghost use Rattle.proj_cli.specs.Words.{command, is_formed};
 ghost use Rattle.small_streams.specs.Streams.{stream};
 ghost use Rattle.proj_cli.specs.Asked.{command_of};
-ghost use Rattle.proj_cli.specs.Step.{by_items, loads, name_step, name_stream, project_step, reads, step, text_of, writes};
-ghost use Rattle.proj_cli.specs.Answer.{GetsText, IsAnswer, IsComplete, IsConcluded, IsIdle, IsInHand, IsInStream, IsMade, IsReport, IsReported, IsSent, NoObject, Plainly, TakesMemory};
+ghost use Rattle.proj_cli.specs.Step.{by_items, loads, name_step, name_stream, project_step, reads, step, text_of};
+ghost use Rattle.proj_cli.specs.Step.{writes};
+ghost use Rattle.proj_cli.specs.Answer.{GetsText, IsAnswer, IsComplete, IsConcluded, IsIdle, IsInHand, IsInStream};
+ghost use Rattle.proj_cli.specs.Answer.{IsMade, IsReport, IsReported, IsSent, NoObject, Plainly, TakesMemory};
 ghost use Rattle.proj_cli.specs.Pushed.{IsLawful};
 ghost use Rattle.proj_cli.specs.Calls.{devices};
 
@@ -38,7 +40,7 @@ fn project_loaded(
     place: &Path,
 ) -> Result<Bytes, Outcome>
     requires refname { is_ref_name refname.now ≡ true }
-    requires whole { newest state.now.objects ≡ state.now.held.objects }
+    requires whole { state.now.objects ≡ state.now.held.objects }
     ensures { Plainly NoObject (project_step refname.now place.now state.now.held) result }
 {
     match RefName::parse(alloc, refname) {
@@ -57,7 +59,8 @@ fn project<K: Keeper>(
 ) -> Result<Bytes, Outcome>
     requires open { K.is_open store.old }
     requires refname { is_ref_name refname.now ≡ true }
-    ensures report { (items : List Bytes) → K.items store.old ≡ Some items → IsReport NoObject (by_items (read_items items) (project_step refname.now place.now)) result }
+    ensures report { (items : List Bytes) → K.items store.old ≡ Some items →
+        IsReport NoObject (by_items (read_items items) (project_step refname.now place.now)) result }
     ensures cause { Counts (K.faults store.old) (K.faults store.new) (result ≡ Err Outcome.StoreFault) }
     ensures early { (result ≢ Err Outcome.WriteFault) × (result ≢ Err Outcome.ReadFault) }
     ensures number { K.number store.new ≡ K.number store.old }
@@ -91,7 +94,8 @@ fn name<S: Source>(
     place: &Path,
     input: &mut S,
 ) -> Result<Bytes, Outcome>
-    ensures report { IsReported (λ all. IsInStream (stream all)) (name_step refname.now place.now) (S.left input.old) result }
+    ensures report { IsReported (λ all. IsInStream (stream all)) (name_step refname.now place.now)
+        (S.left input.old) result }
     ensures cause { Counts (S.faults input.old) (S.faults input.new) (result ≡ Err Outcome.ReadFault) }
     ensures early { (result ≢ Err Outcome.WriteFault) × (result ≢ Err Outcome.StoreFault) }
 {
@@ -107,7 +111,7 @@ fn name<S: Source>(
     }
 }
 
-// Makes what the words ask for. A filter of another kind isn't built, and then nothing is read.
+// Runs the command and gives its report. Where the filter is none that is built, nothing is read.
 fn make<S: Source, K: Keeper>(
     alloc: Global,
     asked: Asked<'_>,
@@ -117,11 +121,16 @@ fn make<S: Source, K: Keeper>(
     requires open { K.is_open store.old }
     requires formed { is_formed (command_of asked) ≡ true }
     ensures made { let seen = source_view S.left S.faults in let kept = keeper_view K.items K.number K.faults in
-        IsMade (IsInHand (command_of asked.entry)) (step (command_of asked.entry)) (loads (command_of asked.entry)) (writes (command_of asked.entry)) (seen input.old) (seen input.new) (kept store.old) (kept store.new) result }
-    ensures lawful { (items : List Bytes) (all : Bytes) → K.items store.old ≡ Some items → S.left input.old ≡ Some all → IfOk result (λ _. IsLawful (command_of asked.entry) items all (step (command_of asked.entry) items all)) }
+        IsMade (IsInHand (command_of asked.entry)) (step (command_of asked.entry)) (loads
+        (command_of asked.entry)) (writes (command_of asked.entry)) (seen input.old) (seen input.new)
+        (kept store.old) (kept store.new) result }
+    ensures lawful { (items : List Bytes) (all : Bytes) → K.items store.old ≡ Some items →
+        S.left input.old ≡ Some all → IfOk result (λ _. IsLawful (command_of asked.entry) items all (step
+        (command_of asked.entry) items all)) }
     ensures unread { reads (command_of asked.entry) ≡ false → input.new ≡ input.old }
     ensures unloaded { loads (command_of asked.entry) ≡ false → store.new ≡ store.old }
-    ensures idle { reads (command_of asked.entry) ≡ false → loads (command_of asked.entry) ≡ false → IsIdle (step (command_of asked.entry) [] []) result }
+    ensures idle { reads (command_of asked.entry) ≡ false → loads (command_of asked.entry) ≡ false →
+        IsIdle (step (command_of asked.entry) [] []) result }
     ensures is_open { (result ≢ Err Outcome.StoreFault) → K.is_open store.new }
 {
     match asked {
@@ -153,7 +162,8 @@ fn make<S: Source, K: Keeper>(
 
 // Writes a report.
 fn deliver<O: Sink>(report: &[u8], out: &mut O) -> Outcome
-    ensures sent { let seen = sink_view O.written O.faults O.refusals in IsSent result report.now (seen out.old) (seen out.new) }
+    ensures sent { let seen = sink_view O.written O.faults O.refusals in IsSent result report.now (seen out.old)
+        (seen out.new) }
     ensures cause { Counts (O.faults out.old) (O.faults out.new) (result ≡ Outcome.WriteFault) }
     ensures memory { O.refusals out.old ≤ O.refusals out.new }
 {
@@ -166,7 +176,8 @@ fn deliver<O: Sink>(report: &[u8], out: &mut O) -> Outcome
 
 // Writes what was made, and nothing after a refusal.
 fn conclude<O: Sink>(made: Result<Bytes, Outcome>, out: &mut O) -> Outcome
-    ensures concluded { let seen = sink_view O.written O.faults O.refusals in IsConcluded made (seen out.old) (seen out.new) result }
+    ensures concluded { let seen = sink_view O.written O.faults O.refusals in IsConcluded made (seen out.old)
+        (seen out.new) result }
     ensures same { IsErr made → out.new ≡ out.old }
 {
     match made {
@@ -185,7 +196,8 @@ fn tell<E: Sink>(text: &[u8], err: &mut E)
 // Writes the outcome's text. Where there is no memory for it, the outcome is that.
 fn finish<E: Sink>(alloc: Global, outcome: Outcome, err: &mut E) -> Outcome
     ensures outcome { (result ≡ outcome) ⊎ ((result ≡ Outcome.OutOfMemory) × TakesMemory outcome) }
-    ensures text { let seen = sink_view E.written E.faults E.refusals in GetsText (seen err.old) (seen err.new) (text_of result) }
+    ensures text { let seen = sink_view E.written E.faults E.refusals in GetsText (seen err.old) (seen err.new)
+        (text_of result) }
 {
     match outcome {
         Outcome::Done => {}
@@ -203,7 +215,7 @@ fn finish<E: Sink>(alloc: Global, outcome: Outcome, err: &mut E) -> Outcome
     outcome
 }
 
-/// Does what the words ask for, and writes the outcome's text to `err`.
+/// Runs the command that the words ask for, and writes the outcome's text to `err`.
 pub fn run<S: Source, O: Sink, E: Sink, K: Keeper>(
     alloc: Global,
     words: &[String],
@@ -213,27 +225,32 @@ pub fn run<S: Source, O: Sink, E: Sink, K: Keeper>(
     store: &mut K,
 ) -> Outcome
     requires { K.is_open store.old }
-    // The outcome, the output and the change of the items are the step's, each fault has its cause, and nothing is written before
-    // a refusal, after which the items are as they were.
+    // The outcome, the output and the change of the items are the step's, each fault has its cause, and nothing is
+    // written before a refusal, after which the items are as they were.
     ensures answer { let seen = devices S.left S.faults O.written O.faults O.refusals K.items K.number K.faults in
         let asked = command (map (λ word. string_bytes word) words.now) in
-        IsAnswer (IsInHand asked) (step asked) (loads asked) (writes asked) (seen input.old out.old store.old) (seen input.new out.new store.new) result }
-    // Where input and items are told and no device failed, the outcome is the step's, or there was no memory, or two objects
-    // have one name.
+        IsAnswer (IsInHand asked) (step asked) (loads asked) (writes asked) (seen input.old out.old store.old)
+        (seen input.new out.new store.new) result }
+    // Where input and items are told and no device failed, the outcome is the step's, or there was no memory, or two
+    // objects have one name.
     ensures complete { let seen = devices S.left S.faults O.written O.faults O.refusals K.items K.number K.faults in
         let asked = command (map (λ word. string_bytes word) words.now) in
-        IsComplete (IsInHand asked) (step asked) (loads asked) (seen input.old out.old store.old) (seen input.new out.new store.new) result }
-    // A push that is done made an original commit which projects, from scratch in the new state, to exactly the pushed one, and
-    // what the filter doesn't show is as it was.
+        IsComplete (IsInHand asked) (step asked) (loads asked) (seen input.old out.old store.old)
+        (seen input.new out.new store.new) result }
+    // A push that is done made an original commit which projects, from scratch in the new state, to exactly the
+    // pushed one, and what the filter doesn't show is as it was.
     ensures lawful { let asked = command (map (λ word. string_bytes word) words.now) in
-        (items : List Bytes) (all : Bytes) → K.items store.old ≡ Some items → S.left input.old ≡ Some all → result ≡ Outcome.Done → IsLawful asked items all (step asked items all) }
+        (items : List Bytes) (all : Bytes) → K.items store.old ≡ Some items → S.left input.old ≡ Some all →
+        result ≡ Outcome.Done → IsLawful asked items all (step asked items all) }
     // A form that doesn't read leaves the input, and one that doesn't load leaves the store.
     ensures unread { reads (command (map (λ word. string_bytes word) words.now)) ≡ false → input.new ≡ input.old }
     ensures unloaded { loads (command (map (λ word. string_bytes word) words.now)) ≡ false → store.new ≡ store.old }
     // One that does neither is answered without a look at any device.
-    ensures idle { let asked = command (map (λ word. string_bytes word) words.now) in reads asked ≡ false → loads asked ≡ false →
+    ensures idle { let asked = command (map (λ word. string_bytes word) words.now) in reads asked ≡ false →
+        loads asked ≡ false →
         (out.new ≡ out.old) × ((result ≡ Outcome.OutOfMemory) ⊎ (result ≡ (step asked [] []).outcome)) }
-    ensures text { let seen = sink_view E.written E.faults E.refusals in GetsText (seen err.old) (seen err.new) (text_of result) }
+    ensures text { let seen = sink_view E.written E.faults E.refusals in GetsText (seen err.old) (seen err.new)
+        (text_of result) }
     // Only after a fault of the store it may have to be opened again.
     ensures is_open { result ≢ Outcome.StoreFault → K.is_open store.new }
 {

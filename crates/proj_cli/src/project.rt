@@ -1,10 +1,9 @@
 // What `project` prints.
 ghost use Rattle.std.specs.Prelude.{◌≡◌, filter, map, reverse};
 ghost use Rattle.git_objects.specs.Parts.{name_bytes};
-ghost use Rattle.object_store.specs.Errors.{newest};
 ghost use Rattle.object_store.specs.Objects.{object_name};
-ghost use Rattle.repo_state.specs.Items.{is_commit};
-ghost use Rattle.repo_state.specs.Repos.{snapshots_in};
+ghost use Rattle.object_store.specs.Fits.{is_commit};
+ghost use Rattle.object_store.specs.StoredSnapshots.{snapshots_in};
 ghost use Rattle.proj_cli.specs.Answer.{NoObject, Plainly};
 ghost use Rattle.history_project.specs.Projection.{name_line, projection_below};
 ghost use Rattle.proj_cli.specs.Step.{done, project_step};
@@ -24,12 +23,12 @@ pub fn project_line(
     refname: &RefName,
     place: &Path,
 ) -> Result<Bytes, Outcome>
-    requires { newest state.now.objects ≡ state.now.held.objects }
+    requires { state.now.objects ≡ state.now.held.objects }
     ensures { Plainly NoObject (project_step refname.now place.now state.now.held) result }
 {
     match state.head(refname) {
         None => Err(Outcome::UnknownRef),
-        Some(head) => match state.commits(alloc) {
+        Some(head) => match state.commits() {
             Err(_) => Err(Outcome::OutOfMemory),
             Ok(commits) => line_of(alloc, &state.store, &commits, place, &head),
         },
@@ -44,10 +43,11 @@ fn line_of(
     place: &Path,
     head: &Name,
 ) -> Result<Bytes, Outcome>
-    requires { map name_bytes commits.now ≡ reverse (map object_name (filter is_commit (newest store.now))) }
-    ensures { Plainly NoObject (done (name_line (projection_below place.now (snapshots_in (newest store.now)) head.now.0))) result }
+    requires { map name_bytes commits.now ≡ reverse (map object_name (filter is_commit store.now)) }
+    ensures { Plainly NoObject (done (name_line (projection_below place.now
+        (snapshots_in store.now) head.now.0))) result }
 {
-    // The outcome rests on what the store keeps.
+    // The store is looked at so that the proof has what each store keeps.
     let _ = store.get(head);
     match projection_line(alloc, store, commits, place, head) {
         Ok(line) => Ok(line),

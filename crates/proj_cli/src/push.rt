@@ -1,5 +1,6 @@
 // Taking a pushed commit back into the original history.
-ghost use Rattle.std.specs.Prelude.{◌≡◌, ◌≢◌, ◌≤◌, ◌∷◌, [], List, filter, length, map, reverse, true, Err, Ok, Some, IfErr, IfOk, IfSome};
+ghost use Rattle.std.specs.Prelude.{◌≡◌, ◌≢◌, ◌≤◌, ◌∷◌, [], List, filter, length, map, reverse, true, Err, Ok, Some};
+ghost use Rattle.std.specs.Prelude.{IfErr, IfOk, IfSome};
 ghost use Rattle.std.specs.FinMap.{find};
 ghost use Rattle.std.specs.Option.{option_map};
 ghost use Rattle.git_objects.specs.Parts.{name_bytes};
@@ -7,24 +8,27 @@ ghost use Rattle.git_objects.specs.Paths.{Bytes};
 ghost use Rattle.git_objects.specs.Trees.{under};
 ghost use Rattle.path_names.specs.RefNames.{is_ref_name};
 ghost use Rattle.git_objects.specs.declared.kind.Kind.TheVariants.{Commit, Tree};
-ghost use Rattle.object_store.specs.Errors.{newest};
 ghost use Rattle.object_store.specs.Objects.{has, object_name};
 ghost use Rattle.proj_io.specs.Counts.{Counts};
 ghost use Rattle.proj_io.specs.Views.{keeper_view};
-ghost use Rattle.filter_unapply.specs.Lenses.{below};
+ghost use Rattle.filter_unapply.specs.Laying.{below};
 ghost use Rattle.repo_state.specs.Changes.{IsCurrent, changed, held_after, plan_in};
 ghost use Rattle.repo_state.specs.Commits.{change_of};
-ghost use Rattle.repo_state.specs.Items.{bytes_cmp, is_commit, read_items};
-ghost use Rattle.repo_state.specs.Repos.{snapshots_in};
+ghost use Rattle.repo_state.specs.Items.{read_items};
+ghost use Rattle.object_store.specs.Fits.{is_commit};
+ghost use Rattle.git_objects.specs.Refs.{bytes_cmp};
+ghost use Rattle.object_store.specs.StoredSnapshots.{snapshots_in};
 ghost use Rattle.repo_state.specs.Loads.{IsStored};
-ghost use Rattle.proj_cli.specs.Answer.{IsInPush, IsInPushFrom, IsMadeFrom, IsMadeOf, IsPushInHand, IsPushOf, IsSmallsInHand};
+ghost use Rattle.proj_cli.specs.Answer.{IsInPush, IsInPushFrom, IsMadeFrom, IsMadeOf, IsPushInHand, IsPushOf};
+ghost use Rattle.proj_cli.specs.Answer.{IsSmallsInHand};
 ghost use Rattle.proj_cli.specs.Prepared.{FitsItems, IsPlainRefusal, IsPrepared, IsSameBut, room_in};
 ghost use Rattle.proj_cli.specs.Push.{IsPushMade, judged, start_at};
 ghost use Rattle.proj_cli.specs.Pushed.{IsLawfulRead, IsLawfulStream, IsPushedAll};
 ghost use Rattle.proj_cli.specs.Pushes.{IsAccepted, IsPreparedPush, IsPushBatch, IsPushFault, start_value};
-ghost use Rattle.small_streams.specs.Replays.{IsGrownBy};
+ghost use Rattle.object_store.specs.Growth.{IsGrownBy};
 ghost use Rattle.history_project.specs.Shown.{shown_value};
-ghost use Rattle.proj_cli.specs.Step.{by_items, input_max, push_at, push_line, push_made, push_smalls, push_step, push_stream, room_of, start_below};
+ghost use Rattle.proj_cli.specs.Step.{by_items, input_max, push_at, push_line, push_made, push_smalls, push_step};
+ghost use Rattle.proj_cli.specs.Step.{push_stream, room_of, start_below};
 ghost use Rattle.small_streams.specs.Streams.{stream};
 ghost use Rattle.small_streams.specs.Views.{small_value};
 
@@ -71,13 +75,14 @@ fn start_in(
     place: &Path,
     head: Name,
 ) -> Result<Start, AllocError>
-    requires commits { map name_bytes commits.now ≡ reverse (map object_name (filter is_commit (newest store.now))) }
-    requires head { has Commit (newest store.now) head.0 ≡ true }
-    ensures value { IfOk result (λ s. start_value (newest store.now) place.now s ≡ start_at (λ t. under t place.now) (snapshots_in (newest store.now)) head.0) }
-    ensures tree { IfOk result (λ s. has Tree (newest store.now) s.tree.0 ≡ true) }
-    ensures head { IfOk result (λ s. has Commit (newest store.now) s.head.0 ≡ true) }
+    requires commits { map name_bytes commits.now ≡ reverse (map object_name (filter is_commit store.now)) }
+    requires head { has Commit store.now head.0 ≡ true }
+    ensures value { IfOk result (λ s. start_value store.now place.now s ≡ start_at (λ t. under t place.now)
+        (snapshots_in store.now) head.0) }
+    ensures tree { IfOk result (λ s. has Tree store.now s.tree.0 ≡ true) }
+    ensures head { IfOk result (λ s. has Commit store.now s.head.0 ≡ true) }
 {
-    // The outcome rests on what the store keeps.
+    // The store is looked at so that the proof has what each store keeps.
     let _ = store.get(&head);
     let end = projection(alloc, store, commits, place, &head)?;
     Ok(Start {
@@ -89,13 +94,14 @@ fn start_in(
 
 // What a push to a ref stands upon, which names this commit.
 fn start(alloc: Global, state: &State, place: &Path, head: Name) -> Result<Start, AllocError>
-    requires whole { newest state.now.objects ≡ state.now.held.objects }
+    requires whole { state.now.objects ≡ state.now.held.objects }
     requires head { has Commit state.now.held.objects head.0 ≡ true }
-    ensures value { IfOk result (λ s. start_value (newest state.now.objects) place.now s ≡ start_below place.now state.now.held head.0) }
-    ensures tree { IfOk result (λ s. has Tree (newest state.now.objects) s.tree.0 ≡ true) }
-    ensures head { IfOk result (λ s. has Commit (newest state.now.objects) s.head.0 ≡ true) }
+    ensures value { IfOk result (λ s. start_value state.now.objects place.now s
+        ≡ start_below place.now state.now.held head.0) }
+    ensures tree { IfOk result (λ s. has Tree state.now.objects s.tree.0 ≡ true) }
+    ensures head { IfOk result (λ s. has Commit state.now.objects s.head.0 ≡ true) }
 {
-    let commits = state.commits(alloc)?;
+    let commits = state.commits()?;
     start_in(alloc, &state.store, &commits, place, head)
 }
 
@@ -107,14 +113,17 @@ fn push_onto(
     start: &Start,
     small: &SmallCommit<'_>,
 ) -> Result<Pushed, PushFault>
-    requires whole { newest state.old.objects ≡ state.old.held.objects }
-    requires tree { has Tree (newest state.old.objects) start.now.tree.0 ≡ true }
-    requires head { has Commit (newest state.old.objects) start.now.head.0 ≡ true }
+    requires whole { state.old.objects ≡ state.old.held.objects }
+    requires tree { has Tree state.old.objects start.now.tree.0 ≡ true }
+    requires head { has Commit state.old.objects start.now.head.0 ≡ true }
     ensures same { IsSameBut state.old state.new }
     ensures stored { IsStored state.new }
-    ensures ok { IfOk result (IsAccepted (newest state.new.objects) (below place.now) (start_value (newest state.old.objects) place.now start.now) (small_value small.now)) }
-    ensures err { IfErr result (IsPushFault (newest state.new.objects) (below place.now) (start_value (newest state.old.objects) place.now start.now) (small_value small.now)) }
-    ensures store { IsGrownBy (IsPushMade (below place.now) (start_value (newest state.old.objects) place.now start.now) (small_value small.now)) state.old.held.objects (newest state.new.objects) }
+    ensures ok { IfOk result (IsAccepted state.new.objects (below place.now)
+        (start_value state.old.objects place.now start.now) (small_value small.now)) }
+    ensures err { IfErr result (IsPushFault state.new.objects (below place.now)
+        (start_value state.old.objects place.now start.now) (small_value small.now)) }
+    ensures store { IsGrownBy (IsPushMade (below place.now) (start_value state.old.objects place.now start.now)
+        (small_value small.now)) state.old.held.objects state.new.objects }
 {
     push_commit(alloc, &mut state.store, place, start, small)
 }
@@ -148,14 +157,15 @@ fn push_from(
     start: &Start,
     small: &SmallCommit<'_>,
 ) -> Result<Prepared, Outcome>
-    requires whole { newest state.old.objects ≡ state.old.held.objects }
-    requires tree { has Tree (newest state.old.objects) start.now.tree.0 ≡ true }
-    requires head { has Commit (newest state.old.objects) start.now.head.0 ≡ true }
+    requires whole { state.old.objects ≡ state.old.held.objects }
+    requires tree { has Tree state.old.objects start.now.tree.0 ≡ true }
+    requires head { has Commit state.old.objects start.now.head.0 ≡ true }
     ensures same { IsSameBut state.old state.new }
-    ensures ok { let s = small_value small.now in let from = start_value (newest state.old.objects) place.now start.now in
+    ensures ok { let s = small_value small.now in let from = start_value state.old.objects place.now start.now in
         IfOk result (IsPreparedPush state.new (below place.now) from s.head.refname s) }
-    ensures err { let s = small_value small.now in let from = start_value (newest state.old.objects) place.now start.now in
-        IfErr result (IsPlainRefusal (IsInPushFrom place.now state.old.held from s) (push_made state.old.held (room_in state.old) s.head.refname from s (judged (below place.now) from s))) }
+    ensures err { let s = small_value small.now in let from = start_value state.old.objects place.now start.now in
+        IfErr result (IsPlainRefusal (IsInPushFrom place.now state.old.held from s) (push_made state.old.held
+        (room_in state.old) s.head.refname from s (judged (below place.now) from s))) }
 {
     match push_onto(alloc, state, place, start, small) {
         Err(PushFault::TooLarge) => Err(Outcome::NotBuilt),
@@ -179,18 +189,21 @@ fn push_small(
     head: Name,
     small: &SmallCommit<'_>,
 ) -> Result<Prepared, Outcome>
-    requires whole { newest state.old.objects ≡ state.old.held.objects }
+    requires whole { state.old.objects ≡ state.old.held.objects }
     requires head { find bytes_cmp refname.now state.old.held.refs ≡ Some head.0 }
     requires held { has Commit state.old.held.objects head.0 ≡ true }
     ensures same { IsSameBut state.old state.new }
-    ensures ok { IfOk result (IsPrepared state.new (push_smalls refname.now place.now (room_in state.old) state.old.held head.0 (small_value small.now ∷ []))) }
+    ensures ok { IfOk result (IsPrepared state.new (push_smalls refname.now place.now
+        (room_in state.old) state.old.held head.0 (small_value small.now ∷ []))) }
     ensures fits { IfOk result (FitsItems state.new (small_value small.now ∷ [])) }
-    ensures lawful { IfOk result (λ p. let plan = plan_in state.new (change_of p.batch) in IsStored (changed state.new plan)
-        → IsPushedAll place.now refname.now state.old.held (held_after state.old.held plan) (small_value small.now ∷ []) p.report) }
+    ensures lawful { IfOk result (λ p. let plan = plan_in state.new (change_of p.batch) in IsStored
+        (changed state.new plan)
+        → IsPushedAll place.now refname.now state.old.held (held_after state.old.held plan)
+        (small_value small.now ∷ []) p.report) }
     ensures err { IfErr result (IsPlainRefusal (IsInPush place.now state.old.held head.0 (small_value small.now))
         (push_smalls refname.now place.now (room_in state.old) state.old.held head.0 (small_value small.now ∷ []))) }
 {
-    // What was not shown stays, since the place is a path.
+    // The place is looked at so that the proof has that it is a path.
     let _ = place.components();
     if small.head.refname.text() != refname {
         return Err(Outcome::OtherRef { at: 0 });
@@ -218,15 +231,19 @@ pub fn prepare_push(
     head: Name,
     smalls: &[SmallCommit<'_>],
 ) -> Result<Prepared, Outcome>
-    requires whole { newest state.old.objects ≡ state.old.held.objects }
+    requires whole { state.old.objects ≡ state.old.held.objects }
     requires head { find bytes_cmp refname.now state.old.held.refs ≡ Some head.0 }
     requires held { has Commit state.old.held.objects head.0 ≡ true }
     ensures same { IsSameBut state.old state.new }
-    ensures ok { IfOk result (IsPrepared state.new (push_smalls refname.now place.now (room_in state.old) state.old.held head.0 (map small_value smalls.now))) }
+    ensures ok { IfOk result (IsPrepared state.new (push_smalls refname.now place.now
+        (room_in state.old) state.old.held head.0 (map small_value smalls.now))) }
     ensures fits { IfOk result (FitsItems state.new (map small_value smalls.now)) }
-    ensures lawful { IfOk result (λ p. let plan = plan_in state.new (change_of p.batch) in IsStored (changed state.new plan)
-        → IsPushedAll place.now refname.now state.old.held (held_after state.old.held plan) (map small_value smalls.now) p.report) }
-    ensures err { IfErr result (IsPlainRefusal (IsSmallsInHand place.now state.old.held head.0 (map small_value smalls.now))
+    ensures lawful { IfOk result (λ p. let plan = plan_in state.new (change_of p.batch) in IsStored
+        (changed state.new plan)
+        → IsPushedAll place.now refname.now state.old.held (held_after state.old.held plan)
+        (map small_value smalls.now) p.report) }
+    ensures err { IfErr result (IsPlainRefusal (IsSmallsInHand place.now state.old.held head.0
+        (map small_value smalls.now))
         (push_smalls refname.now place.now (room_in state.old) state.old.held head.0 (map small_value smalls.now))) }
 {
     match smalls {
@@ -248,13 +265,17 @@ fn push_text<K: Keeper>(
 ) -> Result<Bytes, Outcome>
     requires open { K.is_open store.old }
     requires number { state.number ≡ K.number store.old }
-    requires whole { newest state.objects ≡ state.held.objects }
+    requires whole { state.objects ≡ state.held.objects }
     requires head { find bytes_cmp refname.now state.held.refs ≡ Some head.0 }
     requires held { has Commit state.held.objects head.0 ≡ true }
     requires short { length text.now ≤ input_max }
-    ensures made { let kept = keeper_view K.items K.number K.faults in (items : List Bytes) → (K.items store.old ≡ Some items → IsCurrent items state) →
-        IsMadeFrom (IsPushInHand place.now state.held (Some head.0) (stream text.now)) (push_stream refname.now place.now (room_in state) state.held head.0 (stream text.now)) items (kept store.old) (kept store.new) result }
-    ensures lawful { IfOk result (λ _. IsLawfulStream place.now refname.now state.held (stream text.now) (push_stream refname.now place.now (room_in state) state.held head.0 (stream text.now))) }
+    ensures made { let kept = keeper_view K.items K.number K.faults in (items : List Bytes) →
+        (K.items store.old ≡ Some items → IsCurrent items state) →
+        IsMadeFrom (IsPushInHand place.now state.held (Some head.0) (stream text.now))
+        (push_stream refname.now place.now (room_in state) state.held head.0 (stream text.now)) items
+        (kept store.old) (kept store.new) result }
+    ensures lawful { IfOk result (λ _. IsLawfulStream place.now refname.now state.held (stream text.now)
+        (push_stream refname.now place.now (room_in state) state.held head.0 (stream text.now))) }
     ensures early { (result ≢ Err Outcome.WriteFault) × (result ≢ Err Outcome.ReadFault) }
     ensures cause { Counts (K.faults store.old) (K.faults store.new) (result ≡ Err Outcome.StoreFault) }
     ensures is_open { (result ≢ Err Outcome.StoreFault) → K.is_open store.new }
@@ -284,12 +305,17 @@ fn push_input<S: Source, K: Keeper>(
 ) -> Result<Bytes, Outcome>
     requires open { K.is_open store.old }
     requires number { state.number ≡ K.number store.old }
-    requires whole { newest state.objects ≡ state.held.objects }
+    requires whole { state.objects ≡ state.held.objects }
     requires head { find bytes_cmp refname.now state.held.refs ≡ Some head.0 }
     requires held { has Commit state.held.objects head.0 ≡ true }
-    ensures made { let kept = keeper_view K.items K.number K.faults in (items : List Bytes) → (K.items store.old ≡ Some items → IsCurrent items state) →
-        IsMadeOf (λ all. IsPushInHand place.now state.held (Some head.0) (stream all)) (λ all. push_at refname.now place.now (room_in state) all state.held (Some head.0)) (S.left input.old) items (kept store.old) (kept store.new) result }
-    ensures lawful { IfSome (S.left input.old) (λ all. IfOk result (λ _. IsLawfulStream place.now refname.now state.held (stream all) (push_at refname.now place.now (room_in state) all state.held (Some head.0)))) }
+    ensures made { let kept = keeper_view K.items K.number K.faults in (items : List Bytes) →
+        (K.items store.old ≡ Some items → IsCurrent items state) →
+        IsMadeOf (λ all. IsPushInHand place.now state.held (Some head.0) (stream all))
+        (λ all. push_at refname.now place.now (room_in state) all state.held (Some head.0))
+        (S.left input.old) items (kept store.old) (kept store.new) result }
+    ensures lawful { IfSome (S.left input.old) (λ all. IfOk result
+        (λ _. IsLawfulStream place.now refname.now state.held (stream all) (push_at refname.now place.now
+        (room_in state) all state.held (Some head.0)))) }
     ensures early { result ≢ Err Outcome.WriteFault }
     ensures read { Counts (S.faults input.old) (S.faults input.new) (result ≡ Err Outcome.ReadFault) }
     ensures cause { Counts (K.faults store.old) (K.faults store.new) (result ≡ Err Outcome.StoreFault) }
@@ -326,10 +352,15 @@ fn push_loaded<S: Source, K: Keeper>(
 ) -> Result<Bytes, Outcome>
     requires open { K.is_open store.old }
     requires number { state.number ≡ K.number store.old }
-    requires whole { newest state.objects ≡ state.held.objects }
-    ensures made { let kept = keeper_view K.items K.number K.faults in (items : List Bytes) → (K.items store.old ≡ Some items → IsCurrent items state) →
-        IsMadeOf (λ all. IsPushOf refname.now place.now (Ok state.held) (stream all)) (λ all. push_step refname.now place.now (room_in state) all state.held) (S.left input.old) items (kept store.old) (kept store.new) result }
-    ensures lawful { IfSome (S.left input.old) (λ all. IfOk result (λ _. IsLawfulStream place.now refname.now state.held (stream all) (push_step refname.now place.now (room_in state) all state.held))) }
+    requires whole { state.objects ≡ state.held.objects }
+    ensures made { let kept = keeper_view K.items K.number K.faults in (items : List Bytes) →
+        (K.items store.old ≡ Some items → IsCurrent items state) →
+        IsMadeOf (λ all. IsPushOf refname.now place.now (Ok state.held) (stream all))
+        (λ all. push_step refname.now place.now (room_in state) all state.held) (S.left input.old) items
+        (kept store.old) (kept store.new) result }
+    ensures lawful { IfSome (S.left input.old) (λ all. IfOk result
+        (λ _. IsLawfulStream place.now refname.now state.held (stream all) (push_step refname.now place.now
+        (room_in state) all state.held))) }
     ensures early { result ≢ Err Outcome.WriteFault }
     ensures read { Counts (S.faults input.old) (S.faults input.new) (result ≡ Err Outcome.ReadFault) }
     ensures cause { Counts (K.faults store.old) (K.faults store.new) (result ≡ Err Outcome.StoreFault) }
@@ -351,10 +382,15 @@ pub fn push<S: Source, K: Keeper>(
 ) -> Result<Bytes, Outcome>
     requires open { K.is_open store.old }
     requires refname { is_ref_name refname.now ≡ true }
-    ensures made { let kept = keeper_view K.items K.number K.faults in (items : List Bytes) → K.items store.old ≡ Some items →
-        IsMadeOf (λ all. IsPushOf refname.now place.now (read_items items) (stream all)) (λ all. by_items (read_items items) (push_step refname.now place.now (room_of items) all)) (S.left input.old) items (kept store.old) (kept store.new) result }
-    ensures lawful { (items : List Bytes) → K.items store.old ≡ Some items → IfSome (S.left input.old) (λ all. IfOk result
-        (λ _. IsLawfulRead place.now refname.now (read_items items) (stream all) (by_items (read_items items) (push_step refname.now place.now (room_of items) all)))) }
+    ensures made { let kept = keeper_view K.items K.number K.faults in (items : List Bytes) →
+        K.items store.old ≡ Some items →
+        IsMadeOf (λ all. IsPushOf refname.now place.now (read_items items) (stream all)) (λ all. by_items
+        (read_items items) (push_step refname.now place.now (room_of items) all)) (S.left input.old) items
+        (kept store.old) (kept store.new) result }
+    ensures lawful { (items : List Bytes) → K.items store.old ≡ Some items →
+        IfSome (S.left input.old) (λ all. IfOk result
+        (λ _. IsLawfulRead place.now refname.now (read_items items) (stream all) (by_items (read_items items)
+        (push_step refname.now place.now (room_of items) all)))) }
     ensures early { result ≢ Err Outcome.WriteFault }
     ensures read { Counts (S.faults input.old) (S.faults input.new) (result ≡ Err Outcome.ReadFault) }
     ensures cause { Counts (K.faults store.old) (K.faults store.new) (result ≡ Err Outcome.StoreFault) }

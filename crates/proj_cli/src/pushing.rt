@@ -1,29 +1,33 @@
 // Making the original commit of a pushed one, in a store.
 ghost use Rattle.std.specs.Prelude.{◌≡◌, ◌^◌, ◌&&◌, ◌∷◌, [], true, map, nat_le, IfErr, IfOk, OnOk};
+ghost use Rattle.git_objects.specs.declared.limits.TheConstants.{TREE_DEPTH, TREE_FILES, TREE_PATH_BYTES};
 ghost use Rattle.git_objects.specs.Commits.{commit_name};
 ghost use Rattle.git_objects.specs.Trees.{under};
 ghost use Rattle.git_objects.specs.declared.kind.Kind.TheVariants.{Commit, Tree};
-ghost use Rattle.object_store.specs.Errors.{newest};
 ghost use Rattle.object_store.specs.Objects.{has, IsStore};
-ghost use Rattle.object_store.specs.Unfolding.{flat};
-ghost use Rattle.filter_unapply.specs.Laying.{laid};
-ghost use Rattle.filter_unapply.specs.Lenses.{below};
-ghost use Rattle.repo_state.specs.Items.{tree_fits};
+ghost use Rattle.object_store.specs.Unfolding.{flat, StandsFor};
+ghost use Rattle.filter_unapply.specs.Laying.{laid, below};
+ghost use Rattle.object_store.specs.Fits.{tree_fits};
 ghost use Rattle.proj_cli.specs.Push.{IsLaidMade, IsPushMade};
-ghost use Rattle.proj_cli.specs.Pushes.{IsAccepted, IsCommitFault, IsLaidFault, IsOriginal, IsPushFault, fault_of, start_value};
-ghost use Rattle.small_streams.specs.Replay.{IsDirectoryOf, IsMadeIn, are_small, contents_in, trees_within, with_changes};
-ghost use Rattle.small_streams.specs.Replays.{AddsBlobs, IsFilesFault, IsGrownBy, IsOnlyCommit, IsPutFault, StandsFor, StandsOrNone, parent_of};
+ghost use Rattle.proj_cli.specs.Pushes.{IsAccepted, IsCommitFault, IsLaidFault, IsOriginal, IsPushFault, fault_of};
+ghost use Rattle.proj_cli.specs.Pushes.{start_value};
+ghost use Rattle.small_streams.specs.Replay.{IsDirectoryOf, IsMadeIn, are_small, contents_in, trees_within};
+ghost use Rattle.small_streams.specs.Replay.{with_changes};
+ghost use Rattle.small_streams.specs.Replays.{AddsBlobs, IsFilesFault, IsOnlyCommit, IsPutFault, StandsOrNone};
+ghost use Rattle.small_streams.specs.Replays.{parent_of};
+ghost use Rattle.object_store.specs.Growth.{IsGrownBy};
 ghost use Rattle.history_project.specs.Snapshots.{IsSnapshot};
 ghost use Rattle.small_streams.specs.Views.{change_of, head_value, small_value};
 
 use filter_unapply::{LayFault, laid_below};
+use git_objects::limits::{TREE_DEPTH, TREE_FILES, TREE_PATH_BYTES};
 use git_objects::{Kind, Name, name_of};
 use history_project::directory;
 use object_store::{Store, TreeStats};
 use path_names::Path;
 use path_trees::entry_at;
 use small_streams::{
-    CommitHead, FILES, ReplayFault, Row, SmallCommit, body_of, put, put_commit, put_files,
+    CommitHead, ReplayFault, Row, SmallCommit, body_of, put, put_commit, put_files,
 };
 use std::alloc::{AllocError, Global};
 
@@ -57,12 +61,6 @@ pub enum PushFault {
     OutOfMemory,
 }
 
-// The most components of a path of a stored tree.
-const DEPTH: u32 = 1_024;
-
-// The most bytes of such a path.
-const LONGEST: u32 = 16_384;
-
 // The fault of a replay.
 fn fault_of(fault: ReplayFault) -> PushFault
     ensures { result ≡ fault_of fault }
@@ -76,9 +74,9 @@ fn fault_of(fault: ReplayFault) -> PushFault
 
 // The directory at a path of a tree. None: nothing lies below the path.
 fn directory_at(store: &Store, tree: Name, place: &Path) -> Option<Name>
-    requires tree { has Tree (newest store.now) tree.0 ≡ true }
-    requires store { IsStore (newest store.now) }
-    ensures { StandsOrNone (newest store.now) (under (flat (newest store.now) tree.0) place.now) result }
+    requires tree { has Tree store.now tree.0 ≡ true }
+    requires store { IsStore store.now }
+    ensures { StandsOrNone store.now (under (flat store.now tree.0) place.now) result }
 {
     match entry_at(store, tree, place) {
         None => None,
@@ -88,12 +86,12 @@ fn directory_at(store: &Store, tree: Name, place: &Path) -> Option<Name>
 
 // The tree of all that lies below a path: the directory there, or the empty tree.
 fn shown_root(store: &mut Store, tree: Name, place: &Path) -> Result<Name, ReplayFault>
-    requires { has Tree (newest store.old) tree.0 ≡ true }
-    ensures ok { IfOk result (λ n. StandsFor (newest store.new) n.0 (under (flat (newest store.old) tree.0) place.now)) }
-    ensures err { IfErr result (IsPutFault (IsDirectoryOf (under (flat (newest store.old) tree.0) place.now)) (newest store.new)) }
-    ensures store { IsGrownBy (IsDirectoryOf (under (flat (newest store.old) tree.0) place.now)) (newest store.old) (newest store.new) }
+    requires { has Tree store.old tree.0 ≡ true }
+    ensures ok { IfOk result (λ n. StandsFor store.new n.0 (under (flat store.old tree.0) place.now)) }
+    ensures err { IfErr result (IsPutFault (IsDirectoryOf (under (flat store.old tree.0) place.now)) store.new) }
+    ensures store { IsGrownBy (IsDirectoryOf (under (flat store.old tree.0) place.now)) store.old store.new }
 {
-    // Every outcome rests on what the store keeps.
+    // The store is looked at so that the proof has what each store keeps.
     let _ = store.get(&tree);
     match directory_at(store, tree, place) {
         None => put(store, Kind::Tree, &[]),
@@ -101,7 +99,8 @@ fn shown_root(store: &mut Store, tree: Name, place: &Path) -> Result<Name, Repla
     }
 }
 
-// The tree that is shown below a path, and the pushed one, with these files put into it. Their blobs go behind the others.
+// The tree that is shown below a path, and the pushed one, with these files put into it. Their blobs go behind the
+// others.
 fn pushed_trees(
     alloc: Global,
     store: &mut Store,
@@ -110,14 +109,19 @@ fn pushed_trees(
     rows: &[Row<'_>],
     blobs: &mut Vec<Name>,
 ) -> Result<(Name, Name), ReplayFault>
-    requires { has Tree (newest store.old) tree.0 ≡ true }
-    ensures shown { IfOk result (λ r. StandsFor (newest store.new) r.0.0 (under (flat (newest store.old) tree.0) place.now)) }
-    ensures pushed { IfOk result (λ r. StandsFor (newest store.new) r.1.0 (with_changes (under (flat (newest store.old) tree.0) place.now) (map change_of rows.now))) }
-    ensures small { OnOk result (are_small (trees_within (under (flat (newest store.old) tree.0) place.now) (map change_of rows.now)) ≡ true) }
-    ensures blobs { OnOk result (AddsBlobs (newest store.new) blobs.old.items blobs.new.items (contents_in (map change_of rows.now))) }
-    ensures err { IfErr result (IsFilesFault (IsMadeIn (under (flat (newest store.old) tree.0) place.now) (map change_of rows.now)) (newest store.new)
-        (trees_within (under (flat (newest store.old) tree.0) place.now) (map change_of rows.now))) }
-    ensures store { IsGrownBy (IsMadeIn (under (flat (newest store.old) tree.0) place.now) (map change_of rows.now)) (newest store.old) (newest store.new) }
+    requires { has Tree store.old tree.0 ≡ true }
+    ensures shown { IfOk result (λ r. StandsFor store.new r.0.0 (under (flat store.old tree.0) place.now)) }
+    ensures pushed { IfOk result (λ r. StandsFor store.new r.1.0 (with_changes (under
+        (flat store.old tree.0) place.now) (map change_of rows.now))) }
+    ensures small { OnOk result (are_small (trees_within (under (flat store.old tree.0) place.now)
+        (map change_of rows.now)) ≡ true) }
+    ensures blobs { OnOk result (AddsBlobs store.new blobs.old.items blobs.new.items (contents_in
+        (map change_of rows.now))) }
+    ensures err { IfErr result (IsFilesFault (IsMadeIn (under (flat store.old tree.0) place.now)
+        (map change_of rows.now)) store.new
+        (trees_within (under (flat store.old tree.0) place.now) (map change_of rows.now))) }
+    ensures store { IsGrownBy (IsMadeIn (under (flat store.old tree.0) place.now)
+        (map change_of rows.now)) store.old store.new }
 {
     match shown_root(store, tree, place) {
         Err(fault) => Err(fault),
@@ -130,15 +134,16 @@ fn pushed_trees(
 
 // Whether a tree of that size is within the limits of stored trees.
 fn within(stats: TreeStats) -> bool
-    ensures { result ≡ (nat_le stats.files (2 ^ 20) && nat_le stats.depth 1024 && nat_le stats.longest 16384) }
+    ensures { result ≡ (nat_le stats.files TREE_FILES && nat_le stats.depth TREE_DEPTH
+        && nat_le stats.longest TREE_PATH_BYTES) }
 {
-    stats.files <= FILES && stats.depth <= DEPTH && stats.longest <= LONGEST
+    stats.files <= TREE_FILES && stats.depth <= TREE_DEPTH && stats.longest <= TREE_PATH_BYTES
 }
 
 // Whether a stored tree is within the limits.
 fn fits(store: &Store, root: &Name) -> bool
-    requires { has Tree (newest store.now) root.now.0 ≡ true }
-    ensures { result ≡ tree_fits (flat (newest store.now) root.now.0) }
+    requires { has Tree store.now root.now.0 ≡ true }
+    ensures { result ≡ tree_fits (flat store.now root.now.0) }
 {
     match store.stats(root) {
         None => false,
@@ -153,7 +158,12 @@ fn name_of_commit(
     parent: Option<Name>,
     head: &CommitHead<'_>,
 ) -> Result<Name, AllocError>
-    ensures { IfOk result (λ n. n.0 ≡ commit_name (record { tree = tree.0; parents = parent_of parent; letter = (head_value head.now).letter })) }
+    ensures { IfOk result (λ n. n.0 ≡ commit_name (record {
+      tree = tree.0;
+      parents = parent_of parent;
+      letter =
+          (head_value head.now).letter;
+    })) }
 {
     let body = body_of(alloc, tree, parent, head)?;
     Ok(name_of(Kind::Commit, &body))
@@ -167,15 +177,22 @@ fn put_original(
     tree: Name,
     head: &CommitHead<'_>,
 ) -> Result<Name, PushFault>
-    requires tree { has Tree (newest store.old) tree.0 ≡ true }
-    requires head { has Commit (newest store.old) start.now.head.0 ≡ true }
-    ensures ok { IfOk result (λ n. IsSnapshot (newest store.new) n.0
-        (record { tree = flat (newest store.old) tree.0; parents = start.now.head.0 ∷ []; letter = (head_value head.now).letter })) }
-    ensures fits { OnOk result (tree_fits (flat (newest store.old) tree.0) ≡ true) }
-    ensures err { IfErr result (IsCommitFault (newest store.new) (flat (newest store.old) tree.0) (start.now.head.0 ∷ []) (head_value head.now).letter) }
-    ensures store { IsGrownBy (IsOnlyCommit (flat (newest store.old) tree.0) (start.now.head.0 ∷ []) (head_value head.now).letter) (newest store.old) (newest store.new) }
+    requires tree { has Tree store.old tree.0 ≡ true }
+    requires head { has Commit store.old start.now.head.0 ≡ true }
+    ensures ok { IfOk result (λ n. IsSnapshot store.new n.0
+        (record {
+          tree = flat store.old tree.0;
+          parents = start.now.head.0 ∷ [];
+          letter =
+              (head_value head.now).letter;
+        })) }
+    ensures fits { OnOk result (tree_fits (flat store.old tree.0) ≡ true) }
+    ensures err { IfErr result (IsCommitFault store.new (flat store.old tree.0) (start.now.head.0 ∷ [])
+        (head_value head.now).letter) }
+    ensures store { IsGrownBy (IsOnlyCommit (flat store.old tree.0) (start.now.head.0 ∷ [])
+        (head_value head.now).letter) store.old store.new }
 {
-    // Every outcome rests on what the store keeps.
+    // The store is looked at so that the proof has what each store keeps.
     let _ = store.get(&tree);
     if !fits(store, &tree) {
         return Err(PushFault::TooLarge);
@@ -195,15 +212,17 @@ fn lay(
     pushed: Name,
     head: &CommitHead<'_>,
 ) -> Result<Name, PushFault>
-    requires tree { has Tree (newest store.old) start.now.tree.0 ≡ true }
-    requires pushed { has Tree (newest store.old) pushed.0 ≡ true }
-    requires head { has Commit (newest store.old) start.now.head.0 ≡ true }
-    ensures ok { let l = laid (below place.now) (flat (newest store.old) start.now.tree.0) (flat (newest store.old) pushed.0) in
-        IfOk result (IsOriginal (newest store.new) (start_value (newest store.old) place.now start.now) (head_value head.now).letter l) }
-    ensures err { let l = laid (below place.now) (flat (newest store.old) start.now.tree.0) (flat (newest store.old) pushed.0) in
-        IfErr result (IsLaidFault (newest store.new) (start_value (newest store.old) place.now start.now) (head_value head.now).letter l) }
-    ensures store { let l = laid (below place.now) (flat (newest store.old) start.now.tree.0) (flat (newest store.old) pushed.0) in
-        IsGrownBy (IsLaidMade (start_value (newest store.old) place.now start.now) (head_value head.now).letter l) (newest store.old) (newest store.new) }
+    requires tree { has Tree store.old start.now.tree.0 ≡ true }
+    requires pushed { has Tree store.old pushed.0 ≡ true }
+    requires head { has Commit store.old start.now.head.0 ≡ true }
+    ensures ok { let l = laid (below place.now) (flat store.old start.now.tree.0) (flat store.old pushed.0) in
+        IfOk result (IsOriginal store.new (start_value store.old place.now start.now) (head_value head.now).letter l) }
+    ensures err { let l = laid (below place.now) (flat store.old start.now.tree.0) (flat store.old pushed.0) in
+        IfErr result (IsLaidFault store.new (start_value store.old place.now start.now)
+        (head_value head.now).letter l) }
+    ensures store { let l = laid (below place.now) (flat store.old start.now.tree.0) (flat store.old pushed.0) in
+        IsGrownBy (IsLaidMade (start_value store.old place.now start.now)
+        (head_value head.now).letter l) store.old store.new }
 {
     match laid_below(alloc, store, place, start.tree, pushed) {
         Ok(tree) => put_original(alloc, store, start, tree, head),
@@ -222,11 +241,14 @@ pub fn push_commit(
     start: &Start,
     small: &SmallCommit<'_>,
 ) -> Result<Pushed, PushFault>
-    requires tree { has Tree (newest store.old) start.now.tree.0 ≡ true }
-    requires head { has Commit (newest store.old) start.now.head.0 ≡ true }
-    ensures ok { IfOk result (IsAccepted (newest store.new) (below place.now) (start_value (newest store.old) place.now start.now) (small_value small.now)) }
-    ensures err { IfErr result (IsPushFault (newest store.new) (below place.now) (start_value (newest store.old) place.now start.now) (small_value small.now)) }
-    ensures store { IsGrownBy (IsPushMade (below place.now) (start_value (newest store.old) place.now start.now) (small_value small.now)) (newest store.old) (newest store.new) }
+    requires tree { has Tree store.old start.now.tree.0 ≡ true }
+    requires head { has Commit store.old start.now.head.0 ≡ true }
+    ensures ok { IfOk result (IsAccepted store.new (below place.now) (start_value store.old place.now start.now)
+        (small_value small.now)) }
+    ensures err { IfErr result (IsPushFault store.new (below place.now)
+        (start_value store.old place.now start.now) (small_value small.now)) }
+    ensures store { IsGrownBy (IsPushMade (below place.now) (start_value store.old place.now start.now)
+        (small_value small.now)) store.old store.new }
 {
     let mut blobs = Vec::new(alloc);
     match pushed_trees(alloc, store, start.tree, place, &small.rows, &mut blobs) {

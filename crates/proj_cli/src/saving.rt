@@ -1,7 +1,6 @@
 // Committing what a command has made.
 ghost use Rattle.std.specs.Prelude.{◌≡◌, ◌≢◌, List, Err, Some, OnOk};
 ghost use Rattle.git_objects.specs.Paths.{Bytes};
-ghost use Rattle.object_store.specs.Errors.{newest};
 ghost use Rattle.proj_io.specs.Counts.{Counts};
 ghost use Rattle.proj_io.specs.Views.{keeper_view};
 ghost use Rattle.repo_state.specs.Changes.{IsChange, IsCurrent, IsWithin, changed, plan_in};
@@ -33,12 +32,20 @@ pub fn save<K: Keeper>(
 ) -> Result<Bytes, Outcome>
     requires open { K.is_open store.old }
     requires number { state.number ≡ K.number store.old }
-    requires change { IsChange (newest state.objects) state.held.objects (change_of prepared.batch) }
+    requires change { IsChange state.objects state.held.objects (change_of prepared.batch) }
     ensures made { let kept = keeper_view K.items K.number K.faults in (items : List Bytes) →
-        (K.items store.old ≡ Some items → IsCurrent items state × IsWithin (newest state.objects) state.held.objects (change_of prepared.batch)) →
-        IsMadeFrom NoObject (changing state.held (room_in state) prepared.report (plan_in state (change_of prepared.batch))) items (kept store.old) (kept store.new) result }
-    ensures done { OnOk result (changing state.held (room_in state) prepared.report (plan_in state (change_of prepared.batch))
-        ≡ record { outcome = Outcome.Done; output = prepared.report; change = plan_in state (change_of prepared.batch) }) }
+        (K.items store.old ≡ Some items → IsCurrent items state
+        × IsWithin state.objects state.held.objects (change_of prepared.batch)) →
+        IsMadeFrom NoObject (changing state.held (room_in state) prepared.report (plan_in state
+        (change_of prepared.batch))) items (kept store.old) (kept store.new) result }
+    ensures done { OnOk result (changing state.held (room_in state) prepared.report (plan_in state
+        (change_of prepared.batch))
+        ≡ record {
+          outcome = Outcome.Done;
+          output = prepared.report;
+          change = plan_in state
+              (change_of prepared.batch);
+        }) }
     ensures stored { OnOk result (IsStored (changed state (plan_in state (change_of prepared.batch)))) }
     ensures early { (result ≢ Err Outcome.WriteFault) × (result ≢ Err Outcome.ReadFault) }
     ensures cause { Counts (K.faults store.old) (K.faults store.new) (result ≡ Err Outcome.StoreFault) }
@@ -46,7 +53,7 @@ pub fn save<K: Keeper>(
 {
     let Prepared { report, batch } = prepared;
     let mut state = state;
-    match state.commit(alloc, store, batch) {
+    match state.commit(store, batch) {
         Ok(()) => Ok(report),
         Err(CommitError::StoreFault) => Err(Outcome::StoreFault),
         Err(CommitError::Limit { which: _ }) => Err(Outcome::NotBuilt),

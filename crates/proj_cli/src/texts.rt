@@ -3,8 +3,7 @@ ghost use Rattle.std.specs.Prelude.{◌≡◌, IfOk};
 ghost use Rattle.std.specs.List.{list_all};
 ghost use Rattle.proj_cli.specs.Texts.{is_bare, bare_path, filter_path};
 
-use path_names::Path;
-use small_streams::{path_in, strip};
+use path_names::{Path, path_in, strip};
 use std::alloc::{AllocError, Global};
 
 fn all_bare(text: &[u8]) -> bool

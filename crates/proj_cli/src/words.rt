@@ -3,8 +3,7 @@ ghost use Rattle.std.specs.Prelude.{◌≡◌, map, string_bytes};
 ghost use Rattle.proj_cli.specs.Asked.{command_of};
 ghost use Rattle.proj_cli.specs.Words.{command, one_word, two_words, three_words, trial_number};
 
-use path_names::is_ref_name;
-use small_streams::number;
+use path_names::{is_ref_name, number};
 
 /// What the words ask for.
 #[derive(Clone, Copy)]

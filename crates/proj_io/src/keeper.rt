@@ -1,7 +1,9 @@
 // A keeper of items.
-ghost use Rattle.std.specs.Prelude.{◌≡◌, ◌<◌, ◌≤◌, ◌+◌, ◌^◌, ◌⊎◌, ◌↔◌, List, ℕ, min, length, take, drop, Option, IfOk, OnOk, IfSome, IsErr, IsErrOf, IsSome, MatchResult};
+ghost use Rattle.std.specs.Prelude.{◌≡◌, ◌<◌, ◌≤◌, ◌+◌, ◌-◌, ◌^◌, ◌⊎◌, ◌↔◌, List, ℕ, min, length, take, drop, Option, IfOk, OnOk, IfSome, IsErr, IsErrOf, IsSome, MatchResult};
+ghost use Rattle.git_objects.specs.declared.limits.TheConstants.{ITEM_BYTES, ITEMS};
 ghost use Rattle.proj_io.specs.Counts.{Counts};
 ghost use Rattle.proj_io.specs.Items.{Stays, Gets, item_of};
+ghost use Rattle.proj_io.specs.Stops.{OnlyAdds, Nothing, IsPresent, IsBeforeOrAfter};
 
 use crate::Failed;
 
@@ -14,8 +16,8 @@ pub enum KeepError {
     OutOfMemory,
 }
 
-/// Where items are kept: lists of 1 to 2^29 bytes, at most 1,048,576 of them, numbered from 0. Its count of faults is a
-/// u64 that stays at its last value.
+/// Where items are kept: lists of 1 to `ITEM_BYTES` bytes, at most `ITEMS` of them, numbered from 0. Its count of faults
+/// is a u64 that stays at its last value.
 pub trait Keeper {
     /// Whether it tells its items. No call changes that.
     ghost tells: { Self → Type 0 };
@@ -32,6 +34,13 @@ pub trait Keeper {
     /// Whether a call may be made. After a failed append none may be.
     ghost is_open: { Self → Type 0 };
 
+    /// The moment, a number that doesn't fall.
+    ghost moment: { Self → ℕ };
+
+    /// The lists of items that a stop at some moment from that one on may leave, where this is told: during a call or
+    /// between two.
+    ghost left_since: { Self → ℕ → List (List ℕ) → Type 0 };
+
     /// The number of items.
     fn count(&mut self) -> Result<u32, Failed>
         requires { is_open self.old }
@@ -40,6 +49,7 @@ pub trait Keeper {
         ensures items { Stays (items self.old) (items self.new) }
         ensures is_open { is_open self.new }
         ensures told { tells self.new ↔ tells self.old }
+        ensures stops { OnlyAdds (moment self.old) (moment self.new) (left_since self.old) (left_since self.new) Nothing }
         ensures cause { Counts (faults self.old) (faults self.new) (IsErr result) };
 
     /// The length of an item in bytes, 0 where there is no such item.
@@ -51,6 +61,7 @@ pub trait Keeper {
         ensures items { Stays (items self.old) (items self.new) }
         ensures is_open { is_open self.new }
         ensures told { tells self.new ↔ tells self.old }
+        ensures stops { OnlyAdds (moment self.old) (moment self.new) (left_since self.old) (left_since self.new) Nothing }
         ensures cause { Counts (faults self.old) (faults self.new) (IsErr result) };
 
     /// Puts the item's bytes from a place on at the front of the buffer, and says how many these are.
@@ -65,14 +76,15 @@ pub trait Keeper {
         ensures items { Stays (items self.old) (items self.new) }
         ensures is_open { is_open self.new }
         ensures told { tells self.new ↔ tells self.old }
+        ensures stops { OnlyAdds (moment self.old) (moment self.new) (left_since self.old) (left_since self.new) Nothing }
         ensures cause { Counts (faults self.old) (faults self.new) (IsErr result) };
 
     /// Adds an item behind the others.
     fn append(&mut self, bytes: &[u8]) -> Result<(), KeepError>
         requires is_open { is_open self.old }
         requires some { 0 < length bytes.now }
-        requires size { length bytes.now ≤ 2 ^ 29 }
-        requires room { number self.old < 2 ^ 20 }
+        requires size { length bytes.now ≤ ITEM_BYTES }
+        requires room { number self.old < ITEMS }
         ensures number { OnOk result (number self.new ≡ number self.old + 1) }
         ensures items { OnOk result (Gets (items self.old) (items self.new) bytes.now) }
         ensures failed { IsErrOf result KeepError.Failed →
@@ -85,11 +97,25 @@ pub trait Keeper {
             (λ _. is_open self.new)
             (λ error. error ≡ KeepError.OutOfMemory → is_open self.new) }
         ensures told { tells self.new ↔ tells self.old }
-        ensures cause { Counts (faults self.old) (faults self.new) (IsErrOf result KeepError.Failed) };
+        // A stop at any moment of the call leaves the items without the new one or with it.
+        ensures stops { OnlyAdds (moment self.old) (moment self.new) (left_since self.old) (left_since self.new)
+            (IsBeforeOrAfter (items self.old) bytes.now) }
+        ensures stops_memory { IsErrOf result KeepError.OutOfMemory →
+            OnlyAdds (moment self.old) (moment self.new) (left_since self.old) (left_since self.new)
+            (IsPresent (items self.old)) }
+        ensures cause { Counts (faults self.old) (faults self.new) (IsErrOf result KeepError.Failed) }
+        ensures calm { IsErrOf result KeepError.OutOfMemory → faults self.new ≡ faults self.old };
 
     /// What tells is known.
     ghost known: { (keeper : Self) → tells keeper → IsSome (items keeper) };
 
+    /// The count of faults is a u64.
+    ghost in_range: { (keeper : Self) → faults keeper ≤ 2 ^ 64 - 1 };
+
     /// There are so many items as it says.
     ghost counted: { (keeper : Self) → IfSome (items keeper) (λ all. length all ≡ number keeper) };
+
+    /// Where a call may be made, a stop leaves the items as they are.
+    ghost settled: { (keeper : Self) (list : List (List ℕ)) → is_open keeper → left_since keeper (moment keeper) list →
+        IsPresent (items keeper) list };
 }

@@ -1,8 +1,10 @@
 // A keeper in memory. Which call fails is decided by its number alone.
 ghost use Rattle.std.specs.Prelude.{◌≡◌, ◌==◌, ◌<◌, ◌≤◌, ◌+◌, ◌^◌, ◌⊎◌, ◌↔◌, ◌++◌, [], ◌∷◌, List, ℕ, min, length, take, drop, All, find, true, false, Option, Some, None, IfOk, OnOk, OnErr, IfSome, IsErr, IsErrOf, IsSome, MatchResult, ⊤, refl};
-ghost use Rattle.proj_io.specs.Counts.{Counts, one_more};
+ghost use Rattle.git_objects.specs.declared.limits.TheConstants.{ITEM_BYTES, ITEMS};
+ghost use Rattle.proj_io.specs.Counts.{Counts, held, held_bound, one_more};
 ghost use Rattle.proj_io.specs.Items.{Stays, Gets, item_of};
 ghost use Rattle.proj_io.specs.Kept.{entry_of, KeeperTurn, AppendTurn};
+ghost use Rattle.proj_io.specs.Stops.{OnlyAdds, Nothing, Untold, IsPresent, IsBeforeOrAfter};
 
 use crate::memory::copy_front;
 use crate::{Failed, KeepError, Keeper};
@@ -32,6 +34,7 @@ pub struct MemKeeper {
 
 impl Model for MemKeeper {
     ghost use Rattle.std.specs.Prelude.{◌≤◌, ◌^◌, length, All, List, ℕ};
+    ghost use Rattle.git_objects.specs.declared.limits.TheConstants.{ITEM_BYTES, ITEMS};
     ghost use Rattle.proj_io.specs.Kept.{KeeperState};
 
     ghost Value = { KeeperState };
@@ -44,7 +47,7 @@ impl Model for MemKeeper {
       broken = s.broken;
     } };
 
-    ghost invariant = { λ s. (length s.items.items ≤ 2 ^ 20) × All (λ item. length item ≤ 2 ^ 29) s.items.items };
+    ghost invariant = { λ s. (length s.items.items ≤ ITEMS) × All (λ item. length item ≤ ITEM_BYTES) s.items.items };
 }
 
 impl MemKeeper {
@@ -75,6 +78,13 @@ impl MemKeeper {
         &self.items
     }
 
+    /// How often a call of it has failed.
+    pub fn faults(&self) -> u64
+        ensures { result ≡ self.now.faults }
+    {
+        self.faults
+    }
+
     /// The keeper, opened again. The numbers of its calls and its count of faults go on.
     pub fn reopen(mut self) -> MemKeeper
         ensures { result ≡ record self { broken = false } }
@@ -96,7 +106,7 @@ impl MemKeeper {
     // Numbers a call that isn't an append, and counts it where it fails.
     fn check_call(&mut self) -> Result<(), Failed>
         ensures turn { KeeperTurn self.old self.new result }
-        ensures counted { Counts self.old.faults self.new.faults (IsErr result) }
+        ensures counted { Counts (held self.old.faults) (held self.new.faults) (IsErr result) }
     {
         if self.next_call().is_none() {
             return Ok(());
@@ -113,13 +123,22 @@ impl Keeper for MemKeeper {
 
     ghost number = { λ k. length k.items };
 
-    ghost faults = { λ k. k.faults };
+    ghost faults = { λ k. held k.faults };
 
     ghost is_open = { λ k. k.broken ≡ false };
 
+    ghost moment = { λ _. 0 };
+
+    // What a stop would leave isn't told.
+    ghost left_since = { λ _. Untold };
+
     ghost known = { λ _ _. refl };
 
+    ghost in_range = { λ k. held_bound k.faults };
+
     ghost counted = { λ _. refl };
+
+    ghost settled = { λ _ _ _ left. absurd left };
 
     fn count(&mut self) -> Result<u32, Failed>
         requires { self.old.broken ≡ false }
@@ -128,7 +147,8 @@ impl Keeper for MemKeeper {
         ensures items { Stays (Some self.old.items) (Some self.new.items) }
         ensures is_open { self.new.broken ≡ false }
         ensures told { ⊤ ↔ ⊤ }
-        ensures cause { Counts self.old.faults self.new.faults (IsErr result) }
+        ensures stops { OnlyAdds 0 0 Untold Untold Nothing }
+        ensures cause { Counts (held self.old.faults) (held self.new.faults) (IsErr result) }
         ensures turn { KeeperTurn self.old self.new result }
     {
         self.check_call()?;
@@ -143,7 +163,8 @@ impl Keeper for MemKeeper {
         ensures items { Stays (Some self.old.items) (Some self.new.items) }
         ensures is_open { self.new.broken ≡ false }
         ensures told { ⊤ ↔ ⊤ }
-        ensures cause { Counts self.old.faults self.new.faults (IsErr result) }
+        ensures stops { OnlyAdds 0 0 Untold Untold Nothing }
+        ensures cause { Counts (held self.old.faults) (held self.new.faults) (IsErr result) }
         ensures turn { KeeperTurn self.old self.new result }
     {
         self.check_call()?;
@@ -161,7 +182,8 @@ impl Keeper for MemKeeper {
         ensures items { Stays (Some self.old.items) (Some self.new.items) }
         ensures is_open { self.new.broken ≡ false }
         ensures told { ⊤ ↔ ⊤ }
-        ensures cause { Counts self.old.faults self.new.faults (IsErr result) }
+        ensures stops { OnlyAdds 0 0 Untold Untold Nothing }
+        ensures cause { Counts (held self.old.faults) (held self.new.faults) (IsErr result) }
         ensures turn { KeeperTurn self.old self.new result }
         ensures kept { OnErr result (buf.new ≡ buf.old) }
     {
@@ -174,8 +196,8 @@ impl Keeper for MemKeeper {
     fn append(&mut self, bytes: &[u8]) -> Result<(), KeepError>
         requires is_open { self.old.broken ≡ false }
         requires some { 0 < length bytes.now }
-        requires size { length bytes.now ≤ 2 ^ 29 }
-        requires room { length self.old.items < 2 ^ 20 }
+        requires size { length bytes.now ≤ ITEM_BYTES }
+        requires room { length self.old.items < ITEMS }
         ensures number { OnOk result (length self.new.items ≡ length self.old.items + 1) }
         ensures items { OnOk result (Gets (Some self.old.items) (Some self.new.items) bytes.now) }
         ensures failed { IsErrOf result KeepError.Failed →
@@ -189,7 +211,11 @@ impl Keeper for MemKeeper {
             (λ _. self.new.broken ≡ false)
             (λ error. error ≡ KeepError.OutOfMemory → self.new.broken ≡ false) }
         ensures told { ⊤ ↔ ⊤ }
-        ensures cause { Counts self.old.faults self.new.faults (IsErrOf result KeepError.Failed) }
+        ensures stops { OnlyAdds 0 0 Untold Untold (IsBeforeOrAfter (Some self.old.items) bytes.now) }
+        ensures stops_memory { IsErrOf result KeepError.OutOfMemory →
+            OnlyAdds 0 0 Untold Untold (IsPresent (Some self.old.items)) }
+        ensures cause { Counts (held self.old.faults) (held self.new.faults) (IsErrOf result KeepError.Failed) }
+        ensures calm { IsErrOf result KeepError.OutOfMemory → held self.new.faults ≡ held self.old.faults }
         ensures turn { AppendTurn self.old self.new bytes.now result }
     {
         let entry = self.next_call();
@@ -219,7 +245,7 @@ fn failing_at(failing: &[Failing], call: u64) -> Option<Failing>
 fn item_bytes(items: &[Bytes], item: u32) -> &[u8]
     ensures bytes { result.now ≡ item_of items.now item }
     ensures none { length items.now ≤ item → length result.now ≡ 0 }
-    ensures size { All (λ bytes. length bytes ≤ 2 ^ 29) items.now → length result.now ≤ 2 ^ 29 }
+    ensures size { All (λ bytes. length bytes ≤ ITEM_BYTES) items.now → length result.now ≤ ITEM_BYTES }
 {
     match items.get(item as usize) {
         Some(bytes) => bytes.bytes(),
@@ -235,12 +261,4 @@ fn add(alloc: Global, items: &mut Vec<Bytes>, bytes: &[u8]) -> Result<(), AllocE
     let copy = bytes.to_vec(alloc)?;
     items.push(Bytes::of(copy))?;
     Ok(())
-}
-
-#[cfg(test)]
-impl MemKeeper {
-    // Its count of faults.
-    pub(crate) fn faults(&self) -> u64 {
-        self.faults
-    }
 }

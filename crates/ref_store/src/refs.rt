@@ -50,7 +50,7 @@ impl Refs {
         self.len() == 0
     }
 
-    /// The ref that came so many after the first, and its commit.
+    /// The ref at an index in order of arrival, and its commit.
     pub fn entry(&self, i: usize) -> (&RefName, Name)
         requires { i < length self.now }
         ensures { slice_get self.now i ≡ Some (result.0.now, result.1.0) }
@@ -75,7 +75,7 @@ impl Refs {
         Ok(())
     }
 
-    /// The same refs in memory of their own.
+    /// A copy of the refs in memory of its own.
     pub fn copy(&self) -> Result<Refs, AllocError>
         ensures { IfOk result (λ copy. copy ≡ self.now) }
     {

@@ -97,7 +97,7 @@ fn forward_is_to_a_descendant_or_the_same(rt: HostRuntime) -> Result<(), Fail> {
         let new_place = graph.index_of(&new_name);
         assert!(rt; old_place.is_some());
         assert!(rt; new_place.is_some());
-        let is = forward(&graph, &old_name, &new_name)?;
+        let is = forward(alloc, &graph, &old_name, &new_name)?;
         assert_eq!(rt; is, want, "from {old} to {new}");
     }
     Ok(())

@@ -8,17 +8,18 @@ use Rattle.git_objects.specs.Paths.{Bytes, same_bytes}
 use Rattle.git_objects.specs.Parts.{name_bytes}
 use Rattle.git_objects.specs.declared.kind.Kind.TheVariants.{Commit as CommitKind}
 use Rattle.git_objects.specs.declared.name.Name.{Name}
-use Rattle.object_store.specs.Errors.{newest}
 use Rattle.object_store.specs.Objects.{Object, object_name, find_named, has, IsStore}
 use Rattle.repo_state.specs.Changes.{Change, IsChange, blob_object, commit_objects, is_moved, moved, objects_of, plan, with_refs}
 use Rattle.repo_state.specs.Drafts.{IsDraft}
 use Rattle.repo_state.specs.Growing.{grown, held_of}
-use Rattle.repo_state.specs.Items.{Refs, bytes_cmp, held_with}
+use Rattle.repo_state.specs.Items.{held_with}
+use Rattle.git_objects.specs.Refs.{Refs, bytes_cmp}
 use Rattle.repo_state.specs.Stops.{are_heads}
 use Rattle.repo_state.specs.Wholes.{HoldsState}
 use Rattle.repo_state.specs.declared.draft.Draft.{Draft}
 use Rattle.repo_state.proofs.Feeding.{change-fed, commits-in, grown-all, in-grown, kept-commit, known-back}
-use Rattle.repo_state.proofs.Grows.{AreIn, grown-fresh, named-in}
+use Rattle.repo_state.proofs.Grows.{grown-fresh, named-in}
+use Rattle.object_store.proofs.Parts.{AreIn}
 use Rattle.repo_state.proofs.Heads.{are_heads-more, are_heads-put}
 use Rattle.repo_state.proofs.States.{all-at}
 
@@ -82,11 +83,11 @@ each-at S (x ∷ os) (suc k) o lt h = each-at S os k o (omega arith) h.1
 -- ---- the whole
 
 pub adopted : (objects : List Object) (old new : List Name) (refs : Refs) (commits number size after all : ℕ) (c : Change) (d : Draft) →
-    HoldsState objects old refs commits number size → IsChange (newest objects) (held_of (newest objects) old) c →
-    IsDraft (newest objects) new (held_with (held_of (newest objects) old) refs) number size (plan (newest objects) (held_with (held_of (newest objects) old) refs) c) d →
+    HoldsState objects old refs commits number size → IsChange objects (held_of objects old) c →
+    IsDraft objects new (held_with (held_of objects old) refs) number size (plan objects (held_with (held_of objects old) refs) c) d →
     HoldsState objects new d.refs d.commits after all
 adopted objects old new refs commits number size after all c d s g w =
-    let S = newest objects in
+    let S = objects in
     let H = held_of S old in
     let i = named-in S (reverse (map name_bytes old)) in
     let G = grown H (objects_of S c) in

@@ -8,9 +8,9 @@ use Rattle.git_objects.specs.declared.name.Name.{Name}
 use Rattle.object_store.specs.Objects.{Object, object_name, find_named}
 use Rattle.repo_state.specs.Drafts.{found}
 use Rattle.repo_state.specs.Growing.{held_of}
-use Rattle.repo_state.specs.Items.{is_commit}
+use Rattle.object_store.specs.Fits.{is_commit}
 use Rattle.repo_state.specs.Views.{named}
-use Rattle.repo_state.proofs.Grows.{find-name}
+use Rattle.object_store.proofs.Parts.{find-name}
 
 abbrev pub commits_of : List Object → List Name → List Bytes
 commits_of S names = map object_name (filter is_commit (found S names))

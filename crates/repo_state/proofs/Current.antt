@@ -12,13 +12,14 @@ use Rattle.git_objects.specs.declared.name.Name.{Name}
 use Rattle.proj_io.specs.Items.{Stays, Gets}
 use Rattle.proj_io.specs.declared.keeper.KeepError.{KeepError}
 use Rattle.proj_io.specs.declared.keeper.KeepError.TheVariants.{Failed, OutOfMemory}
-use Rattle.object_store.specs.Errors.{newest}
 use Rattle.object_store.specs.Objects.{Object}
 use Rattle.repo_state.specs.Changes.{Change, IsChange, IsCurrent, IsWithin, Plan, held_after, objects_of, plan, plan_in}
 use Rattle.repo_state.specs.Commits.{IsSpelled}
 use Rattle.repo_state.specs.Drafts.{IsDraft}
 use Rattle.repo_state.specs.Growing.{grown, held_of}
-use Rattle.repo_state.specs.Items.{Refs, Held, has_room, held_with, is_commit, item_fits, item_text, nothing, numbered, read_from, read_item, read_items, then_read}
+use Rattle.repo_state.specs.Items.{Held, has_room, held_with, item_fits, item_text, nothing, numbered, read_from, read_item, read_items, then_read}
+use Rattle.object_store.specs.Fits.{is_commit}
+use Rattle.git_objects.specs.Refs.{Refs}
 use Rattle.repo_state.specs.Fields.{BrokenAt}
 use Rattle.repo_state.specs.Loads.{Stored}
 use Rattle.repo_state.specs.Steps.{step}
@@ -65,10 +66,10 @@ read-behind (x ∷ items) number size h g k item e f r =
 -- ---- the change's item
 
 module _ (objects : List Object) (old new : List Name) (refs : Refs) (commits number size : ℕ) (c : Change) (d : Draft)
-    (s : HoldsState objects old refs commits number size) (g : IsChange (newest objects) (held_of (newest objects) old) c) (w : IsWithin (newest objects) (held_of (newest objects) old) c)
-    (made : IsDraft (newest objects) new (held_with (held_of (newest objects) old) refs) number size (plan (newest objects) (held_with (held_of (newest objects) old) refs) c) d) where
+    (s : HoldsState objects old refs commits number size) (g : IsChange objects (held_of objects old) c) (w : IsWithin objects (held_of objects old) c)
+    (made : IsDraft objects new (held_with (held_of objects old) refs) number size (plan objects (held_with (held_of objects old) refs) c) d) where
   abbrev S : List Object
-  S = newest objects
+  S = objects
 
   abbrev H : List Object
   H = held_of S old
@@ -140,17 +141,17 @@ stays-spelled (Some xs) None before p now e = tt
 stays-spelled (Some xs) (Some ys) before p now e = inl (e, ap read_items e ∙ now.held)
 
 module _ (objects : List Object) (old new : List Name) (refs : Refs) (commits number size : ℕ) (c : Change) (d : Draft) (before : Stored) where
-  pub gets-spelled : (o q : Option (List Bytes)) → stored objects old refs number size ≡ before → HoldsState objects old refs commits number size → IsChange (newest before.objects) before.held.objects c →
-      IfSome o (λ _. IsWithin (newest before.objects) before.held.objects c) → IfSome o (λ items. IsCurrent items before) →
-      IsDraft (newest objects) new (held_with (held_of (newest objects) old) refs) number size (plan (newest objects) (held_with (held_of (newest objects) old) refs) c) d → Gets o q d.item.items →
+  pub gets-spelled : (o q : Option (List Bytes)) → stored objects old refs number size ≡ before → HoldsState objects old refs commits number size → IsChange before.objects before.held.objects c →
+      IfSome o (λ _. IsWithin before.objects before.held.objects c) → IfSome o (λ items. IsCurrent items before) →
+      IsDraft objects new (held_with (held_of objects old) refs) number size (plan objects (held_with (held_of objects old) refs) c) d → Gets o q d.item.items →
       IfSome o (λ items. IfSome q (λ after. IsSpelled items before.held (plan_in before c) after))
   gets-spelled None q same s g w now made e = tt
   gets-spelled (Some xs) None same s g w now made e = tt
   gets-spelled (Some xs) (Some ys) same s g w now made e =
       subst (λ (b : Stored). IsSpelled xs b.held (plan_in b c) ys) same
       (spelled-after objects old new refs commits number size c d s
-      (subst (λ (b : Stored). IsChange (newest b.objects) b.held.objects c) (sym same) g)
-      (subst (λ (b : Stored). IsWithin (newest b.objects) b.held.objects c) (sym same) w)
+      (subst (λ (b : Stored). IsChange b.objects b.held.objects c) (sym same) g)
+      (subst (λ (b : Stored). IsWithin b.objects b.held.objects c) (sym same) w)
       made xs ys (subst (λ (b : Stored). IsCurrent xs b) (sym same) now) e)
 
 -- by why the keeper did not say that it has the item

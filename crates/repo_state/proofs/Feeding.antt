@@ -16,16 +16,20 @@ use Rattle.git_objects.specs.declared.mode.Mode.TheVariants.{File, Exec, Link, M
 use Rattle.git_objects.specs.declared.name.Name.{Name}
 use Rattle.git_objects.proofs.Basics.{same_bytes-self}
 use Rattle.git_objects.specs.Lists.{Each}
-use Rattle.object_store.specs.Objects.{Object, object_name, is_named, find_named, has, has_name, has_child, body_of, missing_entry, is_body, IsStore}
+use Rattle.object_store.specs.Objects.{Object, object_name, is_named, find_named, has, has_name, has_child, body_of, missing_entry, is_body, IsStore, HasChildren}
 use Rattle.object_store.proofs.Held.{named_kind, body_named, body_bytes, tree_held, has_name-from}
-use Rattle.repo_state.specs.Changes.{Change, IsChange, blob_object, commit_named, commit_objects, has_parents, objects_of}
+use Rattle.repo_state.specs.Changes.{Change, IsChange, blob_object, commit_objects, has_parents, objects_of}
+use Rattle.object_store.specs.StoredSnapshots.{commit_named, IsTreeOf}
 use Rattle.repo_state.specs.Growing.{with_one, grown, AreFed, held_of, Holds, IsReady}
-use Rattle.repo_state.specs.StoredObjects.{HasChildren, IsTreeOf, child_steps, entries_steps, itself, stored_objects, tree_at, tree_steps}
+use Rattle.repo_state.specs.StoredObjects.{child_steps, entries_steps, itself, stored_objects, tree_at, tree_steps}
 use Rattle.object_store.specs.Unfolding.{flat}
-use Rattle.repo_state.specs.TreeObjects.{tree_objects}
-use Rattle.repo_state.proofs.Grows.{AreIn, AreKnown, fed-both, named-in, part-has, part-kind}
-use Rattle.repo_state.proofs.StoredCommits.{commit-body, commit-spelled, commit_at, stored-commit}
-use Rattle.repo_state.proofs.Walks.{find-has, listed, object-children, tree-unfolds}
+use Rattle.object_store.specs.TreeObjects.{tree_objects}
+use Rattle.repo_state.proofs.Grows.{AreKnown, fed-both, named-in}
+use Rattle.object_store.proofs.Parts.{AreIn, part-has, part-kind, find-has}
+use Rattle.repo_state.proofs.StoredCommits.{commit-spelled, commit_at}
+use Rattle.object_store.proofs.StoredCommits.{commit-body, stored-commit}
+use Rattle.repo_state.proofs.Walks.{tree-unfolds}
+use Rattle.object_store.proofs.Children.{listed, object-children}
 
 -- ---- what stays known
 

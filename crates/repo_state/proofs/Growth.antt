@@ -7,7 +7,6 @@ use Rattle.git_objects.specs.Parts.{name_bytes}
 use Rattle.git_objects.specs.declared.kind.Kind.{Kind}
 use Rattle.git_objects.specs.declared.kind.Kind.TheVariants.{Commit}
 use Rattle.git_objects.specs.declared.name.Name.{Name}
-use Rattle.object_store.specs.Errors.{newest}
 use Rattle.object_store.specs.Objects.{Object, object_name, find_named, has, has_name, IsStore}
 use Rattle.std.specs.Prelude.{IfErr, IfOk}
 use Rattle.object_store.specs.Puts.{refusal, with_object}
@@ -16,12 +15,14 @@ use Rattle.object_store.proofs.Finding.{found_name}
 use Rattle.std.specs.Option.{is_some}
 use Rattle.repo_state.specs.Growing.{held_of}
 use Rattle.repo_state.specs.HeldObjects.{AreNamed}
-use Rattle.repo_state.specs.Items.{Refs, is_commit}
+use Rattle.object_store.specs.Fits.{is_commit}
+use Rattle.git_objects.specs.Refs.{Refs}
 use Rattle.repo_state.specs.Views.{named}
 use Rattle.repo_state.specs.Wholes.{HoldsState}
 use Rattle.repo_state.proofs.Adopting.{each-at}
 use Rattle.repo_state.proofs.Feeding.{in-above}
-use Rattle.repo_state.proofs.Grows.{AreIn, AreKnown, named-in}
+use Rattle.repo_state.proofs.Grows.{AreKnown, named-in}
+use Rattle.object_store.proofs.Parts.{AreIn}
 
 named-own : (S H : List Object) → AreIn S H → named S (map object_name H) ≡ H
 named-own S [] i = refl
@@ -48,11 +49,11 @@ many-in (o ∷ newer) S H s i =
     let there = many-in newer S H s.2 i in
     in-above o (newer ++ S) H s.1 (known-in (newer ++ S) H there) there
 
-stored-as : (before after : List Object) (names : List Name) (refs : Refs) (commits number size : ℕ) → HoldsState before names refs commits number size → IsStore (newest after) →
-    AreIn (newest after) (held_of (newest before) names) → HoldsState after names refs commits number size
+stored-as : (before after : List Object) (names : List Name) (refs : Refs) (commits number size : ℕ) → HoldsState before names refs commits number size → IsStore after →
+    AreIn after (held_of before names) → HoldsState after names refs commits number size
 stored-as before after names refs commits number size s whole i =
-    let S = newest before in
-    let T = newest after in
+    let S = before in
+    let T = after in
     let H = held_of S names in
     let same : held_of T names ≡ H = held-same S T names s.named i in
     record {
@@ -67,39 +68,39 @@ stored-as before after names refs commits number size s whole i =
       few = s.few;
     }
 
-module _ (before after : List Object) (names : List Name) (k : Kind) (b : Bytes) (e : newest after ≡ with_object (newest before) k b) where
-  in-more : AreIn (newest after) (held_of (newest before) names)
+module _ (before after : List Object) (names : List Name) (k : Kind) (b : Bytes) (e : after ≡ with_object before k b) where
+  in-more : AreIn after (held_of before names)
   in-more =
-      let S = newest before in
+      let S = before in
       subst (λ (R : List Object). AreIn R (held_of S names)) (sym e) (more-in S k b (held_of S names) (named-in S (reverse (map name_bytes names))))
 
-pub stored-more : (before after : List Object) (names : List Name) (refs : Refs) (commits number size : ℕ) (k : Kind) (b : Bytes) → HoldsState before names refs commits number size → IsStore (newest after) →
-    newest after ≡ with_object (newest before) k b → HoldsState after names refs commits number size
+pub stored-more : (before after : List Object) (names : List Name) (refs : Refs) (commits number size : ℕ) (k : Kind) (b : Bytes) → HoldsState before names refs commits number size → IsStore after →
+    after ≡ with_object before k b → HoldsState after names refs commits number size
 stored-more before after names refs commits number size k b s whole e = stored-as before after names refs commits number size s whole (in-more before after names k b e)
 
 -- what a contract sees of what is held stays too
-pub held-more : (before after : List Object) (names : List Name) (k : Kind) (b : Bytes) → AreNamed (held_of (newest before) names) names → newest after ≡ with_object (newest before) k b →
-    held_of (newest after) names ≡ held_of (newest before) names
-held-more before after names k b h e = held-same (newest before) (newest after) names h (in-more before after names k b e)
+pub held-more : (before after : List Object) (names : List Name) (k : Kind) (b : Bytes) → AreNamed (held_of before names) names → after ≡ with_object before k b →
+    held_of after names ≡ held_of before names
+held-more before after names k b h e = held-same before after names h (in-more before after names k b e)
 
 -- ---- many objects
 
-in-grown : (before after newer : List Object) (names : List Name) → IsStore (newest after) → newer ++ newest before ≡ newest after → AreIn (newest after) (held_of (newest before) names)
+in-grown : (before after newer : List Object) (names : List Name) → IsStore after → newer ++ before ≡ after → AreIn after (held_of before names)
 in-grown before after newer names whole e =
-    let S = newest before in
+    let S = before in
     subst (λ (R : List Object). AreIn R (held_of S names)) e
     (many-in newer S (held_of S names) (subst IsStore (sym e) whole) (named-in S (reverse (map name_bytes names))))
 
-pub stored-grown : (before after newer : List Object) (names : List Name) (refs : Refs) (commits number size : ℕ) → HoldsState before names refs commits number size → IsStore (newest after) →
-    newer ++ newest before ≡ newest after → HoldsState after names refs commits number size
+pub stored-grown : (before after newer : List Object) (names : List Name) (refs : Refs) (commits number size : ℕ) → HoldsState before names refs commits number size → IsStore after →
+    newer ++ before ≡ after → HoldsState after names refs commits number size
 stored-grown before after newer names refs commits number size s whole e = stored-as before after names refs commits number size s whole (in-grown before after newer names whole e)
 
-pub held-grown : (before after newer : List Object) (names : List Name) (refs : Refs) (commits number size : ℕ) → HoldsState before names refs commits number size → IsStore (newest after) →
-    newer ++ newest before ≡ newest after → held_of (newest after) names ≡ held_of (newest before) names
-held-grown before after newer names refs commits number size s whole e = held-same (newest before) (newest after) names s.named (in-grown before after newer names whole e)
+pub held-grown : (before after newer : List Object) (names : List Name) (refs : Refs) (commits number size : ℕ) → HoldsState before names refs commits number size → IsStore after →
+    newer ++ before ≡ after → held_of after names ≡ held_of before names
+held-grown before after newer names refs commits number size s whole e = held-same before after names s.named (in-grown before after newer names whole e)
 
 -- a put, whatever it answers
-pub stored-put : (X : PutError → Type 0) (before after : List Object) (names : List Name) (refs : Refs) (commits number size : ℕ) (k : Kind) (b : Bytes) (r : Result Name PutError) → HoldsState before names refs commits number size → IsStore (newest after) →
-    IfOk r (λ n. (n.0 ≡ name k b) × (refusal (newest before) k b ≡ None) × (newest after ≡ with_object (newest before) k b)) → IfErr r (λ e. (after ≡ before) × X e) → HoldsState after names refs commits number size
+pub stored-put : (X : PutError → Type 0) (before after : List Object) (names : List Name) (refs : Refs) (commits number size : ℕ) (k : Kind) (b : Bytes) (r : Result Name PutError) → HoldsState before names refs commits number size → IsStore after →
+    IfOk r (λ n. (n.0 ≡ name k b) × (refusal before k b ≡ None) × (after ≡ with_object before k b)) → IfErr r (λ e. (after ≡ before) × X e) → HoldsState after names refs commits number size
 stored-put X before after names refs commits number size k b (Ok n) s whole ok err = stored-more before after names refs commits number size k b s whole ok.2
 stored-put X before after names refs commits number size k b (Err e) s whole ok err = subst (λ (os : List Object). HoldsState os names refs commits number size) (sym err.0) s

@@ -14,7 +14,7 @@ use Rattle.std.specs.FinMap.Entries.{by_order}
 use Rattle.git_objects.specs.Paths.{Bytes}
 use Rattle.git_objects.specs.declared.kind.Kind.TheVariants.{Commit}
 use Rattle.object_store.specs.Objects.{Object, has}
-use Rattle.repo_state.specs.Items.{Refs, bytes_cmp}
+use Rattle.git_objects.specs.Refs.{Refs, bytes_cmp}
 use Rattle.repo_state.specs.Stops.{are_heads}
 
 both : (a b : Bool) → a ≡ true → b ≡ true → (a && b) ≡ true

@@ -10,7 +10,8 @@ use Rattle.object_store.specs.Puts.{Refusal, refusal}
 use Rattle.object_store.specs.Unfolding.{flat}
 use Rattle.object_store.proofs.Held.{named_kind}
 use Rattle.repo_state.specs.Fields.{BrokenAt, Fault, Spot, ◌>>=◌, ended, field, marker, number, start}
-use Rattle.repo_state.specs.Items.{Break, Held, body_fits, has_room, item_fits, kind_field, nothing, numbered, object_field, objects_field, read_from, read_item, read_items, refs_field, take_object, then_read, tree_fits, tree_map, with_rest}
+use Rattle.repo_state.specs.Items.{Break, Held, has_room, item_fits, kind_field, nothing, numbered, object_field, objects_field, read_from, read_item, read_items, refs_field, take_object, then_read, with_rest}
+use Rattle.object_store.specs.Fits.{body_fits, tree_fits, tree_map}
 
 -- each tree is within the limits
 abbrev AreFit : List Object → Type 0

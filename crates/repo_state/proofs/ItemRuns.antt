@@ -9,7 +9,6 @@ use Rattle.proj_io.specs.Items.{Stays, item_of}
 use Rattle.repo_state.specs.Fields.{BrokenAt}
 use Rattle.repo_state.specs.Items.{Held, Break, nothing, item_fits, numbered, read_item, then_read, read_from, read_items}
 use Rattle.repo_state.specs.Loads.{IsLoadFault, IsLoaded, Stored}
-use Rattle.object_store.specs.Errors.{newest}
 use Rattle.repo_state.specs.Steps.{step}
 use Rattle.repo_state.specs.declared.state.LoadError.{LoadError}
 use Rattle.repo_state.specs.declared.state.LoadError.TheVariants.{StoreFault, Damaged, Collision, OutOfMemory}
@@ -114,7 +113,7 @@ stays-on (Some x) (Some y) (Some z) a b = b ∙ a
 
 pub load-ok : (o p : Option (List Bytes)) (count n size : ℕ) (h : Held) (s : Stored) → Stays o p → IfSome o (λ all. length all ≡ n) → count ≡ n →
     IfSome p (λ all. count ≡ length all → read_items all ≡ Ok h) → IfSome p (λ all. count ≡ length all → size ≡ sum_by length all) →
-    s.held ≡ h → s.number ≡ count → s.size ≡ size → newest s.objects ≡ h.objects → IfSome o (λ all. IsLoaded all s)
+    s.held ≡ h → s.number ≡ count → s.size ≡ size → s.objects ≡ h.objects → IfSome o (λ all. IsLoaded all s)
 load-ok None p count n size h s st l e r z eh en es eo = tt
 load-ok (Some all) None count n size h s st l e r z eh en es eo = absurd st
 load-ok (Some all) (Some other) count n size h s st l e r z eh en es eo =

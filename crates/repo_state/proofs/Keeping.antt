@@ -15,22 +15,24 @@ use Rattle.git_objects.specs.declared.name.Name.{Name}
 use Rattle.git_objects.proofs.Basics.{same_bytes-self}
 use Rattle.git_objects.specs.Lists.{Each}
 use Rattle.object_store.specs.Objects.{Object, object_name, same_kind, is_named, has, has_name, body_of, is_body, IsStore}
-use Rattle.object_store.specs.Errors.{newest}
 use Rattle.object_store.specs.Unfolding.{flat}
 use Rattle.object_store.proofs.Held.{named_kind}
-use Rattle.repo_state.specs.Changes.{Change, IsChange, blob_object, commit_named, commit_objects, held_after, objects_of, plan_in}
+use Rattle.repo_state.specs.Changes.{Change, IsChange, blob_object, commit_objects, held_after, objects_of, plan_in}
+use Rattle.object_store.specs.StoredSnapshots.{commit_named, snapshot_in, snapshot_of, snapshots_in}
 use Rattle.repo_state.specs.Growing.{grown, held_of, with_one}
-use Rattle.repo_state.specs.Items.{Refs}
+use Rattle.git_objects.specs.Refs.{Refs}
 use Rattle.repo_state.specs.Loads.{Stored}
-use Rattle.repo_state.specs.Repos.{Snapshot, has_tree, is_kept, is_tree_of, is_used, snapshot_in, snapshot_of, snapshots_in}
-use Rattle.repo_state.specs.TreeObjects.{tree_objects}
+use Rattle.repo_state.specs.Repos.{has_tree, is_kept, is_tree_of, is_used}
+use Rattle.git_objects.specs.Snapshots.{Snapshot}
+use Rattle.object_store.specs.TreeObjects.{tree_objects}
 use Rattle.repo_state.specs.Views.{stored}
 use Rattle.repo_state.specs.Wholes.{HoldsState}
 use Rattle.repo_state.proofs.Adopting.{change-in}
 use Rattle.repo_state.proofs.Feeding.{change-fed, commits-in, grown-all, known-back}
-use Rattle.repo_state.proofs.Fitting.{flat-part}
-use Rattle.repo_state.proofs.Grows.{AreIn, grown-fresh, named-in, part-has, store-grown}
-use Rattle.repo_state.proofs.StoredCommits.{commit-held, stored-commit}
+use Rattle.object_store.proofs.FlatParts.{flat-part}
+use Rattle.repo_state.proofs.Grows.{grown-fresh, named-in, store-grown}
+use Rattle.object_store.proofs.Parts.{AreIn, part-has}
+use Rattle.object_store.proofs.StoredCommits.{commit-held, stored-commit}
 
 any-front : {A : Type 0} (p : A → Bool) (xs ys : List A) → list_any p xs ≡ true → list_any p (xs ++ ys) ≡ true
 any-front p [] ys h = absurd (true≢false (sym h))
@@ -158,10 +160,10 @@ module _ (S H : List Object) (s : IsStore S) (h : IsStore H) (i : AreIn S H) (c 
 
 -- what is held after the change's plan
 pub kept-after : (objects : List Object) (old : List Name) (refs : Refs) (commits number size : ℕ) (c : Change) (before : Stored) → stored objects old refs number size ≡ before → HoldsState objects old refs commits number size →
-    IsChange (newest before.objects) before.held.objects c → is_kept before.held ≡ true → is_kept (held_after before.held (plan_in before c)) ≡ true
+    IsChange before.objects before.held.objects c → is_kept before.held ≡ true → is_kept (held_after before.held (plan_in before c)) ≡ true
 kept-after objects old refs commits number size c before same s g =
-    let S = newest objects in
+    let S = objects in
     let H = held_of S old in
     subst (λ (b : Stored). is_kept b.held ≡ true → is_kept (held_after b.held (plan_in b c)) ≡ true) same
     (λ e. subst (λ (T : List Object). list_all (λ o. is_used (snapshots_in T) o.kind o.body) T ≡ true) (grown-fresh H (objects_of S c))
-    (kept-grown S H s.whole.whole s.whole.held (named-in S (reverse (map name_bytes old))) c (subst (λ (b : Stored). IsChange (newest b.objects) b.held.objects c) (sym same) g) e))
+    (kept-grown S H s.whole.whole s.whole.held (named-in S (reverse (map name_bytes old))) c (subst (λ (b : Stored). IsChange b.objects b.held.objects c) (sym same) g) e))

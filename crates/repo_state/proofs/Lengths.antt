@@ -3,7 +3,8 @@ use Rattle.std.proofs.Common.{◌+◌, ◌≤◌, ◌<◌, List, [], ◌∷◌, 
 use Rattle.std.specs.Int.{to_be_bytes, w16, w32}
 use Rattle.std.specs.List.{flat_map}
 use Rattle.object_store.specs.Objects.{Object}
-use Rattle.repo_state.specs.Items.{Refs, item_text, object_text, ref_text}
+use Rattle.repo_state.specs.Items.{item_text, object_text, ref_text}
+use Rattle.git_objects.specs.Refs.{Refs}
 
 some-objects : (os : List Object) → length os ≤ length (flat_map object_text os)
 some-objects [] = omega arith

@@ -21,7 +21,8 @@ use Rattle.object_store.specs.Unfolding.{joined, flat}
 use Rattle.object_store.specs.Sizes.{longest, held_number, sizes, stats_of}
 use Rattle.object_store.specs.declared.store.TreeStats.{TreeStats}
 use Rattle.repo_state.specs.Fields.{Fault, BrokenAt}
-use Rattle.repo_state.specs.Items.{body_fits, has_room, is_commit, take_object, tree_fits}
+use Rattle.repo_state.specs.Items.{has_room, take_object}
+use Rattle.object_store.specs.Fits.{body_fits, is_commit, tree_fits}
 use Rattle.repo_state.specs.HeldObjects.{AreNamed, HoldsObjects, more_commits}
 
 -- ---- names

@@ -10,7 +10,7 @@ use Rattle.std.specs.List.{AllZip}
 use Rattle.std.specs.Map.{lookup}
 use Rattle.std.specs.BTreeMap.{insert_entry}
 use Rattle.git_objects.specs.Paths.{Bytes}
-use Rattle.repo_state.specs.Items.{Refs, bytes_cmp}
+use Rattle.git_objects.specs.Refs.{Refs, bytes_cmp}
 
 module _ {K V : Type 0} (f : K → Bytes) (g : V → Bytes) where
   abbrev pub pairs : List (K × V) → Refs

@@ -18,7 +18,9 @@ use Rattle.git_objects.specs.declared.quantity.Quantity.{Quantity}
 use Rattle.git_objects.specs.declared.quantity.Quantity.TheVariants.{Commits, Objects, Item, Items, Store}
 use Rattle.path_names.specs.RefNames.{is_ref_name}
 use Rattle.object_store.specs.Objects.{Object, find_named}
-use Rattle.repo_state.specs.Items.{Refs, Held, bytes_cmp, held_with, is_commit, item_text}
+use Rattle.repo_state.specs.Items.{Held, held_with, item_text}
+use Rattle.object_store.specs.Fits.{is_commit}
+use Rattle.git_objects.specs.Refs.{Refs, bytes_cmp}
 use Rattle.repo_state.specs.Changes.{Change, Plan, is_empty, is_moved, moved, objects_of, or_else, passed, plan, plan_text, with_refs}
 use Rattle.repo_state.specs.Drafts.{DraftOrNot, IsDraft, IsNoDraft, IsNothing, IsWeighed, NewsOrNot, first_passed, found, is_short, is_valid_ref, sized}
 use Rattle.repo_state.specs.Growing.{Extends, Holds, IsStep, held_of}

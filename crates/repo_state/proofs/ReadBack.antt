@@ -16,7 +16,9 @@ use Rattle.object_store.specs.Objects.{Object, object_name, has, has_name}
 use Rattle.object_store.specs.Puts.{refusal}
 use Rattle.repo_state.specs.Changes.{with_refs}
 use Rattle.repo_state.specs.Fields.{Spot, Fault, BrokenAt, ◌>>=◌, field, marker, number, number_of}
-use Rattle.repo_state.specs.Items.{Refs, Held, body_fits, bytes_cmp, checked, ended_with, has_room, head_field, held_with, item_text, kind_byte, kind_field, kind_of, listed_kind, object_field, object_text, objects_field, read_item, ref_field, ref_text, refs_field, rises, take_object, with_rest}
+use Rattle.repo_state.specs.Items.{Held, checked, ended_with, has_room, head_field, held_with, item_text, kind_byte, kind_field, kind_of, listed_kind, object_field, object_text, objects_field, read_item, ref_field, ref_text, refs_field, rises, take_object, with_rest}
+use Rattle.object_store.specs.Fits.{body_fits}
+use Rattle.git_objects.specs.Refs.{Refs, bytes_cmp}
 use Rattle.repo_state.proofs.Binds.{then-ok}
 use Rattle.repo_state.proofs.Naming.{take-new}
 

@@ -4,7 +4,8 @@ use Rattle.std.specs.FinMap.{put}
 use Rattle.git_objects.specs.Paths.{Bytes}
 use Rattle.object_store.specs.Objects.{Object}
 use Rattle.repo_state.specs.Fields.{Spot, ◌>>=◌}
-use Rattle.repo_state.specs.Items.{Refs, bytes_cmp, head_field, ref_field, refs_field}
+use Rattle.repo_state.specs.Items.{head_field, ref_field, refs_field}
+use Rattle.git_objects.specs.Refs.{Refs, bytes_cmp}
 use Rattle.repo_state.specs.Stops.{IsStop, one_ref}
 use Rattle.repo_state.specs.declared.cursor.Stop.{Stop}
 use Rattle.repo_state.proofs.Binds.{then-ok, then-stop, stop-along, together}

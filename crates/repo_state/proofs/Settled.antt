@@ -18,7 +18,8 @@ use Rattle.object_store.specs.Objects.{Object, has, body_of}
 use Rattle.object_store.proofs.Held.{body_named}
 use Rattle.repo_state.specs.Changes.{is_moved, moved, with_refs}
 use Rattle.repo_state.specs.Drafts.{is_valid_ref}
-use Rattle.repo_state.specs.Items.{Refs, bytes_cmp, rises}
+use Rattle.repo_state.specs.Items.{rises}
+use Rattle.git_objects.specs.Refs.{Refs, bytes_cmp}
 use Rattle.repo_state.specs.Stops.{are_heads}
 use Rattle.repo_state.proofs.Plans.{short}
 use Rattle.repo_state.proofs.ReadBack.{AreSet}

@@ -8,8 +8,8 @@ use Rattle.git_objects.specs.declared.kind.Kind.TheVariants.{Commit}
 use Rattle.git_objects.specs.declared.name.Name.{Name}
 use Rattle.git_objects.proofs.Basics.{same_bytes-back, same_bytes-self}
 use Rattle.object_store.specs.Objects.{Object, object_name, find_named, has, has_name, IsStore}
-use Rattle.object_store.specs.Errors.{newest}
-use Rattle.repo_state.specs.Items.{Refs, is_commit}
+use Rattle.object_store.specs.Fits.{is_commit}
+use Rattle.git_objects.specs.Refs.{Refs}
 use Rattle.repo_state.specs.Loads.{IsStored}
 use Rattle.repo_state.specs.Views.{named, stored}
 use Rattle.repo_state.specs.HeldObjects.{AreNamed, HoldsObjects}
@@ -59,7 +59,7 @@ named-part S (o ∷ T) h = λ i. option_to_list (h 0 o (omega arith) i) ++ named
 
 module _ (objects : List Object) (names : List Name) where
   abbrev S : List Object
-  S = newest objects
+  S = objects
 
   abbrev held : List Object
   held = named S (reverse (map name_bytes names))

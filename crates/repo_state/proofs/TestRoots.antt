@@ -12,10 +12,11 @@ use Rattle.git_objects.specs.contracts.kind.Kind.{the_type}
 use Rattle.git_objects.specs.declared.kind.Kind.TheVariants.{Blob, Commit as CommitKind}
 use Rattle.object_store.specs.Objects.{Object, same_kind, find_named, has}
 use Rattle.object_store.proofs.Finding.{kind_test}
-use Rattle.repo_state.specs.Changes.{IsChange, commit_named}
-use Rattle.repo_state.specs.Items.{Refs}
+use Rattle.repo_state.specs.Changes.{IsChange}
+use Rattle.object_store.specs.StoredSnapshots.{commit_named}
+use Rattle.git_objects.specs.Refs.{Refs}
 use Rattle.repo_state.specs.TestChanges.{AreRefsOf, has_root}
-use Rattle.repo_state.proofs.Grows.{found-has}
+use Rattle.object_store.proofs.Parts.{found-has}
 
 none-in : {A : Type 0} (xs : List A) → length xs ≡ 0 → is_nil xs ≡ true
 none-in [] e = refl

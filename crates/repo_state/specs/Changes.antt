@@ -3,6 +3,7 @@ use Rattle.std.specs.Prelude.{◌≡◌, ℕ, ◌+◌, ◌^◌, Bool, true, fals
 use Rattle.std.specs.List.{flat_map, list_all, list_any}
 use Rattle.std.specs.Option.{option_map_or}
 use Rattle.std.specs.FinMap.{find, put as put_entry}
+use Rattle.git_objects.specs.declared.limits.TheConstants.{COMMITS, OBJECTS, ITEM_BYTES, ITEMS, STORE_BYTES, MESSAGE_BYTES, BLOB_BYTES}
 use Rattle.git_objects.specs.Paths.{Bytes, is_nil, same_bytes}
 use Rattle.git_objects.specs.Commits.{Commit}
 use Rattle.git_objects.specs.CommitBodies.{commit_from}
@@ -10,11 +11,13 @@ use Rattle.git_objects.specs.declared.kind.Kind.TheVariants.{Blob, Commit as Com
 use Rattle.git_objects.specs.declared.quantity.Quantity.{Quantity}
 use Rattle.git_objects.specs.declared.quantity.Quantity.TheVariants.{Commits, Objects, Item, Items, Store}
 use Rattle.object_store.specs.Objects.{Object, object_name, has, has_name, body_of}
-use Rattle.object_store.specs.Errors.{newest}
 use Rattle.object_store.specs.Unfolding.{flat}
-use Rattle.repo_state.specs.Items.{Refs, Held, bytes_cmp, held_with, is_commit, item_text, tree_fits, read_items}
-use Rattle.repo_state.specs.TreeObjects.{leaf_objects, tree_objects}
+use Rattle.repo_state.specs.Items.{Held, held_with, item_text, read_items}
+use Rattle.object_store.specs.Fits.{is_commit, tree_fits, is_known}
+use Rattle.git_objects.specs.Refs.{Refs, bytes_cmp}
+use Rattle.object_store.specs.TreeObjects.{leaf_objects, tree_objects}
 use Rattle.repo_state.specs.Loads.{Stored}
+use Rattle.object_store.specs.StoredSnapshots.{commit_named}
 
 -- names of blobs and of commits in order, and refs with their commits
 pub record Change : Type 0 where
@@ -28,9 +31,6 @@ pub record Change : Type 0 where
 unfoldable pub fresh : List Object → List Object → List Object
 fresh S [] = []
 fresh S (o ∷ os) = cond (has_name S (object_name o)) (fresh S os) (o ∷ fresh (o ∷ S) os)
-
-abbrev pub commit_named : List Object → Bytes → Option Commit
-commit_named S n = commit_from (body_of CommitKind S n)
 
 -- the objects of a commit's tree, and then the commit
 abbrev pub commit_objects : List Object → Bytes → List Object
@@ -86,16 +86,16 @@ or_else false q later = Some q
 -- the first limit that is passed by this item behind so many others, of so many bytes together
 abbrev pub passed : Held → ℕ → ℕ → Plan → Option Quantity
 passed h number size p =
-    or_else (nat_le (length (filter is_commit (held_after h p).objects)) (2 ^ 20)) Commits
-    (or_else (nat_le (length (held_after h p).objects) (2 ^ 22)) Objects
-    (or_else (nat_le (length (plan_text p)) (2 ^ 29)) Item
-    (or_else (nat_le (number + 1) (2 ^ 20)) Items
-    (or_else (nat_le (size + length (plan_text p)) (2 ^ 31)) Store None))))
+    or_else (nat_le (length (filter is_commit (held_after h p).objects)) COMMITS) Commits
+    (or_else (nat_le (length (held_after h p).objects) OBJECTS) Objects
+    (or_else (nat_le (length (plan_text p)) ITEM_BYTES) Item
+    (or_else (nat_le (number + 1) ITEMS) Items
+    (or_else (nat_le (size + length (plan_text p)) STORE_BYTES) Store None))))
 
 -- ---- the state
 
 abbrev pub plan_in : Stored → Change → Plan
-plan_in s c = plan (newest s.objects) s.held c
+plan_in s c = plan s.objects s.held c
 
 -- after the change, of which nothing is kept where it says nothing new
 abbrev pub changed : Stored → Plan → Stored
@@ -127,15 +127,11 @@ pub record IsChange (S H : List Object) (c : Change) : Type 0 where
   pub refs : are_distinct c.refs ≡ true
   pub heads : list_all (λ e. has CommitKind H e.1 || list_any (same_bytes e.1) c.commits) c.refs ≡ true
 
--- whether a leaf's blob is held or one of these
-abbrev pub is_known : List Object → List Bytes → Object → Bool
-is_known H blobs o = has Blob H (object_name o) || list_any (same_bytes (object_name o)) blobs
-
 abbrev pub commit_fits : List Object → List Object → List Bytes → Commit → Bool
 commit_fits S H blobs c =
-    tree_fits (flat S c.tree) && nat_le (length c.letter.message) (2 ^ 20) && list_all (λ e. list_all (is_known H blobs) (leaf_objects e.1)) (flat S c.tree)
+    tree_fits (flat S c.tree) && nat_le (length c.letter.message) MESSAGE_BYTES && list_all (λ e. list_all (is_known H blobs) (leaf_objects e.1)) (flat S c.tree)
 
 -- each blob of the commits' trees is held or brought; blobs, trees and messages are within the limits of objects
 pub record IsWithin (S H : List Object) (c : Change) : Type 0 where
-  pub blobs : list_all (λ n. nat_le (length (body_of Blob S n)) (2 ^ 24)) c.blobs ≡ true
+  pub blobs : list_all (λ n. nat_le (length (body_of Blob S n)) BLOB_BYTES) c.blobs ≡ true
   pub commits : list_all (λ n. option_map_or (commit_fits S H c.blobs) (commit_named S n) false) c.commits ≡ true

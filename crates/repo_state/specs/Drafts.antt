@@ -2,6 +2,7 @@
 use Rattle.std.specs.Prelude.{◌≡◌, ⊤, ℕ, ◌+◌, ◌≤◌, ◌^◌, Bool, true, false, cond, nat_le, List, map, filter, length, reverse, ◌++◌, Option, Some, None, Result, Ok, Err}
 use Rattle.std.specs.List.{list_all}
 use Rattle.std.specs.Option.{is_some, unwrap_or}
+use Rattle.git_objects.specs.declared.limits.TheConstants.{COMMITS, OBJECTS, ITEM_BYTES, ITEMS, STORE_BYTES}
 use Rattle.git_objects.specs.Paths.{Bytes}
 use Rattle.git_objects.specs.Parts.{name_bytes}
 use Rattle.git_objects.specs.declared.name.Name.{Name}
@@ -9,7 +10,9 @@ use Rattle.git_objects.specs.declared.quantity.Quantity.{Quantity}
 use Rattle.git_objects.specs.declared.quantity.Quantity.TheVariants.{Commits, Objects, Item, Items, Store}
 use Rattle.path_names.specs.RefNames.{is_ref_name}
 use Rattle.object_store.specs.Objects.{Object}
-use Rattle.repo_state.specs.Items.{Refs, Held, is_commit, item_text}
+use Rattle.repo_state.specs.Items.{Held, item_text}
+use Rattle.object_store.specs.Fits.{is_commit}
+use Rattle.git_objects.specs.Refs.{Refs}
 use Rattle.repo_state.specs.Changes.{Plan, is_empty, or_else, passed, plan_text, with_refs}
 use Rattle.repo_state.specs.Growing.{Holds, held_of}
 use Rattle.repo_state.specs.Views.{named}
@@ -35,16 +38,16 @@ found S names = named S (map name_bytes names)
 
 -- an item's length, where it is within the limit
 abbrev pub sized : ℕ → Option ℕ
-sized n = cond (nat_le n (2 ^ 29)) (Some n) None
+sized n = cond (nat_le n ITEM_BYTES) (Some n) None
 
 -- the first limit that is passed, by the numbers of commits and objects, the item's length, and the items before
 abbrev pub first_passed : ℕ → ℕ → Option ℕ → ℕ → ℕ → Option Quantity
 first_passed commits objects item number size =
-    or_else (nat_le commits (2 ^ 20)) Commits
-    (or_else (nat_le objects (2 ^ 22)) Objects
+    or_else (nat_le commits COMMITS) Commits
+    (or_else (nat_le objects OBJECTS) Objects
     (or_else (is_some item) Item
-    (or_else (nat_le (number + 1) (2 ^ 20)) Items
-    (or_else (nat_le (size + unwrap_or item 0) (2 ^ 31)) Store None))))
+    (or_else (nat_le (number + 1) ITEMS) Items
+    (or_else (nat_le (size + unwrap_or item 0) STORE_BYTES) Store None))))
 
 -- what objects and refs make, behind so many objects and items
 pub record IsWeighed (os : List Object) (rs before : Refs) (objects : ℕ) (m : Meter) (d : Draft) : Type 0 where

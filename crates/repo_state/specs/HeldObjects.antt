@@ -7,7 +7,7 @@ use Rattle.git_objects.specs.declared.name.Name.{Name}
 use Rattle.object_store.specs.Objects.{Object, object_name, same_kind, IsStore}
 use Rattle.object_store.specs.declared.store.PutError.{PutError}
 use Rattle.object_store.specs.declared.store.PutError.TheVariants.{NotCanonical, MissingChild, Collision as Collides, OutOfMemory as NoMemory}
-use Rattle.repo_state.specs.Items.{is_commit}
+use Rattle.object_store.specs.Fits.{is_commit}
 use Rattle.repo_state.specs.declared.cursor.Stop.{Stop}
 use Rattle.repo_state.specs.declared.cursor.Stop.TheVariants.{Broken, Collision, OutOfMemory}
 

@@ -7,7 +7,9 @@ use Rattle.std.specs.declared.cmp.Ordering.{Ordering}
 use Rattle.std.specs.Ordering.{nat_cmp, is_lt}
 use Rattle.std.specs.Cmp.Lexicographic.{slice_cmp}
 use Rattle.std.specs.FinMap.{put as put_entry}
+use Rattle.git_objects.specs.declared.limits.TheConstants.{COMMITS, OBJECTS, ITEM_BYTES, ITEMS, STORE_BYTES}
 use Rattle.git_objects.specs.Paths.{Bytes}
+use Rattle.git_objects.specs.Refs.{Refs, bytes_cmp}
 use Rattle.git_objects.specs.Trees.{Flat}
 use Rattle.git_objects.specs.Names.{name, depth}
 use Rattle.git_objects.specs.Bodies.{tree_entries}
@@ -20,13 +22,7 @@ use Rattle.object_store.specs.Puts.{Refusal, NotBody, Missing, Collides, refusal
 use Rattle.object_store.specs.Unfolding.{joined, flat}
 use Rattle.object_store.specs.Sizes.{longest}
 use Rattle.repo_state.specs.Fields.{Spot, Fault, BrokenAt, Clash, Read, ◌>>=◌, start, field, number, marker, ended}
-
--- refs with the commits that they name, in the byte order of the refs
-abbrev pub Refs : Type 0
-Refs = List (Bytes × Bytes)
-
-abbrev pub bytes_cmp : Bytes → Bytes → Ordering
-bytes_cmp a b = slice_cmp nat_cmp a b
+use Rattle.object_store.specs.Fits.{is_commit, body_fits}
 
 -- what the items read so far hold: the objects from the newest to the oldest, and the refs
 pub record Held : Type 0 where
@@ -38,26 +34,9 @@ nothing = record { objects = []; refs = [] }
 
 -- ---- limits of objects
 
--- at most 1,048,576 files, 1,024 components and 16,384 bytes in a path
-abbrev pub tree_fits : Flat → Bool
-tree_fits t = nat_le (length t) (2 ^ 20) && nat_le (depth t) 1024 && nat_le (longest t) 16384
-
--- the flat map of a tree with this body
-abbrev pub tree_map : List Object → Bytes → Flat
-tree_map S b = joined (body_of Blob S) (flat S) (unwrap_or (tree_entries b) [])
-
--- a blob has at most 2^24 bytes, and a commit's message at most 2^20
-abbrev pub body_fits : List Object → Kind → Bytes → Bool
-body_fits S Blob b = nat_le (length b) (2 ^ 24)
-body_fits S Tree b = tree_fits (tree_map S b)
-body_fits S Commit b = option_map_or (λ c. nat_le (length c.letter.message) (2 ^ 20)) (commit_from b) false
-
-abbrev pub is_commit : Object → Bool
-is_commit o = same_kind Commit o.kind
-
--- at most 2^22 objects, of which 2^20 are commits
+-- whether objects are within the limits of a state
 abbrev pub has_room : List Object → Bool
-has_room S = nat_le (length S) (2 ^ 22) && nat_le (length (filter is_commit S)) (2 ^ 20)
+has_room S = nat_le (length S) OBJECTS && nat_le (length (filter is_commit S)) COMMITS
 
 -- ---- objects
 
@@ -141,7 +120,7 @@ Break = ℕ × Fault
 
 -- the items from this number on, of so many bytes before: at most 2^20 items of 2^29 bytes each, together 2^31
 abbrev pub item_fits : ℕ → ℕ → Bytes → Bool
-item_fits number size item = nat_lt number (2 ^ 20) && nat_le (length item) (2 ^ 29) && nat_le (size + length item) (2 ^ 31)
+item_fits number size item = nat_lt number ITEMS && nat_le (length item) ITEM_BYTES && nat_le (size + length item) STORE_BYTES
 
 abbrev pub numbered : ℕ → Result Held Fault → Result Held Break
 numbered n (Ok h) = Ok h

@@ -1,7 +1,6 @@
 pub mod Fields
 pub mod HeldObjects
 pub mod Items
-pub mod TreeObjects
 pub mod Repos
 pub mod Loads
 pub mod Changes

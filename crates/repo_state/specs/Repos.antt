@@ -11,51 +11,17 @@ use Rattle.git_objects.specs.declared.kind.Kind.{Kind}
 use Rattle.git_objects.specs.declared.kind.Kind.TheVariants.{Blob, Tree, Commit as CommitKind}
 use Rattle.object_store.specs.Objects.{Object, same_kind}
 use Rattle.object_store.specs.Unfolding.{flat}
-use Rattle.repo_state.specs.Items.{Refs, Held}
-use Rattle.repo_state.specs.TreeObjects.{tree_objects}
-
--- a commit with its flat tree
-pub record Snapshot : Type 0 where
-  pub tree : Flat
-  pub parents : List Bytes
-  pub letter : Letter
-
-abbrev pub snapshot_commit : Snapshot → Commit
-snapshot_commit c = record { tree = tree_name c.tree; parents = c.parents; letter = c.letter }
-
-abbrev pub snapshot_name : Snapshot → Bytes
-snapshot_name c = commit_name (snapshot_commit c)
-
-abbrev pub snapshot_object : Snapshot → Object
-snapshot_object c = record { kind = CommitKind; body = commit_body (snapshot_commit c) }
+use Rattle.repo_state.specs.Items.{Held}
+use Rattle.git_objects.specs.Refs.{Refs}
+use Rattle.git_objects.specs.Snapshots.{Snapshot, snapshot_commit, snapshot_name}
+use Rattle.object_store.specs.TreeObjects.{tree_objects}
+use Rattle.object_store.specs.StoredSnapshots.{snapshots_in, blobs_in}
 
 -- the bodies of the known blobs and the commits, from the newest to the oldest, and the refs
 pub record Repo : Type 0 where
   pub blobs : List Bytes
   pub commits : List Snapshot
   pub refs : Refs
-
-abbrev pub blob_in : Kind → Bytes → List Bytes
-blob_in Blob b = b ∷ []
-blob_in Tree b = []
-blob_in CommitKind b = []
-
--- the commit of a body, where its tree is one of these objects
-abbrev pub snapshot_of : List Object → Commit → Snapshot
-snapshot_of S c = record { tree = flat S c.tree; parents = c.parents; letter = c.letter }
-
-abbrev pub snapshot_in : List Object → Kind → Bytes → List Snapshot
-snapshot_in S Blob b = []
-snapshot_in S Tree b = []
-snapshot_in S CommitKind b = option_to_list (option_map (snapshot_of S) (commit_from b))
-
-abbrev pub blobs_in : List Object → List Bytes
-blobs_in [] = []
-blobs_in (o ∷ older) = blob_in o.kind o.body ++ blobs_in older
-
-abbrev pub snapshots_in : List Object → List Snapshot
-snapshots_in [] = []
-snapshots_in (o ∷ older) = snapshot_in older o.kind o.body ++ snapshots_in older
 
 abbrev pub repo_of : Held → Repo
 repo_of h = record { blobs = blobs_in h.objects; commits = snapshots_in h.objects; refs = h.refs }

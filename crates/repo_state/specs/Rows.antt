@@ -14,7 +14,7 @@ use Rattle.object_store.specs.Objects.{Object, find_named, has, has_name, body_o
 use Rattle.object_store.specs.Unfolding.{flat}
 use Rattle.repo_state.specs.Fields.{BrokenAt}
 use Rattle.repo_state.specs.Items.{Held, nothing, read_item, read_items, item_text}
-use Rattle.repo_state.specs.TreeObjects.{tree_objects}
+use Rattle.object_store.specs.TreeObjects.{tree_objects}
 use Rattle.repo_state.specs.Repos.{repo_of, is_kept}
 use Rattle.repo_state.specs.Changes.{Change, fresh, plan, is_empty, moved, passed}
 use Rattle.git_objects.specs.declared.quantity.Quantity.TheVariants.{Items}

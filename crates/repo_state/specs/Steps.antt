@@ -7,7 +7,8 @@ use Rattle.repo_state.specs.declared.cursor.Stop.{Stop}
 use Rattle.repo_state.specs.declared.cursor.Stop.TheVariants.{Broken, Collision as StopCollision, OutOfMemory as StopMemory}
 use Rattle.repo_state.specs.declared.state.LoadError.{LoadError}
 use Rattle.repo_state.specs.declared.state.LoadError.TheVariants.{StoreFault, Damaged, Collision, OutOfMemory}
-use Rattle.repo_state.specs.Items.{Held, Refs, Break, ended_with, held_with, item_fits, numbered, objects_field, read_item, refs_field}
+use Rattle.repo_state.specs.Items.{Held, Break, ended_with, held_with, item_fits, numbered, objects_field, read_item, refs_field}
+use Rattle.git_objects.specs.Refs.{Refs}
 
 -- the refs of an item, and its end
 abbrev pub refs_part : List Object → Refs → Spot → Result Held Fault

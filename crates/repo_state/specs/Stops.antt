@@ -5,7 +5,8 @@ use Rattle.std.specs.FinMap.{put as put_entry}
 use Rattle.git_objects.specs.Paths.{Bytes}
 use Rattle.git_objects.specs.declared.kind.Kind.TheVariants.{Commit}
 use Rattle.object_store.specs.Objects.{Object, has}
-use Rattle.repo_state.specs.Items.{Refs, bytes_cmp, head_field, ref_field}
+use Rattle.repo_state.specs.Items.{head_field, ref_field}
+use Rattle.git_objects.specs.Refs.{Refs, bytes_cmp}
 use Rattle.repo_state.specs.Fields.{Spot, Fault, BrokenAt, Clash, Read, ◌>>=◌}
 use Rattle.repo_state.specs.declared.cursor.Stop.{Stop}
 use Rattle.repo_state.specs.declared.cursor.Stop.TheVariants.{Broken, Collision, OutOfMemory}

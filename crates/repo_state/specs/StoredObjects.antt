@@ -8,9 +8,9 @@ use Rattle.git_objects.specs.declared.entry.Entry.{Entry}
 use Rattle.git_objects.specs.declared.kind.Kind.TheVariants.{Blob, Tree}
 use Rattle.git_objects.specs.declared.mode.Mode.{Mode}
 use Rattle.git_objects.specs.declared.mode.Mode.TheVariants.{File, Exec, Link, Module, Dir}
-use Rattle.object_store.specs.Objects.{Object, is_named, has, has_child, body_of}
+use Rattle.object_store.specs.Objects.{Object, is_named, has, has_child, body_of, HasChildren}
 use Rattle.git_objects.specs.Commits.{Commit}
-use Rattle.repo_state.specs.Changes.{commit_named}
+use Rattle.object_store.specs.StoredSnapshots.{commit_named}
 use Rattle.repo_state.specs.declared.walk.Child.{Child}
 use Rattle.repo_state.specs.declared.walk.Child.TheVariants.{BlobChild, TreeChild}
 use Rattle.repo_state.specs.declared.walk.Frame.{Frame}
@@ -81,10 +81,6 @@ work_of_frames S ds = length (frames_steps counted (tt ∷ []) S ds)
 
 -- ---- what is in the store
 
-abbrev pub HasChildren : List Object → List Entry → Type 0
-HasChildren S [] = ⊤
-HasChildren S (e ∷ es) = (has_child S e.mode e.name.0 ≡ true) × HasChildren S es
-
 abbrev pub HasNext : List Object → Option Child → Type 0
 HasNext S None = ⊤
 HasNext S (Some (BlobChild n)) = has Blob S n.0 ≡ true
@@ -97,10 +93,3 @@ pub record IsOpen (S : List Object) (d : Frame) : Type 0 where
 abbrev pub AreOpen : List Object → List Frame → Type 0
 AreOpen S [] = ⊤
 AreOpen S (d ∷ ds) = IsOpen S d × AreOpen S ds
-
--- a commit's tree, which is stored
-pub record IsTreeOf (S : List Object) (n t : Bytes) : Type 0 where
-  pub commit : Commit
-  pub named : commit_named S n ≡ Some commit
-  pub tree : t ≡ commit.tree
-  pub held : has Tree S t ≡ true

@@ -5,8 +5,9 @@ use Rattle.std.specs.Option.{option_map_or}
 use Rattle.git_objects.specs.Paths.{Bytes, is_nil, same_bytes}
 use Rattle.git_objects.specs.declared.kind.Kind.TheVariants.{Commit}
 use Rattle.object_store.specs.Objects.{Object, has}
-use Rattle.repo_state.specs.Changes.{are_distinct, commit_named}
-use Rattle.repo_state.specs.Items.{Refs}
+use Rattle.repo_state.specs.Changes.{are_distinct}
+use Rattle.object_store.specs.StoredSnapshots.{commit_named}
+use Rattle.git_objects.specs.Refs.{Refs}
 
 -- whether a commit without parents is stored
 abbrev pub has_root : List Object → Bytes → Bool

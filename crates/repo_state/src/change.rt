@@ -2,31 +2,15 @@
 ghost use Rattle.std.specs.Prelude.{◌≡◌, true, [], map, OnOk};
 ghost use Rattle.std.specs.List.{flat_map, list_all};
 ghost use Rattle.git_objects.specs.Parts.{name_bytes};
-ghost use Rattle.object_store.specs.Errors.{newest};
 ghost use Rattle.object_store.specs.Objects.{has};
 ghost use Rattle.repo_state.specs.Changes.{blob_object, commit_objects};
 ghost use Rattle.repo_state.specs.Growing.{Extends, IsReady, IsStep};
-ghost use Rattle.repo_state.specs.StoredObjects.{IsTreeOf};
 
 use crate::walk::{hold, hold_tree};
-use git_objects::{CommitView, Kind, Name};
+use git_objects::{Kind, Name};
 use indexmap::IndexSet;
-use object_store::Store;
+use object_store::{Store, tree_of};
 use std::alloc::{AllocError, Global};
-
-// The tree of a stored commit.
-fn tree_of(store: &Store, name: &Name) -> Name
-    requires { has Kind.Commit (newest store.now) name.now.0 ≡ true }
-    ensures { IsTreeOf (newest store.now) name.now.0 result.0 }
-{
-    match store.get(name) {
-        None => unreachable!(),
-        Some(object) => match CommitView::of(object.body) {
-            None => unreachable!(),
-            Some(commit) => commit.tree(),
-        },
-    }
-}
 
 // Holds a commit and the objects of its tree.
 fn hold_commit(
@@ -35,9 +19,10 @@ fn hold_commit(
     held: &mut IndexSet<Name>,
     name: Name,
 ) -> Result<(), AllocError>
-    requires { has Kind.Commit (newest store.now) name.0 ≡ true }
-    ensures step { OnOk result (let S = newest store.now in
-        IsReady S held.old.keys (commit_objects S name.0) → IsStep S held.old.keys held.new.keys (commit_objects S name.0) []) }
+    requires { has Kind.Commit store.now name.0 ≡ true }
+    ensures step { OnOk result (let S = store.now in
+        IsReady S held.old.keys (commit_objects S name.0) →
+        IsStep S held.old.keys held.new.keys (commit_objects S name.0) []) }
     ensures extends { Extends held.old.keys held.new.keys }
 {
     let tree = tree_of(store, &name);
@@ -52,8 +37,8 @@ pub(crate) fn hold_commits(
     held: &mut IndexSet<Name>,
     names: &[Name],
 ) -> Result<(), AllocError>
-    requires { list_all (has Kind.Commit (newest store.now)) (map name_bytes names.now) ≡ true }
-    ensures step { OnOk result (let S = newest store.now in let os = flat_map (commit_objects S) (map name_bytes names.now) in
+    requires { list_all (has Kind.Commit store.now) (map name_bytes names.now) ≡ true }
+    ensures step { OnOk result (let S = store.now in let os = flat_map (commit_objects S) (map name_bytes names.now) in
         IsReady S held.old.keys os → IsStep S held.old.keys held.new.keys os []) }
     ensures extends { Extends held.old.keys held.new.keys }
 {
@@ -69,8 +54,8 @@ pub(crate) fn hold_blobs(
     held: &mut IndexSet<Name>,
     names: &[Name],
 ) -> Result<(), AllocError>
-    requires { list_all (has Kind.Blob (newest store.now)) (map name_bytes names.now) ≡ true }
-    ensures step { OnOk result (let S = newest store.now in let os = map (blob_object S) (map name_bytes names.now) in
+    requires { list_all (has Kind.Blob store.now) (map name_bytes names.now) ≡ true }
+    ensures step { OnOk result (let S = store.now in let os = map (blob_object S) (map name_bytes names.now) in
         IsReady S held.old.keys os → IsStep S held.old.keys held.new.keys os []) }
     ensures extends { Extends held.old.keys held.new.keys }
 {

@@ -1,6 +1,5 @@
 // Committing a change.
 ghost use Rattle.std.specs.Prelude.{◌≡◌, ◌≢◌, ◌↔◌, true, IfSome, IsErrOf, MatchResult, OnOk};
-ghost use Rattle.object_store.specs.Errors.{newest};
 ghost use Rattle.proj_io.specs.Counts.{Counts};
 ghost use Rattle.proj_io.specs.Views.{keeper_view};
 ghost use Rattle.repo_state.specs.Changes.{IsChange, IsCurrent, IsWithin, held_after, plan_in};
@@ -12,7 +11,6 @@ use crate::draft::{Meter, prepare};
 use git_objects::{Name, Quantity};
 use path_names::RefName;
 use proj_io::{KeepError, Keeper};
-use std::alloc::Global;
 
 /// A ref, and the commit that it is to name.
 #[derive(Drop)]
@@ -52,32 +50,32 @@ fn keep_error(error: KeepError) -> CommitError
 }
 
 impl State {
-    /// Appends one item with all that the batch brings and no item holds: its blobs, then commit by commit the trees, each
-    /// after what it names and these in the order of its body, and the commit; and the refs whose commit changes, in byte
-    /// order. A batch that changes nothing appends nothing.
+    /// Appends one item with all that the batch brings and no item holds: its blobs, then commit by commit the trees,
+    /// each after what it names and these in the order of its body, and the commit; and the refs whose commit
+    /// changes, in byte order. A batch that changes nothing appends nothing.
     ///
     /// All memory is taken before the item is appended.
-    pub fn commit<K: Keeper>(
-        &mut self,
-        alloc: Global,
-        keeper: &mut K,
-        batch: Batch,
-    ) -> Result<(), CommitError>
+    pub fn commit<K: Keeper>(&mut self, keeper: &mut K, batch: Batch) -> Result<(), CommitError>
         requires open { K.is_open keeper.old }
         requires number { self.old.number ≡ K.number keeper.old }
-        requires change { IsChange (newest self.old.objects) self.old.held.objects (change_of batch) }
+        requires change { IsChange self.old.objects self.old.held.objects (change_of batch) }
         ensures state { let plan = plan_in self.old (change_of batch) in MatchResult result
             (λ _. IsCommitted self.old plan self.new)
             (λ e. IsRefused self.old plan self.new e) }
-        ensures items { let seen = keeper_view K.items K.number K.faults in Appends (plan_in self.old (change_of batch)) (seen keeper.old) (seen keeper.new) result }
+        ensures items { let seen = keeper_view K.items K.number K.faults in Appends (plan_in self.old
+            (change_of batch)) (seen keeper.old) (seen keeper.new) result }
         ensures current { IfSome (K.items keeper.old) (λ items. IsCurrent items self.old)
-            → IfSome (K.items keeper.old) (λ _. IsWithin (newest self.old.objects) self.old.held.objects (change_of batch))
-            → OnOk result (IfSome (K.items keeper.old) (λ _. IfSome (K.items keeper.new) (λ items. IsCurrent items self.new))) }
+            → IfSome (K.items keeper.old) (λ _. IsWithin self.old.objects self.old.held.objects (change_of batch))
+            → OnOk result (IfSome (K.items keeper.old) (λ _. IfSome (K.items keeper.new)
+            (λ items. IsCurrent items self.new))) }
         ensures spelled { IfSome (K.items keeper.old) (λ items. IsCurrent items self.old)
-            → IfSome (K.items keeper.old) (λ _. IsWithin (newest self.old.objects) self.old.held.objects (change_of batch))
-            → IfSome (K.items keeper.old) (λ items. IfSome (K.items keeper.new) (λ after. IsSpelled items self.old.held (plan_in self.old (change_of batch)) after)) }
-        ensures kept { is_kept self.old.held ≡ true → is_kept (held_after self.old.held (plan_in self.old (change_of batch))) ≡ true }
-        ensures is_open { MatchResult result (λ _. K.is_open keeper.new) (λ e. e ≢ CommitError.StoreFault → K.is_open keeper.new) }
+            → IfSome (K.items keeper.old) (λ _. IsWithin self.old.objects self.old.held.objects (change_of batch))
+            → IfSome (K.items keeper.old) (λ items. IfSome (K.items keeper.new)
+            (λ after. IsSpelled items self.old.held (plan_in self.old (change_of batch)) after)) }
+        ensures kept { is_kept self.old.held ≡ true → is_kept (held_after self.old.held (plan_in self.old
+            (change_of batch))) ≡ true }
+        ensures is_open { MatchResult result (λ _. K.is_open keeper.new) (λ e. e ≢ CommitError.StoreFault →
+            K.is_open keeper.new) }
         ensures told { K.tells keeper.new ↔ K.tells keeper.old }
         ensures cause { Counts (K.faults keeper.old) (K.faults keeper.new) (IsErrOf result CommitError.StoreFault) }
     {
@@ -88,7 +86,7 @@ impl State {
             size: self.size,
         };
         match prepare(
-            alloc,
+            self.alloc,
             &self.store,
             &mut self.held,
             &self.refs,

@@ -2,7 +2,6 @@
 ghost use Rattle.std.specs.Prelude.{◌≡◌, ◌<◌, ◌≤◌, ◌+◌, ◌^◌, ◌↔◌, ⊤, false, true, length, map, List, ℕ, Option, None, ◌∷◌, [], OnOk};
 ghost use Rattle.std.specs.List.{list_all};
 ghost use Rattle.git_objects.specs.Parts.{name_bytes};
-ghost use Rattle.object_store.specs.Errors.{newest};
 ghost use Rattle.object_store.specs.Objects.{Object, has};
 ghost use Rattle.proj_io.specs.Counts.{Counts};
 ghost use Rattle.proj_io.specs.Items.{Gets, Stays, item_of};
@@ -71,7 +70,7 @@ impl Keeper for Quiet {
 
 // Whether an object of that kind is stored.
 fn has(store: &Store, kind: Kind, name: &Name) -> bool
-    ensures { result ≡ has kind (newest store.now) name.now.0 }
+    ensures { result ≡ has kind store.now name.now.0 }
 {
     match store.get(name) {
         None => false,
@@ -81,7 +80,7 @@ fn has(store: &Store, kind: Kind, name: &Name) -> bool
 
 // Whether a commit without parents is stored.
 fn has_root(store: &Store, name: &Name) -> bool
-    ensures { result ≡ true → has_root (newest store.now) name.now.0 ≡ true }
+    ensures { result ≡ true → has_root store.now name.now.0 ≡ true }
 {
     match store.get(name) {
         None => false,

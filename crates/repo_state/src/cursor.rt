@@ -35,7 +35,7 @@ impl<'a> Model for Cursor<'a> {
 }
 
 impl<'a> Cursor<'a> {
-    /// At the first byte.
+    /// A cursor at the first byte of an item.
     pub(crate) fn new(bytes: &'a [u8]) -> Cursor<'a>
         requires { length bytes.now ≤ 2 ^ 29 }
         ensures { result ≡ start bytes.now }
@@ -50,7 +50,7 @@ impl<'a> Cursor<'a> {
         self.at
     }
 
-    /// So many bytes.
+    /// A field of so many bytes.
     pub(crate) fn field(&mut self, n: usize) -> Result<&'a [u8], Stop>
         ensures { MatchResult result
             (λ bytes. field n self.old ≡ Ok (bytes.now, self.new))
@@ -115,7 +115,7 @@ impl<'a> Cursor<'a> {
         }
     }
 
-    /// Nothing follows.
+    /// The end of the item: broken where a byte follows.
     pub(crate) fn ended(&self) -> Result<(), Stop>
         ensures { MatchResult result
             (λ _. ended self.now ≡ Ok tt)

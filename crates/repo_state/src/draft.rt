@@ -1,20 +1,24 @@
 // What a change appends, worked out before.
-ghost use Rattle.std.specs.Prelude.{◌≡◌, ◌<◌, ◌≤◌, ◌^◌, ◌+◌, ◌∷◌, ◌++◌, ◌&&◌, [], None, true, cond, drop, nat_le, map, filter, length, is_some, IfOk, OnOk, MatchResult};
+ghost use Rattle.std.specs.Prelude.{◌≡◌, ◌<◌, ◌≤◌, ◌^◌, ◌+◌, ◌∷◌, ◌++◌, ◌&&◌, [], None, true, cond, drop, nat_le};
+ghost use Rattle.std.specs.Prelude.{map, filter, length, is_some, IfOk, OnOk, MatchResult};
 ghost use Rattle.std.specs.Int.{to_be_bytes, w32};
 ghost use Rattle.std.specs.List.{flat_map, list_all};
+ghost use Rattle.git_objects.specs.declared.limits.TheConstants.{ITEMS, STORE_BYTES};
 ghost use Rattle.git_objects.specs.Paths.{is_nil};
 ghost use Rattle.git_objects.specs.Parts.{name_bytes};
-ghost use Rattle.object_store.specs.Errors.{newest};
 ghost use Rattle.object_store.specs.Objects.{IsStore};
 ghost use Rattle.repo_state.specs.Changes.{IsChange, objects_of, or_else, plan, with_refs};
 ghost use Rattle.repo_state.specs.Commits.{change_of};
-ghost use Rattle.repo_state.specs.Drafts.{DraftOrNot, IsNoDraft, NewsOrNot, WeighedOrNot, first_passed, found, is_short, ref_value, sized};
+ghost use Rattle.repo_state.specs.Drafts.{DraftOrNot, IsNoDraft, NewsOrNot, WeighedOrNot, first_passed, found};
+ghost use Rattle.repo_state.specs.Drafts.{is_short, ref_value, sized};
 ghost use Rattle.repo_state.specs.Growing.{Extends, Holds, IsReady, IsStep, held_of};
-ghost use Rattle.repo_state.specs.Items.{held_with, is_commit, item_text, kind_byte, object_text, ref_text};
+ghost use Rattle.repo_state.specs.Items.{held_with, item_text, kind_byte, object_text, ref_text};
+ghost use Rattle.object_store.specs.Fits.{is_commit};
 
 use crate::change::{hold_blobs, hold_commits};
 use crate::ref_table::{MovedRef, RefTable};
 use crate::{Batch, CommitError};
+use git_objects::limits::{COMMITS, ITEM_BYTES, ITEMS, OBJECTS, STORE_BYTES};
 use git_objects::{Kind, Name, Quantity};
 use indexmap::IndexSet;
 use object_store::Store;
@@ -36,17 +40,7 @@ pub(crate) struct Draft {
     pub(crate) commits: u32,
 }
 
-const ITEM_BYTES: usize = 536_870_912;
-
-const COMMITS: usize = 1_048_576;
-
-const OBJECTS: usize = 4_194_304;
-
-const ITEMS: u32 = 1_048_576;
-
-const ALL_BYTES: u64 = 2_147_483_648;
-
-// A length with so much more, where that is within the limit of an item.
+// `size + more`, or None above the limit of an item.
 fn add_size(size: usize, more: usize) -> Option<usize>
     requires { size ≤ 2 ^ 29 }
     ensures { result ≡ sized (size + more) }
@@ -58,10 +52,10 @@ fn add_size(size: usize, more: usize) -> Option<usize>
     }
 }
 
-// A length with an object's.
+// `size` and the bytes that an item takes for an object, or None above the limit of an item.
 fn add_object(store: &Store, name: &Name, size: usize) -> Option<usize>
     requires { size ≤ 2 ^ 29 }
-    ensures { result ≡ sized (size + length (flat_map object_text (found (newest store.now) (name.now ∷ [])))) }
+    ensures { result ≡ sized (size + length (flat_map object_text (found store.now (name.now ∷ [])))) }
 {
     match store.get(name) {
         None => Some(size),
@@ -72,10 +66,10 @@ fn add_object(store: &Store, name: &Name, size: usize) -> Option<usize>
     }
 }
 
-// A length with these objects'.
+// `size` and the bytes that an item takes for these objects, or None above the limit of an item.
 fn add_objects(store: &Store, names: &[Name], size: usize) -> Option<usize>
     requires { size ≤ 2 ^ 29 }
-    ensures { result ≡ sized (size + length (flat_map object_text (found (newest store.now) names.now))) }
+    ensures { result ≡ sized (size + length (flat_map object_text (found store.now names.now))) }
 {
     let mut size = size;
     for name in names {
@@ -87,7 +81,7 @@ fn add_objects(store: &Store, names: &[Name], size: usize) -> Option<usize>
     Some(size)
 }
 
-// A length with a ref's.
+// `size` and the bytes that an item takes for a ref, or None above the limit of an item.
 fn add_ref(moved: &MovedRef, size: usize) -> Option<usize>
     requires { size ≤ 2 ^ 29 }
     ensures { result ≡ sized (size + length (ref_text (ref_value moved.now))) }
@@ -98,7 +92,7 @@ fn add_ref(moved: &MovedRef, size: usize) -> Option<usize>
     }
 }
 
-// A length with these refs'.
+// `size` and the bytes that an item takes for these refs, or None above the limit of an item.
 fn add_refs(refs: &[MovedRef], size: usize) -> Option<usize>
     requires { size ≤ 2 ^ 29 }
     ensures { result ≡ sized (size + length (flat_map ref_text (map ref_value refs.now))) }
@@ -113,10 +107,10 @@ fn add_refs(refs: &[MovedRef], size: usize) -> Option<usize>
     Some(size)
 }
 
-// The length of the item of these objects and refs, where it is within the limit.
+// The length of the item of these objects and refs, or None above the limit of an item.
 #[tactic(auto, unfolding(crate::specs::Items::item_text))]
 fn item_size(store: &Store, names: &[Name], refs: &[MovedRef]) -> Option<usize>
-    ensures { result ≡ sized (length (item_text (found (newest store.now) names.now) (map ref_value refs.now))) }
+    ensures { result ≡ sized (length (item_text (found store.now names.now) (map ref_value refs.now))) }
 {
     match add_objects(store, names, 10) {
         None => None,
@@ -125,7 +119,7 @@ fn item_size(store: &Store, names: &[Name], refs: &[MovedRef]) -> Option<usize>
 }
 
 fn is_commit(store: &Store, name: &Name) -> bool
-    ensures { cond result 1 0 ≡ length (filter is_commit (found (newest store.now) (name.now ∷ []))) }
+    ensures { cond result 1 0 ≡ length (filter is_commit (found store.now (name.now ∷ []))) }
 {
     match store.get(name) {
         None => false,
@@ -135,7 +129,7 @@ fn is_commit(store: &Store, name: &Name) -> bool
 
 /// How many of these objects are commits.
 pub(crate) fn count_commits(store: &Store, names: &[Name]) -> usize
-    ensures number { result ≡ length (filter is_commit (found (newest store.now) names.now)) }
+    ensures number { result ≡ length (filter is_commit (found store.now names.now)) }
     ensures bound { result < 2 ^ 63 }
 {
     let mut count = 0;
@@ -147,7 +141,7 @@ pub(crate) fn count_commits(store: &Store, names: &[Name]) -> usize
     count
 }
 
-// The first limit that is passed.
+// The first limit of a state that a change passes, by the numbers after it.
 fn first_passed(
     commits: usize,
     objects: usize,
@@ -157,10 +151,10 @@ fn first_passed(
 ) -> Option<Quantity>
     ensures { result ≡ first_passed commits objects item number size }
 {
-    if commits > COMMITS {
+    if commits > COMMITS as usize {
         return Some(Quantity::Commits);
     }
-    if objects > OBJECTS {
+    if objects > OBJECTS as usize {
         return Some(Quantity::Objects);
     }
     match item {
@@ -169,17 +163,18 @@ fn first_passed(
     }
 }
 
-// The first limit of the items together that is passed.
+// The first limit on all items together that one item more passes.
 fn passed_by_items(length: usize, number: u32, size: u64) -> Option<Quantity>
-    ensures { result ≡ or_else (nat_le (number + 1) (2 ^ 20)) Quantity.Items (or_else (nat_le (size + length) (2 ^ 31)) Quantity.Store None) }
+    ensures { result ≡ or_else (nat_le (number + 1) ITEMS) Quantity.Items (or_else (nat_le
+        (size + length) STORE_BYTES) Quantity.Store None) }
 {
     if number >= ITEMS {
         return Some(Quantity::Items);
     }
-    if size > ALL_BYTES {
+    if size > STORE_BYTES {
         return Some(Quantity::Store);
     }
-    if length as u64 > ALL_BYTES - size {
+    if length as u64 > STORE_BYTES - size {
         return Some(Quantity::Store);
     }
     None
@@ -197,8 +192,8 @@ fn kind_byte(kind: Kind) -> u8
 
 // Writes an object: its kind, its length and its body.
 fn write_object(text: &mut Vec<u8>, store: &Store, name: &Name) -> Result<(), AllocError>
-    requires { length (flat_map object_text (found (newest store.now) (name.now ∷ []))) ≤ 2 ^ 29 }
-    ensures { OnOk result (text.new.items ≡ text.old.items ++ flat_map object_text (found (newest store.now) (name.now ∷ []))) }
+    requires { length (flat_map object_text (found store.now (name.now ∷ []))) ≤ 2 ^ 29 }
+    ensures { OnOk result (text.new.items ≡ text.old.items ++ flat_map object_text (found store.now (name.now ∷ []))) }
 {
     match store.get(name) {
         None => Ok(()),
@@ -213,8 +208,8 @@ fn write_object(text: &mut Vec<u8>, store: &Store, name: &Name) -> Result<(), Al
 
 // Writes these objects.
 fn write_objects(text: &mut Vec<u8>, store: &Store, names: &[Name]) -> Result<(), AllocError>
-    requires { length (flat_map object_text (found (newest store.now) names.now)) ≤ 2 ^ 29 }
-    ensures { OnOk result (text.new.items ≡ text.old.items ++ flat_map object_text (found (newest store.now) names.now)) }
+    requires { length (flat_map object_text (found store.now names.now)) ≤ 2 ^ 29 }
+    ensures { OnOk result (text.new.items ≡ text.old.items ++ flat_map object_text (found store.now names.now)) }
 {
     for name in names {
         write_object(text, store, name)?;
@@ -261,10 +256,10 @@ fn write_item(
     refs: &[MovedRef],
     size: usize,
 ) -> Result<Vec<u8>, AllocError>
-    requires found { length (found (newest store.now) names.now) ≡ length names.now }
+    requires found { length (found store.now names.now) ≡ length names.now }
     requires short { list_all is_short (map ref_value refs.now) ≡ true }
-    requires size { length (item_text (found (newest store.now) names.now) (map ref_value refs.now)) ≤ 2 ^ 29 }
-    ensures { IfOk result (λ item. item.items ≡ item_text (found (newest store.now) names.now) (map ref_value refs.now)) }
+    requires size { length (item_text (found store.now names.now) (map ref_value refs.now)) ≤ 2 ^ 29 }
+    ensures { IfOk result (λ item. item.items ≡ item_text (found store.now names.now) (map ref_value refs.now)) }
 {
     let mut text = Vec::new(alloc);
     text.reserve(size)?;
@@ -286,10 +281,10 @@ fn build(
     size: usize,
     commits: u32,
 ) -> Result<Draft, AllocError>
-    requires found { length (found (newest store.now) names.now) ≡ length names.now }
+    requires found { length (found store.now names.now) ≡ length names.now }
     requires short { list_all is_short (map ref_value moved.now) ≡ true }
-    requires size { length (item_text (found (newest store.now) names.now) (map ref_value moved.now)) ≤ 2 ^ 29 }
-    ensures item { IfOk result (λ d. d.item.items ≡ item_text (found (newest store.now) names.now) (map ref_value moved.now)) }
+    requires size { length (item_text (found store.now names.now) (map ref_value moved.now)) ≤ 2 ^ 29 }
+    ensures item { IfOk result (λ d. d.item.items ≡ item_text (found store.now names.now) (map ref_value moved.now)) }
     ensures refs { IfOk result (λ d. d.refs ≡ with_refs refs.now (map ref_value moved.now)) }
     ensures commits { IfOk result (λ d. d.commits ≡ commits) }
 {
@@ -303,7 +298,8 @@ fn build(
     })
 }
 
-// What the objects of these names and these refs make, where no limit is passed. So many objects are held with them.
+// The item of these objects and refs, and what the state is after it, or the first limit that it passes. `objects` is
+// the number of objects that are held with these.
 fn weigh(
     alloc: Global,
     store: &Store,
@@ -313,9 +309,9 @@ fn weigh(
     objects: usize,
     meter: Meter,
 ) -> Result<Draft, CommitError>
-    requires found { length (found (newest store.now) names.now) ≡ length names.now }
+    requires found { length (found store.now names.now) ≡ length names.now }
     requires short { list_all is_short (map ref_value moved.now) ≡ true }
-    ensures { WeighedOrNot (found (newest store.now) names.now) (map ref_value moved.now) refs.now objects meter result }
+    ensures { WeighedOrNot (found store.now names.now) (map ref_value moved.now) refs.now objects meter result }
 {
     let commits = meter.commits as usize + count_commits(store, names);
     let size = item_size(store, names, moved);
@@ -338,17 +334,18 @@ pub(crate) fn hold_change(
     held: &mut IndexSet<Name>,
     batch: &Batch,
 ) -> Result<(), AllocError>
-    requires whole { IsStore (newest store.now) }
-    requires holds { Holds (newest store.now) held.old.keys }
-    requires change { IsChange (newest store.now) (held_of (newest store.now) held.old.keys) (change_of batch.now) }
-    ensures step { OnOk result (let os = objects_of (newest store.now) (change_of batch.now) in IsStep (newest store.now) held.old.keys held.new.keys os []) }
+    requires whole { IsStore store.now }
+    requires holds { Holds store.now held.old.keys }
+    requires change { IsChange store.now (held_of store.now held.old.keys) (change_of batch.now) }
+    ensures step { OnOk result (let os = objects_of store.now (change_of batch.now) in
+        IsStep store.now held.old.keys held.new.keys os []) }
     ensures extends { Extends held.old.keys held.new.keys }
 {
     hold_blobs(store, held, &batch.blobs)?;
     hold_commits(alloc, store, held, &batch.commits)
 }
 
-// The names from a place on.
+// The names of the held objects from a place on.
 fn names_from(held: &IndexSet<Name>, before: usize) -> &[Name]
     requires { before ≤ length held.now.keys }
     ensures { result.now ≡ drop before held.now.keys }
@@ -362,7 +359,7 @@ fn is_nothing(names: &[Name], moved: &[MovedRef]) -> bool
     names.is_empty() && moved.is_empty()
 }
 
-// What the names from a place on and these refs make. None: there are none of both.
+// The item of the objects held from a place on and of these refs. None: there are no such objects and no refs.
 fn weigh_news(
     alloc: Global,
     store: &Store,
@@ -373,11 +370,12 @@ fn weigh_news(
     meter: Meter,
 ) -> Result<Option<Draft>, CommitError>
     requires before { before ≤ length held.now.keys }
-    requires found { length (found (newest store.now) (drop before held.now.keys)) ≡ length (drop before held.now.keys) }
+    requires found { length (found store.now (drop before held.now.keys)) ≡ length (drop before held.now.keys) }
     requires short { list_all is_short (map ref_value moved.now) ≡ true }
     requires few { meter.commits ≤ 2 ^ 20 }
     ensures { let names = drop before held.now.keys in let nothing = is_nil names && is_nil (map ref_value moved.now) in
-        NewsOrNot nothing (found (newest store.now) names) (map ref_value moved.now) refs.now (length held.now.keys) meter result }
+        NewsOrNot nothing (found store.now names) (map ref_value moved.now) refs.now
+        (length held.now.keys) meter result }
 {
     let names = names_from(held, before);
     if is_nothing(names, moved) {
@@ -389,8 +387,8 @@ fn weigh_news(
     }
 }
 
-/// Holds a change's objects, and works out its item and what the state is after it. None: nothing is new. After an error
-/// names of the change may be held too.
+/// Holds a change's objects, and works out its item and what the state is after it. None: nothing is new. After an
+/// error names of the change may be held too.
 pub(crate) fn prepare(
     alloc: Global,
     store: &Store,
@@ -399,12 +397,13 @@ pub(crate) fn prepare(
     meter: Meter,
     batch: &Batch,
 ) -> Result<Option<Draft>, CommitError>
-    requires whole { IsStore (newest store.now) }
-    requires holds { Holds (newest store.now) held.old.keys }
-    requires counted { meter.commits ≡ length (filter is_commit (held_of (newest store.now) held.old.keys)) }
+    requires whole { IsStore store.now }
+    requires holds { Holds store.now held.old.keys }
+    requires counted { meter.commits ≡ length (filter is_commit (held_of store.now held.old.keys)) }
     requires few { meter.commits ≤ 2 ^ 20 }
-    requires change { IsChange (newest store.now) (held_of (newest store.now) held.old.keys) (change_of batch.now) }
-    ensures prepared { let S = newest store.now in let h = held_with (held_of S held.old.keys) refs.now in let p = plan S h (change_of batch.now) in MatchResult result
+    requires change { IsChange store.now (held_of store.now held.old.keys) (change_of batch.now) }
+    ensures prepared { let S = store.now in let h = held_with (held_of S held.old.keys) refs.now in
+        let p = plan S h (change_of batch.now) in MatchResult result
         (λ d. DraftOrNot S held.old.keys held.new.keys h meter.number meter.size p d)
         (λ e. IsNoDraft h meter.number meter.size p e) }
     ensures extends { Extends held.old.keys held.new.keys }

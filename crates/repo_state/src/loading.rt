@@ -1,5 +1,7 @@
 // Reading a keeper's items, one after another.
-ghost use Rattle.std.specs.Prelude.{◌≡◌, ◌≤◌, ◌+◌, ◌^◌, ◌&&◌, ◌↔◌, Ok, Err, true, nat_lt, nat_le, length, IfOk, IfSome, OnOk, MatchResult, sum_by};
+ghost use Rattle.std.specs.Prelude.{◌≡◌, ◌≤◌, ◌+◌, ◌^◌, ◌&&◌, ◌↔◌, Ok, Err, true, nat_lt, nat_le, length, IfOk};
+ghost use Rattle.std.specs.Prelude.{IfSome, OnOk, MatchResult, sum_by};
+ghost use Rattle.git_objects.specs.declared.limits.TheConstants.{ITEM_BYTES, ITEMS, STORE_BYTES};
 ghost use Rattle.proj_io.specs.Counts.{Counts};
 ghost use Rattle.proj_io.specs.Items.{Stays, item_of};
 ghost use Rattle.repo_state.specs.Items.{held_with, item_fits, read_items};
@@ -12,14 +14,9 @@ use crate::cursor::Stop;
 use crate::item::read_item;
 use crate::objects::Objects;
 use crate::ref_table::RefTable;
+use git_objects::limits::{ITEM_BYTES, ITEMS, STORE_BYTES};
 use proj_io::Keeper;
 use std::alloc::Global;
-
-const ITEMS: u32 = 1_048_576;
-
-const ITEM_BYTES: u32 = 536_870_912;
-
-const ALL_BYTES: u64 = 2_147_483_648;
 
 /// What the items read so far hold, and their bytes together.
 #[derive(Drop)]
@@ -32,9 +29,9 @@ pub(crate) struct Loaded {
 // Whether an item of so many bytes may stand behind others of so many bytes.
 fn item_fits(number: u32, before: u64, size: u32) -> bool
     requires { before ≤ 2 ^ 31 }
-    ensures { result ≡ (nat_lt number (2 ^ 20) && nat_le size (2 ^ 29) && nat_le (before + size) (2 ^ 31)) }
+    ensures { result ≡ (nat_lt number ITEMS && nat_le size ITEM_BYTES && nat_le (before + size) STORE_BYTES) }
 {
-    number < ITEMS && size <= ITEM_BYTES && before + size as u64 <= ALL_BYTES
+    number < ITEMS && size as usize <= ITEM_BYTES && before + size as u64 <= STORE_BYTES
 }
 
 // The error of an item that isn't read to its end.
@@ -108,9 +105,11 @@ fn load_item<K: Keeper>(
     requires before { loaded.size ≤ 2 ^ 31 }
     requires heads { are_heads loaded.objects loaded.refs ≡ true }
     ensures item { IfSome (K.items keeper.old) (λ all. MatchResult result
-        (λ now. step number loaded.size (held_with loaded.objects loaded.refs) (item_of all number) ≡ Ok (held_with now.objects now.refs))
+        (λ now. step number loaded.size (held_with loaded.objects loaded.refs) (item_of all number) ≡ Ok
+        (held_with now.objects now.refs))
         (λ e. IsLoadFault e (step number loaded.size (held_with loaded.objects loaded.refs) (item_of all number)))) }
-    ensures size { IfOk result (λ now. IfSome (K.items keeper.old) (λ all. now.size ≡ loaded.size + length (item_of all number))) }
+    ensures size { IfOk result (λ now. IfSome (K.items keeper.old) (λ all. now.size ≡ loaded.size + length
+        (item_of all number))) }
     ensures sum { IfOk result (λ now. now.size ≤ 2 ^ 31) }
     ensures heads { IfOk result (λ now. are_heads now.objects now.refs ≡ true) }
     ensures same { K.number keeper.new ≡ K.number keeper.old }
@@ -139,7 +138,7 @@ fn load_item<K: Keeper>(
     }
 }
 
-/// Reads so many items, from the first on.
+/// Reads the first `count` items of a keeper.
 pub(crate) fn load_items<K: Keeper>(
     alloc: Global,
     keeper: &mut K,
@@ -149,7 +148,8 @@ pub(crate) fn load_items<K: Keeper>(
     ensures read { IfSome (K.items keeper.old) (λ all. count ≡ length all → MatchResult result
         (λ loaded. read_items all ≡ Ok (held_with loaded.objects loaded.refs))
         (λ e. IsLoadFault e (read_items all))) }
-    ensures size { IfOk result (λ loaded. IfSome (K.items keeper.old) (λ all. count ≡ length all → loaded.size ≡ sum_by length all)) }
+    ensures size { IfOk result (λ loaded. IfSome (K.items keeper.old) (λ all. count ≡ length all →
+        loaded.size ≡ sum_by length all)) }
     ensures heads { IfOk result (λ loaded. are_heads loaded.objects loaded.refs ≡ true) }
     ensures same { K.number keeper.new ≡ K.number keeper.old }
     ensures items { Stays (K.items keeper.old) (K.items keeper.new) }

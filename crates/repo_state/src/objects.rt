@@ -1,38 +1,30 @@
 // The objects of an item.
-ghost use Rattle.std.specs.Prelude.{◌≡◌, ◌<◌, ◌≤◌, ◌^◌, ◌&&◌, ◌++◌, ◌∷◌, [], ℕ, List, None, Ok, true, false, length, nat_le, IfErr, IfOk, OnOk, MatchResult};
+ghost use Rattle.std.specs.Prelude.{◌≡◌, ◌<◌, ◌≤◌, ◌^◌, ◌&&◌, ◌++◌, ◌∷◌, [], ℕ, List, None, Ok, true, false, length};
+ghost use Rattle.std.specs.Prelude.{nat_le, IfErr, IfOk, OnOk, MatchResult};
 ghost use Rattle.std.specs.Option.{option_map_or};
+ghost use Rattle.git_objects.specs.declared.limits.TheConstants.{COMMITS, MESSAGE_BYTES, OBJECTS, TREE_DEPTH};
+ghost use Rattle.git_objects.specs.declared.limits.TheConstants.{TREE_FILES, TREE_PATH_BYTES};
 ghost use Rattle.git_objects.specs.Names.{name};
 ghost use Rattle.git_objects.specs.CommitBodies.{commit_from};
-ghost use Rattle.object_store.specs.Errors.{newest};
 ghost use Rattle.object_store.specs.Objects.{Object, has, has_name, IsStore};
 ghost use Rattle.object_store.specs.Puts.{refusal};
 ghost use Rattle.object_store.specs.Unfolding.{flat};
-ghost use Rattle.repo_state.specs.Items.{body_fits, kind_field, kind_of, object_field, objects_field, refs_field, take_object, tree_fits};
+ghost use Rattle.repo_state.specs.Items.{kind_field, kind_of, object_field, objects_field, refs_field, take_object};
+ghost use Rattle.object_store.specs.Fits.{body_fits, tree_fits};
 ghost use Rattle.repo_state.specs.HeldObjects.{AreNamed, more_commits, put_stop};
 ghost use Rattle.repo_state.specs.Stops.{IsStop, are_heads};
 
 use crate::cursor::{Cursor, Stop};
 use crate::ref_fields::set_refs;
 use crate::ref_table::RefTable;
+use git_objects::limits::{
+    BLOB_BYTES, COMMITS, MESSAGE_BYTES, OBJECTS, TREE_DEPTH, TREE_FILES, TREE_PATH_BYTES,
+};
 use git_objects::{CommitView, Kind, Name};
 use indexmap::IndexSet;
 use object_store::{PutError, Store, TreeStats};
 use std::alloc::Global;
 use std::marker::Model;
-
-const BLOB_BYTES: usize = 16_777_216;
-
-const TREE_FILES: u32 = 1_048_576;
-
-const TREE_DEPTH: u32 = 1024;
-
-const PATH_BYTES: u32 = 16_384;
-
-const MESSAGE_BYTES: usize = 1_048_576;
-
-const OBJECTS: usize = 4_194_304;
-
-const COMMITS: u32 = 1_048_576;
 
 /// The objects that items have brought, with their names in order of arrival and the number of commits.
 #[derive(Drop)]
@@ -44,15 +36,14 @@ pub(crate) struct Objects {
 
 impl Model for Objects {
     ghost use Rattle.std.specs.Prelude.{List};
-    ghost use Rattle.object_store.specs.Errors.{newest};
     ghost use Rattle.object_store.specs.Objects.{Object};
     ghost use Rattle.repo_state.specs.HeldObjects.{HoldsObjects};
 
     ghost Value = { List Object };
 
-    ghost view = { λ o. newest o.store };
+    ghost view = { λ o. o.store };
 
-    ghost invariant = { λ o. HoldsObjects (newest o.store) o.names.keys o.commits };
+    ghost invariant = { λ o. HoldsObjects o.store o.names.keys o.commits };
 }
 
 fn kind_of(x: u8) -> Option<Kind>
@@ -98,15 +89,15 @@ fn add(
     body: &[u8],
     at: u64,
 ) -> Result<Name, Stop>
-    requires { AreNamed (newest store.old) names.old.keys }
-    ensures refusal { IfOk result (λ _. refusal (newest store.old) kind body.now ≡ None) }
-    ensures fresh { IfOk result (λ _. has_name (newest store.old) (name kind body.now) ≡ false) }
+    requires { AreNamed store.old names.old.keys }
+    ensures refusal { IfOk result (λ _. refusal store.old kind body.now ≡ None) }
+    ensures fresh { IfOk result (λ _. has_name store.old (name kind body.now) ≡ false) }
     ensures name { IfOk result (λ n. n.0 ≡ name kind body.now) }
-    ensures store { IfOk result (λ _. newest store.new ≡ record { kind = kind; body = body.now } ∷ newest store.old) }
-    ensures whole { IsStore (newest store.new) }
+    ensures store { IfOk result (λ _. store.new ≡ record { kind = kind; body = body.now } ∷ store.old) }
+    ensures whole { IsStore store.new }
     ensures names { IfOk result (λ n. names.new.keys ≡ names.old.keys ++ n ∷ []) }
     ensures err { IfErr result (λ stop.
-        IsStop stop (take_object (newest store.old) kind body.now at (refusal (newest store.old) kind body.now))) }
+        IsStop stop (take_object store.old kind body.now at (refusal store.old kind body.now))) }
 {
     match store.put_slice(kind, body) {
         Err(error) => Err(put_stop(error, at)),
@@ -119,14 +110,15 @@ fn add(
 }
 
 fn stats_fit(stats: TreeStats) -> bool
-    ensures { result ≡ (nat_le stats.files (2 ^ 20) && nat_le stats.depth 1024 && nat_le stats.longest 16384) }
+    ensures { result ≡ (nat_le stats.files TREE_FILES && nat_le stats.depth TREE_DEPTH
+        && nat_le stats.longest TREE_PATH_BYTES) }
 {
-    stats.files <= TREE_FILES && stats.depth <= TREE_DEPTH && stats.longest <= PATH_BYTES
+    stats.files <= TREE_FILES && stats.depth <= TREE_DEPTH && stats.longest <= TREE_PATH_BYTES
 }
 
 // Whether a stored tree is within the limits.
 fn tree_fits(store: &Store, name: &Name) -> bool
-    ensures { result ≡ (has Kind.Tree (newest store.now) name.now.0 && tree_fits (flat (newest store.now) name.now.0)) }
+    ensures { result ≡ (has Kind.Tree store.now name.now.0 && tree_fits (flat store.now name.now.0)) }
 {
     match store.stats(name) {
         None => false,
@@ -136,7 +128,8 @@ fn tree_fits(store: &Store, name: &Name) -> bool
 
 // Whether a commit's message is within the limit.
 fn message_fits(body: &[u8]) -> bool
-    ensures { result ≡ option_map_or (λ c. nat_le (length c.letter.message) (2 ^ 20)) (commit_from body.now) false }
+    ensures { result ≡ option_map_or (λ c. nat_le (length c.letter.message) MESSAGE_BYTES)
+        (commit_from body.now) false }
 {
     match CommitView::of(body) {
         None => false,
@@ -147,7 +140,8 @@ fn message_fits(body: &[u8]) -> bool
 // Whether the object that arrived last is within the limits.
 fn fits(store: &Store, kind: Kind, key: &Name, body: &[u8]) -> bool
     requires { key.now.0 ≡ name kind body.now }
-    ensures { (S : List Object) → newest store.now ≡ record { kind = kind; body = body.now } ∷ S → result ≡ body_fits S kind body.now }
+    ensures { (S : List Object) → store.now ≡ record { kind = kind; body = body.now } ∷ S →
+        result ≡ body_fits S kind body.now }
 {
     match kind {
         Kind::Blob => body.len() <= BLOB_BYTES,
@@ -167,9 +161,9 @@ fn more_commits(commits: u32, kind: Kind) -> u32
 }
 
 fn has_room(objects: usize, commits: u32) -> bool
-    ensures { result ≡ (nat_le objects (2 ^ 22) && nat_le commits (2 ^ 20)) }
+    ensures { result ≡ (nat_le objects OBJECTS && nat_le commits COMMITS) }
 {
-    objects <= OBJECTS && commits <= COMMITS
+    objects <= OBJECTS as usize && commits <= COMMITS
 }
 
 impl Objects {
@@ -183,12 +177,13 @@ impl Objects {
         }
     }
 
-    // Takes in one object more. Its body stands at this place.
+    // Takes in one object more, whose body stands at a place of the item.
     fn take(self, kind: Kind, body: &[u8], at: u64) -> Result<Objects, Stop>
         ensures object { MatchResult result
             (λ objects. take_object self kind body.now at (refusal self kind body.now) ≡ Ok objects)
             (λ stop. IsStop stop (take_object self kind body.now at (refusal self kind body.now))) }
-        ensures commits { IfOk result (λ objects. (n : List ℕ) → has Kind.Commit self n ≡ true → has Kind.Commit objects n ≡ true) }
+        ensures commits { IfOk result (λ objects. (n : List ℕ) → has Kind.Commit self n ≡ true →
+            has Kind.Commit objects n ≡ true) }
     {
         let Objects {
             mut store,
@@ -215,7 +210,8 @@ impl Objects {
         ensures object { MatchResult result
             (λ objects. object_field self cursor.old ≡ Ok (objects, cursor.new))
             (λ stop. IsStop stop (object_field self cursor.old)) }
-        ensures commits { IfOk result (λ objects. (n : List ℕ) → has Kind.Commit self n ≡ true → has Kind.Commit objects n ≡ true) }
+        ensures commits { IfOk result (λ objects. (n : List ℕ) → has Kind.Commit self n ≡ true →
+            has Kind.Commit objects n ≡ true) }
     {
         let kind = kind_field(cursor)?;
         let length = cursor.four_bytes()?;
@@ -224,12 +220,13 @@ impl Objects {
         self.take(kind, body, at)
     }
 
-    /// Reads so many objects.
+    /// Reads the objects of an item, so many as it says.
     pub(crate) fn read(self, cursor: &mut Cursor<'_>, count: u32) -> Result<Objects, Stop>
         ensures objects { MatchResult result
             (λ objects. objects_field count self cursor.old ≡ Ok (objects, cursor.new))
             (λ stop. IsStop stop (objects_field count self cursor.old)) }
-        ensures commits { IfOk result (λ objects. (n : List ℕ) → has Kind.Commit self n ≡ true → has Kind.Commit objects n ≡ true) }
+        ensures commits { IfOk result (λ objects. (n : List ℕ) → has Kind.Commit self n ≡ true →
+            has Kind.Commit objects n ≡ true) }
     {
         let mut objects = self;
         for i in 0..count {
@@ -241,7 +238,7 @@ impl Objects {
         Ok(objects)
     }
 
-    /// Sets so many refs, each to a commit of these objects.
+    /// Sets the refs of an item, each to a commit of the objects that are held.
     pub(crate) fn set_refs(
         &self,
         alloc: Global,

@@ -3,9 +3,9 @@ ghost use Rattle.std.specs.Prelude.{◌≡◌, ◌==◌, None, Some, Ok, true, c
 ghost use Rattle.std.specs.Option.{option_copied, option_map};
 ghost use Rattle.std.specs.Ordering.{is_lt};
 ghost use Rattle.git_objects.specs.Parts.{name_bytes};
-ghost use Rattle.object_store.specs.Errors.{newest};
 ghost use Rattle.object_store.specs.Objects.{has};
-ghost use Rattle.repo_state.specs.Items.{bytes_cmp, head_field, ref_field, refs_field, rises};
+ghost use Rattle.repo_state.specs.Items.{head_field, ref_field, refs_field, rises};
+ghost use Rattle.git_objects.specs.Refs.{bytes_cmp};
 ghost use Rattle.repo_state.specs.Stops.{IsStop, are_heads, one_ref};
 
 use crate::cursor::{Cursor, Stop};
@@ -31,7 +31,7 @@ fn rises(before: Option<&[u8]>, name: &[u8]) -> bool
     }
 }
 
-// A ref name, above the one before.
+// The field of a ref name, which has to stand above the one before in byte order.
 fn ref_field<'a>(cursor: &mut Cursor<'a>, before: Option<&[u8]>) -> Result<&'a [u8], Stop>
     ensures { MatchResult result
         (λ name. ref_field (option_copied before.entry) cursor.old ≡ Ok (name.now, cursor.new))
@@ -49,7 +49,7 @@ fn ref_field<'a>(cursor: &mut Cursor<'a>, before: Option<&[u8]>) -> Result<&'a [
 
 // Whether a commit of that name is held.
 fn has_commit(store: &Store, name: &Name) -> bool
-    ensures { result ≡ has Kind.Commit (newest store.now) name.now.0 }
+    ensures { result ≡ has Kind.Commit store.now name.now.0 }
 {
     match store.get(name) {
         None => false,
@@ -57,7 +57,7 @@ fn has_commit(store: &Store, name: &Name) -> bool
     }
 }
 
-// The name in 20 bytes.
+// The name of which a field has the 20 bytes.
 fn name_in(bytes: &[u8]) -> Option<Name>
     ensures { option_map name_bytes result ≡ cond (length bytes.now == 20) (Some bytes.now) None }
 {
@@ -70,12 +70,12 @@ fn name_in(bytes: &[u8]) -> Option<Name>
     }
 }
 
-// The name of a commit that is held.
+// The field of a commit's name, which has to be held.
 fn head_field(cursor: &mut Cursor<'_>, store: &Store) -> Result<Name, Stop>
     ensures field { MatchResult result
-        (λ name. head_field (newest store.now) cursor.old ≡ Ok (name.0, cursor.new))
-        (λ stop. IsStop stop (head_field (newest store.now) cursor.old)) }
-    ensures head { IfOk result (λ name. has Kind.Commit (newest store.now) name.0 ≡ true) }
+        (λ name. head_field store.now cursor.old ≡ Ok (name.0, cursor.new))
+        (λ stop. IsStop stop (head_field store.now cursor.old)) }
+    ensures head { IfOk result (λ name. has Kind.Commit store.now name.0 ≡ true) }
 {
     let at = cursor.at();
     let bytes = cursor.field(20)?;
@@ -99,11 +99,12 @@ fn set_ref<'a>(
     before: Option<&[u8]>,
     table: &mut RefTable,
 ) -> Result<&'a [u8], Stop>
-    requires { are_heads (newest store.now) table.old ≡ true }
+    requires { are_heads store.now table.old ≡ true }
     ensures one { MatchResult result
-        (λ name. one_ref (newest store.now) (option_copied before.entry) table.old cursor.old ≡ Ok ((name.now, table.new), cursor.new))
-        (λ stop. IsStop stop (one_ref (newest store.now) (option_copied before.entry) table.old cursor.old)) }
-    ensures heads { OnOk result (are_heads (newest store.now) table.new ≡ true) }
+        (λ name. one_ref store.now (option_copied before.entry) table.old cursor.old ≡ Ok
+        ((name.now, table.new), cursor.new))
+        (λ stop. IsStop stop (one_ref store.now (option_copied before.entry) table.old cursor.old)) }
+    ensures heads { OnOk result (are_heads store.now table.new ≡ true) }
 {
     let name = ref_field(cursor, before)?;
     let head = head_field(cursor, store)?;
@@ -116,7 +117,7 @@ fn set_ref<'a>(
     }
 }
 
-/// Sets so many refs.
+/// Sets the refs of an item, so many as the item says.
 pub(crate) fn set_refs(
     alloc: Global,
     cursor: &mut Cursor<'_>,
@@ -124,11 +125,11 @@ pub(crate) fn set_refs(
     count: u32,
     table: &mut RefTable,
 ) -> Result<(), Stop>
-    requires { are_heads (newest store.now) table.old ≡ true }
+    requires { are_heads store.now table.old ≡ true }
     ensures refs { MatchResult result
-        (λ _. refs_field count (newest store.now) None table.old cursor.old ≡ Ok (table.new, cursor.new))
-        (λ stop. IsStop stop (refs_field count (newest store.now) None table.old cursor.old)) }
-    ensures heads { OnOk result (are_heads (newest store.now) table.new ≡ true) }
+        (λ _. refs_field count store.now None table.old cursor.old ≡ Ok (table.new, cursor.new))
+        (λ stop. IsStop stop (refs_field count store.now None table.old cursor.old)) }
+    ensures heads { OnOk result (are_heads store.now table.new ≡ true) }
 {
     let mut before = None;
     for i in 0..count {

@@ -4,7 +4,7 @@ ghost use Rattle.std.specs.List.{list_all};
 ghost use Rattle.std.specs.Option.{option_map};
 ghost use Rattle.std.specs.FinMap.{find, put};
 ghost use Rattle.git_objects.specs.Parts.{name_bytes};
-ghost use Rattle.repo_state.specs.Items.{bytes_cmp};
+ghost use Rattle.git_objects.specs.Refs.{bytes_cmp};
 ghost use Rattle.repo_state.specs.Changes.{is_moved, moved, with_refs};
 ghost use Rattle.repo_state.specs.Commits.{setting};
 ghost use Rattle.repo_state.specs.Drafts.{is_valid_ref, ref_value};
@@ -30,7 +30,7 @@ pub(crate) struct MovedRef {
 
 impl Model for RefTable {
     ghost use Rattle.std.specs.Prelude.{map};
-    ghost use Rattle.repo_state.specs.Items.{Refs};
+    ghost use Rattle.git_objects.specs.Refs.{Refs};
 
     ghost Value = { Refs };
 
@@ -62,7 +62,7 @@ impl RefTable {
         Ok(())
     }
 
-    /// The same refs, by themselves.
+    /// A copy of the refs.
     pub(crate) fn copy(&self) -> Result<RefTable, AllocError>
         ensures { IfOk result (λ copy. copy ≡ self.now) }
     {
@@ -88,7 +88,8 @@ impl RefTable {
         head: Name,
         refs: &mut Vec<MovedRef>,
     ) -> Result<(), AllocError>
-        ensures { OnOk result (map ref_value refs.new.items ≡ map ref_value refs.old.items ++ cond (is_moved self.now (name.items, head.0)) ((name.items, head.0) ∷ []) []) }
+        ensures { OnOk result (map ref_value refs.new.items ≡ map ref_value refs.old.items ++ cond
+            (is_moved self.now (name.items, head.0)) ((name.items, head.0) ∷ []) []) }
     {
         if self.moves(&name, &head) {
             refs.push(MovedRef { name, head })?;
@@ -96,7 +97,7 @@ impl RefTable {
         Ok(())
     }
 
-    // The settings, each in turn.
+    // The refs that the settings set, each in turn.
     fn of_settings(alloc: Global, settings: &[Setting]) -> Result<RefTable, AllocError>
         ensures table { IfOk result (λ table. table ≡ with_refs [] (map setting settings.now)) }
         ensures valid { OnOk result (list_all is_valid_ref (map setting settings.now) ≡ true) }
@@ -108,7 +109,7 @@ impl RefTable {
         Ok(table)
     }
 
-    /// Those of the settings that give a ref another commit, in the byte order of the refs.
+    /// The settings that give a ref another commit than it has, in the byte order of the refs.
     pub(crate) fn moved(
         &self,
         alloc: Global,

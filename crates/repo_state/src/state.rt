@@ -5,10 +5,11 @@ ghost use Rattle.std.specs.Option.{option_map};
 ghost use Rattle.git_objects.specs.Parts.{name_bytes};
 ghost use Rattle.proj_io.specs.Counts.{Counts};
 ghost use Rattle.proj_io.specs.Items.{Stays};
-ghost use Rattle.object_store.specs.Errors.{newest};
 ghost use Rattle.git_objects.specs.declared.kind.Kind.TheVariants.{Commit};
 ghost use Rattle.object_store.specs.Objects.{has, object_name};
-ghost use Rattle.repo_state.specs.Items.{bytes_cmp, held_with, is_commit, read_items};
+ghost use Rattle.repo_state.specs.Items.{held_with, read_items};
+ghost use Rattle.object_store.specs.Fits.{is_commit};
+ghost use Rattle.git_objects.specs.Refs.{bytes_cmp};
 ghost use Rattle.repo_state.specs.Loads.{IsLoaded, IsLoadFault};
 ghost use Rattle.repo_state.specs.Stops.{are_heads};
 
@@ -44,11 +45,12 @@ pub struct State {
     pub(crate) refs: RefTable,
     // The names of the objects that items hold, in order of arrival.
     pub(crate) held: IndexSet<Name>,
-    // How many of these are commits.
+    // How many of the held objects are commits.
     pub(crate) commits: u32,
     // How many items there are, and their bytes together.
     pub(crate) number: u32,
     pub(crate) size: u64,
+    pub(crate) alloc: Global,
 }
 
 impl Model for State {
@@ -64,11 +66,11 @@ impl Model for State {
 }
 
 impl State {
-    // The state of what was read of so many items.
-    fn of(loaded: Loaded, number: u32) -> State
+    // The state of what was read of `number` items.
+    fn of(alloc: Global, loaded: Loaded, number: u32) -> State
         requires { are_heads loaded.objects loaded.refs ≡ true }
         ensures held { result.held ≡ held_with loaded.objects loaded.refs }
-        ensures objects { newest result.objects ≡ loaded.objects }
+        ensures objects { result.objects ≡ loaded.objects }
         ensures number { result.number ≡ number }
         ensures size { result.size ≡ loaded.size }
     {
@@ -89,6 +91,7 @@ impl State {
             commits,
             number,
             size,
+            alloc,
         }
     }
 
@@ -102,7 +105,7 @@ impl State {
             refs: RefTable::new(alloc),
             size: 0,
         };
-        Ok(State::of(loaded, 0))
+        Ok(State::of(alloc, loaded, 0))
     }
 
     /// Reads all items of the keeper.
@@ -112,7 +115,7 @@ impl State {
             (λ state. IsLoaded items state)
             (λ e. IsLoadFault e (read_items items))) }
         ensures number { IfOk result (λ state. state.number ≡ K.number keeper.old) }
-        ensures whole { IfOk result (λ state. newest state.objects ≡ state.held.objects) }
+        ensures whole { IfOk result (λ state. state.objects ≡ state.held.objects) }
         ensures same { K.number keeper.new ≡ K.number keeper.old }
         ensures items { Stays (K.items keeper.old) (K.items keeper.new) }
         ensures is_open { K.is_open keeper.new }
@@ -125,15 +128,16 @@ impl State {
         };
         match load_items(alloc, keeper, count) {
             Err(e) => return Err(e),
-            Ok(loaded) => return Ok(State::of(loaded, count)),
+            Ok(loaded) => return Ok(State::of(alloc, loaded, count)),
         }
     }
 
     /// The names of the commits that items hold, in order of arrival.
-    pub fn commits(&self, alloc: Global) -> Result<Vec<Name>, AllocError>
-        ensures { IfOk result (λ v. map name_bytes v.items ≡ reverse (map object_name (filter is_commit self.now.held.objects))) }
+    pub fn commits(&self) -> Result<Vec<Name>, AllocError>
+        ensures { IfOk result (λ v. map name_bytes v.items ≡ reverse (map object_name
+            (filter is_commit self.now.held.objects))) }
     {
-        match commit_names(alloc, &self.store, self.held.as_slice()) {
+        match commit_names(self.alloc, &self.store, self.held.as_slice()) {
             Ok(commits) => Ok(commits),
             Err(_) => Err(AllocError),
         }

@@ -1,9 +1,10 @@
 // The objects of stored trees, each after its children.
 ghost use Rattle.std.specs.Prelude.{◌≡◌, ◌+◌, ◌<◌, ◌++◌, ◌∷◌, [], ℕ, List, Some, None, IfNone, IfSome, OnOk, length};
-ghost use Rattle.object_store.specs.Errors.{newest};
-ghost use Rattle.object_store.specs.Objects.{Object, IsStore, find_named};
+ghost use Rattle.object_store.specs.Objects.{Object, IsStore, find_named, HasChildren};
 ghost use Rattle.repo_state.specs.Growing.{Extends, IsReady, IsStep};
-ghost use Rattle.repo_state.specs.StoredObjects.{AreOpen, HasChildren, HasNext, IsOpen, counted, entries_steps, frame_steps, frames_steps, itself, next_steps, stored_objects, work_of_frame, work_of_frames};
+ghost use Rattle.repo_state.specs.StoredObjects.{AreOpen, HasNext, IsOpen, counted, entries_steps, frame_steps};
+ghost use Rattle.repo_state.specs.StoredObjects.{frames_steps, itself, next_steps, stored_objects, work_of_frame};
+ghost use Rattle.repo_state.specs.StoredObjects.{work_of_frames};
 
 use git_objects::{Kind, Mode, Name, TreeView};
 use indexmap::IndexSet;
@@ -26,8 +27,10 @@ pub(crate) struct Frame<'a> {
 
 // The next child that is an object of the store.
 fn next_child(entries: &mut TreeView<'_>) -> Option<Child>
-    ensures objects { (S : List Object) → entries_steps itself [] S entries.old ≡ next_steps itself [] S result ++ entries_steps itself [] S entries.new }
-    ensures work { (S : List Object) → entries_steps counted (tt ∷ []) S entries.old ≡ next_steps counted (tt ∷ []) S result ++ entries_steps counted (tt ∷ []) S entries.new }
+    ensures objects { (S : List Object) → entries_steps itself [] S entries.old
+        ≡ next_steps itself [] S result ++ entries_steps itself [] S entries.new }
+    ensures work { (S : List Object) → entries_steps counted (tt ∷ []) S entries.old ≡ next_steps counted (tt
+        ∷ []) S result ++ entries_steps counted (tt ∷ []) S entries.new }
     ensures children { (S : List Object) → HasChildren S entries.old → HasNext S result × HasChildren S entries.new }
     ensures none { IfNone result (entries.new ≡ []) }
 {
@@ -46,7 +49,8 @@ fn next_child(entries: &mut TreeView<'_>) -> Option<Child>
 // Adds a name behind the others, where it isn't there.
 pub(crate) fn hold(held: &mut IndexSet<Name>, name: Name) -> Result<(), AllocError>
     ensures step { OnOk result ((S : List Object) (o : Object) (os : List Object) →
-        find_named S name.0 ≡ Some o → IsReady S held.old.keys (o ∷ os) → IsStep S held.old.keys held.new.keys (o ∷ os) os) }
+        find_named S name.0 ≡ Some o → IsReady S held.old.keys (o ∷ os) →
+        IsStep S held.old.keys held.new.keys (o ∷ os) os) }
     ensures extends { Extends held.old.keys held.new.keys }
 {
     held.insert(name)?;
@@ -60,12 +64,15 @@ fn open_tree<'a>(
     frames: &mut Vec<Frame<'a>>,
     name: Name,
 ) -> Result<(), AllocError>
-    requires { AreOpen (newest store.now) frames.old.items }
-    ensures step { OnOk result (let S = newest store.now in let os = stored_objects S name.0 ++ frames_steps itself [] S frames.old.items in
-        IsReady S held.now.keys os → IsStep S held.now.keys held.now.keys os (frames_steps itself [] S frames.new.items)) }
-    ensures work { OnOk result (let S = newest store.now in
-        work_of_frames S frames.new.items < work_of_frames S frames.old.items + length (next_steps counted (tt ∷ []) S (Some (Child.TreeChild name)))) }
-    ensures opened { OnOk result (AreOpen (newest store.now) frames.new.items) }
+    requires { AreOpen store.now frames.old.items }
+    ensures step { OnOk result (let S = store.now in
+        let os = stored_objects S name.0 ++ frames_steps itself [] S frames.old.items in
+        IsReady S held.now.keys os → IsStep S held.now.keys held.now.keys os
+        (frames_steps itself [] S frames.new.items)) }
+    ensures work { OnOk result (let S = store.now in
+        work_of_frames S frames.new.items < work_of_frames S frames.old.items + length (next_steps counted (tt
+        ∷ []) S (Some (Child.TreeChild name)))) }
+    ensures opened { OnOk result (AreOpen store.now frames.new.items) }
 {
     if held.contains(&name) {
         return Ok(());
@@ -94,12 +101,15 @@ fn turn<'a>(
     frames: &mut Vec<Frame<'a>>,
     frame: Frame<'a>,
 ) -> Result<(), AllocError>
-    requires frame { IsOpen (newest store.now) frame }
-    requires frames { AreOpen (newest store.now) frames.old.items }
-    ensures step { OnOk result (let S = newest store.now in let os = frame_steps itself [] S frame.entry ++ frames_steps itself [] S frames.old.items in
-        IsReady S held.old.keys os → IsStep S held.old.keys held.new.keys os (frames_steps itself [] S frames.new.items)) }
-    ensures work { OnOk result (let S = newest store.now in work_of_frames S frames.new.items < work_of_frames S frames.old.items + work_of_frame S frame.entry) }
-    ensures frames { OnOk result (AreOpen (newest store.now) frames.new.items) }
+    requires frame { IsOpen store.now frame }
+    requires frames { AreOpen store.now frames.old.items }
+    ensures step { OnOk result (let S = store.now in
+        let os = frame_steps itself [] S frame.entry ++ frames_steps itself [] S frames.old.items in
+        IsReady S held.old.keys os → IsStep S held.old.keys held.new.keys os
+        (frames_steps itself [] S frames.new.items)) }
+    ensures work { OnOk result (let S = store.now in
+        work_of_frames S frames.new.items < work_of_frames S frames.old.items + work_of_frame S frame.entry) }
+    ensures frames { OnOk result (AreOpen store.now frames.new.items) }
     ensures extends { Extends held.old.keys held.new.keys }
 {
     let mut frame = frame;
@@ -123,8 +133,9 @@ pub(crate) fn hold_tree(
     held: &mut IndexSet<Name>,
     root: Name,
 ) -> Result<(), AllocError>
-    ensures step { OnOk result (let S = newest store.now in
-        IsReady S held.old.keys (stored_objects S root.0) → IsStep S held.old.keys held.new.keys (stored_objects S root.0) []) }
+    ensures step { OnOk result (let S = store.now in
+        IsReady S held.old.keys (stored_objects S root.0) →
+        IsStep S held.old.keys held.new.keys (stored_objects S root.0) []) }
     ensures extends { Extends held.old.keys held.new.keys }
 {
     let mut frames: Vec<Frame<'_>> = Vec::new(alloc);

@@ -10,10 +10,12 @@ use Rattle.object_store.specs.Objects.{Object, IsStore, has, find_named, missing
 use Rattle.object_store.specs.Puts.{if_missing, of_body, of_commit}
 use Rattle.object_store.specs.Unfolding.{flat}
 use Rattle.object_store.proofs.Unfolding.{unfolding_law}
-use Rattle.repo_state.specs.Repos.{Snapshot, snapshot_object}
+use Rattle.object_store.specs.StoredSnapshots.{snapshot_object}
+use Rattle.git_objects.specs.Snapshots.{Snapshot}
 use Rattle.history_project.specs.Snapshots.{IsSnapshot}
-use Rattle.small_streams.specs.Replays.{IsGrownBy, IsOnly, IsOnlyCommit, parent_of}
-use Rattle.small_streams.proofs.Grows.{flat-grown, has-grown}
+use Rattle.small_streams.specs.Replays.{IsOnlyCommit, parent_of}
+use Rattle.object_store.specs.Growth.{IsGrownBy, IsOnly}
+use Rattle.object_store.proofs.Growth.{flat-grown, has-grown}
 
 -- no parent is missing
 none_missing : (S : List Object) (parent : Option Name) → IfSome parent (λ n. has CommitKind S n.0 ≡ true) → missing_parent S (parent_of parent) ≡ None

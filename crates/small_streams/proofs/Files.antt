@@ -7,16 +7,17 @@ use Rattle.git_objects.specs.declared.kind.Kind.TheVariants.{Blob, Tree}
 use Rattle.git_objects.specs.declared.mode.Mode.TheVariants.{File}
 use Rattle.object_store.specs.Objects.{Object, find_named, has, IsStore}
 use Rattle.object_store.specs.Puts.{Collides, collision, same_object}
-use Rattle.object_store.specs.Unfolding.{flat}
-use Rattle.path_trees.specs.Made.{AreMade, IsGrown, IsOnWay, IsCollision, IsTreeFault, StandsFor as StandsThere}
+use Rattle.object_store.specs.Unfolding.{flat, StandsFor as StandsThere, StandsFor}
+use Rattle.path_trees.specs.Made.{AreMade, IsGrown, IsOnWay, IsCollision, IsTreeFault}
 use Rattle.path_trees.specs.declared.found.TreeFault.{TreeFault}
 use Rattle.path_trees.specs.declared.found.TreeFault.TheVariants.{Collision as Collides_there, OutOfMemory as NoMemory}
 use Rattle.path_trees.specs.Standing.{node}
 use Rattle.small_streams.specs.Streams.{Change}
 use Rattle.small_streams.specs.Replay.{IsMadeIn, blob_object, tree_object, with_change}
-use Rattle.small_streams.specs.Replays.{IsGrownBy, IsClash, IsOnly, IsPutFault, StandsFor, fault_of}
+use Rattle.small_streams.specs.Replays.{IsPutFault, fault_of}
+use Rattle.object_store.specs.Growth.{IsGrownBy, IsClash, IsOnly}
 use Rattle.history_project.proofs.FoundObjects.{body-found, has-found}
-use Rattle.small_streams.proofs.Grows.{flat-grown, found-above, grown_as, grown_then, has-grown}
+use Rattle.object_store.proofs.Growth.{flat-grown, found-above, grown_as, grown_then, has-grown}
 
 -- ---- trees that an edit makes
 

@@ -17,15 +17,14 @@ use Rattle.git_objects.specs.declared.mode.Mode.TheVariants.{File, Exec, Link, M
 use Rattle.git_objects.specs.declared.name.Name.{Name}
 use Rattle.git_objects.proofs.Basics.{same_bytes-self}
 use Rattle.git_objects.specs.Lists.{Each}
-use Rattle.object_store.specs.Objects.{Object, IsStore, has, has_child, is_named, body_of, object_name}
+use Rattle.object_store.specs.Objects.{Object, IsStore, has, has_child, is_named, body_of, object_name, HasChildren}
 use Rattle.object_store.specs.Unfolding.{below, flat, node_of}
 use Rattle.object_store.proofs.Held.{body_named}
-use Rattle.repo_state.specs.Changes.{is_known}
-use Rattle.repo_state.specs.StoredObjects.{HasChildren}
-use Rattle.repo_state.specs.TreeObjects.{leaf_objects}
-use Rattle.repo_state.proofs.Fitting.{entries_map}
-use Rattle.repo_state.proofs.Grows.{find-name}
-use Rattle.repo_state.proofs.Walks.{listed, object-children}
+use Rattle.object_store.specs.Fits.{is_known}
+use Rattle.object_store.specs.TreeObjects.{leaf_objects}
+use Rattle.object_store.proofs.FlatParts.{entries_map}
+use Rattle.object_store.proofs.Parts.{find-name}
+use Rattle.object_store.proofs.Children.{listed, object-children}
 use Rattle.small_streams.specs.Replay.{blob_object}
 use Rattle.small_streams.specs.Replays.{AreBlobs}
 

@@ -1,4 +1,3 @@
-pub mod FrontTexts
 pub mod SmallStreams
 pub mod StreamSizes
 pub mod Grows

@@ -12,7 +12,7 @@ use Rattle.git_objects.specs.Trees.{Flat, Leaf, LeafNode, put, without}
 use Rattle.git_objects.specs.Names.{depth}
 use Rattle.git_objects.proofs.Maps.{put-leaf}
 use Rattle.object_store.specs.Sizes.{longest}
-use Rattle.repo_state.specs.Items.{tree_fits}
+use Rattle.object_store.specs.Fits.{tree_fits}
 
 entry-depth : (p : Path) (x : Leaf) (t : Flat) → depth (put_entry path_cmp p x t) ≤ max (length p) (depth t)
 entry-depth p x [] = omega arith

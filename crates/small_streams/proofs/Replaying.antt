@@ -8,15 +8,16 @@ use Rattle.git_objects.specs.Trees.{Flat}
 use Rattle.git_objects.specs.declared.kind.Kind.TheVariants.{Tree}
 use Rattle.git_objects.specs.declared.name.Name.{Name}
 use Rattle.object_store.specs.Objects.{Object, IsStore, has}
-use Rattle.object_store.specs.Unfolding.{flat}
+use Rattle.object_store.specs.Unfolding.{flat, StandsFor}
 use Rattle.small_streams.specs.Streams.{Change}
 use Rattle.small_streams.specs.Replay.{IsMadeIn, are_small, blob_object, contents_in, trees_within, with_change, with_changes}
-use Rattle.small_streams.specs.Replays.{AddsBlobs, AreBlobs, IsFilesFault, IsGrownBy, StandsFor}
+use Rattle.small_streams.specs.Replays.{AddsBlobs, AreBlobs, IsFilesFault}
+use Rattle.object_store.specs.Growth.{IsGrownBy}
 use Rattle.small_streams.specs.Views.{change_of}
 use Rattle.small_streams.specs.declared.streams.Row.{Row}
 use Rattle.small_streams.specs.declared.replay.ReplayFault.{ReplayFault}
 use Rattle.small_streams.specs.declared.replay.ReplayFault.TheVariants.{TooManyFiles, Collision, OutOfMemory}
-use Rattle.small_streams.proofs.Grows.{found-grown, grown_self, grown_then, grown_as, clash_as}
+use Rattle.object_store.proofs.Growth.{found-grown, grown_self, grown_then, grown_as, clash_as}
 
 -- ---- changes, one after another
 

@@ -9,17 +9,19 @@ use Rattle.git_objects.specs.Names.{tree_name}
 use Rattle.git_objects.specs.declared.kind.Kind.TheVariants.{Tree, Commit as CommitKind}
 use Rattle.git_objects.specs.declared.name.Name.{Name}
 use Rattle.object_store.specs.Objects.{Object, IsStore, has}
-use Rattle.object_store.specs.Unfolding.{flat}
-use Rattle.repo_state.specs.Repos.{Snapshot, snapshot_name, snapshot_object}
+use Rattle.object_store.specs.Unfolding.{flat, StandsFor}
+use Rattle.object_store.specs.StoredSnapshots.{snapshot_object}
+use Rattle.git_objects.specs.Snapshots.{Snapshot, snapshot_name}
 use Rattle.small_streams.specs.Streams.{Change, Small}
 use Rattle.small_streams.specs.Replay.{IsDirectoryOf, IsMadeBy, IsMadeIn, are_small, contents, contents_in, snapshot, snapshots_made, trees_made, trees_within, with_changes}
-use Rattle.small_streams.specs.Replays.{AddsBlobs, AreBlobs, IsFilesFault, IsGrownBy, IsOnlyCommit, IsPutFault, IsReplayFault, StandsFor, parent_of}
+use Rattle.small_streams.specs.Replays.{AddsBlobs, AreBlobs, IsFilesFault, IsOnlyCommit, IsPutFault, IsReplayFault, parent_of}
+use Rattle.object_store.specs.Growth.{IsGrownBy}
 use Rattle.history_project.specs.Snapshots.{AreSnapshots, IsSnapshot}
 use Rattle.small_streams.specs.Views.{small_value}
 use Rattle.small_streams.specs.declared.streams.SmallCommit.{SmallCommit}
 use Rattle.small_streams.specs.declared.replay.ReplayFault.{ReplayFault}
 use Rattle.small_streams.specs.declared.replay.ReplayFault.TheVariants.{TooManyFiles, Collision, OutOfMemory}
-use Rattle.small_streams.proofs.Grows.{clash_as, flat-grown, found-grown, grown_as, grown_self, grown_then, has-grown}
+use Rattle.object_store.proofs.Growth.{clash_as, flat-grown, found-grown, grown_as, grown_self, grown_then, has-grown}
 use Rattle.history_project.proofs.FoundObjects.{has-found}
 use Rattle.small_streams.proofs.Replaying.{blobs-append, blobs-grown}
 

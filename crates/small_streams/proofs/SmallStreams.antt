@@ -10,7 +10,8 @@ use Rattle.std.proofs.lemmas.Bool.Decides.{nat_tests}
 use Rattle.git_objects.specs.Paths.{Bytes, Path, is_nil}
 use Rattle.git_objects.specs.Idents.{cut_at, is_ident}
 use Rattle.path_names.specs.RefNames.{is_ref_name}
-use Rattle.small_streams.specs.Texts.{strip, number}
+use Rattle.path_names.specs.Words.{number}
+use Rattle.git_objects.specs.CommitBodies.{strip}
 use Rattle.small_streams.specs.Streams.{Read, Change, word_line, skip_lf, skip_lfs, block, data_block, plain_path, change, and_then_change, changes_within, changes, Small, Head, small, smalls_within, smalls, head, follows, are_in_line, message, ident_line, ref_line, from_line, parent_name, head_of}
 use Rattle.small_streams.specs.Views.{change_of, small_value}
 use Rattle.small_streams.specs.declared.streams.Row.{Row}

@@ -8,12 +8,12 @@ use Rattle.std.proofs.lemmas.List.{length-take}
 use Rattle.git_objects.specs.Paths.{Bytes, Path, is_component, is_nil, text}
 use Rattle.git_objects.specs.Idents.{is_ident}
 use Rattle.git_objects.specs.Lists.{Each}
-use Rattle.path_names.specs.PathTexts.{parts, path_of}
+use Rattle.path_names.specs.PathTexts.{parts, path_of, ok_path}
 use Rattle.path_names.specs.RefNames.{is_ref_name}
 use Rattle.path_names.specs.declared.path.PathFault.{PathFault}
 use Rattle.path_names.specs.declared.path.PathFault.TheVariants.{BadComponent, LongComponent, TooDeep, TooLong}
 use Rattle.path_names.proofs.Readings.{path_text_law}
-use Rattle.small_streams.specs.Texts.{number, ok_path}
+use Rattle.path_names.specs.Words.{number}
 use Rattle.small_streams.specs.Streams.{Change, Head, Read, Small, and_then_change, are_in_line, block, change, changes, changes_within, data_block, from_line, head, head_of, ident_line, message, plain_path, ref_line, skip_lf, small, smalls, smalls_within, stream, word_line}
 use Rattle.small_streams.proofs.SmallStreams.{Less, change_less, head_less, passed_less, small_less, word_less}
 

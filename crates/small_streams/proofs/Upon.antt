@@ -14,11 +14,12 @@ use Rattle.object_store.specs.Puts.{of_tree}
 use Rattle.object_store.specs.Unfolding.{flat, joined}
 use Rattle.small_streams.specs.Streams.{Change, Small}
 use Rattle.small_streams.specs.Replay.{IsDirectoryOf, IsMadeBy, IsMadeIn}
-use Rattle.small_streams.specs.Replays.{IsGrownBy, IsOnly, IsPutFault, IsReplayFault}
+use Rattle.small_streams.specs.Replays.{IsPutFault, IsReplayFault}
+use Rattle.object_store.specs.Growth.{IsGrownBy, IsOnly}
 use Rattle.history_project.specs.Snapshots.{base_tree}
 use Rattle.small_streams.specs.declared.replay.ReplayFault.{ReplayFault}
 use Rattle.small_streams.specs.declared.replay.ReplayFault.TheVariants.{TooManyFiles, Collision, OutOfMemory}
-use Rattle.small_streams.proofs.Grows.{clash_as, grown_as, grown_then}
+use Rattle.object_store.proofs.Growth.{clash_as, grown_as, grown_then}
 use Rattle.history_project.proofs.FoundObjects.{named_here, not_here, some_is}
 use Rattle.history_project.proofs.HeldCommits.{IsHeld, view-held}
 

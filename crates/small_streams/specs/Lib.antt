@@ -1,4 +1,3 @@
-pub mod Texts
 pub mod Streams
 pub mod Views
 pub mod Replay

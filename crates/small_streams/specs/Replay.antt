@@ -1,13 +1,15 @@
 -- What a small stream makes: commits with their flat trees, upon a commit that is there or upon nothing.
 use Rattle.std.specs.Prelude.{◌≡◌, ◌⊎◌, ◌^◌, Bool, cond, nat_le, List, [], ◌∷◌, ◌++◌, length, map, fold, Option, Some, None}
 use Rattle.std.specs.List.{flat_map, list_all}
+use Rattle.git_objects.specs.declared.limits.TheConstants.{TREE_FILES}
 use Rattle.git_objects.specs.Paths.{Bytes, Path}
 use Rattle.git_objects.specs.Trees.{Flat, FileLeaf, LeafNode, put, under}
 use Rattle.git_objects.specs.Names.{body}
 use Rattle.git_objects.specs.declared.kind.Kind.TheVariants.{Blob, Tree}
 use Rattle.object_store.specs.Objects.{Object}
-use Rattle.repo_state.specs.TreeObjects.{tree_objects}
-use Rattle.repo_state.specs.Repos.{Snapshot, snapshot_name, snapshot_object}
+use Rattle.object_store.specs.TreeObjects.{tree_objects}
+use Rattle.object_store.specs.StoredSnapshots.{snapshot_object}
+use Rattle.git_objects.specs.Snapshots.{Snapshot, snapshot_name}
 use Rattle.small_streams.specs.Streams.{Change, Small}
 
 -- one file more
@@ -36,9 +38,9 @@ abbrev pub snapshots_made : Flat → List Bytes → List Small → List Snapshot
 snapshots_made t parents [] = []
 snapshots_made t parents (s ∷ ss) = snapshot t parents s ∷ snapshots_made (with_changes t s.changes) (snapshot_name (snapshot t parents s) ∷ []) ss
 
--- whether no tree has more than 2^20 files
+-- whether no tree has more files than a tree may have
 abbrev pub are_small : List Flat → Bool
-are_small ts = list_all (λ t. nat_le (length t) (2 ^ 20)) ts
+are_small ts = list_all (λ t. nat_le (length t) TREE_FILES) ts
 
 -- none where a tree has more files, after any change
 abbrev pub replayed : Flat → List Bytes → List Small → Option (List Snapshot)

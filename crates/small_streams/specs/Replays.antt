@@ -8,47 +8,26 @@ use Rattle.git_objects.specs.declared.kind.Kind.TheVariants.{Tree}
 use Rattle.git_objects.specs.declared.name.Name.{Name}
 use Rattle.object_store.specs.Objects.{Object, IsStore, has, find_named}
 use Rattle.object_store.specs.Puts.{Collides, collision}
-use Rattle.object_store.specs.Unfolding.{flat}
-use Rattle.repo_state.specs.Repos.{Snapshot, snapshot_object}
-use Rattle.repo_state.specs.declared.commit.Batch.{Batch}
+use Rattle.object_store.specs.Unfolding.{flat, StandsFor}
+use Rattle.object_store.specs.StoredSnapshots.{snapshot_object}
+use Rattle.git_objects.specs.Snapshots.{Snapshot}
 use Rattle.history_project.specs.Snapshots.{AreSnapshots}
 use Rattle.small_streams.specs.Streams.{Small}
 use Rattle.small_streams.specs.Replay.{IsMadeBy, are_small, blob_object, contents, replayed}
 use Rattle.path_trees.specs.declared.found.TreeFault.{TreeFault}
-use Rattle.path_trees.specs.declared.found.TreeFault.TheVariants as tree
 use Rattle.small_streams.specs.declared.replay.Replayed.{Replayed}
 use Rattle.small_streams.specs.declared.replay.ReplayFault.{ReplayFault}
 use Rattle.small_streams.specs.declared.replay.ReplayFault.TheVariants.{TooManyFiles, Collision, OutOfMemory}
-
--- the old objects, and new ones in front of them, each of a kind
-pub record IsGrownBy (made : Object → Type 0) (S S' : List Object) : Type 0 where
-  pub store : IsStore S'
-  pub newer : List Object
-  pub above : newer ++ S ≡ S'
-  pub all : (o : Object) → Contains newer o → made o
-
--- this one object
-abbrev pub IsOnly : Kind → Bytes → Object → Type 0
-IsOnly k b o = o ≡ record { kind = k; body = b }
+use Rattle.object_store.specs.Growth.{IsClash}
+use Rattle.path_trees.specs.declared.found.TreeFault.TheVariants as tree
 
 abbrev pub IsOnlyCommit : Flat → List Bytes → Letter → Object → Type 0
 IsOnlyCommit t parents letter o = o ≡ snapshot_object (record { tree = t; parents = parents; letter = letter })
-
--- a tree of the store stands for this map
-pub record StandsFor (S : List Object) (n : Bytes) (t : Flat) : Type 0 where
-  pub held : has Tree S n ≡ true
-  pub map : flat S n ≡ t
 
 -- or there is none, and the map is empty
 abbrev pub StandsOrNone : List Object → Flat → Option Name → Type 0
 StandsOrNone S t None = t ≡ []
 StandsOrNone S t (Some n) = StandsFor S n.0 t
-
--- another object has the name of such an object
-pub record IsClash (made : Object → Type 0) (S : List Object) (n : Bytes) : Type 0 where
-  pub object : Object
-  pub is_made : made object
-  pub held : collision object.kind object.body (find_named S n) ≡ Some (Collides n)
 
 -- each name is that of a blob with this content
 abbrev pub AreBlobs : List Object → List Name → List Bytes → Type 0
@@ -95,12 +74,3 @@ IsReplayFault S t parents ss OutOfMemory = ⊤
 abbrev pub parent_of : Option Name → List Bytes
 parent_of None = []
 parent_of (Some n) = n.0 ∷ []
-
--- a batch of what a stream brought to a store that was empty
-pub record IsBrought (S : List Object) (ss : List Small) (batch : Batch) : Type 0 where
-  pub whole : IsStore S
-  pub snapshots : List Snapshot
-  pub replayed : replayed [] [] ss ≡ Some snapshots
-  pub commits : AreSnapshots S batch.commits.items snapshots
-  pub blobs : AreBlobs S batch.blobs.items (contents ss)
-  pub refs : batch.refs.items ≡ []

@@ -5,10 +5,10 @@ use Rattle.std.specs.Option.{option_map, option_and_then, is_none}
 use Rattle.git_objects.specs.Paths.{Bytes, Path, is_nil, same_bytes}
 use Rattle.git_objects.specs.Idents.{cut_at, is_ident}
 use Rattle.git_objects.specs.Commits.{Letter}
-use Rattle.git_objects.specs.CommitBodies.{digits_name}
-use Rattle.path_names.specs.PathTexts.{path_of}
+use Rattle.git_objects.specs.CommitBodies.{digits_name, strip}
+use Rattle.path_names.specs.PathTexts.{path_of, ok_path}
 use Rattle.path_names.specs.RefNames.{is_ref_name}
-use Rattle.small_streams.specs.Texts.{strip, number, ok_path}
+use Rattle.path_names.specs.Words.{number}
 
 -- something that was read, and what follows it
 abbrev pub Read : Type 0 → Type 0

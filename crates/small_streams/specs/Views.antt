@@ -14,8 +14,7 @@ use Rattle.small_streams.specs.declared.streams.SmallCommit.{SmallCommit}
 
 -- what a borrowed text holds
 abbrev pub behind : Option (Bor Bytes) → Option Bytes
-behind None = None
-behind (Some b) = Some b.now
+behind o = option_map (λ b. b.now) o
 
 -- what two borrowed texts hold
 abbrev pub texts : Option (Bor Bytes × Bor Bytes) → Read Bytes

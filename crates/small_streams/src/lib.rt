@@ -3,10 +3,8 @@
 
 mod replay;
 mod streams;
-mod texts;
 
 pub use replay::{
-    FILES, ReplayFault, Replayed, body_of, put, put_commit, put_files, replay_upon, tree_of,
+    ReplayFault, Replayed, body_of, put, put_commit, put_files, replay_upon, tree_of,
 };
 pub use streams::{CommitHead, Row, SmallCommit, stream};
-pub use texts::{number, path_in, strip};

@@ -4,16 +4,19 @@ ghost use Rattle.git_objects.specs.Commits.{commit_body};
 ghost use Rattle.git_objects.specs.CommitBodies.{commit_from};
 ghost use Rattle.git_objects.specs.Names.{name};
 ghost use Rattle.git_objects.specs.declared.kind.Kind.TheVariants.{Commit, Tree};
-ghost use Rattle.object_store.specs.Errors.{newest};
 ghost use Rattle.object_store.specs.Objects.{find_named, has};
 ghost use Rattle.object_store.specs.Puts.{of_body};
-ghost use Rattle.object_store.specs.Unfolding.{flat};
-ghost use Rattle.small_streams.specs.Replay.{IsMadeBy, IsMadeIn, are_small, blob_object, contents_in, snapshot, trees_within, with_change, with_changes};
-ghost use Rattle.small_streams.specs.Replays.{AddsBlobs, IsFilesFault, IsGrownBy, IsOnly, IsOnlyCommit, IsPutFault, IsReplayFault, IsReplayed, StandsFor, fault_of, parent_of};
+ghost use Rattle.object_store.specs.Unfolding.{flat, StandsFor};
+ghost use Rattle.small_streams.specs.Replay.{IsMadeBy, IsMadeIn, are_small, blob_object, contents_in, snapshot};
+ghost use Rattle.small_streams.specs.Replay.{trees_within, with_change, with_changes};
+ghost use Rattle.small_streams.specs.Replays.{AddsBlobs, IsFilesFault, IsOnlyCommit, IsPutFault, IsReplayFault};
+ghost use Rattle.small_streams.specs.Replays.{IsReplayed, fault_of, parent_of};
+ghost use Rattle.object_store.specs.Growth.{IsGrownBy, IsOnly};
 ghost use Rattle.history_project.specs.Snapshots.{base_tree, IsSnapshot};
 ghost use Rattle.small_streams.specs.Views.{change_of, head_value, small_value};
 
 use crate::streams::{CommitHead, Row, SmallCommit};
+use git_objects::limits::TREE_FILES;
 use git_objects::{Bytes, CommitParts, CommitView, Kind, Mode, Name, encode_commit};
 use object_store::{PutError, Store};
 use path_trees::{Found, TreeFault, put_at};
@@ -36,15 +39,13 @@ pub enum ReplayFault {
     OutOfMemory,
 }
 
-/// The most files of a tree that is made.
-pub const FILES: u32 = 1_048_576;
-
 /// Takes in an object whose children are there.
 pub fn put(store: &mut Store, kind: Kind, body: &[u8]) -> Result<Name, ReplayFault>
-    requires { of_body (newest store.old) kind body.now None ≡ None }
-    ensures ok { IfOk result (λ n. (n.0 ≡ name kind body.now) × (find_named (newest store.new) n.0 ≡ Some (record { kind = kind; body = body.now }))) }
-    ensures err { IfErr result (IsPutFault (IsOnly kind body.now) (newest store.new)) }
-    ensures store { IsGrownBy (IsOnly kind body.now) (newest store.old) (newest store.new) }
+    requires { of_body store.old kind body.now None ≡ None }
+    ensures ok { IfOk result (λ n. (n.0 ≡ name kind body.now)
+        × (find_named store.new n.0 ≡ Some (record { kind = kind; body = body.now }))) }
+    ensures err { IfErr result (IsPutFault (IsOnly kind body.now) store.new) }
+    ensures store { IsGrownBy (IsOnly kind body.now) store.old store.new }
 {
     match store.put_slice(kind, body) {
         Ok(name) => Ok(name),
@@ -72,11 +73,12 @@ fn put_file(
     root: Name,
     row: &Row<'_>,
 ) -> Result<(Name, Name), ReplayFault>
-    requires { has Tree (newest store.old) root.0 ≡ true }
-    ensures blob { IfOk result (λ r. find_named (newest store.new) r.0.0 ≡ Some (blob_object (change_of row.now).1)) }
-    ensures tree { IfOk result (λ r. StandsFor (newest store.new) r.1.0 (with_change (flat (newest store.old) root.0) (change_of row.now))) }
-    ensures err { IfErr result (IsPutFault (IsMadeIn (flat (newest store.old) root.0) (change_of row.now ∷ [])) (newest store.new)) }
-    ensures store { IsGrownBy (IsMadeIn (flat (newest store.old) root.0) (change_of row.now ∷ [])) (newest store.old) (newest store.new) }
+    requires { has Tree store.old root.0 ≡ true }
+    ensures blob { IfOk result (λ r. find_named store.new r.0.0 ≡ Some (blob_object (change_of row.now).1)) }
+    ensures tree { IfOk result (λ r. StandsFor store.new r.1.0 (with_change (flat store.old root.0)
+        (change_of row.now))) }
+    ensures err { IfErr result (IsPutFault (IsMadeIn (flat store.old root.0) (change_of row.now ∷ [])) store.new) }
+    ensures store { IsGrownBy (IsMadeIn (flat store.old root.0) (change_of row.now ∷ [])) store.old store.new }
 {
     match put(store, Kind::Blob, row.content) {
         Err(fault) => Err(fault),
@@ -95,12 +97,12 @@ fn put_file(
 
 // Whether a tree has too many files.
 fn is_too_large(store: &Store, root: &Name) -> bool
-    requires { has Tree (newest store.now) root.now.0 ≡ true }
-    ensures { result ≡ not (are_small (flat (newest store.now) root.now.0 ∷ [])) }
+    requires { has Tree store.now root.now.0 ≡ true }
+    ensures { result ≡ not (are_small (flat store.now root.now.0 ∷ [])) }
 {
     match store.stats(root) {
         None => false,
-        Some(stats) => stats.files > FILES,
+        Some(stats) => stats.files > TREE_FILES,
     }
 }
 
@@ -112,13 +114,14 @@ fn put_row(
     row: &Row<'_>,
     blobs: &mut Vec<Name>,
 ) -> Result<Name, ReplayFault>
-    requires { has Tree (newest store.old) root.0 ≡ true }
-    ensures tree { IfOk result (λ n. StandsFor (newest store.new) n.0 (with_change (flat (newest store.old) root.0) (change_of row.now))) }
-    ensures small { OnOk result (are_small (trees_within (flat (newest store.old) root.0) (change_of row.now ∷ [])) ≡ true) }
-    ensures blobs { OnOk result (AddsBlobs (newest store.new) blobs.old.items blobs.new.items ((change_of row.now).1 ∷ [])) }
-    ensures err { IfErr result (IsFilesFault (IsMadeIn (flat (newest store.old) root.0) (change_of row.now ∷ [])) (newest store.new)
-        (trees_within (flat (newest store.old) root.0) (change_of row.now ∷ []))) }
-    ensures store { IsGrownBy (IsMadeIn (flat (newest store.old) root.0) (change_of row.now ∷ [])) (newest store.old) (newest store.new) }
+    requires { has Tree store.old root.0 ≡ true }
+    ensures tree { IfOk result (λ n. StandsFor store.new n.0 (with_change (flat store.old root.0)
+        (change_of row.now))) }
+    ensures small { OnOk result (are_small (trees_within (flat store.old root.0) (change_of row.now ∷ [])) ≡ true) }
+    ensures blobs { OnOk result (AddsBlobs store.new blobs.old.items blobs.new.items ((change_of row.now).1 ∷ [])) }
+    ensures err { IfErr result (IsFilesFault (IsMadeIn (flat store.old root.0) (change_of row.now ∷ [])) store.new
+        (trees_within (flat store.old root.0) (change_of row.now ∷ []))) }
+    ensures store { IsGrownBy (IsMadeIn (flat store.old root.0) (change_of row.now ∷ [])) store.old store.new }
 {
     match put_file(alloc, store, root, row) {
         Err(fault) => Err(fault),
@@ -142,15 +145,17 @@ pub fn put_files(
     rows: &[Row<'_>],
     blobs: &mut Vec<Name>,
 ) -> Result<Name, ReplayFault>
-    requires { has Tree (newest store.old) root.0 ≡ true }
-    ensures tree { IfOk result (λ n. StandsFor (newest store.new) n.0 (with_changes (flat (newest store.old) root.0) (map change_of rows.now))) }
-    ensures small { OnOk result (are_small (trees_within (flat (newest store.old) root.0) (map change_of rows.now)) ≡ true) }
-    ensures blobs { OnOk result (AddsBlobs (newest store.new) blobs.old.items blobs.new.items (contents_in (map change_of rows.now))) }
-    ensures err { IfErr result (IsFilesFault (IsMadeIn (flat (newest store.old) root.0) (map change_of rows.now)) (newest store.new)
-        (trees_within (flat (newest store.old) root.0) (map change_of rows.now))) }
-    ensures store { IsGrownBy (IsMadeIn (flat (newest store.old) root.0) (map change_of rows.now)) (newest store.old) (newest store.new) }
+    requires { has Tree store.old root.0 ≡ true }
+    ensures tree { IfOk result (λ n. StandsFor store.new n.0 (with_changes (flat store.old root.0)
+        (map change_of rows.now))) }
+    ensures small { OnOk result (are_small (trees_within (flat store.old root.0) (map change_of rows.now)) ≡ true) }
+    ensures blobs { OnOk result (AddsBlobs store.new blobs.old.items blobs.new.items (contents_in
+        (map change_of rows.now))) }
+    ensures err { IfErr result (IsFilesFault (IsMadeIn (flat store.old root.0) (map change_of rows.now)) store.new
+        (trees_within (flat store.old root.0) (map change_of rows.now))) }
+    ensures store { IsGrownBy (IsMadeIn (flat store.old root.0) (map change_of rows.now)) store.old store.new }
 {
-    // Every outcome rests on what the store keeps.
+    // The store is looked at so that the proof has what each store keeps.
     let _ = store.get(&root);
     let mut root = root;
     for row in rows {
@@ -169,8 +174,10 @@ pub fn body_of(
     parent: Option<Name>,
     head: &CommitHead<'_>,
 ) -> Result<Vec<u8>, AllocError>
-    ensures body { IfOk result (λ b. b.items ≡ commit_body (record { tree = tree.0; parents = parent_of parent; letter = (head_value head.now).letter })) }
-    ensures read_back { IfOk result (λ b. commit_from b.items ≡ Some (record { tree = tree.0; parents = parent_of parent; letter = (head_value head.now).letter })) }
+    ensures body { IfOk result (λ b. b.items ≡ commit_body
+        (record { tree = tree.0; parents = parent_of parent; letter = (head_value head.now).letter })) }
+    ensures read_back { IfOk result (λ b. commit_from b.items ≡ Some
+        (record { tree = tree.0; parents = parent_of parent; letter = (head_value head.now).letter })) }
 {
     let mut parents = Vec::new(alloc);
     if let Some(name) = parent {
@@ -194,14 +201,16 @@ pub fn put_commit(
     parent: Option<Name>,
     head: &CommitHead<'_>,
 ) -> Result<Name, ReplayFault>
-    requires tree { has Tree (newest store.old) tree.0 ≡ true }
-    requires parent { IfSome parent (λ n. has Commit (newest store.old) n.0 ≡ true) }
-    ensures ok { IfOk result (λ n. IsSnapshot (newest store.new) n.0
-        (record { tree = flat (newest store.old) tree.0; parents = parent_of parent; letter = (head_value head.now).letter })) }
-    ensures err { IfErr result (IsPutFault (IsOnlyCommit (flat (newest store.old) tree.0) (parent_of parent) (head_value head.now).letter) (newest store.new)) }
-    ensures store { IsGrownBy (IsOnlyCommit (flat (newest store.old) tree.0) (parent_of parent) (head_value head.now).letter) (newest store.old) (newest store.new) }
+    requires tree { has Tree store.old tree.0 ≡ true }
+    requires parent { IfSome parent (λ n. has Commit store.old n.0 ≡ true) }
+    ensures ok { IfOk result (λ n. IsSnapshot store.new n.0
+        (record { tree = flat store.old tree.0; parents = parent_of parent; letter = (head_value head.now).letter })) }
+    ensures err { IfErr result (IsPutFault (IsOnlyCommit (flat store.old tree.0) (parent_of parent)
+        (head_value head.now).letter) store.new) }
+    ensures store { IsGrownBy (IsOnlyCommit (flat store.old tree.0) (parent_of parent)
+        (head_value head.now).letter) store.old store.new }
 {
-    // Every outcome rests on what the store keeps.
+    // The store is looked at so that the proof has what each store keeps.
     let _ = store.get(&tree);
     match body_of(alloc, tree, parent, head) {
         Err(_) => Err(ReplayFault::OutOfMemory),
@@ -221,15 +230,21 @@ fn put_small(
     small: &SmallCommit<'_>,
     blobs: &mut Vec<Name>,
 ) -> Result<(Name, Name), ReplayFault>
-    requires tree { has Tree (newest store.old) tree.0 ≡ true }
-    requires parent { IfSome parent (λ n. has Commit (newest store.old) n.0 ≡ true) }
-    ensures tree { IfOk result (λ r. StandsFor (newest store.new) r.0.0 (with_changes (flat (newest store.old) tree.0) (small_value small.now).changes)) }
-    ensures commit { IfOk result (λ r. IsSnapshot (newest store.new) r.1.0 (snapshot (flat (newest store.old) tree.0) (parent_of parent) (small_value small.now))) }
-    ensures small { OnOk result (are_small (trees_within (flat (newest store.old) tree.0) (small_value small.now).changes) ≡ true) }
-    ensures blobs { OnOk result (AddsBlobs (newest store.new) blobs.old.items blobs.new.items (contents_in (small_value small.now).changes)) }
-    ensures err { IfErr result (IsFilesFault (IsMadeBy (flat (newest store.old) tree.0) (parent_of parent) (small_value small.now ∷ [])) (newest store.new)
-        (trees_within (flat (newest store.old) tree.0) (small_value small.now).changes)) }
-    ensures store { IsGrownBy (IsMadeBy (flat (newest store.old) tree.0) (parent_of parent) (small_value small.now ∷ [])) (newest store.old) (newest store.new) }
+    requires tree { has Tree store.old tree.0 ≡ true }
+    requires parent { IfSome parent (λ n. has Commit store.old n.0 ≡ true) }
+    ensures tree { IfOk result (λ r. StandsFor store.new r.0.0 (with_changes (flat store.old tree.0)
+        (small_value small.now).changes)) }
+    ensures commit { IfOk result (λ r. IsSnapshot store.new r.1.0 (snapshot (flat store.old tree.0)
+        (parent_of parent) (small_value small.now))) }
+    ensures small { OnOk result (are_small (trees_within (flat store.old tree.0) (small_value small.now).changes)
+        ≡ true) }
+    ensures blobs { OnOk result (AddsBlobs store.new blobs.old.items blobs.new.items (contents_in
+        (small_value small.now).changes)) }
+    ensures err { IfErr result (IsFilesFault (IsMadeBy (flat store.old tree.0) (parent_of parent)
+        (small_value small.now ∷ [])) store.new
+        (trees_within (flat store.old tree.0) (small_value small.now).changes)) }
+    ensures store { IsGrownBy (IsMadeBy (flat store.old tree.0) (parent_of parent) (small_value small.now
+        ∷ [])) store.old store.new }
 {
     match put_files(alloc, store, tree, &small.rows, blobs) {
         Err(fault) => Err(fault),
@@ -248,13 +263,16 @@ fn replay(
     parent: Option<Name>,
     stream: &[SmallCommit<'_>],
 ) -> Result<Replayed, ReplayFault>
-    requires tree { has Tree (newest store.old) tree.0 ≡ true }
-    requires parent { IfSome parent (λ n. has Commit (newest store.old) n.0 ≡ true) }
-    ensures ok { IfOk result (IsReplayed (newest store.new) (flat (newest store.old) tree.0) (parent_of parent) (map small_value stream.now)) }
-    ensures err { IfErr result (IsReplayFault (newest store.new) (flat (newest store.old) tree.0) (parent_of parent) (map small_value stream.now)) }
-    ensures store { IsGrownBy (IsMadeBy (flat (newest store.old) tree.0) (parent_of parent) (map small_value stream.now)) (newest store.old) (newest store.new) }
+    requires tree { has Tree store.old tree.0 ≡ true }
+    requires parent { IfSome parent (λ n. has Commit store.old n.0 ≡ true) }
+    ensures ok { IfOk result (IsReplayed store.new (flat store.old tree.0) (parent_of parent)
+        (map small_value stream.now)) }
+    ensures err { IfErr result (IsReplayFault store.new (flat store.old tree.0) (parent_of parent)
+        (map small_value stream.now)) }
+    ensures store { IsGrownBy (IsMadeBy (flat store.old tree.0) (parent_of parent)
+        (map small_value stream.now)) store.old store.new }
 {
-    // Every outcome rests on what the store keeps.
+    // The store is looked at so that the proof has what each store keeps.
     let _ = store.get(&tree);
     let mut replayed = Replayed {
         blobs: Vec::new(alloc),
@@ -281,9 +299,9 @@ fn replay(
 
 /// The tree of a commit of the store.
 pub fn tree_of(store: &Store, name: &Name) -> Name
-    requires { has Commit (newest store.now) name.now.0 ≡ true }
-    ensures held { has Tree (newest store.now) result.0 ≡ true }
-    ensures tree { base_tree (newest store.now) (Some name.now) ≡ flat (newest store.now) result.0 }
+    requires { has Commit store.now name.now.0 ≡ true }
+    ensures held { has Tree store.now result.0 ≡ true }
+    ensures tree { base_tree store.now (Some name.now) ≡ flat store.now result.0 }
 {
     match store.get(name) {
         None => unreachable!(),
@@ -294,15 +312,15 @@ pub fn tree_of(store: &Store, name: &Name) -> Name
     }
 }
 
-// The same upon nothing.
+// Replays a stream whose first commit has no parent.
 fn replay_anew(
     alloc: Global,
     store: &mut Store,
     stream: &[SmallCommit<'_>],
 ) -> Result<Replayed, ReplayFault>
-    ensures ok { IfOk result (IsReplayed (newest store.new) [] [] (map small_value stream.now)) }
-    ensures err { IfErr result (IsReplayFault (newest store.new) [] [] (map small_value stream.now)) }
-    ensures store { IsGrownBy (IsMadeBy [] [] (map small_value stream.now)) (newest store.old) (newest store.new) }
+    ensures ok { IfOk result (IsReplayed store.new [] [] (map small_value stream.now)) }
+    ensures err { IfErr result (IsReplayFault store.new [] [] (map small_value stream.now)) }
+    ensures store { IsGrownBy (IsMadeBy [] [] (map small_value stream.now)) store.old store.new }
 {
     match put(store, Kind::Tree, &[]) {
         Err(fault) => Err(fault),
@@ -320,10 +338,13 @@ pub fn replay_upon(
     head: Option<Name>,
     stream: &[SmallCommit<'_>],
 ) -> Result<Replayed, ReplayFault>
-    requires { IfSome head (λ n. has Commit (newest store.old) n.0 ≡ true) }
-    ensures ok { IfOk result (IsReplayed (newest store.new) (base_tree (newest store.old) head) (parent_of head) (map small_value stream.now)) }
-    ensures err { IfErr result (IsReplayFault (newest store.new) (base_tree (newest store.old) head) (parent_of head) (map small_value stream.now)) }
-    ensures store { IsGrownBy (IsMadeBy (base_tree (newest store.old) head) (parent_of head) (map small_value stream.now)) (newest store.old) (newest store.new) }
+    requires { IfSome head (λ n. has Commit store.old n.0 ≡ true) }
+    ensures ok { IfOk result (IsReplayed store.new (base_tree store.old head) (parent_of head)
+        (map small_value stream.now)) }
+    ensures err { IfErr result (IsReplayFault store.new (base_tree store.old head) (parent_of head)
+        (map small_value stream.now)) }
+    ensures store { IsGrownBy (IsMadeBy (base_tree store.old head) (parent_of head)
+        (map small_value stream.now)) store.old store.new }
 {
     match head {
         None => replay_anew(alloc, store, stream),

@@ -1,15 +1,18 @@
-// Reading small streams: commits on one ref whose changes are files with their bytes (the format of git-fast-import(1)).
+// Reading small streams: commits on one ref whose changes are files with their bytes (the format of
+// git-fast-import(1)).
 ghost use Rattle.std.specs.Prelude.{◌≡◌, ◌==◌, IfOk, ◌≤◌, length, map, position};
 ghost use Rattle.std.specs.List.{list_all, prefix_len};
 ghost use Rattle.std.specs.Option.{option_map};
 ghost use Rattle.git_objects.specs.Idents.{cut_at};
 ghost use Rattle.git_objects.specs.Parts.{name_bytes};
-ghost use Rattle.small_streams.specs.Streams.{word_line, skip_lf, skip_lfs, block, data_block, plain_path, change, changes, ref_line, ident_line, parent_name, from_line, message, head, small, smalls, follows, are_in_line, stream};
-ghost use Rattle.small_streams.specs.Views.{texts, change_read, changes_read, value_read, from_read, message_read, head_read, small_read, small_value, smalls_read};
+ghost use Rattle.small_streams.specs.Streams.{word_line, skip_lf, skip_lfs, block, data_block, plain_path, change};
+ghost use Rattle.small_streams.specs.Streams.{changes, ref_line, ident_line, parent_name, from_line, message, head};
+ghost use Rattle.small_streams.specs.Streams.{small, smalls, follows, are_in_line, stream};
+ghost use Rattle.small_streams.specs.Views.{texts, change_read, changes_read, value_read, from_read, message_read};
+ghost use Rattle.small_streams.specs.Views.{head_read, small_read, small_value, smalls_read};
 
-use crate::texts::{number, path_in, strip};
 use git_objects::{Ident, IdentFault, Name};
-use path_names::{Path, RefFault, RefName};
+use path_names::{Path, RefFault, RefName, number, path_in, strip};
 use std::alloc::{AllocError, Global};
 
 /// A file: its path, and its bytes where the input holds them.
@@ -58,7 +61,7 @@ fn skip_lf(text: &[u8]) -> &[u8]
     }
 }
 
-// So many bytes, without an LF that follows them.
+// The first `count` bytes of a text, and what follows them and one LF.
 fn block(size: u64, text: &[u8]) -> Option<(&[u8], &[u8])>
     ensures { texts result ≡ block size text.now }
 {
@@ -118,7 +121,7 @@ fn lfs(text: &[u8]) -> usize
     text.iter().take_while(|x| **x == b'\n').count()
 }
 
-// Without the LF bytes in front.
+// The text without the LF bytes in front.
 fn skip_lfs(text: &[u8]) -> &[u8]
     ensures { result.now ≡ skip_lfs text.now }
 {

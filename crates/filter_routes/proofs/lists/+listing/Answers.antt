@@ -3,8 +3,8 @@ use Rattle.filter_text.specs.Filters as plain
 use Rattle.filter_text.specs.Shapes.{shape, shapes}
 use Rattle.filter_text.proofs.RowLists.{shape-join, shape-chain}
 use Rattle.filter_text.specs.declared.filter.Filter.TheViews.{the_lemmas}
-use Rattle.filter_routes.specs.Entries.{at, below}
-use Rattle.filter_routes.specs.Operations.{after_left}
+use Rattle.decision_lists.specs.Entries.{at, below}
+use Rattle.decision_lists.specs.Operations.{after_left}
 use Rattle.filter_routes.specs.Lists.{Listed, entries_of}
 use Rattle.filter_routes.proofs.Admitting.{listed-dir, listed-file, listed-exclude, chain-member, chain-more, join-member, join-grown, Grown}
 use Rattle.filter_routes.proofs.Members.{members-split, members-next}
@@ -72,7 +72,7 @@ list_of_chain-loop-m-preserved t c =
     let a = c.args.apart in
     subst (λ fs. Listed a (plain.chain fs) (Some c.in_ok-list-in-Some.list.items)) (sym (members-next ms i m c.loop-m-test.true c.m-item.is))
     (subst (λ es. Listed a (plain.chain (plain.append (shapes (take i ms)) (plain.only (shape m)))) (Some es))
-    (sym (c.in_ok-list-in-Some.ensures ∙ ap (after_left c.loop-m.list.items) c.as_slice.ensures.value))
+    (sym (c.in_ok-list-in-Some.ensures.list ∙ ap (after_left c.loop-m.list.items) c.as_slice.ensures.value))
     (chain-more a (shapes (take i ms)) (shape m) c.loop-m.list.items c.in-Some.next.items c.loop-m.invariant
     (subst (λ o. Listed a (shape m) (entries_of o)) c.in-Some.is c.in_ok-list_of.ensures)))
 

@@ -1,8 +1,11 @@
 use Rattle.std.proofs.Common.{sym, subst}
 use Rattle.filter_text.specs.Shapes.{shapes}
 use Rattle.filter_routes.specs.Searching.{AreListsOf, FirstClash}
-use Rattle.filter_routes.proofs.Finding.{none-clash, first-clash}
+use Rattle.filter_routes.proofs.Finding.{none-clash, first-clash, few-apart}
 use Rattle.filter_routes.proofs.search.are_apart.Goals as goal
+
+pub returns-then-members-lt2-clause-apart : goal.returns-then-members-lt2-clause-apart
+returns-then-members-lt2-clause-apart c = few-apart c.args.members.now c.if-members-lt2.true
 
 pub returns-in-None-clause-apart : goal.returns-in-None-clause-apart
 returns-in-None-clause-apart c =

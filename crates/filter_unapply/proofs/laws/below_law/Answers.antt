@@ -1,5 +1,5 @@
 use Rattle.std.proofs.Common.{◌≡◌, sym, ◌∙◌, Some, None}
-use Rattle.filter_unapply.specs.Lenses.{below}
+use Rattle.filter_unapply.specs.Laying.{below}
 use Rattle.filter_unapply.specs.Laying.{pre, first_lost, first_blocked}
 use Rattle.filter_unapply.proofs.Outcomes.{lost_of}
 use Rattle.filter_unapply.proofs.Places.{none_lost_below}

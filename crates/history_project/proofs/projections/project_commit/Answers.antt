@@ -7,7 +7,7 @@ use Rattle.git_objects.specs.Paths.{Bytes}
 use Rattle.git_objects.specs.Trees.{under}
 use Rattle.git_objects.specs.Commits.{Commit}
 use Rattle.git_objects.specs.declared.kind.Kind.TheVariants.{Tree}
-use Rattle.object_store.specs.Errors.{newest, object_value}
+use Rattle.object_store.specs.Errors.{object_value}
 use Rattle.object_store.specs.Objects.{has}
 use Rattle.object_store.specs.Unfolding.{flat}
 use Rattle.history_project.specs.Projection as projections
@@ -19,29 +19,29 @@ use Rattle.history_project.proofs.HeldCommits.{never-none, never-unread, view-he
 use Rattle.history_project.proofs.projections.project_commit.Goals as goal
 
 pub unreachable-requires : goal.unreachable-requires
-unreachable-requires c = never-none (newest c.args.store.now) c.args.name.now.0 c.in_default.ensures.store c.requires c.in_default.ensures.object
+unreachable-requires c = never-none c.args.store.now c.args.name.now.0 c.in_default.ensures.store c.requires c.in_default.ensures.object
 
 pub unreachable-requires-in_default-of : goal.unreachable-requires-in_default-of
 unreachable-requires-in_default-of c =
-    never-unread (newest c.args.store.now) c.args.name.now.0 (object_value c.in-Some.object) c.in-Some.ensures.store c.requires c.in-Some.ensures.object c.in_default-of.ensures.commit
+    never-unread c.args.store.now c.args.name.now.0 (object_value c.in-Some.object) c.in-Some.ensures.store c.requires c.in-Some.ensures.object c.in_default-of.ensures.commit
 
 pub shown_tree-tree-requires-clause-tree : goal.shown_tree-tree-requires-clause-tree
 shown_tree-tree-requires-clause-tree c =
-    let S = newest c.args.store.now in
+    let S = c.args.store.now in
     ap (λ (n : Bytes). has Tree S n) c.tree.ensures
     ∙ (view-held S c.args.name.now.0 (object_value c.in-Some.object) c.in-Some-of.commit c.in-Some.ensures.store c.requires c.in-Some.ensures.object c.in-Some-of.ensures.commit).tree
 
 pub projected-requires-clause-author : goal.projected-requires-clause-author
 projected-requires-clause-author c =
-    (view-held (newest c.args.store.now) c.args.name.now.0 (object_value c.in-Some.object) c.in-Some-of.commit c.in-Some.ensures.store c.requires c.in-Some.ensures.object c.in-Some-of.ensures.commit).spelled.author
+    (view-held c.args.store.now c.args.name.now.0 (object_value c.in-Some.object) c.in-Some-of.commit c.in-Some.ensures.store c.requires c.in-Some.ensures.object c.in-Some-of.ensures.commit).spelled.author
 
 pub projected-requires-clause-committer : goal.projected-requires-clause-committer
 projected-requires-clause-committer c =
-    (view-held (newest c.args.store.now) c.args.name.now.0 (object_value c.in-Some.object) c.in-Some-of.commit c.in-Some.ensures.store c.requires c.in-Some.ensures.object c.in-Some-of.ensures.commit).spelled.committer
+    (view-held c.args.store.now c.args.name.now.0 (object_value c.in-Some.object) c.in-Some-of.commit c.in-Some.ensures.store c.requires c.in-Some.ensures.object c.in-Some-of.ensures.commit).spelled.committer
 
 pub returns-clause-shown : goal.returns-clause-shown
 returns-clause-shown c = λ (d : Commit) e.
-    let S = newest c.args.store.now in
+    let S = c.args.store.now in
     let place = c.args.place.now in
     let v = c.in-Some-of.commit in
     let found = kept c.args.made.now.entries in

@@ -3,7 +3,6 @@ use Rattle.std.proofs.lemmas.List.{take_more}
 use Rattle.indexmap.specs.IndexMap.{insert_entry}
 use Rattle.git_objects.specs.declared.kind.Kind.TheVariants.{Commit}
 use Rattle.git_objects.specs.declared.name.Name.{Name}
-use Rattle.object_store.specs.Errors.{newest}
 use Rattle.object_store.specs.Objects.{has}
 use Rattle.history_project.specs.declared.projections.Shown.{Shown}
 use Rattle.history_project.proofs.Gathering.{is_key}
@@ -15,12 +14,12 @@ nameless = record { 0 = [] }
 
 pub project_commit-requires : goal.project_commit-requires
 unfolding nameless
-project_commit-requires c = each-held (has Commit (newest c.args.store.now)) c.args.commits.now c.loop-name.name-index nameless c.loop-name-test.true c.requires
+project_commit-requires c = each-held (has Commit c.args.store.now) c.args.commits.now c.loop-name.name-index nameless c.loop-name-test.true c.requires
 
 pub loop-name-preserved : goal.loop-name-preserved
 unfolding nameless
 loop-name-preserved c =
-    let S = newest c.args.store.now in
+    let S = c.args.store.now in
     let place = c.args.place.now in
     let commits = c.args.commits.now in
     let i = c.loop-name.name-index in

@@ -4,7 +4,6 @@ use Rattle.std.specs.Option.{is_some}
 use Rattle.git_objects.specs.Paths.{Path}
 use Rattle.git_objects.specs.Trees.{rests}
 use Rattle.git_objects.specs.declared.entry.Entry.{Entry}
-use Rattle.object_store.specs.Errors.{newest}
 use Rattle.path_trees.specs.Standing.{node}
 use Rattle.path_trees.specs.Walked.{IsStep, behind, left_in, placed_leaf, walked}
 use Rattle.path_trees.specs.declared.found.Leaf.{Leaf as FoundLeaf}
@@ -15,7 +14,7 @@ use Rattle.path_trees.proofs.clash.first_path.Goals as goal
 
 pub next_leaf-requires-clause-levels : goal.next_leaf-requires-clause-levels
 next_leaf-requires-clause-levels c =
-    let S = newest c.args.store.now in
+    let S = c.args.store.now in
     let held = tree_held S c.args.found.now.mode c.args.found.now.name.0 (sym c.if-not-is_dir.ensures) c.requires.held in
     let g = listed_good S c.args.found.now.name.0 c.entries_at.result c.entries_at.ensures.store held c.entries_at.ensures.listed in
     let items : c.push.new.self.items ≡ [] ++ c.entries_at.result ∷ [] = c.in_ok-push.ensures.items ∙ ap (λ (ls : List (List Entry)). ls ++ c.entries_at.result ∷ []) c.new-levels.ensures.items in
@@ -23,7 +22,7 @@ next_leaf-requires-clause-levels c =
 
 pub unreachable-requires : goal.unreachable-requires
 unreachable-requires c =
-    let S = newest c.args.store.now in
+    let S = c.args.store.now in
     let held = tree_held S c.args.found.now.mode c.args.found.now.name.0 (sym c.if-not-is_dir.ensures) c.requires.held in
     let g = listed_good S c.args.found.now.name.0 c.entries_at.result c.entries_at.ensures.store held c.entries_at.ensures.listed in
     let items : c.push.new.self.items ≡ [] ++ c.entries_at.result ∷ [] = c.in_ok-push.ensures.items ∙ ap (λ (ls : List (List Entry)). ls ++ c.entries_at.result ∷ []) c.new-levels.ensures.items in
@@ -37,7 +36,7 @@ unreachable-requires c =
 
 pub returns : goal.returns
 returns c =
-    let S = newest c.args.store.now in
+    let S = c.args.store.now in
     let held = tree_held S c.args.found.now.mode c.args.found.now.name.0 (sym c.if-not-is_dir.ensures) c.requires.held in
     let g = listed_good S c.args.found.now.name.0 c.entries_at.result c.entries_at.ensures.store held c.entries_at.ensures.listed in
     let items : c.push.new.self.items ≡ [] ++ c.entries_at.result ∷ [] = c.in_ok-push.ensures.items ∙ ap (λ (ls : List (List Entry)). ls ++ c.entries_at.result ∷ []) c.new-levels.ensures.items in

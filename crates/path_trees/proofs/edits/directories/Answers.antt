@@ -1,6 +1,5 @@
 use Rattle.std.proofs.Common.{◌≡◌, length, List, ap, sym, subst, arith}
 use Rattle.git_objects.specs.declared.name.Name.{Name}
-use Rattle.object_store.specs.Errors.{newest}
 use Rattle.object_store.specs.Unfolding.{flat}
 use Rattle.object_store.proofs.Unfolding.{flat_good}
 use Rattle.path_trees.proofs.Directories.{IsSoFar, at_first, one_more, last_one}
@@ -9,13 +8,13 @@ use Rattle.path_trees.proofs.edits.directories.Goals as goal
 
 pub loop-component-init : goal.loop-component-init
 loop-component-init c =
-    let S = newest c.args.store.now in
+    let S = c.args.store.now in
     subst (λ (names : List Name). IsSoFar S (flat S c.args.root.0) c.args.path.now names 0 c.args.root) (sym c.new-directories.ensures.items)
     (at_first S c.args.root c.args.path.now c.get.ensures.store c.requires)
 
 pub returns-in-None-clause-names : goal.returns-in-None-clause-names
 returns-in-None-clause-names c =
-    let S = newest c.args.store.now in
+    let S = c.args.store.now in
     let same = c.components-component-items.ensures.components in
     let n : length c.components-component-items.result.now ≡ length c.args.path.now = ap length same in
     last_one S c.get.ensures.store (flat S c.args.root.0) (flat_good S c.get.ensures.store c.args.root.0 c.requires).tree c.args.path.now c.loop-component.directories.items c.loop-component.component-index c.loop-component.directory
@@ -25,7 +24,7 @@ returns-in-None-clause-names c =
 
 pub loop-component-preserved : goal.loop-component-preserved
 loop-component-preserved c =
-    let S = newest c.args.store.now in
+    let S = c.args.store.now in
     let same = c.components-component-items.ensures.components in
     let n : length c.components-component-items.result.now ≡ length c.args.path.now = ap length same in
     one_more S c.get.ensures.store (flat S c.args.root.0) (flat_good S c.get.ensures.store c.args.root.0 c.requires).tree c.args.path.now c.loop-component.directories.items c.loop-component.component-index c.loop-component.directory

@@ -1,7 +1,6 @@
 use Rattle.std.proofs.Common.{◌≡◌, true, false, [], Option, Some, None, refl, ap, sym, ◌∙◌}
 use Rattle.std.specs.Option.{is_none, is_some, option_map}
 use Rattle.git_objects.specs.Trees.{Node}
-use Rattle.object_store.specs.Errors.{newest}
 use Rattle.object_store.specs.Unfolding.{flat}
 use Rattle.object_store.proofs.Unfolding.{flat_good}
 use Rattle.path_trees.specs.Standing.{node}
@@ -19,7 +18,7 @@ nothing f (Some x) h = cc
 
 pub returns-then-is_none-clause-ok : goal.returns-then-is_none-clause-ok
 returns-then-is_none-clause-ok c =
-    let S = newest c.args.store.now in
+    let S = c.args.store.now in
     record {
       held = c.requires;
       map = sym (remove_nothing (flat S c.args.root.0) c.args.path.now (flat_good S c.get.ensures.store c.args.root.0 c.requires).tree
@@ -31,6 +30,6 @@ returns-then-is_none-clause-store c = record { store = c.get.ensures.store; newe
 
 pub edited-requires-clause-clear : goal.edited-requires-clause-clear
 edited-requires-clause-clear c =
-    let S = newest c.args.store.now in
+    let S = c.args.store.now in
     clear_way (flat S c.args.root.0) c.args.path.now (flat_good S c.get.ensures.store c.args.root.0 c.requires).tree
     (ap is_none (sym c.entry_at.ensures.found) ∙ something (node S) c.entry_at.result c.if-is_none.ensures)

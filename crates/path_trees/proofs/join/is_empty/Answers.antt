@@ -5,7 +5,6 @@ use Rattle.git_objects.specs.Paths.{is_nil}
 use Rattle.git_objects.specs.Trees.{Flat, rests}
 use Rattle.git_objects.specs.Views.{entry_value}
 use Rattle.git_objects.specs.declared.entry.Entry.{Entry}
-use Rattle.object_store.specs.Errors.{newest}
 use Rattle.object_store.specs.Objects.{Object, IsStore}
 use Rattle.object_store.specs.Unfolding.{below}
 use Rattle.object_store.proofs.Unfolding.{IsFull, AreHeld, node}
@@ -34,6 +33,6 @@ unmapped f (Some x) = refl
 
 pub returns-clause-empty : goal.returns-clause-empty
 returns-clause-empty c =
-    let S = newest c.args.store.now in
+    let S = c.args.store.now in
     let g = listed_good S c.args.name.now.0 c.entries_at.result c.entries_at.ensures.store c.requires c.entries_at.ensures.listed in
     told c.next.result c.is_none.result c.is_none.ensures ∙ unmapped entry_value c.next.result ∙ ap is_none c.next.ensures.entry ∙ no_path S c.entries_at.ensures.store c.entries_at.result g.0.held ∙ ap is_nil (sym g.1)

@@ -1,7 +1,6 @@
 use Rattle.std.proofs.Common.{[], refl, sym, ap, ◌∙◌}
 use Rattle.git_objects.specs.Paths.{is_nil}
 use Rattle.git_objects.specs.Trees.{Flat}
-use Rattle.object_store.specs.Errors.{newest}
 use Rattle.object_store.specs.Unfolding.{flat}
 use Rattle.object_store.proofs.Unfolding.{flat_good}
 use Rattle.path_trees.specs.Clashes.{clash, together}
@@ -17,7 +16,7 @@ returns-in-Ok-Some-clause-store c = record { store = c.get.ensures.store; newer 
 
 pub returns-then-is_empty-clause-ok : goal.returns-then-is_empty-clause-ok
 returns-then-is_empty-clause-ok c =
-    let S = newest c.args.store.now in
+    let S = c.args.store.now in
     let B = flat S c.args.b.0 in (
       sym c.in-Ok-None.ensures ∙ c.in-Ok-None.field-0-is,
       record { held = c.requires.second; map = sym (ap (λ (t : Flat). together t B) (no_path (flat S c.args.a.0) c.if-is_empty.ensures.empty) ∙ nothing_together B) },
@@ -25,7 +24,7 @@ returns-then-is_empty-clause-ok c =
 
 pub returns-then-is_empty-2-clause-ok : goal.returns-then-is_empty-2-clause-ok
 returns-then-is_empty-2-clause-ok c =
-    let S = newest c.args.store.now in
+    let S = c.args.store.now in
     let A = flat S c.args.a.0 in (
       sym c.in-Ok-None.ensures ∙ c.in-Ok-None.field-0-is,
       record { held = c.requires.first; map = sym (ap (together A) (no_path (flat S c.args.b.0) c.if-is_empty-2.ensures.empty) ∙ together_nothing A (flat_good S c.get.ensures.store c.args.a.0 c.requires.first).tree) },
@@ -33,7 +32,7 @@ returns-then-is_empty-2-clause-ok c =
 
 pub joined-requires-clause-roots : goal.joined-requires-clause-roots
 joined-requires-clause-roots c =
-    let S = newest c.args.store.now in
+    let S = c.args.store.now in
     let a = under_nil (flat S c.args.a.0) (flat_good S c.get.ensures.store c.args.a.0 c.requires.first).tree in
     let b = under_nil (flat S c.args.b.0) (flat_good S c.get.ensures.store c.args.b.0 c.requires.second).tree in
     record {

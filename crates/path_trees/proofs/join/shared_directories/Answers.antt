@@ -1,6 +1,5 @@
 use Rattle.std.proofs.Common.{◌≡◌, List, [], ◌∷◌, ◌++◌, length, get_or, Some, sym, ap, ◌∙◌, subst, arith}
 use Rattle.std.specs.Prelude.{slice_get}
-use Rattle.object_store.specs.Errors.{newest}
 use Rattle.object_store.specs.Unfolding.{flat}
 use Rattle.object_store.proofs.Unfolding.{flat_good}
 use Rattle.path_trees.specs.declared.join.Shared.{Shared}
@@ -9,7 +8,7 @@ use Rattle.path_trees.proofs.join.shared_directories.Goals as goal
 
 pub directories-init : goal.directories-init
 directories-init c =
-    let S = newest c.args.store.now in
+    let S = c.args.store.now in
     let root : Shared = record { left = c.args.a; right = c.args.b } in
     let items : c.push.new.self.items ≡ root ∷ [] = c.in_ok-push.ensures.items ∙ ap (λ (x : List Shared). x ++ root ∷ []) c.new-directories.ensures.items in
     subst (λ (x : List Shared). AreOpened S (flat S c.args.a.0) (flat S c.args.b.0) root x c.new-firsts.result.items) (sym items)
@@ -17,7 +16,7 @@ directories-init c =
 
 pub add_shared-requires-clause-left : goal.add_shared-requires-clause-left
 add_shared-requires-clause-left c =
-    let S = newest c.args.store.now in
+    let S = c.args.store.now in
     let s = c.get.ensures.store in
     let root : Shared = record { left = c.args.a; right = c.args.b } in
     let same : c.len-in-directories-2.result ≡ length c.directories.firsts.items = omega arith in
@@ -27,7 +26,7 @@ add_shared-requires-clause-left c =
 
 pub add_shared-requires-clause-right : goal.add_shared-requires-clause-right
 add_shared-requires-clause-right c =
-    let S = newest c.args.store.now in
+    let S = c.args.store.now in
     let s = c.get.ensures.store in
     let root : Shared = record { left = c.args.a; right = c.args.b } in
     let same : c.len-in-directories-2.result ≡ length c.directories.firsts.items = omega arith in
@@ -37,7 +36,7 @@ add_shared-requires-clause-right c =
 
 pub directories-smaller : goal.directories-smaller
 directories-smaller c =
-    let S = newest c.args.store.now in
+    let S = c.args.store.now in
     let s = c.get.ensures.store in
     let root : Shared = record { left = c.args.a; right = c.args.b } in
     let same : c.len-in-directories-2.result ≡ length c.directories.firsts.items = omega arith in
@@ -48,7 +47,7 @@ directories-smaller c =
 
 pub directories-preserved : goal.directories-preserved
 directories-preserved c =
-    let S = newest c.args.store.now in
+    let S = c.args.store.now in
     let s = c.get.ensures.store in
     let root : Shared = record { left = c.args.a; right = c.args.b } in
     let same : c.len-in-directories-2.result ≡ length c.directories.firsts.items = omega arith in
@@ -59,5 +58,5 @@ directories-preserved c =
 
 pub returns-clause-all : goal.returns-clause-all
 returns-clause-all c =
-    let S = newest c.args.store.now in
+    let S = c.args.store.now in
     all_opened S (flat S c.args.a.0) (flat S c.args.b.0) (record { left = c.args.a; right = c.args.b }) c.directories.directories.items c.directories.firsts.items c.directories.invariant (omega arith)

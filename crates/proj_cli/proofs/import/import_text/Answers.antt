@@ -1,5 +1,4 @@
 use Rattle.std.proofs.Common.{List, Option, map, Some, Err, ◌≡◌, ap, sym, subst, ◌∙◌}
-use Rattle.object_store.specs.Errors.{newest}
 use Rattle.git_objects.specs.Paths.{Bytes}
 use Rattle.proj_io.specs.Views.{keeper_view}
 use Rattle.repo_state.specs.Changes.{IsCurrent, IsWithin}
@@ -32,7 +31,7 @@ returns-in-Ok-clause-made g c = λ (items : List Bytes) current.
     let seen = keeper_view g.K.Keeper.items g.K.Keeper.number g.K.Keeper.faults in
     let is : Some ss ≡ stream c.args.text.now = ap (λ (v : List SmallCommit). Some (map small_value v)) c.deref.ensures.value ∙ ap smalls_read (sym c.in-Ok-Some.field-0-is) ∙ c.in-Ok-Some.ensures in
     let now : g.K.Keeper.items c.args.store.now ≡ Some items → IsCurrent items after = λ e. current_same c.args.state after items c.prepare_import.ensures.same (current e) in
-    let fits : g.K.Keeper.items c.args.store.now ≡ Some items → IsCurrent items after × IsWithin (newest after.objects) after.held.objects (change_of c.in-Ok.prepared.batch) =
+    let fits : g.K.Keeper.items c.args.store.now ≡ Some items → IsCurrent items after × IsWithin after.objects after.held.objects (change_of c.in-Ok.prepared.batch) =
     λ e. (now e, c.in-Ok.ensures.fits items c.args.text.now (now e).held c.requires.short (sym is)) in
     subst (λ (o : Option (List Small)). IsMadeFrom (IsStreamInHand h o) (import_stream h (room_in c.args.state) o) items (seen c.args.store.now) (seen c.save.new.store) c.save.result) is
     (more_made (IsInImport h ss) (import_smalls h (room_in c.args.state) ss) items (seen c.args.store.now) (seen c.save.new.store) c.save.result

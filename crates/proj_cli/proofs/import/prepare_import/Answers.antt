@@ -1,7 +1,6 @@
 use Rattle.std.proofs.Common.{◌⊎◌, inr, map, ap, sym, subst, refl, ◌∙◌}
 use Rattle.std.specs.Prelude.{Contains}
 use Rattle.git_objects.specs.declared.name.Name.{Name}
-use Rattle.object_store.specs.Errors.{newest}
 use Rattle.object_store.specs.Objects.{Object}
 use Rattle.proj_cli.specs.Answer.{IsInImport, IsTwice}
 use Rattle.proj_cli.specs.Prepared.{room_in}
@@ -31,7 +30,7 @@ returns-in-Err-TooManyFiles-clause-err c =
     let h = c.args.state.now.held in
     let s =
     too-many h (room_in c.args.state.now) c.args.smalls.now c.in-Some.first.now c.head-head.result c.in-Some.ensures.value c.head-head.ensures.head (sym c.is_same_name.ensures ∙ c.if-not-is_same_name.false) c.replay_stream.ensures.base
-    (subst (IsReplayFault (newest c.replay_stream.new.state.objects) (base_tree h.objects c.head-head.result) (parent_of c.head-head.result) (map small_value c.args.smalls.now)) c.in-Err-TooManyFiles.field-0-is c.in-Err-TooManyFiles.ensures.err) in
+    (subst (IsReplayFault c.replay_stream.new.state.objects (base_tree h.objects c.head-head.result) (parent_of c.head-head.result) (map small_value c.args.smalls.now)) c.in-Err-TooManyFiles.field-0-is c.in-Err-TooManyFiles.ensures.err) in
     (ap (λ (x : Step). x.outcome) s, (λ e. cc), (λ e. cc))
 
 pub returns-in-Err-Collision-clause-err : goal.returns-in-Err-Collision-clause-err
@@ -39,7 +38,7 @@ returns-in-Err-Collision-clause-err c =
     let h = c.args.state.now.held in
     let ss = map small_value c.args.smalls.now in
     let head = c.head-head.result in
-    let T = newest c.replay_stream.new.state.objects in
+    let T = c.replay_stream.new.state.objects in
     let made : Object → Type 0 = IsMadeBy (base_tree h.objects head) (parent_of head) ss in
     let clash = subst (IsReplayFault T (base_tree h.objects head) (parent_of head) ss) c.in-Err-Collision.field-0-is c.in-Err-Collision.ensures.err in
     let two = twice_upon made h.objects T c.in-Err-Collision.name.0 c.replay_stream.ensures.store clash in

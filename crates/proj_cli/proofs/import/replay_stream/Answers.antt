@@ -5,7 +5,7 @@ use Rattle.repo_state.specs.Items.{held_with}
 use Rattle.repo_state.specs.Loads.{IsStored, Stored}
 use Rattle.repo_state.proofs.Growth.{held-grown, stored-grown}
 use Rattle.history_project.specs.Snapshots.{base_tree}
-use Rattle.history_project.proofs.HeldTrees.{stored-upon}
+use Rattle.proj_cli.proofs.StoredTrees.{stored-upon}
 use Rattle.proj_cli.proofs.import.replay_stream.Goals as goal
 
 pub invariant_of-state : goal.invariant_of-state

@@ -1,6 +1,5 @@
 use Rattle.std.proofs.Common.{List, Option, map, Some, Err, ◌≡◌, ap, sym, subst, ◌∙◌}
 use Rattle.std.specs.Prelude.{IfOk}
-use Rattle.object_store.specs.Errors.{newest}
 use Rattle.git_objects.specs.Paths.{Bytes}
 use Rattle.proj_io.specs.Views.{keeper_view}
 use Rattle.repo_state.specs.Changes.{IsCurrent, IsWithin}
@@ -43,7 +42,7 @@ returns-in-Ok-clause-made g c = λ (items : List Bytes) current.
     let seen = keeper_view g.K.Keeper.items g.K.Keeper.number g.K.Keeper.faults in
     let is : Some ss ≡ stream c.args.text.now = ap (λ (v : List SmallCommit). Some (map small_value v)) c.deref.ensures.value ∙ ap smalls_read (sym c.in-Ok-Some.field-0-is) ∙ c.in-Ok-Some.ensures in
     let now : g.K.Keeper.items c.args.store.now ≡ Some items → IsCurrent items after = λ e. current_same c.args.state after items c.prepare_push.ensures.same (current e) in
-    let fits : g.K.Keeper.items c.args.store.now ≡ Some items → IsCurrent items after × IsWithin (newest after.objects) after.held.objects (change_of c.in-Ok.prepared.batch) =
+    let fits : g.K.Keeper.items c.args.store.now ≡ Some items → IsCurrent items after × IsWithin after.objects after.held.objects (change_of c.in-Ok.prepared.batch) =
     λ e. (now e, c.in-Ok.ensures.fits items c.args.text.now (now e).held c.requires.short (sym is)) in
     subst (λ (o : Option (List Small)). IsMadeFrom (IsPushInHand place h (Some n) o) (push_stream refname place room h n o) items (seen c.args.store.now) (seen c.save.new.store) c.save.result) is
     (more_made (IsSmallsInHand place h n ss) (push_smalls refname place room h n ss) items (seen c.args.store.now) (seen c.save.new.store) c.save.result

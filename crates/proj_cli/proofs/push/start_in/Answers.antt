@@ -1,19 +1,18 @@
 use Rattle.std.proofs.Common.{List, ap, ◌∙◌}
 use Rattle.std.specs.Option.{option_map}
 use Rattle.git_objects.specs.Trees.{under}
-use Rattle.object_store.specs.Errors.{newest}
-use Rattle.repo_state.specs.Repos.{Snapshot}
+use Rattle.git_objects.specs.Snapshots.{Snapshot}
 use Rattle.history_project.specs.Projection.{Shown, projection_below}
 use Rattle.history_project.proofs.AllCommits.{each-held, snapshots-arrived}
 use Rattle.proj_cli.proofs.PushStarts.{tree-here}
 use Rattle.proj_cli.proofs.push.start_in.Goals as goal
 
 pub projection-requires : goal.projection-requires
-projection-requires c = each-held (newest c.args.store.now) _ c.requires.commits
+projection-requires c = each-held c.args.store.now _ c.requires.commits
 
 pub returns-clause-value : goal.returns-clause-value
 returns-clause-value c =
-    let S = newest c.args.store.now in
+    let S = c.args.store.now in
     let place = c.args.place.now in
     let all = snapshots-arrived S _ c.get.ensures.store c.requires.commits in
     let tree = tree-here S c.args.head c.tree_of.result.0 c.get.ensures.store c.requires.head c.tree_of.ensures.tree in

@@ -2,18 +2,17 @@ use Rattle.std.proofs.Common.{List, [], ◌∷◌, drop, get_or, map, subst, ap,
 use Rattle.git_objects.specs.Parts.{name_bytes}
 use Rattle.git_objects.specs.declared.kind.Kind.TheVariants.{Blob}
 use Rattle.git_objects.specs.declared.name.Name.{Name}
-use Rattle.object_store.specs.Errors.{newest}
 use Rattle.object_store.specs.Objects.{Object, has}
 use Rattle.repo_state.specs.Changes.{blob_object}
 use Rattle.repo_state.specs.Growing.{IsStep}
 use Rattle.repo_state.proofs.Grows.{extends-then, step-then}
 use Rattle.repo_state.proofs.StoredCommits.{drop-at, named-at}
-use Rattle.repo_state.proofs.Walks.{find-has}
+use Rattle.object_store.proofs.Parts.{find-has}
 use Rattle.repo_state.proofs.change.hold_blobs.Goals as goal
 
 pub loop-name-preserved : goal.loop-name-preserved
 loop-name-preserved c =
-    let S = newest c.args.store.now in
+    let S = c.args.store.now in
     let names = c.args.names.now in
     let k = c.loop-name.name-index in
     let n : Name = get_or names k (record { 0 = [] }) in

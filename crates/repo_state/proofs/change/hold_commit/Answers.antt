@@ -1,17 +1,17 @@
 use Rattle.std.proofs.Common.{List, [], ◌∷◌, ◌++◌, sym, subst}
 use Rattle.git_objects.specs.declared.kind.Kind.TheVariants.{Commit}
-use Rattle.object_store.specs.Errors.{newest}
 use Rattle.object_store.specs.Objects.{Object}
 use Rattle.repo_state.specs.Growing.{IsReady, IsStep}
 use Rattle.repo_state.specs.StoredObjects.{stored_objects}
 use Rattle.repo_state.proofs.Grows.{ready-front, step-front, step-then}
 use Rattle.repo_state.proofs.StoredCommits.{commit-spelled, commit_at}
-use Rattle.repo_state.proofs.Walks.{find-has, on-ok}
+use Rattle.repo_state.proofs.Walks.{on-ok}
+use Rattle.object_store.proofs.Parts.{find-has}
 use Rattle.repo_state.proofs.change.hold_commit.Goals as goal
 
 pub returns-clause-step : goal.returns-clause-step
 returns-clause-step c =
-    let S = newest c.args.store.now in
+    let S = c.args.store.now in
     let n = c.args.name.0 in
     let old = c.args.held.now.keys in
     let mid = c.hold_tree.new.held.keys in

@@ -3,7 +3,6 @@ use Rattle.std.specs.List.{flat_map}
 use Rattle.git_objects.specs.Parts.{name_bytes}
 use Rattle.git_objects.specs.declared.kind.Kind.TheVariants.{Commit}
 use Rattle.git_objects.specs.declared.name.Name.{Name}
-use Rattle.object_store.specs.Errors.{newest}
 use Rattle.object_store.specs.Objects.{Object, has}
 use Rattle.repo_state.specs.Changes.{commit_objects}
 use Rattle.repo_state.specs.Growing.{IsStep}
@@ -12,11 +11,11 @@ use Rattle.repo_state.proofs.StoredCommits.{drop-at, named-at}
 use Rattle.repo_state.proofs.change.hold_commits.Goals as goal
 
 pub hold_commit-requires : goal.hold_commit-requires
-hold_commit-requires c = named-at (has Commit (newest c.args.store.now)) c.args.names.now c.loop-name.name-index (record { 0 = [] }) c.loop-name-test.true c.requires
+hold_commit-requires c = named-at (has Commit c.args.store.now) c.args.names.now c.loop-name.name-index (record { 0 = [] }) c.loop-name-test.true c.requires
 
 pub loop-name-preserved : goal.loop-name-preserved
 loop-name-preserved c =
-    let S = newest c.args.store.now in
+    let S = c.args.store.now in
     let names = c.args.names.now in
     let k = c.loop-name.name-index in
     let n : Name = get_or names k (record { 0 = [] }) in

@@ -1,14 +1,13 @@
 use Rattle.std.proofs.Common.{drop, map}
 use Rattle.std.specs.List.{flat_map}
 use Rattle.git_objects.specs.Parts.{name_bytes}
-use Rattle.object_store.specs.Errors.{newest}
 use Rattle.repo_state.specs.Changes.{commit_objects}
 use Rattle.repo_state.specs.Growing.{Extends, IsReady, IsStep}
 use Rattle.repo_state.proofs.change.hold_commits.Given as goal
 
 abbrev pub invariant-loop-name : goal.invariant-loop-name
 invariant-loop-name l =
-    let S = newest l.store in
+    let S = l.store in
     let os = flat_map (commit_objects S) (map name_bytes l.names) in
     record {
       step : IsReady S l.fn.held.keys os → IsStep S l.fn.held.keys l.held.keys os (flat_map (commit_objects S) (map name_bytes (drop l.name-index l.names)));

@@ -1,7 +1,6 @@
 use Rattle.std.proofs.Common.{List, map, sym, ap, subst, ◌∙◌}
 use Rattle.git_objects.specs.Parts.{name_bytes}
 use Rattle.git_objects.specs.declared.name.Name.{Name}
-use Rattle.object_store.specs.Errors.{newest}
 use Rattle.repo_state.specs.Changes.{IsChange}
 use Rattle.repo_state.specs.Commits.{change_of, setting}
 use Rattle.repo_state.specs.Loads.{Stored}
@@ -14,8 +13,8 @@ use Rattle.repo_state.proofs.commit_tests.commit_one.Goals as goal
 pub commit-requires-clause-change : goal.commit-requires-clause-change
 commit-requires-clause-change g c =
     let batch : Batch = record { blobs = c.one-blobs.result; commits = c.one-commits.result; refs = c.args.refs } in
-    subst (λ (s : Stored). IsChange (newest s.objects) s.held.objects (change_of batch)) c.state.view_is
-    (root-change (newest c.state.inside.store) _ c.args.blob.0 c.args.commit.0 (map name_bytes c.one-blobs.result.items) (map name_bytes c.one-commits.result.items) (map setting c.args.refs.items)
+    subst (λ (s : Stored). IsChange s.objects s.held.objects (change_of batch)) c.state.view_is
+    (root-change c.state.inside.store _ c.args.blob.0 c.args.commit.0 (map name_bytes c.one-blobs.result.items) (map name_bytes c.one-commits.result.items) (map setting c.args.refs.items)
     (ap (λ (ns : List Name). map name_bytes ns) c.one-blobs.ensures) (ap (λ (ns : List Name). map name_bytes ns) c.one-commits.ensures)
     (sym c.has.ensures ∙ c.if-not-has.false)
     (c.has_root.ensures c.if-not-has_root.false)

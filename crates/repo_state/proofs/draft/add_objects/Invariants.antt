@@ -1,6 +1,5 @@
 use Rattle.std.proofs.Common.{◌≡◌, ◌≤◌, ◌^◌, ◌+◌, drop, length}
 use Rattle.std.specs.List.{flat_map}
-use Rattle.object_store.specs.Errors.{newest}
 use Rattle.repo_state.specs.Drafts.{found}
 use Rattle.repo_state.specs.Items.{object_text}
 use Rattle.repo_state.proofs.draft.add_objects.Given as goal
@@ -8,5 +7,5 @@ use Rattle.repo_state.proofs.draft.add_objects.Given as goal
 abbrev pub invariant-loop-name : goal.invariant-loop-name
 invariant-loop-name l = record {
   bound : l.size ≤ 2 ^ 29;
-  rest : l.size + length (flat_map object_text (found (newest l.store) (drop l.name-index l.names))) ≡ l.initial.size + length (flat_map object_text (found (newest l.store) l.names));
+  rest : l.size + length (flat_map object_text (found l.store (drop l.name-index l.names))) ≡ l.initial.size + length (flat_map object_text (found l.store l.names));
 }

@@ -1,11 +1,10 @@
 use Rattle.std.proofs.Common.{◌≡◌, ◌≤◌, ◌+◌, drop, length, filter}
-use Rattle.object_store.specs.Errors.{newest}
 use Rattle.repo_state.specs.Drafts.{found}
-use Rattle.repo_state.specs.Items.{is_commit}
+use Rattle.object_store.specs.Fits.{is_commit}
 use Rattle.repo_state.proofs.draft.count_commits.Given as goal
 
 abbrev pub invariant-loop-name : goal.invariant-loop-name
 invariant-loop-name l = record {
   bound : l.count ≤ l.name-index;
-  rest : l.count + length (filter is_commit (found (newest l.store) (drop l.name-index l.names))) ≡ length (filter is_commit (found (newest l.store) l.names));
+  rest : l.count + length (filter is_commit (found l.store (drop l.name-index l.names))) ≡ length (filter is_commit (found l.store l.names));
 }

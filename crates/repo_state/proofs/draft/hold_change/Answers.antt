@@ -3,7 +3,6 @@ use Rattle.git_objects.specs.declared.name.Name.{Name}
 use Rattle.repo_state.specs.Growing.{IsReady, IsStep}
 use Rattle.std.specs.List.{flat_map}
 use Rattle.git_objects.specs.Parts.{name_bytes}
-use Rattle.object_store.specs.Errors.{newest}
 use Rattle.repo_state.specs.Changes.{blob_object, commit_objects, objects_of}
 use Rattle.repo_state.specs.Commits.{change_of}
 use Rattle.repo_state.proofs.Feeding.{change-ready}
@@ -13,7 +12,7 @@ use Rattle.repo_state.proofs.draft.hold_change.Goals as goal
 
 pub returns-clause-step : goal.returns-clause-step
 returns-clause-step c =
-    let S = newest c.args.store.now in
+    let S = c.args.store.now in
     let change = change_of c.args.batch.now in
     let old = c.args.held.now.keys in
     let mid = c.hold_blobs.new.held.keys in

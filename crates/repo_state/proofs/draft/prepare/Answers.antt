@@ -1,12 +1,11 @@
 use Rattle.std.proofs.Common.{◌≡◌, ℕ, true, ◌&&◌, List, drop, map, length, sym, ap, subst, ◌∙◌}
 use Rattle.std.specs.List.{list_all}
 use Rattle.git_objects.specs.Paths.{is_nil}
-use Rattle.object_store.specs.Errors.{newest}
 use Rattle.path_names.specs.RefNames.{is_ref_name}
 use Rattle.repo_state.specs.Changes.{moved}
 use Rattle.repo_state.specs.Commits.{change_of, setting}
 use Rattle.repo_state.specs.Drafts.{NewsOrNot, found, is_short, is_valid_ref, ref_value}
-use Rattle.repo_state.specs.Items.{Refs}
+use Rattle.git_objects.specs.Refs.{Refs}
 use Rattle.repo_state.specs.declared.commit.Setting.{Setting}
 use Rattle.repo_state.specs.declared.ref_table.MovedRef.{MovedRef}
 use Rattle.repo_state.proofs.Plans.{all-short, keys-moved, news-number, prepared}
@@ -14,7 +13,7 @@ use Rattle.repo_state.proofs.draft.prepare.Goals as goal
 
 pub weigh_news-requires-clause-found : goal.weigh_news-requires-clause-found
 weigh_news-requires-clause-found c =
-    let S = newest c.args.store.now in
+    let S = c.args.store.now in
     subst (λ (n : ℕ). length (found S (drop n c.hold_change.new.held.keys)) ≡ length (drop n c.hold_change.new.held.keys)) (sym c.len-before.ensures.len)
     (news-number S c.args.held.now.keys c.hold_change.new.held.keys (change_of c.args.batch.now) c.args.refs.now c.requires.holds c.in-Ok.ensures.step c.in-Ok.ensures.extends)
 
@@ -27,7 +26,7 @@ weigh_news-requires-clause-short c =
 
 pub returns-in-Ok-moved-clause-prepared : goal.returns-in-Ok-moved-clause-prepared
 returns-in-Ok-moved-clause-prepared c =
-    let S = newest c.args.store.now in
+    let S = c.args.store.now in
     let old = c.args.held.now.keys in
     let new = c.hold_change.new.held.keys in
     prepared S old new (change_of c.args.batch.now) c.args.refs.now c.requires.holds c.in-Ok.ensures.step c.in-Ok.ensures.extends

@@ -1,11 +1,10 @@
 use Rattle.std.proofs.Common.{ap, ◌∙◌}
-use Rattle.object_store.specs.Errors.{newest}
-use Rattle.repo_state.specs.Items.{Refs}
+use Rattle.git_objects.specs.Refs.{Refs}
 use Rattle.repo_state.specs.Stops.{are_heads}
 use Rattle.repo_state.proofs.Heads.{are_heads-put}
 use Rattle.repo_state.proofs.ref_fields.set_ref.Goals as goal
 
 pub returns-in-Ok-set-clause-heads : goal.returns-in-Ok-set-clause-heads
 returns-in-Ok-set-clause-heads c =
-    ap (λ (t : Refs). are_heads (newest c.args.store.now) t) c.in-Ok-set.ensures.ok
-    ∙ are_heads-put (newest c.args.store.now) c.args.table.now c.in-Ok.copy.items c.in_ok-head.head.0 c.requires c.in_ok-head.ensures.head
+    ap (λ (t : Refs). are_heads c.args.store.now t) c.in-Ok-set.ensures.ok
+    ∙ are_heads-put c.args.store.now c.args.table.now c.in-Ok.copy.items c.in_ok-head.head.0 c.requires c.in_ok-head.ensures.head

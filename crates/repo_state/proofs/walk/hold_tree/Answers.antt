@@ -1,5 +1,4 @@
 use Rattle.std.proofs.Common.{List, [], ◌∷◌, ◌++◌, length, ap, subst, ◌∙◌, arith, length-append}
-use Rattle.object_store.specs.Errors.{newest}
 use Rattle.object_store.specs.Objects.{Object}
 use Rattle.repo_state.specs.Growing.{IsStep}
 use Rattle.repo_state.specs.StoredObjects.{AreOpen, counted, frame_steps, frames_steps, itself, stored_objects}
@@ -10,23 +9,23 @@ use Rattle.repo_state.proofs.walk.hold_tree.Goals as goal
 
 pub turn-requires-clause-frame : goal.turn-requires-clause-frame
 turn-requires-clause-frame c =
-    let S = newest c.args.store.now in
+    let S = c.args.store.now in
     (open-front S c.pop.new.self.items c.in-Some.frame (subst (λ (ds : List Frame). AreOpen S ds) c.in-Some.ensures.items c.trees.invariant.opened)).1
 
 pub turn-requires-clause-frames : goal.turn-requires-clause-frames
 turn-requires-clause-frames c =
-    let S = newest c.args.store.now in
+    let S = c.args.store.now in
     (open-front S c.pop.new.self.items c.in-Some.frame (subst (λ (ds : List Frame). AreOpen S ds) c.in-Some.ensures.items c.trees.invariant.opened)).0
 
 pub trees-smaller : goal.trees-smaller
 trees-smaller c =
-    let S = newest c.args.store.now in
+    let S = c.args.store.now in
     let e = ap length (ap (frames_steps counted (tt ∷ []) S) c.in-Some.ensures.items ∙ frames-push counted (tt ∷ []) S c.pop.new.self.items c.in-Some.frame) in
     omega (arith, e, c.in_ok-turn.ensures.work, length-append (frame_steps counted (tt ∷ []) S c.in-Some.frame) (frames_steps counted (tt ∷ []) S c.pop.new.self.items))
 
 pub trees-preserved : goal.trees-preserved
 trees-preserved c =
-    let S = newest c.args.store.now in
+    let S = c.args.store.now in
     let e = ap (frames_steps itself [] S) c.in-Some.ensures.items ∙ frames-push itself [] S c.pop.new.self.items c.in-Some.frame in
     record {
       step = λ r.

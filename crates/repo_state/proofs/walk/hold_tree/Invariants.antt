@@ -1,5 +1,4 @@
 use Rattle.std.proofs.Common.{[]}
-use Rattle.object_store.specs.Errors.{newest}
 use Rattle.repo_state.specs.Growing.{Extends, IsReady, IsStep}
 use Rattle.repo_state.specs.StoredObjects.{AreOpen, frames_steps, itself, stored_objects, work_of_frames}
 use Rattle.repo_state.proofs.walk.hold_tree.Given as goal
@@ -7,7 +6,7 @@ use Rattle.repo_state.proofs.walk.hold_tree.Given as goal
 -- what is still to come are the frames' objects
 abbrev pub invariant-trees : goal.invariant-trees
 invariant-trees l =
-    let S = newest l.store in
+    let S = l.store in
     let os = stored_objects S l.fn.root.0 in
     record {
       step : IsReady S l.fn.held.keys os → IsStep S l.fn.held.keys l.held.keys os (frames_steps itself [] S l.frames.items);
@@ -16,4 +15,4 @@ invariant-trees l =
     }
 
 abbrev pub decreases-trees : goal.decreases-trees
-decreases-trees l = work_of_frames (newest l.store) l.frames.items
+decreases-trees l = work_of_frames l.store l.frames.items

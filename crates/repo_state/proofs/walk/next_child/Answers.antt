@@ -2,12 +2,12 @@ use Rattle.std.proofs.Common.{List, [], ◌∷◌, ◌++◌, sym, ap, subst, ◌
 use Rattle.git_objects.specs.Views.{entry_value}
 use Rattle.git_objects.specs.declared.entry.Entry.{Entry}
 use Rattle.git_objects.specs.declared.mode.Mode.{Mode}
-use Rattle.object_store.specs.Objects.{has_child}
-use Rattle.repo_state.specs.StoredObjects.{HasChildren, child_steps, counted, entries_steps, itself}
+use Rattle.object_store.specs.Objects.{has_child, HasChildren, body_of}
+use Rattle.repo_state.specs.StoredObjects.{child_steps, counted, entries_steps, itself}
 use Rattle.git_objects.specs.declared.kind.Kind.TheVariants.{Blob}
-use Rattle.object_store.specs.Objects.{body_of}
 use Rattle.repo_state.specs.StoredObjects.{tree_steps}
-use Rattle.repo_state.proofs.Walks.{dir-child, first-child, first-entry}
+use Rattle.repo_state.proofs.Walks.{first-entry}
+use Rattle.object_store.proofs.Children.{dir-child, first-child}
 use Rattle.repo_state.proofs.walk.next_child.Goals as goal
 
 pub returns-in-File-clause-children : goal.returns-in-File-clause-children

@@ -1,6 +1,6 @@
 use Rattle.std.proofs.Common.{◌≡◌, List, [], ◌∷◌, length}
-use Rattle.object_store.specs.Objects.{Object}
-use Rattle.repo_state.specs.StoredObjects.{HasChildren, counted, entries_steps, itself}
+use Rattle.object_store.specs.Objects.{Object, HasChildren}
+use Rattle.repo_state.specs.StoredObjects.{counted, entries_steps, itself}
 use Rattle.repo_state.proofs.walk.next_child.Given as goal
 
 -- only modules were passed by

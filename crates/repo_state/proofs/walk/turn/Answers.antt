@@ -1,24 +1,24 @@
 use Rattle.std.proofs.Common.{List, [], ◌∷◌, ◌++◌, length, Some, sym, ap, subst, ◌∙◌, arith, length-append}
 use Rattle.git_objects.specs.declared.kind.Kind.TheVariants.{Blob, Tree}
-use Rattle.object_store.specs.Errors.{newest}
 use Rattle.object_store.specs.Objects.{Object}
 use Rattle.repo_state.specs.Growing.{IsReady, IsStep}
 use Rattle.repo_state.specs.StoredObjects.{AreOpen, HasNext, next_steps, blob_at, counted, frame_steps, frames_steps, itself, tree_at, tree_steps}
 use Rattle.repo_state.specs.declared.walk.Child.{Child}
 use Rattle.repo_state.specs.declared.walk.Frame.{Frame}
-use Rattle.repo_state.proofs.Walks.{find-has, frame-end, frame-next, on-ok, open-push}
+use Rattle.repo_state.proofs.Walks.{frame-end, frame-next, on-ok, open-push}
+use Rattle.object_store.proofs.Parts.{find-has}
 use Rattle.repo_state.proofs.walk.turn.Goals as goal
 
 pub open_tree-requires : goal.open_tree-requires
 open_tree-requires c =
-    let S = newest c.args.store.now in
+    let S = c.args.store.now in
     subst (λ (ds : List Frame). AreOpen S ds) (sym c.in_ok-push-in-Some-TreeChild.ensures.items)
     (open-push S c.args.frames.now.items (record { name = c.args.frame.name; entries = c.next_child.new.entries }) c.requires.frames
     (record { tree = c.requires.frame.tree; children = (c.in-Some-TreeChild.ensures.children S c.requires.frame.children).1 }))
 
 pub returns-in-None-clause-step : goal.returns-in-None-clause-step
 returns-in-None-clause-step c =
-    let S = newest c.args.store.now in
+    let S = c.args.store.now in
     let n = c.args.frame.name in
     let old = c.args.held.now.keys in
     let rest = frames_steps itself [] S c.args.frames.now.items in
@@ -30,7 +30,7 @@ returns-in-None-clause-step c =
 
 pub returns-in_ok-push-in-Some-BlobChild-clause-step : goal.returns-in_ok-push-in-Some-BlobChild-clause-step
 returns-in_ok-push-in-Some-BlobChild-clause-step c =
-    let S = newest c.args.store.now in
+    let S = c.args.store.now in
     let n = c.in-Some-BlobChild.name in
     let old = c.args.held.now.keys in
     let rest = frames_steps itself [] S c.push.new.self.items in
@@ -44,7 +44,7 @@ returns-in_ok-push-in-Some-BlobChild-clause-step c =
 
 pub returns-in_ok-push-in-Some-BlobChild-clause-work : goal.returns-in_ok-push-in-Some-BlobChild-clause-work
 returns-in_ok-push-in-Some-BlobChild-clause-work c =
-    let S = newest c.args.store.now in
+    let S = c.args.store.now in
     let e = ap length
     (frame-next counted (tt ∷ []) S c.args.frame.name c.args.frame.entries c.next_child.new.entries c.args.frames.now.items c.in-Some-BlobChild.field-0 (c.in-Some-BlobChild.ensures.work S)
     ∙ (λ i. next_steps counted (tt ∷ []) S (Some (c.in-Some-BlobChild.field-0-is i)) ++ frames_steps counted (tt ∷ []) S (sym c.in_ok-push-in-Some-BlobChild.ensures.items i))) in
@@ -54,7 +54,7 @@ returns-in_ok-push-in-Some-BlobChild-clause-work c =
 
 pub returns-in_ok-push-in-Some-BlobChild-clause-frames : goal.returns-in_ok-push-in-Some-BlobChild-clause-frames
 returns-in_ok-push-in-Some-BlobChild-clause-frames c =
-    let S = newest c.args.store.now in
+    let S = c.args.store.now in
     on-ok c.hold-in-Some-BlobChild.result
     (λ step. subst (λ (ds : List Frame). AreOpen S ds) (sym c.in_ok-push-in-Some-BlobChild.ensures.items)
     (open-push S c.args.frames.now.items (record { name = c.args.frame.name; entries = c.next_child.new.entries }) c.requires.frames
@@ -63,7 +63,7 @@ returns-in_ok-push-in-Some-BlobChild-clause-frames c =
 
 pub returns-in_ok-push-in-Some-TreeChild-clause-step : goal.returns-in_ok-push-in-Some-TreeChild-clause-step
 returns-in_ok-push-in-Some-TreeChild-clause-step c =
-    let S = newest c.args.store.now in
+    let S = c.args.store.now in
     let n = c.in-Some-TreeChild.name in
     let old = c.args.held.now.keys in
     let e =
@@ -76,7 +76,7 @@ returns-in_ok-push-in-Some-TreeChild-clause-step c =
 
 pub returns-in_ok-push-in-Some-TreeChild-clause-work : goal.returns-in_ok-push-in-Some-TreeChild-clause-work
 returns-in_ok-push-in-Some-TreeChild-clause-work c =
-    let S = newest c.args.store.now in
+    let S = c.args.store.now in
     let n = c.in-Some-TreeChild.name in
     let next = tt ∷ tree_steps counted (tt ∷ []) S n.0 in
     let e = ap length

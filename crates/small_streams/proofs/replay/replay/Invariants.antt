@@ -1,5 +1,4 @@
 use Rattle.std.proofs.Common.{map, take}
-use Rattle.object_store.specs.Errors.{newest}
 use Rattle.object_store.specs.Unfolding.{flat}
 use Rattle.small_streams.specs.Replays.{parent_of}
 use Rattle.small_streams.specs.Views.{small_value}
@@ -8,5 +7,5 @@ use Rattle.small_streams.proofs.replay.replay.Given as goal
 
 abbrev pub invariant-loop-small : goal.invariant-loop-small
 invariant-loop-small l =
-    AreMade (newest l.fn.store) (newest l.store) (flat (newest l.fn.store) l.fn.tree.0) (parent_of l.fn.parent) (map small_value (take l.small-index l.stream)) l.tree.0 l.parent l.replayed.blobs.items
+    AreMade l.fn.store l.store (flat l.fn.store l.fn.tree.0) (parent_of l.fn.parent) (map small_value (take l.small-index l.stream)) l.tree.0 l.parent l.replayed.blobs.items
     l.replayed.commits.items

@@ -1,8 +1,9 @@
 use Rattle.std.proofs.Common.{◌≡◌, [], subst}
 use Rattle.filter_text.specs.Shapes.{shape}
-use Rattle.filter_routes.specs.Cells.{cells, origin}
-use Rattle.filter_routes.specs.Tables.{IsOrigin, source_hit}
-use Rattle.filter_routes.proofs.Locating.{origin-told}
+use Rattle.decision_lists.specs.Cells.{cells, origin}
+use Rattle.decision_lists.specs.Hits.{source_hit}
+use Rattle.filter_routes.specs.Tables.{IsOrigin}
+use Rattle.filter_routes.proofs.ImagePaths.{origin-told}
 use Rattle.filter_routes.proofs.table.Table.origin.Goals as goal
 
 pub returns-clause-source : goal.returns-clause-source

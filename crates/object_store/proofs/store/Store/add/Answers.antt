@@ -4,7 +4,6 @@ use Rattle.indexmap.proofs.CallerLemmas.{insert_entry-new}
 use Rattle.git_objects.specs.Paths.{Bytes, same_bytes}
 use Rattle.git_objects.specs.declared.name.Name.{Name}
 use Rattle.git_objects.proofs.Basics.{bytes_fit}
-use Rattle.object_store.specs.Errors.{newest}
 use Rattle.object_store.specs.Objects.{Object, find_named, is_body}
 use Rattle.object_store.specs.Puts.{of_body}
 use Rattle.object_store.specs.Places.{placed_objects, HoldsStore}
@@ -37,10 +36,10 @@ module _ (c : goal.Else-prove) where
 
   -- the objects that were held
   abbrev old : List Object
-  old = newest (placed_objects arena places)
+  old = placed_objects arena places
 
-  old_is : old ≡ newest c.args.self.now
-  old_is = ap newest c.self.view_is
+  old_is : old ≡ c.args.self.now
+  old_is = c.self.view_is
 
   not_held : find_named old c.args.key.0 ≡ None
   not_held = ap (λ (S : List Object). find_named S c.args.key.0) old_is ∙ c.requires.new
@@ -61,7 +60,7 @@ module _ (c : goal.Else-prove) where
   held = held-added c.args.kind c.args.key arena c.args.body.now c.args.stats places _ _ arena-after places-after c.self.invariant c.requires.key not_held whole
       (c.requires.stats ∙ ap (λ (S : List Object). sizes (body_flat S c.args.kind c.args.body.now)) (sym old_is))
 
-  added : newest (placed_objects c.extend_from_slice-copied.new.self.items c.insert.new.self.entries) ≡ record { kind = c.args.kind; body = c.args.body.now } ∷ newest c.args.self.now
+  added : placed_objects c.extend_from_slice-copied.new.self.items c.insert.new.self.entries ≡ record { kind = c.args.kind; body = c.args.body.now } ∷ c.args.self.now
   added = objects-added c.args.kind c.args.key arena c.args.body.now c.args.stats places _ _ arena-after places-after c.self.invariant ∙ ap (λ (S : List Object). record { kind = c.args.kind; body = c.args.body.now } ∷ S) old_is
 
 pub invariant_of-self-2 : goal.invariant_of-self-2

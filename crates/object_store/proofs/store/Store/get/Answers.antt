@@ -1,7 +1,6 @@
 use Rattle.std.proofs.Common.{Some, sym, ap, ◌∙◌, List, subst, ◌+◌, ◌≤◌, length}
 use Rattle.std.specs.Option.{option_map}
 use Rattle.git_objects.specs.Paths.{Bytes}
-use Rattle.object_store.specs.Errors.{newest}
 use Rattle.object_store.specs.Objects.{Object, find_named}
 use Rattle.object_store.specs.Places.{placed}
 use Rattle.object_store.proofs.Finding.{find-places, place-within}
@@ -14,11 +13,11 @@ pub returns-in-None-clause-object : goal.returns-in-None-clause-object
 returns-in-None-clause-object c =
     ap (option_map (placed c.self.inside.arena.items)) c.in-None.ensures.value
     ∙ sym (find-places _ _ c.args.name.now c.self.invariant)
-    ∙ ap (λ (S : List Object). find_named (newest S) c.args.name.now.0) c.self.view_is
+    ∙ ap (λ (S : List Object). find_named S c.args.name.now.0) c.self.view_is
 
 pub returns-in-Some-clause-object : goal.returns-in-Some-clause-object
 returns-in-Some-clause-object c =
     ap Some (c.lend.ensures ∙ ap (λ (arena : Bytes). placed arena c.in-Some.place.now) c.deref.ensures.value)
     ∙ ap (option_map (placed c.self.inside.arena.items)) c.in-Some.ensures.value
     ∙ sym (find-places _ _ c.args.name.now c.self.invariant)
-    ∙ ap (λ (S : List Object). find_named (newest S) c.args.name.now.0) c.self.view_is
+    ∙ ap (λ (S : List Object). find_named S c.args.name.now.0) c.self.view_is

@@ -2,7 +2,6 @@ use Rattle.std.proofs.Common.{Option, Some, sym, ap, subst, ◌∙◌}
 use Rattle.std.specs.Option.{option_map}
 use Rattle.git_objects.specs.Paths.{Path}
 use Rattle.git_objects.specs.Names.{leaf_name}
-use Rattle.object_store.specs.Errors.{newest}
 use Rattle.path_trees.specs.Walked.{Walked, IsHeldLeaf, walked}
 use Rattle.path_trees.specs.declared.found.Leaf.{Leaf as FoundLeaf}
 use Rattle.path_trees.proofs.Walks.{leaf_named}
@@ -10,7 +9,7 @@ use Rattle.path_trees.proofs.walk.Walk.leaf.Goals as goal
 
 pub returns-clause-name : goal.returns-clause-name
 returns-clause-name c =
-    let S = newest c.self.inside.store.now in
+    let S = c.self.inside.store.now in
     let held = subst (IsHeldLeaf S) c.in-Some.is c.self.invariant.held_leaf in
     ap (λ (w : Walked). option_map (λ e. leaf_name e.1) w.current)
     (sym c.self.view_is ∙ ap (λ (o : Option (Path × FoundLeaf)). walked S c.self.inside.levels.items o) c.in-Some.is)

@@ -3,7 +3,7 @@ use Rattle.std.specs.Option.{option_map}
 use Rattle.std.specs.FinMap.{find}
 use Rattle.git_objects.specs.Parts.{name_bytes}
 use Rattle.git_objects.specs.declared.name.Name.{Name}
-use Rattle.repo_state.specs.Items.{Refs, bytes_cmp}
+use Rattle.git_objects.specs.Refs.{Refs, bytes_cmp}
 use Rattle.repo_state.proofs.Pairs.{find-pairs}
 use Rattle.repo_state.proofs.ref_table.RefTable.find.Goals as goal
 

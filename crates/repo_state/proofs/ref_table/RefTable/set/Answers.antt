@@ -1,7 +1,7 @@
 use Rattle.std.proofs.Common.{ap, ◌∙◌}
 use Rattle.std.specs.FinMap.{put}
 use Rattle.git_objects.specs.Parts.{name_bytes}
-use Rattle.repo_state.specs.Items.{Refs, bytes_cmp}
+use Rattle.git_objects.specs.Refs.{Refs, bytes_cmp}
 use Rattle.repo_state.proofs.Pairs.{put-pairs, pairs}
 use Rattle.repo_state.proofs.ref_table.RefTable.set.Goals as goal
 

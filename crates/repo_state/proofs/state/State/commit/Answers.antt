@@ -1,6 +1,5 @@
 use Rattle.std.proofs.Common.{◌≡◌, ◌<◌, ◌+◌, Option, refl, sym, subst, ap, ◌∙◌, length}
 use Rattle.git_objects.specs.Paths.{Bytes}
-use Rattle.object_store.specs.Errors.{newest}
 use Rattle.proj_io.specs.Items.{Stays, Gets}
 use Rattle.repo_state.specs.Changes.{IsChange, IsCurrent, IsWithin, plan, plan_in}
 use Rattle.repo_state.specs.Commits.{change_of}
@@ -18,7 +17,7 @@ use Rattle.repo_state.proofs.state.State.commit.Goals as goal
 
 pub append-requires-clause-some : goal.append-requires-clause-some
 append-requires-clause-some g c =
-    let S = newest c.self.inside.store in
+    let S = c.self.inside.store in
     let h = held_with (held_of S c.self.inside.held.keys) c.self.inside.refs in
     let p = plan S h (change_of c.args.batch) in
     let made = subst (λ (o : Option Draft). DraftOrNot S c.self.inside.held.keys c.prepare.new.held.keys h c.self.inside.number c.self.inside.size p o) c.in-Ok-Some.field-0-is c.in-Ok-Some.ensures.prepared in
@@ -26,18 +25,18 @@ append-requires-clause-some g c =
 
 pub invariant_of-self-in-Ok : goal.invariant_of-self-in-Ok
 invariant_of-self-in-Ok g c =
-    let S = newest c.self.inside.store in
+    let S = c.self.inside.store in
     let h = held_with (held_of S c.self.inside.held.keys) c.self.inside.refs in
     let p = plan S h (change_of c.args.batch) in
     let made = subst (λ (o : Option Draft). DraftOrNot S c.self.inside.held.keys c.prepare.new.held.keys h c.self.inside.number c.self.inside.size p o) c.in-Ok-Some.field-0-is c.in-Ok-Some.ensures.prepared in
-    let change = subst (λ (s : Stored). IsChange (newest s.objects) s.held.objects (change_of c.args.batch)) (sym c.self.view_is) c.requires.change in
+    let change = subst (λ (s : Stored). IsChange s.objects s.held.objects (change_of c.args.batch)) (sym c.self.view_is) c.requires.change in
     adopted c.self.inside.store c.self.inside.held.keys c.prepare.new.held.keys c.self.inside.refs c.self.inside.commits c.self.inside.number c.self.inside.size
     (c.self.inside.number + 1) (c.self.inside.size + c.len.result) (change_of c.args.batch) c.in-Ok-Some.draft c.self.invariant change made
 
 pub returns-clause-current : goal.returns-clause-current
 returns-clause-current g c = λ current within.
     let objects = c.self.inside.store in
-    let S = newest objects in
+    let S = objects in
     let old = c.self.inside.held.keys in
     let new = c.prepare.new.held.keys in
     let refs = c.self.inside.refs in
@@ -46,20 +45,20 @@ returns-clause-current g c = λ current within.
     let p = plan S h change in
     let draft = c.in-Ok-Some.draft in
     let made = subst (λ (o : Option Draft). DraftOrNot S old new h c.self.inside.number c.self.inside.size p o) c.in-Ok-Some.field-0-is c.in-Ok-Some.ensures.prepared in
-    let brought = subst (λ (s : Stored). IsChange (newest s.objects) s.held.objects change) (sym c.self.view_is) c.requires.change in
+    let brought = subst (λ (s : Stored). IsChange s.objects s.held.objects change) (sym c.self.view_is) c.requires.change in
     let after = stored objects new draft.refs (c.self.inside.number + 1) (c.self.inside.size + c.len.result) in
     gets-current (g.K.Keeper.items c.args.keeper.now) (g.K.Keeper.items c.append.new.self) draft.item.items c.args.self.now after
-    (IsWithin (newest c.args.self.now.objects) c.args.self.now.held.objects change) current within
+    (IsWithin c.args.self.now.objects c.args.self.now.held.objects change) current within
     (subst (λ (t : Bytes). Gets (g.K.Keeper.items c.args.keeper.now) (g.K.Keeper.items c.append.new.self) t) c.deref.ensures.value c.in-Ok.ensures.items)
     (λ items fits now.
     current-after objects old new refs c.self.inside.commits c.self.inside.number c.self.inside.size change draft c.self.invariant brought
-    (subst (λ (s : Stored). IsWithin (newest s.objects) s.held.objects change) (sym c.self.view_is) fits) made items
+    (subst (λ (s : Stored). IsWithin s.objects s.held.objects change) (sym c.self.view_is) fits) made items
     (subst (λ (s : Stored). IsCurrent items s) (sym c.self.view_is) now) after
     (λ i. held_with (made.objects i) (made.refs i)) refl (ap (λ n. c.self.inside.size + n) (c.len.ensures ∙ sym c.deref.ensures.len ∙ ap length c.deref.ensures.value)))
 
 pub returns-clause-spelled : goal.returns-clause-spelled
 returns-clause-spelled g c = λ current within.
-    let S = newest c.self.inside.store in
+    let S = c.self.inside.store in
     let old = c.self.inside.held.keys in
     let new = c.prepare.new.held.keys in
     let h = held_with (held_of S old) c.self.inside.refs in
@@ -72,7 +71,7 @@ returns-clause-spelled g c = λ current within.
 
 pub returns-in-Err-append-clause-spelled : goal.returns-in-Err-append-clause-spelled
 returns-in-Err-append-clause-spelled g c = λ current within.
-    let S = newest c.self.inside.store in
+    let S = c.self.inside.store in
     let old = c.self.inside.held.keys in
     let new = c.prepare.new.held.keys in
     let h = held_with (held_of S old) c.self.inside.refs in

@@ -1,14 +1,13 @@
 use Rattle.std.proofs.Common.{◌∙◌, ap, map, reverse, filter}
-use Rattle.object_store.specs.Errors.{newest}
 use Rattle.object_store.specs.Objects.{object_name}
-use Rattle.repo_state.specs.Items.{is_commit}
+use Rattle.object_store.specs.Fits.{is_commit}
 use Rattle.repo_state.specs.Loads.{Stored}
 use Rattle.repo_state.proofs.CommitNames.{in-order, commits_of}
 use Rattle.repo_state.proofs.state.State.commits.Goals as goal
 
 pub returns-in-Ok : goal.returns-in-Ok
 returns-in-Ok c =
-    let S = newest c.self.inside.store in
+    let S = c.self.inside.store in
     c.in-Ok.ensures
     ∙ ap (commits_of S) c.as_slice.ensures.keys
     ∙ in-order S c.self.inside.held.keys

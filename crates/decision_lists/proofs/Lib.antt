@@ -1,0 +1,14 @@
+pub mod Strip
+pub mod Compile
+pub mod Valid
+pub mod Clash
+pub mod Cells
+pub mod Compare
+pub mod Fold
+pub mod Each
+pub mod ByIndex
+pub mod HasAt
+pub mod Making
+pub mod Testing
+pub mod Locating
+pub mod Indexing

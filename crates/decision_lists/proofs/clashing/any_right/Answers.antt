@@ -1,0 +1,22 @@
+use Rattle.std.proofs.Common.{◌≡◌, ◌<◌, ◌++◌, ◌||◌, ◌+◌, sym, ap, ◌∙◌, subst, [], ◌∷◌, drop, take, length, get_or}
+use Rattle.std.proofs.lemmas.List.{drop_more, take_more}
+use Rattle.decision_lists.specs.Operations.{heads}
+use Rattle.decision_lists.specs.Cells.{cells, cells_at, any_right}
+use Rattle.decision_lists.proofs.Testing.{cells-next}
+use Rattle.decision_lists.proofs.clashing.any_right.Goals as goal
+
+pub loop-i-preserved : goal.loop-i-preserved
+loop-i-preserved c =
+    let all = c.args.others.now in
+    let i = c.loop-i.i in
+    let e = c.index-all-i.result in
+    let ks = cells (heads (take (i + 1) all) []) (drop (i + 1) all) in
+    let there : i < length all = subst (λ xs. i < length xs) c.entries-all.ensures c.loop-i-test.true in
+    let is : get_or all i e ≡ e = sym (c.index-all-i.is ∙ ap (λ xs. get_or xs i e) c.entries-all.ensures) in
+    ap (λ b. b || any_right (c.args.entry.now.0, c.args.target.now, heads c.args.holes.now []) ks) (sym c.if-branch.false)
+    ∙ c.in_ok-clashes_with.ensures ks
+    ∙ ap (λ hs. any_right (c.args.entry.now.0, c.args.target.now, heads c.args.holes.now []) (cells_at e.0 e.1 (heads hs []) ks)) c.front.ensures
+    ∙ ap (λ xs. any_right (c.args.entry.now.0, c.args.target.now, heads c.args.holes.now []) xs)
+    (sym (cells-next all i e (drop_more all i e there ∙ ap (λ x. x ∷ drop (i + 1) all) is)
+    (take_more all i e there ∙ ap (λ x. take i all ++ x ∷ []) is)))
+    ∙ c.loop-i.invariant

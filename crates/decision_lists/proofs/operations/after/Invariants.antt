@@ -1,0 +1,11 @@
+use Rattle.std.proofs.Common.{◌≡◌, ◌≤◌, ◌++◌, [], length}
+use Rattle.std.specs.Vec.Iter.{into_iter_items, into_iter_len}
+use Rattle.decision_lists.specs.Operations.{refine, after_how, after_left, heads}
+use Rattle.decision_lists.proofs.operations.after.Given as goal
+
+abbrev pub invariant-loop-e : goal.invariant-loop-e
+invariant-loop-e l = record {
+  list : l.out ++ refine (after_how l.others) [] (heads l.out []) (into_iter_items l.e-iterator) ≡ after_left l.fn.entries.items l.others;
+  few : length l.out ≤ l.most;
+  len : into_iter_len l.e-iterator ≡ length (into_iter_items l.e-iterator);
+}

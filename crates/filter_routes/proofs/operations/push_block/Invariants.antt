@@ -1,9 +1,0 @@
-use Rattle.std.proofs.Common.{◌≡◌, drop, ◌++◌, []}
-use Rattle.filter_routes.specs.Entries.{cone_of}
-use Rattle.filter_routes.specs.Operations.{block, heads, pulled}
-use Rattle.filter_routes.proofs.operations.push_block.Given as goal
-
-abbrev pub invariant-loop-e : goal.invariant-loop-e
-invariant-loop-e l =
-    l.out ++ block (heads l.out []) (cone_of l.point l.base) (pulled (cone_of l.point l.base) l.target (drop l.e-index l.others))
-    ≡ l.initial.out ++ block (heads l.initial.out []) (cone_of l.point l.base) (pulled (cone_of l.point l.base) l.target l.others)

@@ -1,0 +1,24 @@
+// Git's order of a tree's entries.
+ghost use Rattle.std.specs.Prelude.{◌≡◌, [], ◌∷◌};
+ghost use Rattle.std.specs.Ordering.{nat_cmp};
+ghost use Rattle.std.specs.Cmp.Lexicographic.{slice_cmp};
+ghost use Rattle.git_objects.specs.Entries.{dir_key};
+
+use std::cmp::Ordering;
+
+// What stands behind a component where it is compared.
+fn slash(is_dir: bool) -> &'static [u8]
+    ensures { result.now ≡ dir_key [] is_dir }
+{
+    if is_dir { b"/" } else { b"" }
+}
+
+/// Compares the components of two entries as the Git object format orders them: by their bytes, that of a directory
+/// as if it ended in `/`.
+pub fn compare_components(a: &[u8], a_dir: bool, b: &[u8], b_dir: bool) -> Ordering
+    ensures { result ≡ slice_cmp nat_cmp (dir_key a.now a_dir) (dir_key b.now b_dir) }
+{
+    a.iter()
+        .chain(slash(a_dir).iter())
+        .cmp(b.iter().chain(slash(b_dir).iter()))
+}

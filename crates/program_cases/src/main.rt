@@ -1,0 +1,24 @@
+//! Answers cases of the program, a line each, from standard input: calls of `run` on devices in memory.
+#![tactic(auto)]
+
+mod outcomes;
+mod runs;
+mod session;
+
+use case_lines::Fault;
+use session::Session;
+use std::io;
+use std::io::{BufRead, BufReader, BufWriter, Write};
+
+fn main(rt: HostRuntime) -> Result<(), Fault> {
+    let alloc = rt.alloc();
+    let mut session = Session::new(alloc);
+    let mut out = BufWriter::new(alloc, io::writer(&rt))?;
+    for line in BufReader::new(alloc, rt.reader())?.lines(alloc) {
+        let line = line?;
+        let text = session.take(line.as_str())?;
+        out.write_all(text.as_bytes())?;
+    }
+    out.flush()?;
+    Ok(())
+}

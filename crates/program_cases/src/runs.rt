@@ -1,0 +1,60 @@
+// Calls of the program.
+use crate::session::{FailingCalls, Session};
+use case_lines::{Fault, Texts, Word, items_said, printed, reopened};
+use proj_cli::{outcome_code, run};
+use proj_io::{MemSink, MemSource};
+use std::alloc::Global;
+use std::mem;
+
+/// Calls the program with the words in front of `<`, and what is spelled behind it as the input, and says how the call
+/// ended, what it wrote, and the items then.
+pub fn run_words(session: &mut Session, words: &[Word]) -> Result<String, Fault> {
+    let alloc = session.alloc;
+    let (front, pieces) = parted(words);
+    let words = strings(alloc, &session.texts, front)?;
+    let input = session.texts.spelled(pieces)?;
+    let most = session.most.max(1);
+    let failing = mem::replace(&mut session.failing, FailingCalls::new(alloc));
+    let mut input = MemSource::new(input, most, failing.input);
+    let mut out = MemSink::new(alloc, most, failing.out);
+    let mut err = MemSink::new(alloc, most, failing.err);
+    let mut keeper = reopened(alloc, &mut session.keeper);
+    let outcome = run(alloc, &words, &mut input, &mut out, &mut err, &mut keeper);
+    session.keeper = keeper;
+    let mut text = format!(in alloc; "{}\n", outcome_code(&outcome))?;
+    add_stream(alloc, &mut text, "out", out.bytes())?;
+    add_stream(alloc, &mut text, "err", err.bytes())?;
+    let items = items_said(alloc, &session.texts, &session.keeper)?;
+    text.push_str(items.as_str())?;
+    Ok(text)
+}
+
+// The words of a call, and the pieces of its input.
+fn parted(words: &[Word]) -> (&[Word], &[Word]) {
+    let place = words.iter().position(|word| !word.is_quoted
+        && word.bytes.as_slice() == b"<".as_slice());
+    let at = place.unwrap_or(words.len());
+    match words.split_at_checked(at) {
+        Some((front, [_, pieces @ ..])) => (front, pieces),
+        _ => (words, &[]),
+    }
+}
+
+fn strings(alloc: Global, texts: &Texts, words: &[Word]) -> Result<Vec<String>, Fault> {
+    let mut all = Vec::new(alloc);
+    for word in words {
+        let text = String::from_utf8(texts.word(word)?);
+        all.push(text.ok().ok_or(Fault::BadLine)?)?;
+    }
+    Ok(all)
+}
+
+// Adds a line with what a stream got, if it got something.
+fn add_stream(alloc: Global, text: &mut String, name: &str, bytes: &[u8]) -> Result<(), Fault> {
+    if bytes.is_empty() {
+        return Ok(());
+    }
+    let line = format!(in alloc; "{name} {}\n", printed(alloc, bytes)?)?;
+    text.push_str(line.as_str())?;
+    Ok(())
+}

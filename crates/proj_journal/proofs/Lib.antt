@@ -1,0 +1,10 @@
+mod Adding
+mod GateLemmas
+mod Keeping
+mod Making
+mod GateOpening
+mod Reached
+mod Staging
+mod Whole
+mod Writing
+mod WindowLemmas

@@ -1,0 +1,316 @@
+-- Worked examples: forms of words, lines of a batch, numbers and texts of outcomes.
+use Rattle.std.specs.Prelude.{◌≡◌, refl, true, false, [], ◌∷◌, ◌++◌, codes, replicate, Some, None}
+use Rattle.std.specs.Fmt.{digits}
+use Rattle.std.specs.Str.{chars, is_utf8}
+use lib.Utf8.{encode}
+use Rattle.hex.specs.Hex.{encode_with}
+use Rattle.git_objects.specs.Paths.{Bytes, Path}
+use Rattle.git_objects.specs.declared.name.Name.{Name as ObjectName}
+use Rattle.git_objects.specs.declared.quantity.Quantity.TheVariants as limits
+use Rattle.path_names.specs.Quoting.{quote, quoted_byte}
+use Rattle.path_names.specs.RefNames.{is_ref_name}
+use Rattle.path_names.specs.Words.{number}
+use Rattle.fast_import.specs.declared.fault.Feature.TheVariants as features
+use Rattle.fast_import.specs.declared.fault.StreamFault.TheVariants as streams
+use Rattle.filter_text.specs.declared.filter.FilterFault.TheVariants as texts
+use Rattle.filter_routes.specs.declared.fault.RouteFault.TheVariants as routes
+use Rattle.proj_words.specs.Words.{Import, Project, Push, Export, Name, Batch, Trial, Unknown}
+use Rattle.proj_words.specs.Words.{command, line_command, line_words, loads, reads, writes}
+use Rattle.proj_words.specs.Outcomes.{code_of, text_of, usage}
+use Rattle.proj_words.specs.Faults.{filter_outcome, route_outcome, stream_outcome}
+use Rattle.proj_words.specs.declared.outcome.FilterWhat.TheVariants as filters
+use Rattle.proj_words.specs.declared.outcome.Outcome.TheVariants.{Done, OutOfMemory, Usage, UnknownRef, NotBuilt}
+use Rattle.proj_words.specs.declared.outcome.Outcome.TheVariants.{Syntax, Unsupported, Unresolved, BadPath, NoSource}
+use Rattle.proj_words.specs.declared.outcome.Outcome.TheVariants.{FilterFault, Overlap, NotKeeping}
+use Rattle.proj_words.specs.declared.outcome.Outcome.TheVariants.{NotForward, OtherRef, NotAtHead, MergePushed}
+use Rattle.proj_words.specs.declared.outcome.Outcome.TheVariants.{NoChange, NotHeld, Blocked, BadWorkspace, Unseen}
+use Rattle.proj_words.specs.declared.outcome.Outcome.TheVariants.{Limit, Collision, Damaged}
+use Rattle.proj_words.specs.declared.outcome.Outcome.TheVariants.{ReadFault, WriteFault, StoreFault}
+use Rattle.proj_words.specs.declared.outcome.Outcome.TheVariants.{RepeatedParent, NotProved, Denied, BadPolicy}
+
+-- ---- words
+
+abbrev main : Bytes
+main = codes "refs/heads/main"
+
+pub an_import : command (codes "import" ∷ []) ≡ Import false
+an_import = refl
+
+pub a_forced_import : command (codes "import" ∷ codes "--force" ∷ []) ≡ Import true
+a_forced_import = refl
+
+pub an_import_of_something : command (codes "import" ∷ codes "force" ∷ []) ≡ Unknown
+an_import_of_something = refl
+
+pub a_projection : command (codes "project" ∷ main ∷ codes ":/a" ∷ []) ≡ Project main (codes ":/a")
+unfolding is_ref_name
+a_projection = refl
+
+-- the text of a filter isn't read
+pub a_push : command (codes "push" ∷ main ∷ codes "" ∷ []) ≡ Push main []
+unfolding is_ref_name
+a_push = refl
+
+pub an_export : command (codes "export" ∷ main ∷ codes ":/a" ∷ []) ≡ Export main (codes ":/a")
+unfolding is_ref_name
+an_export = refl
+
+pub a_name : command (codes "name" ∷ main ∷ codes ":/a" ∷ []) ≡ Name main (codes ":/a")
+unfolding is_ref_name
+a_name = refl
+
+pub no_ref_name : command (codes "project" ∷ codes "main" ∷ codes ":/a" ∷ []) ≡ Unknown
+unfolding is_ref_name
+no_ref_name = refl
+
+pub a_ref_without_a_filter : command (codes "project" ∷ main ∷ []) ≡ Unknown
+a_ref_without_a_filter = refl
+
+pub a_batch : command (codes "batch" ∷ []) ≡ Batch
+a_batch = refl
+
+pub the_largest_trial : command (codes "trial" ∷ codes "100000" ∷ []) ≡ Trial 100000
+unfolding number
+the_largest_trial = refl
+
+pub a_larger_trial : command (codes "trial" ∷ codes "100001" ∷ []) ≡ Unknown
+unfolding number
+a_larger_trial = refl
+
+pub a_trial_of_nothing : command (codes "trial" ∷ codes "0" ∷ []) ≡ Unknown
+a_trial_of_nothing = refl
+
+pub a_leading_zero : command (codes "trial" ∷ codes "07" ∷ []) ≡ Unknown
+a_leading_zero = refl
+
+pub no_rule_yet : command (codes "rule" ∷ codes "1" ∷ []) ≡ Unknown
+no_rule_yet = refl
+
+pub no_words : command [] ≡ Unknown
+no_words = refl
+
+pub a_word_too_many : command (codes "project" ∷ main ∷ codes ":/a" ∷ codes "b" ∷ []) ≡ Unknown
+a_word_too_many = refl
+
+-- ---- lines of a batch
+
+-- the filter is all that stands behind the second space
+pub a_filter_with_spaces : line_words (codes "push r :/a b ") ≡ codes "push" ∷ codes "r" ∷ codes ":/a b " ∷ []
+a_filter_with_spaces = refl
+
+pub a_line_of_one_word : line_words (codes "import") ≡ codes "import" ∷ []
+a_line_of_one_word = refl
+
+pub a_batch_in_a_batch : line_command (codes "batch") ≡ Unknown
+unfolding is_utf8 chars encode
+a_batch_in_a_batch = refl
+
+pub a_trial_in_a_batch : line_command (codes "trial 1") ≡ Unknown
+unfolding number is_utf8 chars encode
+a_trial_in_a_batch = refl
+
+pub a_forced_import_in_a_batch : line_command (codes "import --force") ≡ Import true
+unfolding is_utf8 chars encode
+a_forced_import_in_a_batch = refl
+
+pub a_line_that_is_no_text : line_command (255 ∷ []) ≡ Unknown
+unfolding is_utf8 chars
+a_line_that_is_no_text = refl
+
+-- ---- devices
+
+-- an export loads and doesn't write; a name reads and doesn't load; a trial does none of it
+pub an_export_loads : loads (Export main []) ≡ true
+an_export_loads = refl
+
+pub an_export_writes_no_item : writes (Export main []) ≡ false
+an_export_writes_no_item = refl
+
+pub a_projection_may_write : writes (Project main []) ≡ true
+a_projection_may_write = refl
+
+pub a_name_reads : reads (Name main []) ≡ true
+a_name_reads = refl
+
+pub a_name_loads_nothing : loads (Name main []) ≡ false
+a_name_loads_nothing = refl
+
+pub a_trial_reads_nothing : reads (Trial 1) ≡ false
+a_trial_reads_nothing = refl
+
+-- ---- texts
+
+abbrev zeros : ObjectName
+zeros = record { 0 = replicate 20 0 }
+
+-- the path `a/"`
+abbrev quote_in_a : Path
+quote_in_a = codes "a" ∷ codes "\"" ∷ []
+
+abbrev in_a : Path
+in_a = codes "a" ∷ codes "b c" ∷ []
+
+pub done_says_nothing : text_of Done ≡ []
+done_says_nothing = refl
+
+pub out_of_memory : text_of OutOfMemory ≡ codes "out of memory\n"
+out_of_memory = refl
+
+pub the_usage : text_of Usage ≡ usage ++ codes "\n"
+the_usage = refl
+
+pub a_syntax : text_of (Syntax 90) ≡ codes "syntax at 90\n"
+unfolding digits
+a_syntax = refl
+
+pub an_unsupported_tag : text_of (Unsupported 0 features.Tag) ≡ codes "unsupported tag at 0\n"
+unfolding digits
+an_unsupported_tag = refl
+
+pub an_unsupported_signature : text_of (Unsupported 12 features.Signature) ≡ codes "unsupported gpgsig at 12\n"
+unfolding digits
+an_unsupported_signature = refl
+
+pub an_unsupported_directory : text_of (Unsupported 7 features.DirectoryMode) ≡
+    codes "unsupported directory mode at 7\n"
+unfolding digits
+an_unsupported_directory = refl
+
+pub an_unresolved_mark : text_of (Unresolved 10) ≡ codes "unresolved at 10\n"
+unfolding digits
+an_unresolved_mark = refl
+
+pub a_bad_path : text_of (BadPath 1) ≡ codes "bad path at 1\n"
+unfolding digits
+a_bad_path = refl
+
+pub no_source : text_of (NoSource 1234567) ≡ codes "no source at 1234567\n"
+unfolding digits
+no_source = refl
+
+pub an_unknown_ref : text_of UnknownRef ≡ codes "unknown ref\n"
+an_unknown_ref = refl
+
+pub a_long_filter : text_of (FilterFault filters.TooLong) ≡ codes "filter: too long\n"
+a_long_filter = refl
+
+pub a_misplaced_workspace : text_of (FilterFault filters.WorkspacePlace) ≡ codes "filter: workspace place\n"
+a_misplaced_workspace = refl
+
+pub an_overlap : text_of (Overlap 0 1 2) ≡ codes "overlap: list 0, branches 1 and 2\n"
+unfolding digits
+an_overlap = refl
+
+pub not_keeping : text_of (NotKeeping 3) ≡ codes "not keeping: piece 3\n"
+unfolding digits
+not_keeping = refl
+
+pub not_forward : text_of (NotForward main zeros zeros) ≡
+    codes "not forward: refs/heads/main 0000000000000000000000000000000000000000 "
+    ++ codes "0000000000000000000000000000000000000000\n"
+unfolding encode_with
+not_forward = refl
+
+pub another_ref : text_of (OtherRef 131) ≡ codes "other ref at 131\n"
+unfolding digits
+another_ref = refl
+
+pub not_at_head : text_of (NotAtHead (Some zeros) None) ≡
+    codes "not at head: expected 0000000000000000000000000000000000000000, got none\n"
+unfolding encode_with
+not_at_head = refl
+
+pub a_pushed_merge : text_of (MergePushed 2) ≡ codes "merge: commit 2\n"
+unfolding digits
+a_pushed_merge = refl
+
+pub no_change : text_of (NoChange 1) ≡ codes "no change: commit 1\n"
+unfolding digits
+no_change = refl
+
+pub not_held : text_of (NotHeld 1 quote_in_a) ≡ codes "not held: commit 1: \"a/\\\"\"\n"
+unfolding digits quote quoted_byte
+not_held = refl
+
+pub blocked : text_of (Blocked 1 in_a quote_in_a) ≡ codes "blocked: commit 1: a/b c by \"a/\\\"\"\n"
+unfolding digits quote quoted_byte
+blocked = refl
+
+pub a_limit_with_a_place : text_of (Limit limits.PathDepth (Some 70)) ≡ codes "limit: path depth at 70\n"
+unfolding digits
+a_limit_with_a_place = refl
+
+pub a_limit_of_the_state : text_of (Limit limits.Items None) ≡ codes "limit: items\n"
+a_limit_of_the_state = refl
+
+pub a_collision : text_of (Collision zeros) ≡ codes "collision: 0000000000000000000000000000000000000000\n"
+unfolding encode_with
+a_collision = refl
+
+pub a_read_fault : text_of ReadFault ≡ codes "read fault\n"
+a_read_fault = refl
+
+pub a_write_fault : text_of WriteFault ≡ codes "write fault\n"
+a_write_fault = refl
+
+pub a_store_fault : text_of StoreFault ≡ codes "store fault\n"
+a_store_fault = refl
+
+pub a_damaged_item : text_of (Damaged 0 6) ≡ codes "damaged: item 0 at 6\n"
+unfolding digits
+a_damaged_item = refl
+
+pub a_bad_workspace : text_of (BadWorkspace 1) ≡ codes "bad workspace: commit 1\n"
+unfolding digits
+a_bad_workspace = refl
+
+pub an_unseen_path : text_of (Unseen 1 (codes "modules" ∷ codes "doc" ∷ codes "d" ∷ [])) ≡
+    codes "unseen: commit 1: modules/doc/d\n"
+unfolding digits quote
+an_unseen_path = refl
+
+pub a_repeated_parent : text_of (RepeatedParent 1) ≡ codes "repeated parent: commit 1\n"
+unfolding digits
+a_repeated_parent = refl
+
+pub not_proved : text_of (NotProved zeros) ≡ codes "not proved: 0000000000000000000000000000000000000000\n"
+unfolding encode_with
+not_proved = refl
+
+pub denied : text_of (Denied 3) ≡ codes "denied: rule 3\n"
+unfolding digits
+denied = refl
+
+pub a_bad_policy : text_of (BadPolicy 2) ≡ codes "bad policy: line 2\n"
+unfolding digits
+a_bad_policy = refl
+
+pub not_built : text_of NotBuilt ≡ codes "not built\n"
+not_built = refl
+
+-- ---- numbers
+
+pub the_number_of_no_change : code_of (NoChange 1) ≡ 16
+the_number_of_no_change = refl
+
+pub the_number_of_not_held : code_of (NotHeld 1 in_a) ≡ 18
+the_number_of_not_held = refl
+
+pub the_number_of_a_bad_workspace : code_of (BadWorkspace 1) ≡ 26
+the_number_of_a_bad_workspace = refl
+
+-- ---- faults
+
+-- a limit of a stream has its place
+pub a_line_too_long : text_of (stream_outcome (streams.Limit 103 limits.Line)) ≡ codes "limit: line at 103\n"
+unfolding digits
+a_line_too_long = refl
+
+pub a_filter_nested_too_deep : text_of (filter_outcome texts.TooDeep) ≡ codes "filter: too deep\n"
+a_filter_nested_too_deep = refl
+
+pub no_memory_for_a_filter : filter_outcome texts.OutOfMemory ≡ OutOfMemory
+no_memory_for_a_filter = refl
+
+pub an_unsound_list : code_of (route_outcome (routes.Overlap 0 0 1)) ≡ 10
+an_unsound_list = refl

@@ -1,0 +1,5 @@
+pub mod Words
+pub mod Views
+pub mod Outcomes
+pub mod Faults
+pub mod Examples

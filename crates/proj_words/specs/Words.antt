@@ -1,0 +1,110 @@
+-- The forms of the words on the command line, and of the lines of words in a batch.
+use Rattle.std.specs.Prelude.{ℕ, Bool, true, false, ◌&&◌, nat_eq, nat_le, if◌then◌else◌}
+use Rattle.std.specs.Prelude.{List, [], ◌∷◌, codes, Option, Some, None}
+use Rattle.std.specs.List.{starts_with}
+use Rattle.std.specs.Option.{option_and_then}
+use Rattle.std.specs.Str.{is_utf8}
+use Rattle.git_objects.specs.Paths.{Bytes, same_bytes}
+use Rattle.git_objects.specs.Idents.{cut_at}
+use Rattle.path_names.specs.RefNames.{is_ref_name}
+use Rattle.path_names.specs.Words.{number}
+
+pub data Command : Type 0 where
+  -- of a stream, and whether a ref may move anywhere
+  Import : Bool → Command
+  -- each of a ref and the text of a filter
+  Project : Bytes → Bytes → Command
+  Push : Bytes → Bytes → Command
+  Export : Bytes → Bytes → Command
+  Name : Bytes → Bytes → Command
+  Batch : Command
+  Trial : ℕ → Command
+  -- of the number of a rule; no words have this form yet
+  Rule : ℕ → Command
+  -- no form
+  Unknown : Command
+
+abbrev pub in_trial : ℕ → Option ℕ
+in_trial n = if nat_le 1 n && nat_le n 100000 then Some n else None
+
+-- a number without a leading zero, from 1 to 100,000
+abbrev pub trial_number : Bytes → Option ℕ
+trial_number t = if starts_with nat_eq t (codes "0") then None else option_and_then in_trial (number t)
+
+abbrev pub trial_of : Option ℕ → Command
+trial_of None = Unknown
+trial_of (Some n) = Trial n
+
+abbrev pub one_word : Bytes → Command
+one_word w =
+    if same_bytes w (codes "import") then Import false else
+    (if same_bytes w (codes "batch") then Batch else Unknown)
+
+abbrev pub two_words : Bytes → Bytes → Command
+two_words w v =
+    if same_bytes w (codes "import") then (if same_bytes v (codes "--force") then Import true else Unknown) else
+    (if same_bytes w (codes "trial") then trial_of (trial_number v) else Unknown)
+
+abbrev pub three_words : Bytes → Bytes → Bytes → Command
+three_words w r f =
+    if same_bytes w (codes "project") then Project r f else
+    (if same_bytes w (codes "push") then Push r f else
+    (if same_bytes w (codes "export") then Export r f else
+    (if same_bytes w (codes "name") then Name r f else Unknown)))
+
+-- the form of the words; a ref must be a ref name
+abbrev pub command : List Bytes → Command
+command (w ∷ []) = one_word w
+command (w ∷ v ∷ []) = two_words w v
+command (w ∷ r ∷ f ∷ []) = if is_ref_name r then three_words w r f else Unknown
+command _ = Unknown
+
+-- whether the ref of a command is a ref name
+abbrev pub is_formed : Command → Bool
+is_formed (Project r f) = is_ref_name r
+is_formed (Push r f) = is_ref_name r
+is_formed (Export r f) = is_ref_name r
+is_formed (Name r f) = is_ref_name r
+is_formed _ = true
+
+-- ---- in a batch
+
+abbrev pub cut_word : Bytes → (Bytes → List Bytes) → Option (Bytes × Bytes) → List Bytes
+cut_word t next None = t ∷ []
+cut_word t next (Some r) = r.0 ∷ next r.1
+
+-- at most three words: the first two end at a space, and the third is what is left
+abbrev pub line_words : Bytes → List Bytes
+line_words t = cut_word t (λ u. cut_word u (λ v. v ∷ []) (cut_at 32 u)) (cut_at 32 t)
+
+-- a batch holds no batch and no trial
+abbrev pub in_batch : Command → Command
+in_batch Batch = Unknown
+in_batch (Trial n) = Unknown
+in_batch c = c
+
+-- the command of a batch's line; a line that is no UTF-8 has none
+abbrev pub line_command : Bytes → Command
+line_command t = if is_utf8 t then in_batch (command (line_words t)) else Unknown
+
+-- ---- devices
+
+-- whether a form reads the input
+abbrev pub reads : Command → Bool
+reads (Import force) = true
+reads (Push r f) = true
+reads (Name r f) = true
+reads Batch = true
+reads _ = false
+
+-- whether it reads the items of the store
+abbrev pub loads : Command → Bool
+loads (Name r f) = false
+loads (Trial n) = false
+loads Unknown = false
+loads _ = true
+
+-- whether it may append an item
+abbrev pub writes : Command → Bool
+writes (Export r f) = false
+writes c = loads c

@@ -1,0 +1,97 @@
+// The forms of the words.
+ghost use Rattle.std.specs.Prelude.{◌≡◌, true, map, string_bytes};
+ghost use Rattle.proj_words.specs.Views.{command_of};
+ghost use Rattle.proj_words.specs.Words.{command, is_formed, one_word, two_words, three_words, trial_number};
+
+use path_names::{is_ref_name, number};
+
+// The most commits of a trial.
+const TRIAL_COMMITS: u64 = 100_000;
+
+/// What the words ask for. A ref stands before the text of a filter, and is a ref name.
+#[derive(Clone, Copy)]
+pub enum Command<'a> {
+    /// Whether a ref may move anywhere.
+    Import(bool),
+    Project(&'a str, &'a str),
+    Push(&'a str, &'a str),
+    Export(&'a str, &'a str),
+    Name(&'a str, &'a str),
+    Batch,
+    /// How many commits, from 1 to 100,000.
+    Trial(u64),
+    /// The number of a rule. No words have this form yet.
+    Rule(u8),
+    /// The words have none of the forms.
+    Unknown,
+}
+
+fn one_word<'a>(word: &'a str) -> Command<'a>
+    ensures { command_of result ≡ one_word word.now }
+{
+    if word == "import" {
+        return Command::Import(false);
+    }
+    if word == "batch" {
+        return Command::Batch;
+    }
+    Command::Unknown
+}
+
+// A number from 1 to 100,000 without a leading zero.
+fn trial_number(text: &[u8]) -> Option<u64>
+    ensures { result ≡ trial_number text.now }
+{
+    if text.starts_with(b"0") {
+        return None;
+    }
+    match number(text) {
+        Some(n) if n >= 1 && n <= TRIAL_COMMITS => Some(n),
+        _ => None,
+    }
+}
+
+fn two_words<'a>(word: &'a str, next: &'a str) -> Command<'a>
+    ensures { command_of result ≡ two_words word.now next.now }
+{
+    if word == "import" {
+        if next == "--force" {
+            return Command::Import(true);
+        }
+        return Command::Unknown;
+    }
+    if word == "trial" {
+        return match trial_number(next.as_bytes()) {
+            Some(n) => Command::Trial(n),
+            None => Command::Unknown,
+        };
+    }
+    Command::Unknown
+}
+
+fn three_words<'a>(word: &'a str, refname: &'a str, filter: &'a str) -> Command<'a>
+    ensures { command_of result ≡ three_words word.now refname.now filter.now }
+{
+    match word {
+        "project" => Command::Project(refname, filter),
+        "push" => Command::Push(refname, filter),
+        "export" => Command::Export(refname, filter),
+        "name" => Command::Name(refname, filter),
+        _ => Command::Unknown,
+    }
+}
+
+/// What the words ask for, by their form alone: no device is looked at, and a filter's text isn't read.
+pub fn read_command<'a>(words: &'a [String]) -> Command<'a>
+    ensures command { command_of result ≡ command (map (λ word. string_bytes word) words.now) }
+    ensures formed { is_formed (command_of result) ≡ true }
+{
+    match words {
+        [word] => one_word(word.as_str()),
+        [word, next] => two_words(word.as_str(), next.as_str()),
+        [word, refname, filter] if is_ref_name(refname.as_bytes()) => {
+            three_words(word.as_str(), refname.as_str(), filter.as_str())
+        }
+        _ => Command::Unknown,
+    }
+}
