@@ -1,21 +1,20 @@
 -- What a reader tells, and the verdict of what is left.
-use Rattle.std.proofs.Common.{◌≡◌, ◌+◌, ◌<◌, ◌≤◌, Bool, true, false, [], length, Option, Some, None, Ok, Err, refl, sym, ap, ◌∙◌, arith, subst, inl, inr}
+use Rattle.std.proofs.Common.{◌≡◌, ◌+◌, ◌<◌, ◌≤◌, Bool, true, false, [], length, Ok, Err, refl, sym, ap, ◌∙◌, subst, inl, inr}
 use Rattle.std.specs.Prelude.{Result, OnOk}
 use Rattle.git_objects.specs.Paths.{Bytes}
 use Rattle.git_objects.specs.declared.limits.TheConstants.{STREAM_BYTES}
 use Rattle.stream_lex.specs.declared.stop.Wanted.{Wanted}
 use Rattle.stream_lex.specs.declared.stop.Stop.TheVariants.{More, Fault}
 use Rattle.stream_lex.specs.Lines.{Input}
-use Rattle.stream_lex.specs.Cutting.{grown, Agrees, Advances, Steps, IsTold}
+use Rattle.stream_lex.specs.Cutting.{grown, Agrees, Steps, IsTold}
 use Rattle.stream_lex.proofs.Passing.{grown_none}
 use Rattle.fast_import.specs.declared.fault.StreamFault.{StreamFault}
 use Rattle.fast_import.specs.declared.reader.Next.{Next}
 use Rattle.fast_import.specs.declared.reader.Next.TheVariants as nexts
 use Rattle.fast_import.specs.declared.progress.Progress.{Progress}
-use Rattle.fast_import.specs.Reading.{Read}
 use Rattle.fast_import.specs.Commands.{Told, read_command}
 use Rattle.fast_import.specs.Verdicts.{verdict_from, go_on}
-use Rattle.fast_import.specs.Readers.{Reading, next_command, MayFollow, IsBefore, TellsNext, OnCommand, OnMore, came, left, verdict_with, StandsBefore, Follows}
+use Rattle.fast_import.specs.Readers.{Reading, MayFollow, IsBefore, TellsNext, OnCommand, OnMore, came, left, verdict_with, Follows}
 use Rattle.fast_import.proofs.Commanding.{CommandLowers, command_lowers, command-reader}
 use Rattle.fast_import.proofs.Iterating.{verdict-is}
 use Rattle.fast_import.proofs.Reading.{came_along}

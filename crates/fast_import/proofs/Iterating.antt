@@ -10,7 +10,7 @@ use Rattle.fast_import.specs.declared.command.Placed.{Placed}
 use Rattle.fast_import.specs.declared.progress.Progress.{Progress}
 use Rattle.fast_import.specs.Reading.{Read}
 use Rattle.fast_import.specs.Commands.{Told, read_command}
-use Rattle.fast_import.specs.Verdicts.{Verdict, with_command, told_then, go_on, verdict_within, size, verdict_from, start, from_start, verdict, or_next, told_within, turns, told}
+use Rattle.fast_import.specs.Verdicts.{Verdict, with_command, told_then, go_on, verdict_within, size, verdict_from, from_start, verdict, or_next, told_within, turns, told}
 use Rattle.stream_lex.specs.Cutting.{Agrees}
 use Rattle.fast_import.proofs.Commanding.{IfCommand, CommandLowers, command_lowers, command-reader}
 

@@ -13,7 +13,7 @@ use Rattle.git_objects.specs.Results.{◌>>=◌}
 use Rattle.fast_import.specs.Reading.{Read, Reader, lifted}
 use Rattle.fast_import.specs.Commands.{Turn, turned, Told, between_at, turn_in, turn, by_event, turn_on, command_within, read_command}
 use Rattle.fast_import.specs.Spelling.{Spells, behind, PassesLines, Reaches, EndsHere, SpellsAll}
-use Rattle.fast_import.specs.Verdicts.{Verdict, stopped, with_command, told_then, go_on, start, from_start, verdict_from}
+use Rattle.fast_import.specs.Verdicts.{Verdict, stopped, with_command, told_then, go_on, from_start, verdict_from}
 use Rattle.stream_lex.specs.Cutting.{IsTold}
 use Rattle.fast_import.specs.Laws.{SpellingLaw}
 use Rattle.fast_import.proofs.Commanding.{command-is, command-reader}
