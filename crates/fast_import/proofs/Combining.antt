@@ -1,5 +1,5 @@
 -- What is made of lines and blocks is read by readers.
-use Rattle.std.proofs.Common.{◌≡◌, ℕ, Bool, true, false, cond, Option, Some, None, Result, Ok, Err, refl, sym, ap, subst}
+use Rattle.std.proofs.Common.{◌≡◌, ℕ, Bool, true, false, Option, Some, None, Result, Ok, Err, refl, ap, subst}
 use Rattle.git_objects.specs.Paths.{Bytes}
 use Rattle.git_objects.specs.CommitBodies.{strip}
 use Rattle.git_objects.specs.Results.{◌>>=◌}

@@ -10,7 +10,7 @@ use Rattle.fast_import.specs.declared.command.Placed.{Placed}
 use Rattle.fast_import.specs.declared.progress.Progress.{Progress}
 use Rattle.fast_import.specs.Reading.{Read}
 use Rattle.fast_import.specs.Commands.{Told, read_command}
-use Rattle.fast_import.specs.Verdicts.{Verdict, with_command, told_then, go_on, verdict_within, size, verdict_from, start, from_start, verdict, or_next, told_within, turns, told}
+use Rattle.fast_import.specs.Verdicts.{Verdict, with_command, told_then, go_on, verdict_within, size, verdict_from, from_start, verdict, or_next, told_within, turns, told}
 use Rattle.stream_lex.specs.Cutting.{Agrees}
 use Rattle.fast_import.proofs.Commanding.{IfCommand, CommandLowers, command_lowers, command-reader}
 
@@ -65,5 +65,5 @@ pieces_within (suc n) (x ∷ ps) p i h =
     (read_command p false i) ((command-reader p).settles true more i)
     ∙ sym (verdict-is p (grown more i))
 
-pub pieces_same : (ps : List Bytes) → told ps ≡ verdict (concat ps)
-pieces_same ps = pieces_within (turns ps start (from_start []) + 1) ps start (from_start []) (omega arith)
+pub pieces_same : (p : Progress) (ps : List Bytes) → told p ps ≡ verdict p (concat ps)
+pieces_same p ps = pieces_within (turns ps p (from_start []) + 1) ps p (from_start []) (omega arith)

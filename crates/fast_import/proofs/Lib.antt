@@ -8,6 +8,7 @@ pub mod Commanding
 pub mod Iterating
 pub mod Reading
 pub mod Waiting
+pub mod Following
 pub mod SpelledLines
 pub mod SpelledHeads
 pub mod SpelledChanges

@@ -1,6 +1,7 @@
 -- What a reader is told step by step.
 use Rattle.std.proofs.Common.{◌≡◌, ◌+◌, ◌-◌, ◌<◌, ◌≤◌, Bool, true, false, [], length, drop, Some, None, Ok, Err, refl, sym, ap, ◌∙◌, arith, subst, inl, inr}
 use Rattle.std.specs.Prelude.{◌⊎◌, Result}
+use Rattle.std.proofs.lemmas.List.{length-drop}
 use Rattle.git_objects.specs.Paths.{Bytes}
 use Rattle.stream_lex.specs.Lines.{Input}
 use Rattle.stream_lex.specs.Cutting.{grown, Advances}
@@ -24,10 +25,19 @@ use Rattle.fast_import.proofs.Turning.{turn-reader}
 use Rattle.fast_import.proofs.Lowering.{TurnLowers, turn_lowers}
 use Rattle.fast_import.proofs.Commanding.{command-is, command-reader}
 
+-- ---- what is read is behind
+
+pub turned : (p : Progress) (e : Bool) (i : Input) (t : Turn) (j : Input) → turn p e i ≡ Ok (t, j) → Advances i j
+turned p e i t j h = subst (Steps i) h ((turn-reader p).steps e i)
+
+-- as many bytes have come
+pub came_along : (i j : Input) → Advances i j → j.at + length j.rest ≡ i.at + length i.rest
+came_along i j h = omega (arith, h.at, h.within, ap length h.rest, length-drop h.by i.rest)
+
 -- ---- lines that give no command
 
 pub before_itself : (r : Reading) → IsBefore r r
-before_itself r = record { same = λ e more h. refl; ended = refl }
+before_itself r = record { same = λ e more h. refl; ended = refl; came = refl }
 
 -- what a reading is told is told where nothing more came
 may_be_now : (r : Reading) → MayFollow r [] r.ended
@@ -64,6 +74,7 @@ skipped_before a b c h e g = record {
   same = λ later more m.
       h.same later more m ∙ skip_same b.progress b.input c.progress c.input b.ended e later more (λ t. m (sym h.ended ∙ t));
   ended = g ∙ h.ended;
+  came = came_along b.input c.input (turned b.progress b.ended b.input _ c.input e) ∙ h.came;
 }
 
 pub shorter : (b c : Reading) → turn b.progress b.ended b.input ≡ Ok (record { event = Skips; progress = c.progress }, c.input) → length c.input.rest < length b.input.rest
@@ -96,9 +107,6 @@ next_input i j h = let k : h.by ≡ j.at - i.at = omega (arith, h.at) in λ d. r
 
 pub next_room : (i j : Input) → Advances i j → (i.at ≤ j.at) × (j.at ≤ i.at + length i.rest)
 next_room i j h = (omega (arith, h.at), omega (arith, h.at, h.within))
-
-pub turned : (p : Progress) (e : Bool) (i : Input) (t : Turn) (j : Input) → turn p e i ≡ Ok (t, j) → Advances i j
-turned p e i t j h = subst (Steps i) h ((turn-reader p).steps e i)
 
 -- ---- a fault stays
 

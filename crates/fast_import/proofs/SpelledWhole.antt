@@ -13,7 +13,7 @@ use Rattle.git_objects.specs.Results.{◌>>=◌}
 use Rattle.fast_import.specs.Reading.{Read, Reader, lifted}
 use Rattle.fast_import.specs.Commands.{Turn, turned, Told, between_at, turn_in, turn, by_event, turn_on, command_within, read_command}
 use Rattle.fast_import.specs.Spelling.{Spells, behind, PassesLines, Reaches, EndsHere, SpellsAll}
-use Rattle.fast_import.specs.Verdicts.{Verdict, stopped, with_command, told_then, go_on, start, from_start, verdict_from}
+use Rattle.fast_import.specs.Verdicts.{Verdict, stopped, with_command, told_then, go_on, from_start, verdict_from}
 use Rattle.stream_lex.specs.Cutting.{IsTold}
 use Rattle.fast_import.specs.Laws.{SpellingLaw}
 use Rattle.fast_import.proofs.Commanding.{command-is, command-reader}
@@ -177,7 +177,7 @@ not_whole p i f e cs h = no_fault f (Some f) refl (commands_are (stopped (Some f
 
 pub spelling_law : SpellingLaw
 spelling_law = record {
-  whole = λ b cs. (whole_was cs start (from_start b), whole_again cs start (from_start b));
+  whole = λ p b cs. (whole_was cs p (from_start b), whole_again cs p (from_start b));
   spelled = λ p q i j c e. subst (TurnSpelled p i) e (turn_spelled p i);
   read = turn_again;
   passed = λ p q i j e. subst (TurnSpelled p i) e (turn_spelled p i);

@@ -1,5 +1,5 @@
 -- What a reader waits for.
-use Rattle.std.proofs.Common.{◌≡◌, ◌+◌, ◌≤◌, Bool, true, false, [], ◌++◌, length, Option, Some, None, Ok, Err, refl, sym, ap, ◌∙◌, arith, subst, length-append}
+use Rattle.std.proofs.Common.{◌≡◌, Bool, true, false, [], ◌++◌, length, Option, Some, None, Ok, Err, refl, sym, ap, ◌∙◌, arith, subst, length-append}
 use Rattle.std.specs.Prelude.{IfSome}
 use Rattle.std.specs.Option.{is_some}
 use Rattle.git_objects.specs.Paths.{Bytes}
@@ -13,7 +13,7 @@ use Rattle.stream_lex.proofs.Passing.{grown_none, grown_twice}
 use Rattle.stream_lex.proofs.Waiting.{line_at-reader, block_at-reader}
 use Rattle.fast_import.specs.declared.progress.Progress.{Progress}
 use Rattle.fast_import.specs.Commands.{turn}
-use Rattle.fast_import.specs.Readers.{Reading, reading, fed, WaitsFor, IsWaiting, wanted_now, IsPlace}
+use Rattle.fast_import.specs.Readers.{Reading, reading, WaitsFor, IsWaiting, wanted_now, IsPlace}
 use Rattle.fast_import.proofs.Turning.{turn-reader}
 
 -- a place that is waited for is one of what the lexer holds
@@ -46,7 +46,7 @@ waits_now (Some w) p l v h e =
     let t = wanted_told w l.ended l.input v e in (
       t.0,
       (λ k. turn p (t.0 k) (sym (grown_none l.input) k))
-      ∙ h.still [] v (subst (λ i. StillWants w i v) (sym (grown_none l.input)) t.1),
+          ∙ h.still [] v (subst (λ i. StillWants w i v) (sym (grown_none l.input)) t.1),
     )
 
 -- what more must come for is waited for

@@ -17,7 +17,7 @@ use Rattle.fast_import.specs.Heads.{blob, head, reset}
 use Rattle.fast_import.specs.Changes.{ChangeLine, change}
 use Rattle.fast_import.specs.Commands.{turn, turn_on, read_command}
 use Rattle.fast_import.specs.Spelling.{Spells, Passes, behind, EndsHere, SpellsAll}
-use Rattle.fast_import.specs.Verdicts.{verdict_from, go_on, start, from_start, verdict, told}
+use Rattle.fast_import.specs.Verdicts.{verdict_from, go_on, from_start, verdict, told}
 use Rattle.fast_import.specs.Readers.{Reading, next_command, IsBefore, fed, MayFollow, TellsNext}
 
 -- Each reader of the grammar is one, so that what was told before more came is told again. The verdict of a whole stream
@@ -30,7 +30,7 @@ pub record VerdictLaw : Type 0 where
   pub turn_is : (p : Progress) → IsReader (turn p)
   pub command_is : (p : Progress) → IsReader (read_command p)
   pub one_by_one : (p : Progress) (i : Input) → verdict_from p i ≡ go_on verdict_from (read_command p true i)
-  pub pieces : (pieces : List Bytes) → told pieces ≡ verdict (concat pieces)
+  pub pieces : (p : Progress) (pieces : List Bytes) → told p pieces ≡ verdict p (concat pieces)
 
 -- Behind a fault the next answer is this fault again, whatever is fed between, want of memory apart.
 abbrev pub FaultLaw : Type 0
@@ -43,7 +43,7 @@ FaultLaw =
 -- next command is that of the next line or command, behind lines that give none.
 pub record SpellingLaw : Type 0 where
   -- a whole stream without a fault
-  pub whole : (b : Bytes) (cs : List Placed) → (verdict b ≡ record { commands = cs; fault = None }) ↔ SpellsAll cs start (from_start b)
+  pub whole : (p : Progress) (b : Bytes) (cs : List Placed) → (verdict p b ≡ record { commands = cs; fault = None }) ↔ SpellsAll cs p (from_start b)
   -- one command
   pub spelled : (p q : Progress) (i j : Input) (c : Placed) → turn p true i ≡ Ok (record { event = Gives c; progress = q }, j) →
       Spells p.phase i c.at c.command j × (q ≡ behind p c.command)

@@ -17,6 +17,7 @@ use Rattle.fast_import.specs.declared.reader.Next.{Next}
 use Rattle.fast_import.specs.declared.reader.Next.TheVariants as nexts
 use Rattle.fast_import.specs.Reading.{Read}
 use Rattle.fast_import.specs.Commands.{Told, turn, read_command}
+use Rattle.fast_import.specs.Verdicts.{Verdict, stopped, with_command, size, verdict_from}
 
 -- what is expected next, what was fed and isn't read, and whether that is all
 pub record Reading : Type 0 where
@@ -59,11 +60,20 @@ fed more ended r = record { progress = r.progress; input = grown more r.input; e
 abbrev pub MayFollow : Reading → Bytes → Bool → Type 0
 MayFollow r more ended = r.ended ≡ true → (more ≡ []) × (ended ≡ true)
 
+-- how many bytes of the stream have come
+abbrev pub came : Reading → ℕ
+came r = r.input.at + length r.input.rest
+
+-- what is left to be read, so counted that each command lowers it
+abbrev pub left : Reading → ℕ
+left r = size r.progress r.input
+
 -- Whatever follows, what is told behind both is the same: lines between them, if any, give no command.
 pub record IsBefore (old new : Reading) : Type 0 where
   pub same : (ended : Bool) (more : Bytes) → MayFollow old more ended →
       read_command old.progress ended (grown more old.input) ≡ read_command new.progress ended (grown more new.input)
   pub ended : new.ended ≡ old.ended
+  pub came : came new ≡ came old
 
 abbrev pub TellsNext : Result Next StreamFault → Reading → Reading → Type 0
 TellsNext (Ok (nexts.Command p)) old new =
@@ -72,6 +82,32 @@ TellsNext (Ok nexts.More) old new = ((w : Wanted) × (next_command old ≡ Err (
 TellsNext (Ok nexts.Ended) old new =
     (next_command old ≡ Ok (record { command = None; progress = new.progress }, new.input)) × (new.ended ≡ old.ended)
 TellsNext (Err f) old new = (f ≡ OutOfMemory) ⊎ ((next_command old ≡ Err (stops.Fault f)) × IsBefore old new)
+
+abbrev pub OnCommand : Result Next StreamFault → Type 0 → Type 0
+OnCommand (Ok (nexts.Command p)) t = t
+OnCommand (Ok nexts.More) t = Unit {0}
+OnCommand (Ok nexts.Ended) t = Unit {0}
+OnCommand (Err f) t = Unit {0}
+
+abbrev pub OnMore : Result Next StreamFault → Type 0 → Type 0
+OnMore (Ok (nexts.Command p)) t = Unit {0}
+OnMore (Ok nexts.More) t = t
+OnMore (Ok nexts.Ended) t = Unit {0}
+OnMore (Err f) t = Unit {0}
+
+-- the verdict of all that is left, where more follows and then the end
+abbrev pub verdict_with : Bytes → Reading → Verdict
+verdict_with more r = verdict_from r.progress (grown more r.input)
+
+-- what is told stands in front of the verdict of what is left, whatever follows
+abbrev pub StandsBefore : Result Next StreamFault → Verdict → Verdict → Type 0
+StandsBefore (Ok (nexts.Command p)) old new = old ≡ with_command p new
+StandsBefore (Ok nexts.More) old new = old ≡ new
+StandsBefore (Ok nexts.Ended) old new = old ≡ stopped None
+StandsBefore (Err f) old new = (f ≡ OutOfMemory) ⊎ (old ≡ stopped (Some f))
+
+abbrev pub Follows : Result Next StreamFault → Reading → Reading → Type 0
+Follows result old new = (more : Bytes) → MayFollow old more true → StandsBefore result (verdict_with more old) (verdict_with more new)
 
 -- what one line or one command tells, of what a lexer holds
 abbrev pub TellsTurn : Result Event Halt → Reading → Reading → Type 0

@@ -55,16 +55,16 @@ size p i = 2 * length i.rest + weight p.phase
 unfoldable pub verdict_from : Progress → Input → Verdict
 verdict_from p i = verdict_within (size p i + 1) p i
 
--- where the reading of a stream begins
+-- where the reading of a stream begins, unless a caller wants `done` from the start
 abbrev pub start : Progress
 start = record { phase = Between; wants_done = false }
 
 abbrev pub from_start : Bytes → Input
 from_start b = record { at = 0; rest = b }
 
--- The verdict of a whole stream.
-abbrev pub verdict : Bytes → Verdict
-verdict b = verdict_from start (from_start b)
+-- The verdict of a whole stream, read from a start.
+abbrev pub verdict : Progress → Bytes → Verdict
+verdict p b = verdict_from p (from_start b)
 
 -- ---- the same in pieces
 
@@ -82,6 +82,6 @@ told_within (suc n) (x ∷ ps) p i =
 abbrev pub turns : List Bytes → Progress → Input → ℕ
 turns ps p i = size p (grown (concat ps) i) + length ps
 
--- What is told of a stream in pieces.
-abbrev pub told : List Bytes → Verdict
-told ps = told_within (turns ps start (from_start []) + 1) ps start (from_start [])
+-- What is told of a stream in pieces, read from a start.
+abbrev pub told : Progress → List Bytes → Verdict
+told p ps = told_within (turns ps p (from_start []) + 1) ps p (from_start [])

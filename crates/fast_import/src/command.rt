@@ -101,8 +101,8 @@ pub enum Change {
     DeleteAll,
 }
 
-/// What a change puts at a path: a blob of the stream, one by its name (for a module another repository's commit), or the
-/// bytes themselves.
+/// What a change puts at a path: a blob of the stream, one by its name (for a module another repository's commit), or
+/// the bytes themselves.
 #[derive(Debug, Drop)]
 pub enum BlobRef {
     Mark(u64),

@@ -16,10 +16,6 @@ mod names;
 mod path_words;
 mod progress;
 mod reader;
-#[cfg(test)]
-mod streams;
-#[cfg(test)]
-mod tests;
 mod turns;
 mod words;
 

@@ -1,7 +1,9 @@
 // A reader of a stream that is fed in pieces.
-ghost use Rattle.std.specs.Prelude.{◌≡◌, ◌≤◌, [], false, true, IfSome, OnOk, OnErr};
+ghost use Rattle.std.specs.Prelude.{◌≡◌, ◌≤◌, ◌<◌, [], false, true, IfSome, OnOk, OnErr};
+ghost use Rattle.git_objects.specs.declared.limits.TheConstants.{STREAM_BYTES};
 ghost use Rattle.stream_lex.specs.Cutting.{grown, place};
 ghost use Rattle.fast_import.specs.Readers.{IsPlace, TellsTurn, TellsNext, reading, fed, wanted_now};
+ghost use Rattle.fast_import.specs.Readers.{Follows, OnCommand, OnMore, came, left};
 ghost use Rattle.fast_import.specs.Verdicts.{start};
 
 use crate::halt::Halt;
@@ -87,6 +89,17 @@ impl Reader {
     /// The next command with the place of its first line, that more must come, or the end. After a fault every later
     /// call gives the same fault, want of memory apart, after which the reader must be dropped.
     pub fn next(&mut self) -> Result<Next, StreamFault>
+        ensures told { TellsNext result self.old self.new }
+        ensures follows { Follows result self.old self.new }
+        ensures lowers { OnCommand result (left self.new < left self.old) }
+        ensures more { OnMore result (came self.old ≤ STREAM_BYTES) }
+        ensures came { OnOk result (came self.new ≡ came self.old) }
+    {
+        self.read()
+    }
+
+    // Reads up to the next command, the end, a fault, or what must come.
+    fn read(&mut self) -> Result<Next, StreamFault>
         ensures { TellsNext result self.old self.new }
     {
         self.waits = still_wanted(&self.lexer, self.waits);

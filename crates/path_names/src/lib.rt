@@ -7,8 +7,6 @@ mod parts;
 mod path;
 mod quoting;
 mod ref_name;
-#[cfg(test)]
-mod tests;
 mod words;
 
 pub use laws::{comparable_law, path_order_law, path_text_law, quoting_law};

@@ -6,9 +6,8 @@ use Rattle.git_objects.specs.declared.limits.TheConstants.{STREAM_BYTES}
 use Rattle.stream_lex.specs.declared.stop.Stop.TheVariants.{Fault}
 use Rattle.stream_lex.specs.declared.stop.LimitFault.TheVariants.{LongLine, StreamTooLong}
 use Rattle.git_objects.specs.Paths.{Bytes}
-use Rattle.git_objects.specs.Results.{◌>>=◌}
 use Rattle.stream_lex.specs.Lines.{Input, Line, Lex, split_line, is_long, line_from, last_line, any_line, line_at, line_within, past_comment, is_comment, block_at, block_end, short_block}
-use Rattle.stream_lex.specs.Cutting.{Advances, Steps}
+use Rattle.stream_lex.specs.Cutting.{Steps}
 use Rattle.stream_lex.proofs.Combining.{stays, bind_steps}
 use Rattle.stream_lex.proofs.Scan.{got_line, got_block}
 

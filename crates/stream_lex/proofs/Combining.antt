@@ -1,5 +1,5 @@
 -- What is built of readers is a reader.
-use Rattle.std.proofs.Common.{◌≡◌, ◌+◌, ◌≤◌, Bool, true, false, cond, Option, Result, Ok, Err, refl, sym, ap, ◌∙◌, arith, subst}
+use Rattle.std.proofs.Common.{◌≡◌, ◌+◌, ◌≤◌, Bool, true, false, cond, Result, Ok, Err, refl, sym, ap, ◌∙◌, arith, subst}
 use Rattle.std.proofs.lemmas.List.{drop-drop, length-drop, drop-append-le}
 use Rattle.std.proofs.Common.{◌-◌, ◌++◌, ℕ, drop, length, length-append}
 use Rattle.git_objects.specs.Paths.{Bytes}

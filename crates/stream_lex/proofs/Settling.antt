@@ -12,7 +12,6 @@ use Rattle.stream_lex.specs.declared.stop.Wanted.TheVariants as wants
 use Rattle.stream_lex.specs.declared.stop.Stop.TheVariants.{More, Fault}
 use Rattle.stream_lex.specs.declared.stop.LimitFault.TheVariants.{LongLine, StreamTooLong}
 use Rattle.git_objects.specs.Paths.{Bytes}
-use Rattle.git_objects.specs.Results.{◌>>=◌}
 use Rattle.stream_lex.specs.Lines.{Input, Line, Lex, split_line, is_long, line_from, any_line, line_at, line_within, past_comment, is_comment, block_at, block_end, short_block}
 use Rattle.stream_lex.specs.Cutting.{grown, Agrees, Settles}
 use Rattle.stream_lex.proofs.Combining.{bind_agrees}

@@ -1,12 +1,11 @@
 -- Lines and blocks are read by readers, of which it is known what they wait for.
-use Rattle.std.proofs.Common.{◌≡◌, ◌+◌, ◌-◌, ◌<◌, ◌≤◌, ℕ, zero, suc, Bool, true, false, [], ◌++◌, length, drop, Option, Some, None, Ok, Err, refl, sym, ap, ◌∙◌, arith, subst, length-append}
-use Rattle.git_objects.specs.Paths.{Bytes}
+use Rattle.std.proofs.Common.{◌≡◌, ◌+◌, ◌-◌, ◌<◌, ◌≤◌, ℕ, zero, suc, Bool, true, false, length, drop, Option, Some, None, Ok, Err, refl, sym, ap, ◌∙◌, arith, subst}
 use Rattle.git_objects.specs.declared.limits.TheConstants.{STREAM_BYTES}
 use Rattle.stream_lex.specs.declared.stop.Wanted.{Wanted}
 use Rattle.stream_lex.specs.declared.stop.Wanted.TheVariants as wants
 use Rattle.stream_lex.specs.declared.stop.Stop.TheVariants.{More, Fault}
 use Rattle.stream_lex.specs.Lines.{Input, Line, Lex, any_line, line_at, is_comment, block_at}
-use Rattle.stream_lex.specs.Cutting.{grown, Advances, Steps, from_place, WaitsOn, IsReader}
+use Rattle.stream_lex.specs.Cutting.{grown, Steps, from_place, WaitsOn, IsReader}
 use Rattle.stream_lex.proofs.Combining.{waits_later, waits_as}
 use Rattle.stream_lex.proofs.Settling.{line_at-settles, block_at-settles}
 use Rattle.stream_lex.proofs.Fuel.{line_err, line_none, line_some, line_skip, moves_some}

@@ -1,7 +1,6 @@
 -- Of a whole input nothing is left open.
-use Rattle.std.proofs.Common.{◌+◌, ◌<◌, ℕ, zero, suc, true, false, cond, [], ◌∷◌, length, take, drop, Option, Some, None, Result, Ok, Err, arith, eqb, leb}
+use Rattle.std.proofs.Common.{◌+◌, ◌<◌, ℕ, zero, suc, true, false, cond, [], ◌∷◌, length, take, drop, Option, Some, None, Ok, Err, arith, eqb, leb}
 use Rattle.git_objects.specs.declared.limits.TheConstants.{STREAM_BYTES}
-use Rattle.stream_lex.specs.declared.stop.Stop.{Stop}
 use Rattle.stream_lex.specs.declared.stop.Stop.TheVariants.{More, Fault}
 use Rattle.stream_lex.specs.declared.stop.LimitFault.TheVariants.{LongLine, StreamTooLong}
 use Rattle.git_objects.specs.Paths.{Bytes}

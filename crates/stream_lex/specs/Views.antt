@@ -4,7 +4,6 @@ use Rattle.std.specs.Borrow.{Bor}
 use Rattle.stream_lex.specs.declared.stop.Stop.{Stop}
 use Rattle.stream_lex.specs.declared.stop.LimitFault.{LimitFault}
 use Rattle.stream_lex.specs.declared.stop.Stop.TheVariants.{More, Fault}
-use Rattle.stream_lex.specs.declared.stop.LimitFault.TheVariants.{LongLine, StreamTooLong}
 use Rattle.stream_lex.specs.declared.cursor.Cursor.{Cursor}
 use Rattle.stream_lex.specs.declared.cursor.LineView.{LineView}
 use Rattle.git_objects.specs.Paths.{Bytes}

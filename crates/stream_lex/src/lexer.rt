@@ -179,7 +179,8 @@ impl Lexer {
         }
     }
 
-    /// What isn't handed out, lent: `line` and `block` of this crate read it without copies, and `pass` then hands it out.
+    /// What isn't handed out, lent: `line` and `block` of this crate read it without copies, and `pass` then hands it
+    /// out.
     pub fn cursor(&self) -> Cursor<'_>
         ensures value { input result ≡ self.now.input }
         ensures within { result.at ≤ STREAM_BYTES }

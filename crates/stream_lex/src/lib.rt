@@ -7,8 +7,6 @@ mod laws;
 mod lexer;
 mod lines;
 mod stop;
-#[cfg(test)]
-mod tests;
 
 pub use blocks::block;
 pub use cursor::{Cursor, LineView};

@@ -24,7 +24,10 @@ pub fn is_comment(line: &[u8]) -> bool
 }
 
 /// The next line, a comment or not, or none at the end.
-pub fn any_line<'a>(ended: bool, i: Cursor<'a>) -> Result<(Option<LineView<'a>>, Cursor<'a>), Stop<LimitFault>>
+pub fn any_line<'a>(
+    ended: bool,
+    i: Cursor<'a>,
+) -> Result<(Option<LineView<'a>>, Cursor<'a>), Stop<LimitFault>>
     requires { i.at ≤ STREAM_BYTES }
     ensures { Tells read_line result (any_line ended (input i.entry)) }
 {
@@ -32,7 +35,10 @@ pub fn any_line<'a>(ended: bool, i: Cursor<'a>) -> Result<(Option<LineView<'a>>,
 }
 
 /// The next line behind comments, or none at the end.
-pub fn line<'a>(ended: bool, i: Cursor<'a>) -> Result<(Option<LineView<'a>>, Cursor<'a>), Stop<LimitFault>>
+pub fn line<'a>(
+    ended: bool,
+    i: Cursor<'a>,
+) -> Result<(Option<LineView<'a>>, Cursor<'a>), Stop<LimitFault>>
     requires { i.at ≤ STREAM_BYTES }
     ensures told { Tells read_line result (line_at ended (input i.entry)) }
     ensures within { IfOk result (λ x. x.1.at ≤ STREAM_BYTES) }
@@ -47,7 +53,10 @@ pub fn look<'a>(
     ended: bool,
     i: Cursor<'a>,
     clear: usize,
-) -> (Cursor<'a>, Result<(Option<LineView<'a>>, Cursor<'a>), Stop<LimitFault>>)
+) -> (
+    Cursor<'a>,
+    Result<(Option<LineView<'a>>, Cursor<'a>), Stop<LimitFault>>,
+)
     requires at { i.at ≤ STREAM_BYTES }
     requires room { clear ≤ length i.rest.now }
     requires clear { HasNone i.rest.now clear }
@@ -108,7 +117,10 @@ fn next_line<'a>(
 }
 
 // The next line where no LF ends it.
-fn unended<'a>(ended: bool, i: Cursor<'a>) -> Result<(Option<LineView<'a>>, Cursor<'a>), Stop<LimitFault>>
+fn unended<'a>(
+    ended: bool,
+    i: Cursor<'a>,
+) -> Result<(Option<LineView<'a>>, Cursor<'a>), Stop<LimitFault>>
     requires at { i.at ≤ STREAM_BYTES }
     requires none { HasNone i.rest.now (LINE_BYTES + 1) }
     ensures told { Tells read_line result (any_line ended (input i.entry)) }

@@ -1,4 +1,4 @@
-use Rattle.std.proofs.Common.{◌∙◌, ◌+◌, ◌-◌, Ok, Err, Some, None, ap, sym, refl, subst, arith}
+use Rattle.std.proofs.Common.{◌∙◌, ◌+◌, ◌-◌, Ok, Err, Some, None, ap, sym, subst, arith}
 use Rattle.git_objects.specs.Paths.{Bytes}
 use Rattle.stream_lex.specs.Views.{input, line, maybe_line}
 use Rattle.stream_lex.specs.Lines.{line_at}
@@ -8,8 +8,11 @@ use Rattle.stream_lex.proofs.lexer.Lexer.line.Goals as goal
 
 pub returns-in-Err-More : goal.returns-in-Err-More
 returns-in-Err-More c = (
-  (c.in-Err-More.field-0-0, told_here c.self.inside.base c.self.inside.bytes.items c.deref.result.now c.self.inside.used c.self.inside.from c.self.inside.ended
-      c.deref.ensures.value c.self.invariant.past c.args.self.now c.self.view_is _ (rw c.in-Err-More.is at c.look.ensures.told ∙ ap Err (rw c.in-Err-More.is at c.in-Err-More.field-0-is))),
+  (
+    c.in-Err-More.field-0-0,
+    told_here c.self.inside.base c.self.inside.bytes.items c.deref.result.now c.self.inside.used c.self.inside.from c.self.inside.ended
+        c.deref.ensures.value c.self.invariant.past c.args.self.now c.self.view_is _ (rw c.in-Err-More.is at c.look.ensures.told ∙ ap Err (rw c.in-Err-More.is at c.in-Err-More.field-0-is)),
+  ),
   c.self.view_is,
 )
 

@@ -1,6 +1,6 @@
 use Rattle.std.proofs.Common.{◌≡◌, length, None}
 use Rattle.fast_import.specs.Readers.{IsBefore, reading}
-use Rattle.fast_import.proofs.reader.Reader.next.Given as goal
+use Rattle.fast_import.proofs.reader.Reader.read.Given as goal
 
 abbrev pub invariant-turns : goal.invariant-turns
 invariant-turns l = record {

@@ -1,5 +1,5 @@
 use Rattle.std.proofs.Common.{◌≡◌}
-use Rattle.fast_import.proofs.tests.drained.Given as goal
+use Rattle.stream_cases.proofs.reading.drained.Given as goal
 
 abbrev pub invariant-commands : goal.invariant-commands
 invariant-commands l = l.reader.ended ≡ l.fn.reader.ended

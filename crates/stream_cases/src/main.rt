@@ -1,0 +1,27 @@
+//! Answers cases of streams, of lines and blocks, of paths, ref names, quoting and numbers, a line each, from standard
+//! input.
+#![tactic(auto)]
+
+mod commands;
+mod lexing;
+mod names;
+mod reading;
+mod session;
+
+use case_lines::Fault;
+use session::Session;
+use std::io;
+use std::io::{BufRead, BufReader, BufWriter, Write};
+
+fn main(rt: HostRuntime) -> Result<(), Fault> {
+    let alloc = rt.alloc();
+    let mut session = Session::new(alloc);
+    let mut out = BufWriter::new(alloc, io::writer(&rt))?;
+    for line in BufReader::new(alloc, rt.reader())?.lines(alloc) {
+        let line = line?;
+        let text = session.take(line.as_str())?;
+        out.write_all(text.as_bytes())?;
+    }
+    out.flush()?;
+    Ok(())
+}
