@@ -15,7 +15,7 @@ use Rattle.repo_state.specs.declared.commit.CommitError.TheVariants as commit
 use Rattle.proj_cli.specs.Answer.{Follows, IsAppended, IsMadeFrom, NoObject}
 use Rattle.proj_cli.specs.Prepared.{IsSameBut, room_in}
 use Rattle.proj_cli.specs.Step.{Step, changing, refused}
-use Rattle.proj_cli.specs.declared.outcome.Outcome.TheVariants.{Done, NotBuilt, StoreFault}
+use Rattle.proj_words.specs.declared.outcome.Outcome.TheVariants.{Done, NotBuilt, StoreFault}
 use Rattle.proj_cli.proofs.Makes.{stays_follow}
 
 -- what is read of the same items is the same

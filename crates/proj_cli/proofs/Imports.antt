@@ -27,7 +27,7 @@ use Rattle.history_project.specs.Snapshots.{base_tree}
 use Rattle.proj_cli.specs.Step.{Room, changing, import_made, import_smalls, import_upon, input_max, refused}
 use Rattle.history_project.specs.Histories.{is_same_name, tree_upon}
 use Rattle.small_streams.specs.Views.{head_value, small_value}
-use Rattle.proj_cli.specs.declared.outcome.Outcome.TheVariants.{NotBuilt}
+use Rattle.proj_words.specs.declared.outcome.Outcome.TheVariants.{NotBuilt}
 use Rattle.small_streams.specs.declared.replay.Replayed.{Replayed}
 use Rattle.proj_cli.specs.declared.saving.Prepared.{Prepared}
 use Rattle.small_streams.specs.declared.streams.SmallCommit.{SmallCommit}

@@ -14,8 +14,8 @@ use Rattle.repo_state.specs.Commits.{GetsItem, KeepsItems}
 use Rattle.proj_cli.specs.Answer.{IsChanged, IsDone, IsLanded, IsMadeFrom, IsMadeOf, IsRefusal, IsSavedBy, NoObject}
 use Rattle.proj_cli.specs.Prepared.{room_in}
 use Rattle.proj_cli.specs.Step.{Room, Step, by_items, input_max, load_outcome, refused, room_of, step}
-use Rattle.proj_cli.specs.declared.outcome.Outcome.{Outcome}
-use Rattle.proj_cli.specs.declared.outcome.Outcome.TheVariants.{Done, OutOfMemory, Collision, NotBuilt, ReadFault, StoreFault, WriteFault}
+use Rattle.proj_words.specs.declared.outcome.Outcome.{Outcome}
+use Rattle.proj_words.specs.declared.outcome.Outcome.TheVariants.{Done, OutOfMemory, Collision, NotBuilt, ReadFault, StoreFault, WriteFault}
 use Rattle.proj_cli.proofs.Makes.{keeps, load_report, long, long_input, made_plain, report_for, told_input, whole_input}
 
 -- ---- more objects in hand

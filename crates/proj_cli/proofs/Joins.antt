@@ -8,8 +8,8 @@ use Rattle.object_store.specs.Objects.{Object}
 use Rattle.proj_io.specs.Views.{SourceView, SinkView, KeeperView}
 use Rattle.proj_cli.specs.Step.{Step}
 use Rattle.proj_cli.specs.Answer.{Began, Devices, IsAnswer, IsChanged, IsComplete, IsConcluded, IsIdle, IsMade, IsMadeOf, IsOutcome, IsOutput, IsRefusal, IsSaved, IsSavedBy, IsSent, IsStepped, IsTwice, TakesMemory}
-use Rattle.proj_cli.specs.declared.outcome.Outcome.{Outcome}
-use Rattle.proj_cli.specs.declared.outcome.Outcome.TheVariants.{Done, OutOfMemory, Collision, ReadFault, WriteFault, StoreFault}
+use Rattle.proj_words.specs.declared.outcome.Outcome.{Outcome}
+use Rattle.proj_words.specs.declared.outcome.Outcome.TheVariants.{Done, OutOfMemory, Collision, ReadFault, WriteFault, StoreFault}
 
 -- ---- a report that was written
 

@@ -9,9 +9,9 @@ use Rattle.proj_cli.specs.Pushed.{IsLawful, IsLawfulBy, IsLawfulRead}
 use Rattle.proj_cli.specs.Step.{by_items, push_by, push_step, room_of, step}
 use Rattle.small_streams.specs.Streams.{stream}
 use Rattle.proj_cli.specs.Texts.{filter_path}
-use Rattle.proj_cli.specs.Words.{Push}
-use Rattle.proj_cli.specs.declared.outcome.Outcome.{Outcome}
-use Rattle.proj_cli.specs.declared.outcome.Outcome.TheVariants.{Done, OutOfMemory}
+use Rattle.proj_words.specs.Words.{Push}
+use Rattle.proj_words.specs.declared.outcome.Outcome.{Outcome}
+use Rattle.proj_words.specs.declared.outcome.Outcome.TheVariants.{Done, OutOfMemory}
 
 -- of the input that was told
 pub done_lawful : (result : Result Bytes Outcome) (r f : Bytes) (place : Path) (rb : Bytes) → Some place ≡ filter_path f → rb ≡ r → (left : Option Bytes) (items : List Bytes) (all : Bytes) → left ≡ Some all

@@ -1,7 +1,6 @@
 pub mod Twice
 pub mod Bringing
 pub mod Makes
-pub mod Forms
 pub mod Joins
 pub mod Importing
 pub mod Committing

@@ -17,18 +17,18 @@ use Rattle.repo_state.specs.declared.state.LoadError.{LoadError}
 use Rattle.repo_state.specs.declared.state.LoadError.TheVariants as load
 use Rattle.std.specs.Option.{is_some}
 use Rattle.std.specs.Borrow.{Bor}
-use Rattle.proj_cli.specs.Asked.{command_of}
-use Rattle.proj_cli.specs.declared.words.Asked.{Asked}
-use Rattle.proj_cli.specs.declared.words.Asked.TheVariants as asks
-use Rattle.proj_cli.specs.Words.{Command, Import, Project, Push, Name, Unknown}
+use Rattle.proj_words.specs.Views.{command_of}
+use Rattle.proj_words.specs.declared.words.Command.{Command as Asked}
+use Rattle.proj_words.specs.declared.words.Command.TheVariants as asks
+use Rattle.proj_words.specs.Words.{Command, Import, Project, Push, Name, Unknown}
 use Rattle.proj_cli.specs.Texts.{filter_path}
 use Rattle.small_streams.specs.Streams.{stream}
 use Rattle.proj_cli.specs.Step.{Step, by_items, input_max, load_outcome, loads, name_by, name_step, name_stream, no_change, project_by, project_step, push_by, push_step, refused, room_of, step, writes}
 use Rattle.repo_state.specs.Changes.{Plan, is_empty}
 use Rattle.repo_state.specs.Commits.{KeepsItems}
 use Rattle.proj_cli.specs.Answer.{Follows, IsChanged, IsInHand, IsInStream, IsMade, IsMadeFrom, IsMadeOf, IsPushOf, IsPushedTo, IsRefusal, IsReport, IsReported, IsSavedBy, NoObject, Plainly}
-use Rattle.proj_cli.specs.declared.outcome.Outcome.{Outcome}
-use Rattle.proj_cli.specs.declared.outcome.Outcome.TheVariants.{Done, OutOfMemory, Usage, Collision, ReadFault, StoreFault, WriteFault, NotBuilt}
+use Rattle.proj_words.specs.declared.outcome.Outcome.{Outcome}
+use Rattle.proj_words.specs.declared.outcome.Outcome.TheVariants.{Done, OutOfMemory, Usage, Collision, ReadFault, StoreFault, WriteFault, NotBuilt}
 
 -- ---- items that are as they were
 
@@ -276,4 +276,5 @@ other_words (asks.Export r f) i p q n u items all = refl
 other_words (asks.Name r f) i p q n u items all = absurd (n r f refl)
 other_words asks.Batch i p q n u items all = refl
 other_words (asks.Trial k) i p q n u items all = refl
+other_words (asks.Rule k) i p q n u items all = refl
 other_words asks.Unknown i p q n u items all = absurd (u refl)

@@ -22,8 +22,8 @@ use Rattle.proj_cli.specs.Pushed.{IsPushed}
 use Rattle.proj_cli.specs.Pushes.{IsAccepted, IsPreparedPush}
 use Rattle.proj_cli.specs.Step.{Room, Step, push_made, push_smalls, refused, start_below}
 use Rattle.small_streams.specs.Streams.{Small}
-use Rattle.proj_cli.specs.declared.outcome.Outcome.{Outcome}
-use Rattle.proj_cli.specs.declared.outcome.Outcome.TheVariants.{OtherRef}
+use Rattle.proj_words.specs.declared.outcome.Outcome.{Outcome}
+use Rattle.proj_words.specs.declared.outcome.Outcome.TheVariants.{OtherRef}
 use Rattle.proj_cli.specs.declared.saving.Prepared.{Prepared}
 use Rattle.proj_cli.proofs.PushFits.{push-fits}
 use Rattle.proj_cli.proofs.PushLaws.{push-law}

@@ -13,8 +13,8 @@ use Rattle.proj_cli.specs.Pushed.{IsPushedAll}
 use Rattle.proj_cli.specs.Step.{Room, Step, changing, no_change, push_smalls}
 use Rattle.small_streams.specs.Streams.{Small}
 use Rattle.small_streams.specs.Views.{small_value}
-use Rattle.proj_cli.specs.declared.outcome.Outcome.{Outcome}
-use Rattle.proj_cli.specs.declared.outcome.Outcome.TheVariants.{Done}
+use Rattle.proj_words.specs.declared.outcome.Outcome.{Outcome}
+use Rattle.proj_words.specs.declared.outcome.Outcome.TheVariants.{Done}
 use Rattle.proj_cli.specs.declared.saving.Prepared.{Prepared}
 use Rattle.small_streams.specs.declared.streams.SmallCommit.{SmallCommit}
 use Rattle.proj_cli.proofs.Imports.{nothing-prepared}

@@ -13,7 +13,7 @@ use Rattle.git_objects.specs.Refs.{bytes_cmp}
 use Rattle.repo_state.specs.Repos.{is_kept, repo_of}
 use Rattle.repo_state.specs.Changes.{Plan, held_after, is_empty, plan_text}
 use Rattle.repo_state.specs.Commits.{GetsItem, KeepsItems}
-use Rattle.proj_cli.specs.Words.{Command, Import, Push, Name}
+use Rattle.proj_words.specs.Words.{Command, Import, Push, Name}
 use Rattle.small_streams.specs.Streams.{Small, stream}
 use Rattle.small_streams.specs.Replay.{IsMadeBy}
 use Rattle.proj_cli.specs.Step.{Step, done, start_below}
@@ -21,8 +21,8 @@ use Rattle.proj_cli.specs.Push.{IsPushMade, Start}
 use Rattle.proj_cli.specs.Texts.{filter_path}
 use Rattle.filter_unapply.specs.Laying.{below}
 use Rattle.history_project.specs.Histories.{tree_upon}
-use Rattle.proj_cli.specs.declared.outcome.Outcome.{Outcome}
-use Rattle.proj_cli.specs.declared.outcome.Outcome.TheVariants.{Done, OutOfMemory, Collision, ReadFault, WriteFault, StoreFault}
+use Rattle.proj_words.specs.declared.outcome.Outcome.{Outcome}
+use Rattle.proj_words.specs.declared.outcome.Outcome.TheVariants.{Done, OutOfMemory, Collision, ReadFault, WriteFault, StoreFault}
 
 -- ---- objects in hand
 

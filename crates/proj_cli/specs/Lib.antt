@@ -1,10 +1,8 @@
 pub mod Texts
-pub mod Words
 pub mod Push
 pub mod Step
 pub mod Answer
 pub mod Pushed
-pub mod Asked
 pub mod Rows
 pub mod Calls
 pub mod Prepared

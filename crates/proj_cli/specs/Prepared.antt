@@ -10,8 +10,8 @@ use Rattle.git_objects.specs.declared.name.Name.{Name}
 use Rattle.small_streams.specs.Streams.{Small, stream}
 use Rattle.proj_cli.specs.Step.{Room, Step, changing, input_max, report_line}
 use Rattle.proj_cli.specs.Answer.{IsRefusal}
-use Rattle.proj_cli.specs.declared.outcome.Outcome.{Outcome}
-use Rattle.proj_cli.specs.declared.outcome.Outcome.TheVariants.{ReadFault, StoreFault}
+use Rattle.proj_words.specs.declared.outcome.Outcome.{Outcome}
+use Rattle.proj_words.specs.declared.outcome.Outcome.TheVariants.{ReadFault, StoreFault}
 use Rattle.small_streams.specs.declared.replay.Replayed.{Replayed}
 use Rattle.proj_cli.specs.declared.saving.Prepared.{Prepared}
 

@@ -12,7 +12,7 @@ use Rattle.repo_state.specs.Items.{nothing}
 use Rattle.proj_cli.specs.Push.{Start, OtherRef, NotAtHead, NoChange, Blocked, Accepted, by_laid, judged, pushed_commit, verdict}
 use Rattle.proj_cli.specs.Step.{Room, done, push_line, push_made, push_smalls, refused}
 use Rattle.small_streams.specs.Streams.{Change, Small}
-use Rattle.proj_cli.specs.declared.outcome.Outcome.TheVariants as outcome
+use Rattle.proj_words.specs.declared.outcome.Outcome.TheVariants as outcome
 
 abbrev a : Bytes
 a = codes "a"

@@ -15,7 +15,7 @@ use Rattle.proj_cli.specs.Push.{pushed_commit}
 use Rattle.proj_cli.specs.Step.{Step, push_line, start_below}
 use Rattle.small_streams.specs.Streams.{Small, stream}
 use Rattle.proj_cli.specs.Texts.{filter_path}
-use Rattle.proj_cli.specs.Words.{Command, Push}
+use Rattle.proj_words.specs.Words.{Command, Push}
 
 -- From the state h to the state g, by the commit s that was pushed: the ref names an original commit whose projection is exactly
 -- the pushed commit, and what isn't shown is as it was.

@@ -6,7 +6,7 @@ use Rattle.git_objects.specs.Commits.{Letter}
 use Rattle.repo_state.specs.Items.{nothing}
 use Rattle.small_streams.specs.Streams.{Small}
 use Rattle.proj_cli.specs.Step.{Room, changing, done, import_stream, import_upon, no_change, refused, report_line}
-use Rattle.proj_cli.specs.declared.outcome.Outcome.TheVariants.{NotBuilt}
+use Rattle.proj_words.specs.declared.outcome.Outcome.TheVariants.{NotBuilt}
 
 abbrev here : Bytes
 here = codes "refs/heads/main"

@@ -19,7 +19,7 @@ use Rattle.git_objects.specs.Snapshots.{Snapshot, snapshot_name}
 use Rattle.repo_state.specs.Changes.{Plan, fresh, is_empty, moved, passed}
 use Rattle.repo_state.specs.declared.state.LoadError.{LoadError}
 use Rattle.repo_state.specs.declared.state.LoadError.TheVariants as load
-use Rattle.proj_cli.specs.Words.{Command, Import, Project, Push, Name, Unknown}
+use Rattle.proj_words.specs.Words.{Command, Import, Project, Push, Name, Unknown}
 use Rattle.proj_cli.specs.Texts.{filter_path}
 use Rattle.small_streams.specs.Streams.{Head, Small, stream}
 use Rattle.small_streams.specs.Replay.{replayed, stream_objects}
@@ -27,8 +27,8 @@ use Rattle.history_project.specs.Projection.{projection_below, name_line}
 use Rattle.history_project.specs.Histories.{is_same_name, last_name, tree_upon}
 use Rattle.proj_cli.specs.Push as push
 use Rattle.proj_cli.specs.Push.{Start, Verdict, pushed_commit, start_at, verdict}
-use Rattle.proj_cli.specs.declared.outcome.Outcome.{Outcome}
-use Rattle.proj_cli.specs.declared.outcome.Outcome.TheVariants.{Done, OutOfMemory, Usage, UnknownRef, OtherRef, NotAtHead, NoChange, Blocked, Collision, ReadFault, WriteFault, StoreFault, Damaged, NotBuilt}
+use Rattle.proj_words.specs.declared.outcome.Outcome.{Outcome}
+use Rattle.proj_words.specs.declared.outcome.Outcome.TheVariants.{Done, OutOfMemory, Usage, UnknownRef, OtherRef, NotAtHead, NoChange, Blocked, Collision, ReadFault, WriteFault, StoreFault, Damaged, NotBuilt}
 
 pub record Step : Type 0 where
   pub outcome : Outcome
@@ -222,44 +222,3 @@ abbrev pub writes : Command → Bool
 writes (Import false) = true
 writes (Push refname filter) = is_some (filter_path filter)
 writes _ = false
-
--- ---- outcomes
-
--- the digits of a name, or `none`
-abbrev pub name_text : Option ObjectName → Bytes
-name_text None = codes "none"
-name_text (Some n) = hex n.0
-
--- the line for the error stream
-abbrev pub text_of : Outcome → Bytes
-text_of Done = []
-text_of OutOfMemory = codes "out of memory\n"
-text_of Usage = codes "usage: proj STORE (import [--force] | project REF FILTER | push REF FILTER | export REF FILTER | batch), proj name REF FILTER, proj trial N\n"
-text_of UnknownRef = codes "unknown ref\n"
-text_of (OtherRef at) = codes "other ref at " ++ decimal at ++ codes "\n"
-text_of (NotAtHead expected got) = codes "not at head: expected " ++ name_text expected ++ codes ", got " ++ name_text got ++ codes "\n"
-text_of (NoChange n) = codes "no change: commit " ++ decimal n ++ codes "\n"
-text_of (Blocked n p q) = codes "blocked: commit " ++ decimal n ++ codes ": " ++ quote (text p) ++ codes " by " ++ quote (text q) ++ codes "\n"
-text_of (Collision n) = codes "collision: " ++ hex n.0 ++ codes "\n"
-text_of ReadFault = codes "read fault\n"
-text_of WriteFault = codes "write fault\n"
-text_of StoreFault = codes "store fault\n"
-text_of (Damaged item at) = codes "damaged: item " ++ decimal item ++ codes " at " ++ decimal at ++ codes "\n"
-text_of NotBuilt = codes "not built\n"
-
--- the number that the program ends with
-abbrev pub code_of : Outcome → ℕ
-code_of Done = 0
-code_of OutOfMemory = 1
-code_of Usage = 2
-code_of UnknownRef = 8
-code_of (OtherRef at) = 13
-code_of (NotAtHead expected got) = 14
-code_of (NoChange n) = 16
-code_of (Blocked n p q) = 19
-code_of (Collision n) = 21
-code_of ReadFault = 22
-code_of WriteFault = 23
-code_of StoreFault = 24
-code_of (Damaged item at) = 25
-code_of NotBuilt = 90

@@ -20,10 +20,10 @@ ghost use Rattle.proj_cli.specs.Step.{import_smalls, import_step, import_stream,
 ghost use Rattle.history_project.specs.Histories.{is_same_name, tree_upon};
 ghost use Rattle.small_streams.specs.Streams.{stream};
 ghost use Rattle.small_streams.specs.Views.{small_value};
-ghost use Rattle.proj_cli.specs.Words.{Import};
+ghost use Rattle.proj_words.specs.Words.{Import};
 
 use crate::Outcome;
-use crate::outcome::load_outcome;
+use crate::loading::load_outcome;
 use crate::saving::{Prepared, save};
 use git_objects::{Bytes, Name};
 use path_names::RefName;

@@ -2,15 +2,14 @@
 #![tactic(auto)]
 
 mod import;
+mod loading;
 mod name;
-mod outcome;
 mod program;
 mod project;
 mod push;
 mod pushing;
 mod saving;
 mod texts;
-mod words;
 
-pub use outcome::{Outcome, outcome_code, outcome_text};
 pub use program::run;
+pub use proj_words::{Outcome, outcome_code, outcome_text};

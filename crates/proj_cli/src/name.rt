@@ -15,7 +15,7 @@ ghost use Rattle.proj_cli.specs.Step.{has_few, name_made, name_smalls};
 ghost use Rattle.history_project.specs.Histories.{last_name};
 ghost use Rattle.small_streams.specs.Views.{small_value};
 
-use crate::outcome::Outcome;
+use crate::Outcome;
 use git_objects::limits::{COMMITS, OBJECTS};
 use git_objects::{Bytes, Name};
 use history_project::{name_line, projection_line};

@@ -7,11 +7,11 @@ ghost use Rattle.proj_io.specs.Items.{Stays};
 ghost use Rattle.repo_state.specs.Items.{read_items};
 ghost use Rattle.proj_io.specs.Counts.{Counts};
 ghost use Rattle.proj_io.specs.Views.{source_view, sink_view, keeper_view};
-ghost use Rattle.proj_cli.specs.Words.{command, is_formed};
+ghost use Rattle.proj_words.specs.Words.{command, is_formed};
 ghost use Rattle.small_streams.specs.Streams.{stream};
-ghost use Rattle.proj_cli.specs.Asked.{command_of};
-ghost use Rattle.proj_cli.specs.Step.{by_items, loads, name_step, name_stream, project_step, reads, step, text_of};
-ghost use Rattle.proj_cli.specs.Step.{writes};
+ghost use Rattle.proj_words.specs.Views.{command_of};
+ghost use Rattle.proj_words.specs.Outcomes.{text_of};
+ghost use Rattle.proj_cli.specs.Step.{by_items, loads, name_step, name_stream, project_step, reads, step, writes};
 ghost use Rattle.proj_cli.specs.Answer.{GetsText, IsAnswer, IsComplete, IsConcluded, IsIdle, IsInHand, IsInStream};
 ghost use Rattle.proj_cli.specs.Answer.{IsMade, IsReport, IsReported, IsSent, NoObject, Plainly, TakesMemory};
 ghost use Rattle.proj_cli.specs.Pushed.{IsLawful};
@@ -20,14 +20,14 @@ ghost use Rattle.proj_cli.specs.Calls.{devices};
 use crate::Outcome;
 use crate::import::{INPUT_MAX, import};
 use crate::name::name_text;
-use crate::outcome::{load_outcome, outcome_text};
+use crate::loading::load_outcome;
 use crate::project::project_line;
 use crate::push::push;
 use crate::texts::filter_path;
-use crate::words::{Asked, read_words};
 use git_objects::Bytes;
 use path_names::{Path, RefFault, RefName};
 use proj_io::{Keeper, ReadError, Sink, SinkError, Source, read_up_to, write_whole};
+use proj_words::{Command, outcome_text, read_command};
 use repo_state::State;
 use small_streams::stream;
 use std::alloc::Global;
@@ -114,7 +114,7 @@ fn name<S: Source>(
 // Runs the command and gives its report. Where the filter is none that is built, nothing is read.
 fn make<S: Source, K: Keeper>(
     alloc: Global,
-    asked: Asked<'_>,
+    asked: Command<'_>,
     input: &mut S,
     store: &mut K,
 ) -> Result<Bytes, Outcome>
@@ -134,28 +134,28 @@ fn make<S: Source, K: Keeper>(
     ensures is_open { (result ≢ Err Outcome.StoreFault) → K.is_open store.new }
 {
     match asked {
-        Asked::Import(force) => {
+        Command::Import(force) => {
             if force {
                 return Err(Outcome::NotBuilt);
             }
             import(alloc, input, store)
         }
-        Asked::Name(refname, filter) => match filter_path(alloc, filter.as_bytes()) {
+        Command::Name(refname, filter) => match filter_path(alloc, filter.as_bytes()) {
             Ok(Some(place)) => name(alloc, refname.as_bytes(), &place, input),
             Ok(None) => Err(Outcome::NotBuilt),
             Err(_) => Err(Outcome::OutOfMemory),
         },
-        Asked::Project(refname, filter) => match filter_path(alloc, filter.as_bytes()) {
+        Command::Project(refname, filter) => match filter_path(alloc, filter.as_bytes()) {
             Ok(Some(place)) => project(alloc, refname.as_bytes(), &place, store),
             Ok(None) => Err(Outcome::NotBuilt),
             Err(_) => Err(Outcome::OutOfMemory),
         },
-        Asked::Push(refname, filter) => match filter_path(alloc, filter.as_bytes()) {
+        Command::Push(refname, filter) => match filter_path(alloc, filter.as_bytes()) {
             Ok(Some(place)) => push(alloc, refname.as_bytes(), &place, input, store),
             Ok(None) => Err(Outcome::NotBuilt),
             Err(_) => Err(Outcome::OutOfMemory),
         },
-        Asked::Unknown => Err(Outcome::Usage),
+        Command::Unknown => Err(Outcome::Usage),
         _ => Err(Outcome::NotBuilt),
     }
 }
@@ -254,7 +254,7 @@ pub fn run<S: Source, O: Sink, E: Sink, K: Keeper>(
     // Only after a fault of the store it may have to be opened again.
     ensures is_open { result ≢ Outcome.StoreFault → K.is_open store.new }
 {
-    let asked = read_words(words);
+    let asked = read_command(words);
     let made = make(alloc, asked, input, store);
     let outcome = conclude(made, out);
     finish(alloc, outcome, err)

@@ -8,7 +8,7 @@ ghost use Rattle.proj_cli.specs.Answer.{NoObject, Plainly};
 ghost use Rattle.history_project.specs.Projection.{name_line, projection_below};
 ghost use Rattle.proj_cli.specs.Step.{done, project_step};
 
-use crate::outcome::Outcome;
+use crate::Outcome;
 use git_objects::{Bytes, Name};
 use history_project::projection_line;
 use object_store::Store;

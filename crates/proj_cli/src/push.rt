@@ -34,7 +34,7 @@ ghost use Rattle.small_streams.specs.Views.{small_value};
 
 use crate::Outcome;
 use crate::import::{INPUT_MAX, is_same_name, nothing};
-use crate::outcome::load_outcome;
+use crate::loading::load_outcome;
 use crate::pushing::{PushFault, Pushed, Start, push_commit};
 use crate::saving::{Prepared, save};
 use git_objects::{Bytes, Name};

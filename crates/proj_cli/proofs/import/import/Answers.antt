@@ -8,8 +8,8 @@ use Rattle.repo_state.specs.Loads.{IsLoaded, IsLoadFault}
 use Rattle.proj_cli.specs.Answer.{IsImported, IsInHand, IsMadeOf}
 use Rattle.proj_cli.specs.Step.{import_step, room_of, step}
 use Rattle.small_streams.specs.Streams.{stream}
-use Rattle.proj_cli.specs.Words.{Import}
-use Rattle.proj_cli.specs.declared.outcome.Outcome.{Outcome}
+use Rattle.proj_words.specs.Words.{Import}
+use Rattle.proj_words.specs.declared.outcome.Outcome.{Outcome}
 use Rattle.proj_cli.proofs.Inputs.{loaded_made, made_then, unloaded_made}
 use Rattle.proj_cli.proofs.import.import.Goals as goal
 

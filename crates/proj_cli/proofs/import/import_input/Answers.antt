@@ -5,7 +5,7 @@ use Rattle.proj_cli.specs.Answer.{IsMadeFrom, IsStreamInHand}
 use Rattle.proj_cli.specs.Prepared.{room_in}
 use Rattle.proj_cli.specs.Step.{import_step, import_stream}
 use Rattle.small_streams.specs.Streams.{stream}
-use Rattle.proj_cli.specs.declared.outcome.Outcome.TheVariants.{OutOfMemory, ReadFault}
+use Rattle.proj_words.specs.declared.outcome.Outcome.TheVariants.{OutOfMemory, ReadFault}
 use Rattle.proj_cli.proofs.Inputs.{input_long, input_none, input_whole}
 use Rattle.proj_cli.proofs.import.import_input.Goals as goal
 

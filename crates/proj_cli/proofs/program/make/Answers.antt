@@ -3,12 +3,12 @@ use Rattle.std.specs.Prelude.{IfOk}
 use Rattle.git_objects.specs.Paths.{Bytes}
 use Rattle.proj_io.specs.Views.{source_view, keeper_view}
 use Rattle.proj_cli.specs.Answer.{IsInHand, IsMade}
-use Rattle.proj_cli.specs.Asked.{command_of}
+use Rattle.proj_words.specs.Views.{command_of}
 use Rattle.proj_cli.specs.Pushed.{IsLawful}
 use Rattle.proj_cli.specs.Step.{loads, step, writes}
 use Rattle.proj_cli.specs.Texts.{filter_path}
-use Rattle.proj_cli.specs.Words.{Command, Import, Name, Project, Push}
-use Rattle.proj_cli.specs.declared.outcome.Outcome.TheVariants.{NotBuilt, Usage}
+use Rattle.proj_words.specs.Words.{Command, Import, Name, Project, Push}
+use Rattle.proj_words.specs.declared.outcome.Outcome.TheVariants.{NotBuilt, Usage}
 use Rattle.proj_cli.proofs.Makes.{import_made, name_made, name_refused, no_form, no_memory, not_built, other_words, project_made, project_refused, push_made, push_refused}
 use Rattle.proj_cli.proofs.Laws.{done_lawful}
 use Rattle.proj_cli.proofs.program.make.Goals as goal

@@ -2,7 +2,7 @@ use Rattle.std.proofs.Common.{subst}
 use Rattle.proj_cli.specs.Answer.{IsInStream, Plainly}
 use Rattle.proj_cli.specs.Step.{name_step, name_stream}
 use Rattle.small_streams.specs.Streams.{stream}
-use Rattle.proj_cli.specs.declared.outcome.Outcome.TheVariants.{OutOfMemory, ReadFault}
+use Rattle.proj_words.specs.declared.outcome.Outcome.TheVariants.{OutOfMemory, ReadFault}
 use Rattle.proj_cli.proofs.Makes.{long_report, whole_report, reports_none}
 use Rattle.proj_cli.proofs.program.name.Goals as goal
 

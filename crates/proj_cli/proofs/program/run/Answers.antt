@@ -5,15 +5,11 @@ use Rattle.proj_io.specs.Views.{source_view, sink_view, keeper_view}
 use Rattle.proj_cli.specs.Answer.{IsDone, IsInHand, IsMade}
 use Rattle.proj_cli.specs.Pushed.{IsLawful}
 use Rattle.proj_cli.specs.Step.{loads, step, writes}
-use Rattle.proj_cli.specs.Words.{command, is_formed}
-use Rattle.proj_cli.proofs.Forms.{formed}
-use Rattle.proj_cli.specs.declared.outcome.Outcome.{Outcome}
+use Rattle.proj_words.specs.Words.{command, is_formed}
+use Rattle.proj_words.specs.declared.outcome.Outcome.{Outcome}
 use Rattle.proj_cli.proofs.Joins.{answers, complete}
 use Rattle.proj_cli.proofs.Laws.{run_lawful}
 use Rattle.proj_cli.proofs.program.run.Goals as goal
-
-pub make-made-requires-clause-formed : goal.make-made-requires-clause-formed
-make-made-requires-clause-formed g c = ap is_formed c.read_words-asked.ensures ∙ formed (map (λ word. string_bytes word) c.args.words.now)
 
 pub returns-clause-answer : goal.returns-clause-answer
 returns-clause-answer g c =
@@ -23,7 +19,7 @@ returns-clause-answer g c =
     let shown = sink_view g.O.Sink.written g.O.Sink.faults g.O.Sink.refusals in
     answers (IsInHand asked) (step asked) (loads asked) (writes asked) (seen c.args.input.now) (seen c.make-made.new.input) (kept c.args.store.now) (kept c.make-made.new.store) (shown c.args.out.now) (shown c.conclude-outcome.new.out)
     c.make-made.result c.conclude-outcome.result c.finish.result
-    (subst (λ a. IsMade (IsInHand a) (step a) (loads a) (writes a) (seen c.args.input.now) (seen c.make-made.new.input) (kept c.args.store.now) (kept c.make-made.new.store) c.make-made.result) c.read_words-asked.ensures c.make-made.ensures.made)
+    (subst (λ a. IsMade (IsInHand a) (step a) (loads a) (writes a) (seen c.args.input.now) (seen c.make-made.new.input) (kept c.args.store.now) (kept c.make-made.new.store) c.make-made.result) c.read_command-asked.ensures.command c.make-made.ensures.made)
     c.conclude-outcome.ensures.concluded (λ e. ap shown (c.conclude-outcome.ensures.same e)) c.finish.ensures.outcome
 
 pub returns-clause-complete : goal.returns-clause-complete
@@ -38,8 +34,8 @@ returns-clause-lawful g c = λ (items : List Bytes) (all : Bytes) told left done
     let kept = keeper_view g.K.Keeper.items g.K.Keeper.number g.K.Keeper.faults in
     let shown = sink_view g.O.Sink.written g.O.Sink.faults g.O.Sink.refusals in
     let made : IsMade (IsInHand asked) (step asked) (loads asked) (writes asked) (seen c.args.input.now) (seen c.make-made.new.input) (kept c.args.store.now) (kept c.make-made.new.store) c.make-made.result =
-    subst (λ a. IsMade (IsInHand a) (step a) (loads a) (writes a) (seen c.args.input.now) (seen c.make-made.new.input) (kept c.args.store.now) (kept c.make-made.new.store) c.make-made.result) c.read_words-asked.ensures c.make-made.ensures.made in
+    subst (λ a. IsMade (IsInHand a) (step a) (loads a) (writes a) (seen c.args.input.now) (seen c.make-made.new.input) (kept c.args.store.now) (kept c.make-made.new.store) c.make-made.result) c.read_command-asked.ensures.command c.make-made.ensures.made in
     let r = made.reported items (λ _. told) in
     run_lawful c.make-made.result c.conclude-outcome.result c.finish.result (shown c.args.out.now) (shown c.conclude-outcome.new.out) (IsLawful asked items all (step asked items all)) c.conclude-outcome.ensures.concluded c.finish.ensures.outcome
     (λ e. subst (λ (x : Result Bytes Outcome). IsDone (IsInHand asked items r.all) (step asked items r.all) x) e r.made.report) done
-    (subst (λ a. IfOk c.make-made.result (λ _. IsLawful a items all (step a items all))) c.read_words-asked.ensures (c.make-made.ensures.lawful items all told left))
+    (subst (λ a. IfOk c.make-made.result (λ _. IsLawful a items all (step a items all))) c.read_command-asked.ensures.command (c.make-made.ensures.lawful items all told left))

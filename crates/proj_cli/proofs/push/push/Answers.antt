@@ -9,8 +9,8 @@ use Rattle.repo_state.specs.Loads.{IsLoaded, IsLoadFault}
 use Rattle.proj_cli.specs.Answer.{IsMadeOf, IsPushOf}
 use Rattle.proj_cli.specs.Step.{by_items, push_step, refused, room_of}
 use Rattle.small_streams.specs.Streams.{stream}
-use Rattle.proj_cli.specs.declared.outcome.Outcome.{Outcome}
-use Rattle.proj_cli.specs.declared.outcome.Outcome.TheVariants.{NotBuilt, OutOfMemory}
+use Rattle.proj_words.specs.declared.outcome.Outcome.{Outcome}
+use Rattle.proj_words.specs.declared.outcome.Outcome.TheVariants.{NotBuilt, OutOfMemory}
 use Rattle.proj_cli.proofs.Inputs.{input_none, loaded_made, made_then, unloaded_made}
 use Rattle.proj_cli.proofs.push.push.Goals as goal
 

@@ -8,7 +8,7 @@ use Rattle.proj_cli.specs.Prepared.{room_in}
 use Rattle.proj_cli.specs.Pushed.{IsLawfulStream}
 use Rattle.proj_cli.specs.Step.{Step, push_at, push_stream}
 use Rattle.small_streams.specs.Streams.{stream}
-use Rattle.proj_cli.specs.declared.outcome.Outcome.TheVariants.{OutOfMemory, ReadFault}
+use Rattle.proj_words.specs.declared.outcome.Outcome.TheVariants.{OutOfMemory, ReadFault}
 use Rattle.proj_cli.proofs.Inputs.{input_lawful, input_long, input_none, input_whole}
 use Rattle.proj_cli.proofs.push.push_input.Goals as goal
 

@@ -5,7 +5,7 @@ use Rattle.proj_cli.specs.Answer.{IsMadeOf, IsPushInHand, IsPushOf}
 use Rattle.proj_cli.specs.Prepared.{room_in}
 use Rattle.proj_cli.specs.Step.{push_at, push_step, refused}
 use Rattle.small_streams.specs.Streams.{stream}
-use Rattle.proj_cli.specs.declared.outcome.Outcome.TheVariants.{NotBuilt, UnknownRef}
+use Rattle.proj_words.specs.declared.outcome.Outcome.TheVariants.{NotBuilt, UnknownRef}
 use Rattle.proj_cli.proofs.Inputs.{input_none}
 use Rattle.proj_cli.proofs.push.push_loaded.Goals as goal
 
