@@ -19,8 +19,8 @@ ghost use Rattle.proj_cli.specs.Calls.{devices};
 
 use crate::Outcome;
 use crate::import::{INPUT_MAX, import};
-use crate::name::name_text;
 use crate::loading::load_outcome;
+use crate::name::name_text;
 use crate::project::project_line;
 use crate::push::push;
 use crate::texts::filter_path;

@@ -52,12 +52,7 @@ fn told(alloc: Global, lexer: &mut Lexer, ask: Ask) -> Result<Option<String>, Fa
 
 // The answers to all asks, where a text is fed in pieces of at most so many bytes, each where the ones before aren't
 // enough.
-fn told_in_pieces(
-    alloc: Global,
-    text: &[u8],
-    most: usize,
-    asks: &[u8],
-) -> Result<String, Fault> {
+fn told_in_pieces(alloc: Global, text: &[u8], most: usize, asks: &[u8]) -> Result<String, Fault> {
     let mut lexer = Lexer::new(alloc);
     let mut rest = text;
     let mut all = String::new(alloc);

@@ -7,12 +7,7 @@ use path_names::{
 use std::alloc::Global;
 
 /// The answer to a line on names.
-pub fn answer(
-    alloc: Global,
-    texts: &Texts,
-    form: &[u8],
-    words: &[Word],
-) -> Result<String, Fault> {
+pub fn answer(alloc: Global, texts: &Texts, form: &[u8], words: &[Word]) -> Result<String, Fault> {
     match form {
         b"path" => path_answer(alloc, &texts.spelled(words)?),
         b"join" => joined(alloc, texts, words),
