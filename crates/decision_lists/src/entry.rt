@@ -9,7 +9,8 @@ use git_objects::Component;
 use std::alloc::{AllocError, Global};
 use std::marker::Model;
 
-/// One path, or all that lies properly below a path or the root; and the target that takes the place of this base, or none.
+/// One path, or all that lies properly below a path or the root; and the target that takes the place of this base, or
+/// none.
 #[derive(Debug, Drop)]
 pub struct Entry {
     pub point: bool,
@@ -23,7 +24,8 @@ impl Model for Entry {
     ghost view = { λ e. (cone_of e.point e.base.items, option_map (λ t. t.items) e.target) };
 }
 
-// Whether the last component of `front` is not where `path` would have it: a quick no for paths with long fronts in common.
+// Whether the last component of `front` is not where `path` would have it: a quick no for paths with long fronts in
+// common.
 fn differ_at_end(front: &[Component], path: &[Component]) -> bool
     requires { length front.now ≤ length path.now }
     ensures { result ≡ true → is_some (strip front.now path.now) ≡ false }

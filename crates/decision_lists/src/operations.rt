@@ -1,7 +1,9 @@
-// Decision lists that are made of others: one asked where another gives nothing, one after another, and one turned around.
+// Decision lists that are made of others: one asked where another gives nothing, one after another, and one turned
+// around.
 ghost use Rattle.std.specs.Prelude.{◌≡◌, ◌≤◌, ◌++◌, [], ◌∷◌, length, option_map, Some, IfOk, OnOk, List, cond};
 ghost use Rattle.decision_lists.specs.Entries.{Entry as RouteEntry, cone_of, at, below};
-ghost use Rattle.decision_lists.specs.Operations.{pull, put, pulled, block, heads, thin, grown, how, either_left, after_left, turned, onward};
+ghost use Rattle.decision_lists.specs.Operations.{pull, put, pulled, block, heads, thin, grown, how, either_left};
+ghost use Rattle.decision_lists.specs.Operations.{after_left, turned, onward};
 ghost use Rattle.decision_lists.specs.Lists.{part_of};
 
 use crate::entry::{Entry, joined, onward, rest_behind};
@@ -36,7 +38,8 @@ fn part_at(
     target: &Option<Vec<Component>>,
     rest: &[Component],
 ) -> Result<Entry, AllocError>
-    ensures { IfOk result (λ e. e ≡ (cone_of point (base.now ++ more.now), onward (option_map (λ v. v.items) target.now) rest.now)) }
+    ensures { IfOk result (λ e. e
+        ≡ (cone_of point (base.now ++ more.now), onward (option_map (λ v. v.items) target.now) rest.now)) }
 {
     Ok(Entry {
         point,
@@ -68,7 +71,8 @@ fn point_below(
     inner: &[Component],
     aim: &Option<Vec<Component>>,
 ) -> Result<Option<Entry>, AllocError>
-    ensures { IfOk result (λ o. part_of o ≡ put (pull (below base.now) target.now (at inner.now)) (option_map (λ v. v.items) aim.now) []) }
+    ensures { IfOk result (λ o. part_of o
+        ≡ put (pull (below base.now) target.now (at inner.now)) (option_map (λ v. v.items) aim.now) []) }
 {
     match rest_behind(target, inner) {
         None => Ok(None),
@@ -89,7 +93,8 @@ fn all_below(
     inner: &[Component],
     aim: &Option<Vec<Component>>,
 ) -> Result<Option<Entry>, AllocError>
-    ensures { IfOk result (λ o. part_of o ≡ put (pull (below base.now) target.now (below inner.now)) (option_map (λ v. v.items) aim.now) []) }
+    ensures { IfOk result (λ o. part_of o
+        ≡ put (pull (below base.now) target.now (below inner.now)) (option_map (λ v. v.items) aim.now) []) }
 {
     match rest_behind(inner, target) {
         Some(rest) => Ok(Some(part_at(alloc, false, base, &[], aim, rest)?)),
@@ -151,8 +156,10 @@ fn push_part_by(
     entry: &Entry,
 ) -> Result<bool, AllocError>
     ensures { IfOk result (λ ended. (es : List RouteEntry) →
-        out.new ++ cond ended [] (block (heads out.new []) (cone_of point base.now) (pulled (cone_of point base.now) target.now es))
-        ≡ out.old ++ block (heads out.old []) (cone_of point base.now) (pulled (cone_of point base.now) target.now (entry.now ∷ es))) }
+        out.new ++ cond ended [] (block (heads out.new []) (cone_of point base.now)
+        (pulled (cone_of point base.now) target.now es))
+        ≡ out.old ++ block (heads out.old []) (cone_of point base.now)
+        (pulled (cone_of point base.now) target.now (entry.now ∷ es))) }
 {
     match part(alloc, point, base, target, entry)? {
         None => Ok(false),
@@ -160,7 +167,8 @@ fn push_part_by(
     }
 }
 
-// Adds the parts of a cone that no cone before has, up to one that is all of it; else the cone itself, without a target.
+// Adds the parts of a cone that no cone before has, up to one that is all of it; else the cone itself, without a
+// target.
 fn push_block(
     alloc: Global,
     out: &mut Indexed,
@@ -304,8 +312,8 @@ fn live_count(entries: &[Entry]) -> usize
     count
 }
 
-// An empty list for a chain with one member more. Each part of an entry with a target asks what hides it, and an index is
-// made for each entry: for few parts the list is read through.
+// An empty list for a chain with one member more. Each part of an entry with a target asks what hides it, and an
+// index is made for each entry: for few parts the list is read through.
 fn room(alloc: Global, entries: &[Entry], others: &[Entry]) -> Indexed
     ensures { result ≡ [] }
 {
@@ -315,8 +323,8 @@ fn room(alloc: Global, entries: &[Entry], others: &[Entry]) -> Indexed
     Indexed::new(alloc)
 }
 
-/// The list that asks `others` for what `entries` gives. Where it would have more than `most` entries it ends as for want of
-/// memory.
+/// The list that asks `others` for what `entries` gives. Where it would have more than `most` entries it ends as for
+/// want of memory.
 pub fn after(
     alloc: Global,
     most: usize,

@@ -58,8 +58,8 @@ fn put(store: &mut Store, kind: Kind, body: &[u8]) -> Result<Name, Fault> {
     store.put_slice(kind, body).ok().ok_or(Fault::BadLine)
 }
 
-/// The name of the tree that has the files of one tree and, below a place, the files that are laid into it; or the two paths that
-/// have no place beside each other.
+/// The name of the tree that has the files of one tree and, below a place, the files that are laid into it; or the
+/// two paths that have no place beside each other.
 pub fn laid(session: &mut Session, words: &[Word]) -> Result<String, Fault> {
     let alloc = session.alloc;
     let [place, base, pushed] = words else {

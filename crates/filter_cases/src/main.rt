@@ -1,5 +1,5 @@
-//! Answers cases of filters, a line each, from standard input: texts, workspace files, soundness, tables, images and origins of
-//! paths, and trees that are laid below a place.
+//! Answers cases of filters, a line each, from standard input: texts, workspace files, soundness, tables, images and
+//! origins of paths, and trees that are laid below a place.
 #![tactic(auto)]
 
 mod laying;

@@ -8,8 +8,8 @@ use decision_lists::{Entry, Indexed, after, either, one_entry, turned};
 use filter_text::Filter;
 use std::alloc::{AllocError, Global};
 
-/// The decision list of a filter, sound or not. Where a list on the way becomes longer than `most`, there is none for want
-/// of memory.
+/// The decision list of a filter, sound or not. Where a list on the way becomes longer than `most`, there is none for
+/// want of memory.
 #[cycle(bounding)]
 pub fn list_within(alloc: Global, most: usize, filter: &Filter) -> Result<Vec<Entry>, AllocError>
     ensures { IfOk result (λ v. IsListOf (shape filter.now) v.items) }

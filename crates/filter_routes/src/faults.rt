@@ -57,8 +57,8 @@ fn not_keeping_in(members: &[Filter], inside: bool, number: usize) -> Result<usi
     Ok(number)
 }
 
-/// The first piece that may not stand inside of an exclude: pieces are all parts of a filter but the chains, each before
-/// its parts, numbered from 0.
+/// The first piece that may not stand inside of an exclude: pieces are all parts of a filter but the chains, each
+/// before its parts, numbered from 0.
 pub fn first_not_keeping(filter: &Filter) -> Option<u32>
     requires { pieces (shape filter.now) < 2 ^ 32 }
     ensures { FirstNotKeeping (shape filter.now) result }

@@ -5,7 +5,8 @@ ghost use Rattle.filter_text.specs.Shapes.{shape, shapes};
 ghost use Rattle.filter_routes.specs.Faults.{nodes, nodes_all};
 ghost use Rattle.filter_routes.specs.Lists.{IsListOf};
 ghost use Rattle.filter_routes.specs.RouteFaults.{IsRouteFault};
-ghost use Rattle.filter_routes.specs.Searching.{AreListsOf, ClashBehind, clash_of, FirstClash, FirstPairOf, NoPairAt, Searched};
+ghost use Rattle.filter_routes.specs.Searching.{AreListsOf, ClashBehind, clash_of, FirstClash, FirstPairOf, NoPairAt};
+ghost use Rattle.filter_routes.specs.Searching.{Searched};
 ghost use Rattle.filter_routes.specs.Soundness.{IsSound};
 
 use crate::RouteFault;
@@ -16,9 +17,9 @@ use decision_lists::{Indexed, any_clash};
 use filter_text::Filter;
 use std::alloc::{AllocError, Global};
 
-// The most entries that a decision list may have while a fault is looked for, where twice the pieces aren't more. The list
-// of a sound filter has at most one entry for each piece and each chain, so none is refused for it. Those of an unsound one
-// can double with each member of a chain, as by `:[:/a,:/b]`, and would fill any memory.
+// The most entries that a decision list may have while a fault is looked for, where twice the pieces aren't more. The
+// list of a sound filter has at most one entry for each piece and each chain, so none is refused for it. Those of an
+// unsound one can double with each member of a chain, as by `:[:/a,:/b]`, and would fill any memory.
 const MOST_ENTRIES: usize = 65536;
 
 // The number behind the filter's pieces.
@@ -115,8 +116,8 @@ fn clashes_with_first(
     any_clash(alloc, &lists[0], branch)
 }
 
-// The decision lists of the members of the list with this number. They are made one after the other up to one that clashes with
-// the first, so that a list whose first branches clash is refused whatever stands behind them.
+// The decision lists of the members of the list with this number. They are made one after the other up to one that
+// clashes with the first, so that a list whose first branches clash is refused whatever stands behind them.
 fn lists_beside_first(
     alloc: Global,
     most: usize,
@@ -140,8 +141,8 @@ fn lists_beside_first(
     Ok(lists)
 }
 
-// Refuses a list with two branches that clash by its number and the first two. The decision list of a lone branch isn't made:
-// it could fill any memory, where a list below it is refused at once.
+// Refuses a list with two branches that clash by its number and the first two. The decision list of a lone branch
+// isn't made: it could fill any memory, where a list below it is refused at once.
 fn are_apart(alloc: Global, most: usize, members: &[Filter], number: u32) -> Result<(), RouteFault>
     ensures apart { OnOk result (NoPairAt (shapes members.now)) }
     ensures pair { IfErr result (FirstPairOf number (shapes members.now)) }
@@ -156,8 +157,8 @@ fn are_apart(alloc: Global, most: usize, members: &[Filter], number: u32) -> Res
     }
 }
 
-// The number behind the filter's pieces where no two branches of a list outside of excludes clash, else the first that do.
-// The lists come in their order, so the search ends at the first.
+// The number behind the filter's pieces where no two branches of a list outside of excludes clash, else the first
+// that do. The lists come in their order, so the search ends at the first.
 #[cycle(searching)]
 pub fn first_overlap(
     alloc: Global,

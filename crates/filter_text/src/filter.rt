@@ -34,8 +34,8 @@ pub enum FilterFault {
     /// More bytes than `limits::FILTER_BYTES`.
     #[error("filter too long")]
     TooLong,
-    /// At some place the bytes `[` before it are more than `limits::FILTER_NESTING` more than the bytes `]`, wherever they
-    /// stand.
+    /// At some place the bytes `[` before it are more than `limits::FILTER_NESTING` more than the bytes `]`, wherever
+    /// they stand.
     #[error("filter nested too deep")]
     TooDeep,
     #[error("no filter")]

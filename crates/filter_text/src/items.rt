@@ -1,12 +1,15 @@
 // Workspace files.
-ghost use Rattle.std.specs.Prelude.{◌≡◌, ◌≤◌, ◌<◌, ◌⊎◌, [], Some, None, true, false, IfOk, IfSome, MatchResult, option_map, length, nat_le};
+ghost use Rattle.std.specs.Prelude.{◌≡◌, ◌≤◌, ◌<◌, ◌⊎◌, [], Some, None, true, false, IfOk, IfSome, MatchResult};
+ghost use Rattle.std.specs.Prelude.{option_map, length, nat_le};
 ghost use Rattle.std.specs.Option.{option_and_then};
 ghost use Rattle.std.specs.List.{list_all};
 ghost use Rattle.git_objects.specs.Lists.{Each};
 ghost use Rattle.git_objects.specs.Paths.{is_nil};
 ghost use Rattle.git_objects.specs.declared.limits.TheConstants.{FILTER_PIECES};
 ghost use Rattle.filter_text.specs.Shapes.{shape};
-ghost use Rattle.filter_text.specs.Items.{IsMadeOfPaths, sized_member, member_at, ends_member, members, kept_place, place, is_item_filter, is_fit, item_of, roomy_item, items_of, items_from, with_item, TellsMember, items};
+ghost use Rattle.filter_text.specs.Items.{IsMadeOfPaths, sized_member, member_at, ends_member, members, kept_place};
+ghost use Rattle.filter_text.specs.Items.{place, is_item_filter, is_fit, item_of, roomy_item, items_of, items_from};
+ghost use Rattle.filter_text.specs.Items.{with_item, TellsMember, items};
 ghost use Rattle.filter_text.specs.Views.{member_value, member_read, item_value, item_values, items_read, next_read};
 
 use crate::gaps::gap;
@@ -210,8 +213,8 @@ fn items_in(alloc: Global, text: &[u8]) -> Result<Vec<Item>, ItemsFault>
     }
 }
 
-/// Reads the items of a workspace file. Each item's filter is one that other calls may be given, without a workspace, and its
-/// place and its filter are made of paths.
+/// Reads the items of a workspace file. Each item's filter is one that other calls may be given, without a workspace,
+/// and its place and its filter are made of paths.
 pub fn parse_items(alloc: Global, text: &[u8]) -> Result<Vec<Item>, ItemsFault>
     ensures read { MatchResult result (λ v. items text.now ≡ Some (item_values v.items))
         (λ fault. (fault ≡ ItemsFault.OutOfMemory) ⊎ ((fault ≡ ItemsFault.Unreadable) × (items text.now ≡ None))) }

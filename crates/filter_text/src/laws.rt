@@ -7,13 +7,14 @@ pub fn grammar_law()
     ensures { GrammarLaw }
 {}
 
-/// A text is too deep exactly where some front of it has more than `limits::FILTER_NESTING` more bytes `[` than bytes `]`.
+/// A text is too deep exactly where some front of it has more than `limits::FILTER_NESTING` more bytes `[` than bytes
+/// `]`.
 pub fn depth_law()
     ensures { DepthLaw }
 {}
 
-/// The canonical text of a filter that was read is read as this filter, where it has at most `limits::FILTER_BYTES` bytes and isn't too
-/// deep.
+/// The canonical text of a filter that was read is read as this filter, where it has at most `limits::FILTER_BYTES`
+/// bytes and isn't too deep.
 pub fn print_law()
     ensures { PrintLaw }
 {}

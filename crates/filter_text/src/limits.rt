@@ -1,7 +1,8 @@
 // The limits of filter texts, and the place of a workspace.
 ghost use Rattle.std.specs.Prelude.{◌≡◌, ◌+◌, ◌&&◌, cond, not, false, nat_le};
 ghost use Rattle.git_objects.specs.declared.limits.TheConstants.{FILTER_NESTING};
-ghost use Rattle.filter_text.specs.Filters.{is_workspace, has_workspace, some_have_workspace, has_one_place, is_placed, pieces, pieces_in, components, components_in};
+ghost use Rattle.filter_text.specs.Filters.{is_workspace, has_workspace, some_have_workspace, has_one_place};
+ghost use Rattle.filter_text.specs.Filters.{is_placed, pieces, pieces_in, components, components_in};
 ghost use Rattle.filter_text.specs.Shapes.{shape, shapes};
 ghost use Rattle.filter_text.specs.Limits.{one_if, too_deep, without, is_small};
 

@@ -1,7 +1,8 @@
 // Paths in filter texts: bare, or between quotes.
 ghost use Rattle.std.specs.Prelude.{◌≡◌, ◌≤◌, IfOk, length, take, position, nat_eq};
 ghost use Rattle.std.specs.Option.{option_and_then};
-ghost use Rattle.filter_text.specs.Texts.{as_path, quoted_at, cut, ends_bare, bare_len, without_slash, name_at, kept_name_at, equals, target_at};
+ghost use Rattle.filter_text.specs.Texts.{as_path, quoted_at, cut, ends_bare, bare_len, without_slash, name_at};
+ghost use Rattle.filter_text.specs.Texts.{kept_name_at, equals, target_at};
 ghost use Rattle.filter_text.specs.Views.{path_read, target_read};
 
 use crate::gaps::past_blanks;
@@ -90,7 +91,7 @@ pub fn name_at<'a>(alloc: Global, text: &'a [u8]) -> Result<Option<(Path, &'a [u
     bare_path(alloc, text, bare_len(text))
 }
 
-// The same, where a bare path leaves a slash at its end to what follows.
+// The path at the front of a text, of which a bare one leaves a slash at its end to what follows.
 #[tactic(auto, unfolding(crate::specs::Texts::kept_name_at))]
 pub fn kept_name_at<'a>(
     alloc: Global,

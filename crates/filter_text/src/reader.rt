@@ -1,12 +1,14 @@
-// Reading the filter at the front of a text. The open brackets stand in a vector, so a text of any nesting takes no more of
-// the stack than another.
+// Reading the filter at the front of a text. The open brackets stand in a vector, so a text of any nesting takes no
+// more of the stack than another.
 ghost use Rattle.std.specs.Prelude.{◌≡◌, ◌≤◌, ◌<◌, ◌+◌, ◌*◌, ◌||◌, ◌∷◌, Some, IfOk, length};
 ghost use Rattle.std.specs.Option.{option_and_then};
 ghost use Rattle.filter_text.specs.Shapes.{shape, shapes};
-ghost use Rattle.filter_text.specs.Reading.{piece_of, more_pieces, bracketed, goes_on, member_of, more_members, pieces_at, list_at};
+ghost use Rattle.filter_text.specs.Reading.{piece_of, more_pieces, bracketed, goes_on, member_of, more_members};
+ghost use Rattle.filter_text.specs.Reading.{pieces_at, list_at};
 ghost use Rattle.filter_text.specs.Filters.{no_more};
 ghost use Rattle.filter_text.specs.Texts.{target_at};
-ghost use Rattle.filter_text.specs.Nesting.{enclosed, with_front, nested, resumed, after_list, answer, left, TellsPieces};
+ghost use Rattle.filter_text.specs.Nesting.{enclosed, with_front, nested, resumed, after_list, answer, left};
+ghost use Rattle.filter_text.specs.Nesting.{TellsPieces};
 ghost use Rattle.filter_text.specs.Views.{filters_read};
 
 use crate::Filter;
@@ -34,7 +36,8 @@ fn after_member<'a>(
     frame: Frame,
     text: &'a [u8],
 ) -> Result<(At, &'a [u8]), AllocError>
-    ensures answer { IfOk result (λ r. resumed (frame ∷ nested frames.old.items) (Some (shapes pieces.old.items, text.now))
+    ensures answer { IfOk result (λ r.
+        resumed (frame ∷ nested frames.old.items) (Some (shapes pieces.old.items, text.now))
         ≡ answer (nested frames.new.items) (shapes pieces.new.items) r.0 r.1.now) }
     ensures left { IfOk result (λ r. left r.0 r.1.now ≤ 2 * length text.now + 2) }
 {
@@ -72,7 +75,8 @@ fn after_piece<'a>(
     text: &'a [u8],
 ) -> Result<(At, &'a [u8]), AllocError>
     ensures answer { IfOk result (λ r.
-        resumed (nested frames.old.items) (with_front (shapes pieces.old.items) (more_pieces pieces_at (shape piece, text.now)))
+        resumed (nested frames.old.items)
+        (with_front (shapes pieces.old.items) (more_pieces pieces_at (shape piece, text.now)))
         ≡ answer (nested frames.new.items) (shapes pieces.new.items) r.0 r.1.now) }
     ensures left { IfOk result (λ r. left r.0 r.1.now ≤ 2 * length text.now + 2) }
 {
@@ -179,7 +183,8 @@ fn begin_member<'a>(
     text: &'a [u8],
 ) -> Result<(At, &'a [u8]), AllocError>
     ensures answer { IfOk result (λ r. resumed (nested frames.old.items)
-        (after_list frame (option_and_then (more_members list_at) (option_and_then (member_of pieces_at) (target_at text.now))))
+        (after_list frame
+        (option_and_then (more_members list_at) (option_and_then (member_of pieces_at) (target_at text.now))))
         ≡ answer (nested frames.new.items) (shapes pieces.new.items) r.0 r.1.now) }
     ensures left { IfOk result (λ r. left r.0 r.1.now ≤ 2 * length text.now + 1) }
 {
@@ -212,7 +217,8 @@ fn in_list<'a>(
     frame: Frame,
     text: &'a [u8],
 ) -> Result<(At, &'a [u8]), AllocError>
-    ensures answer { IfOk result (λ r. answer (frame ∷ nested frames.old.items) (shapes pieces.old.items) At.Inside text.now
+    ensures answer { IfOk result (λ r.
+        answer (frame ∷ nested frames.old.items) (shapes pieces.old.items) At.Inside text.now
         ≡ answer (nested frames.new.items) (shapes pieces.new.items) r.0 r.1.now) }
     ensures left { IfOk result (λ r. left r.0 r.1.now < left At.Inside text.now) }
 {
@@ -223,7 +229,7 @@ fn in_list<'a>(
     begin_member(alloc, frames, pieces, frame, rest)
 }
 
-// The same in the list of the innermost bracket.
+// Reads the closing bracket of the innermost bracket's list, or a member's target there.
 fn at_list<'a>(
     alloc: Global,
     frames: &mut Vec<Frame>,
@@ -261,8 +267,8 @@ fn step<'a>(
     }
 }
 
-// The pieces at the front of a text, one or more and as many as there are, and what follows them. None also where that has
-// fewer bytes than `least`; the reading doesn't go further then.
+// The pieces at the front of a text, one or more and as many as there are, and what follows them. None also where
+// that has fewer bytes than `least`; the reading doesn't go further then.
 pub fn pieces_to<'a>(
     alloc: Global,
     text: &'a [u8],
@@ -289,7 +295,7 @@ pub fn pieces_to<'a>(
     }
 }
 
-// The same, whatever follows.
+// The pieces at the front of a text, one or more and as many as there are, and what follows them, however long that is.
 pub fn pieces_at<'a>(
     alloc: Global,
     text: &'a [u8],
