@@ -34,7 +34,7 @@ moved_is = refl
 pub apart : any_clash (cells [] (moved a x)) (cells [] (moved b y)) ≡ false
 apart = refl
 
--- both taken off: a/c and b/c have one image
+-- a and b both taken off: a/c and b/c have one image
 pub not_apart : any_clash (cells [] (list_of_sub a)) (cells [] (list_of_sub b)) ≡ true
 not_apart = refl
 

@@ -8,7 +8,7 @@ use Rattle.decision_lists.specs.Operations.{are_live}
 unfoldable pub with_byte : ℕ → ℕ → ℕ
 with_byte h x = ((h * 6364136223846793005) % 2 ^ 64 + x) % 2 ^ 64
 
--- the same with its upper half put over the lower one, so that texts with one number are hard to find
+-- A number and one byte more, with its upper half put over the lower one: texts with one number are hard to find.
 unfoldable pub stepped : ℕ → ℕ → ℕ
 stepped h x = bit_xor (with_byte h x) (with_byte h x / 2 ^ 32)
 
@@ -51,7 +51,7 @@ place_at es d (Some j) = cond (is_cone (slice_get es j) d) (Some j) None
 abbrev pub Finds : (ℕ → Option ℕ) → Bool → List Entry → Type 0
 Finds f clean es = clean ≡ true → (d : Cone) → place_at es d (f (code d)) ≡ first_of es d
 
--- and all places lie in the list
+-- Each cone's first place is found by its number, and all places lie in the list.
 pub record IsIndex (f : ℕ → Option ℕ) (clean : Bool) (es : List Entry) : Type 0 where
   pub finds : Finds f clean es
   pub within : clean ≡ true → (k j : ℕ) → f k ≡ Some j → j < length es

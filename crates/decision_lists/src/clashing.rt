@@ -77,7 +77,8 @@ fn clashes(
     other_target: &[Component],
     other_holes: &Lent<'_>,
 ) -> Result<bool, AllocError>
-    ensures { IfOk result (λ b. b ≡ clashes (entry.now.0, target.now, heads holes.now [])
+    ensures { IfOk result (λ b. b
+        ≡ clashes (entry.now.0, target.now, heads holes.now [])
         (other.now.0, other_target.now, heads other_holes.now [])) }
 {
     if have_one_path(entry, holes, other, other_holes) {
@@ -99,8 +100,8 @@ fn clashes_with(
     other_holes: &Lent<'_>,
 ) -> Result<bool, AllocError>
     ensures { IfOk result (λ b. (ks : List Cell) → (b || any_right (entry.now.0, target.now, heads holes.now []) ks)
-        ≡ any_right (entry.now.0, target.now, heads holes.now []) (cells_at other.now.0 other.now.1
-        (heads other_holes.now []) ks)) }
+        ≡ any_right (entry.now.0, target.now, heads holes.now [])
+        (cells_at other.now.0 other.now.1 (heads other_holes.now []) ks)) }
 {
     match &other.target {
         None => Ok(false),

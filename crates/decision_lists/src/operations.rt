@@ -38,11 +38,8 @@ fn part_at(
     target: &Option<Vec<Component>>,
     rest: &[Component],
 ) -> Result<Entry, AllocError>
-    ensures { IfOk result (λ e. e ≡ (
-      cone_of point (base.now ++ more.now),
-      onward (option_map
-          (λ v. v.items) target.now) rest.now,
-    )) }
+    ensures { IfOk result (λ e. e
+        ≡ (cone_of point (base.now ++ more.now), onward (option_map (λ v. v.items) target.now) rest.now)) }
 {
     Ok(Entry {
         point,
@@ -74,8 +71,8 @@ fn point_below(
     inner: &[Component],
     aim: &Option<Vec<Component>>,
 ) -> Result<Option<Entry>, AllocError>
-    ensures { IfOk result (λ o. part_of o ≡ put (pull (below base.now) target.now (at inner.now)) (option_map
-        (λ v. v.items) aim.now) []) }
+    ensures { IfOk result (λ o. part_of o
+        ≡ put (pull (below base.now) target.now (at inner.now)) (option_map (λ v. v.items) aim.now) []) }
 {
     match rest_behind(target, inner) {
         None => Ok(None),
@@ -96,8 +93,8 @@ fn all_below(
     inner: &[Component],
     aim: &Option<Vec<Component>>,
 ) -> Result<Option<Entry>, AllocError>
-    ensures { IfOk result (λ o. part_of o ≡ put (pull (below base.now) target.now (below inner.now)) (option_map
-        (λ v. v.items) aim.now) []) }
+    ensures { IfOk result (λ o. part_of o
+        ≡ put (pull (below base.now) target.now (below inner.now)) (option_map (λ v. v.items) aim.now) []) }
 {
     match rest_behind(inner, target) {
         Some(rest) => Ok(Some(part_at(alloc, false, base, &[], aim, rest)?)),
@@ -159,10 +156,10 @@ fn push_part_by(
     entry: &Entry,
 ) -> Result<bool, AllocError>
     ensures { IfOk result (λ ended. (es : List RouteEntry) →
-        out.new ++ cond ended [] (block (heads out.new []) (cone_of point base.now) (pulled
-        (cone_of point base.now) target.now es))
-        ≡ out.old ++ block (heads out.old []) (cone_of point base.now) (pulled (cone_of point base.now) target.now
-        (entry.now ∷ es))) }
+        out.new ++ cond ended [] (block (heads out.new []) (cone_of point base.now)
+        (pulled (cone_of point base.now) target.now es))
+        ≡ out.old ++ block (heads out.old []) (cone_of point base.now)
+        (pulled (cone_of point base.now) target.now (entry.now ∷ es))) }
 {
     match part(alloc, point, base, target, entry)? {
         None => Ok(false),

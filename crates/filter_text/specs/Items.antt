@@ -104,7 +104,7 @@ items_from room t = option_and_then (items_of room) (members_of members t)
 abbrev pub Next : Type 0
 Next = Item × ℕ × Bytes
 
--- the same by its first item
+-- the items from an item on, where one was read
 abbrev pub with_item : Option Next → Option (List Item)
 with_item None = None
 with_item (Some n) = option_map (λ is. n.0 ∷ is) (items_from n.1 n.2)

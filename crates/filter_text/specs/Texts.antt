@@ -82,7 +82,7 @@ without_slash t = cond (ends_with nat_eq t (47 ∷ [])) (length t - 1) (length t
 unfoldable pub name_at : Bytes → Read Path
 name_at t = as_path (cond (begins 34 t) (quoted_at t) (cut (bare_len t) t))
 
--- the same, where a bare path leaves a slash at its end to what follows
+-- a path, of which a bare one leaves a slash at its end to what follows
 unfoldable pub kept_name_at : Bytes → Read Path
 kept_name_at t = as_path (cond (begins 34 t) (quoted_at t) (cut (without_slash (take (bare_len t) t)) t))
 

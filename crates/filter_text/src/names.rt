@@ -91,7 +91,7 @@ pub fn name_at<'a>(alloc: Global, text: &'a [u8]) -> Result<Option<(Path, &'a [u
     bare_path(alloc, text, bare_len(text))
 }
 
-// The same, where a bare path leaves a slash at its end to what follows.
+// The path at the front of a text, of which a bare one leaves a slash at its end to what follows.
 #[tactic(auto, unfolding(crate::specs::Texts::kept_name_at))]
 pub fn kept_name_at<'a>(
     alloc: Global,

@@ -31,8 +31,8 @@ fn filter_of(alloc: Global, text: &[u8]) -> Result<Option<Filter>, AllocError>
 
 // The filter, where its workspace stands well and it is small enough.
 fn judged(filter: Filter) -> Result<Filter, FilterFault>
-    ensures { MatchResult result (λ f. judged (Some (shape filter)) ≡ Ok (shape f)) (λ fault. judged (Some
-        (shape filter)) ≡ Err fault) }
+    ensures { MatchResult result (λ f. judged (Some (shape filter)) ≡ Ok (shape f))
+        (λ fault. judged (Some (shape filter)) ≡ Err fault) }
 {
     if !is_placed(&filter) {
         return Err(FilterFault::WorkspacePlace);

@@ -36,8 +36,8 @@ fn after_member<'a>(
     frame: Frame,
     text: &'a [u8],
 ) -> Result<(At, &'a [u8]), AllocError>
-    ensures answer { IfOk result (λ r. resumed (frame ∷ nested frames.old.items) (Some
-        (shapes pieces.old.items, text.now))
+    ensures answer { IfOk result (λ r.
+        resumed (frame ∷ nested frames.old.items) (Some (shapes pieces.old.items, text.now))
         ≡ answer (nested frames.new.items) (shapes pieces.new.items) r.0 r.1.now) }
     ensures left { IfOk result (λ r. left r.0 r.1.now ≤ 2 * length text.now + 2) }
 {
@@ -75,8 +75,8 @@ fn after_piece<'a>(
     text: &'a [u8],
 ) -> Result<(At, &'a [u8]), AllocError>
     ensures answer { IfOk result (λ r.
-        resumed (nested frames.old.items) (with_front (shapes pieces.old.items) (more_pieces pieces_at
-        (shape piece, text.now)))
+        resumed (nested frames.old.items)
+        (with_front (shapes pieces.old.items) (more_pieces pieces_at (shape piece, text.now)))
         ≡ answer (nested frames.new.items) (shapes pieces.new.items) r.0 r.1.now) }
     ensures left { IfOk result (λ r. left r.0 r.1.now ≤ 2 * length text.now + 2) }
 {
@@ -183,8 +183,8 @@ fn begin_member<'a>(
     text: &'a [u8],
 ) -> Result<(At, &'a [u8]), AllocError>
     ensures answer { IfOk result (λ r. resumed (nested frames.old.items)
-        (after_list frame (option_and_then (more_members list_at) (option_and_then (member_of pieces_at)
-        (target_at text.now))))
+        (after_list frame
+        (option_and_then (more_members list_at) (option_and_then (member_of pieces_at) (target_at text.now))))
         ≡ answer (nested frames.new.items) (shapes pieces.new.items) r.0 r.1.now) }
     ensures left { IfOk result (λ r. left r.0 r.1.now ≤ 2 * length text.now + 1) }
 {
@@ -217,8 +217,8 @@ fn in_list<'a>(
     frame: Frame,
     text: &'a [u8],
 ) -> Result<(At, &'a [u8]), AllocError>
-    ensures answer { IfOk result (λ r. answer (frame ∷ nested frames.old.items)
-        (shapes pieces.old.items) At.Inside text.now
+    ensures answer { IfOk result (λ r.
+        answer (frame ∷ nested frames.old.items) (shapes pieces.old.items) At.Inside text.now
         ≡ answer (nested frames.new.items) (shapes pieces.new.items) r.0 r.1.now) }
     ensures left { IfOk result (λ r. left r.0 r.1.now < left At.Inside text.now) }
 {
@@ -229,7 +229,7 @@ fn in_list<'a>(
     begin_member(alloc, frames, pieces, frame, rest)
 }
 
-// The same in the list of the innermost bracket.
+// Reads the closing bracket of the innermost bracket's list, or a member's target there.
 fn at_list<'a>(
     alloc: Global,
     frames: &mut Vec<Frame>,
@@ -295,7 +295,7 @@ pub fn pieces_to<'a>(
     }
 }
 
-// The same, whatever follows.
+// The pieces at the front of a text, one or more and as many as there are, and what follows them, however long that is.
 pub fn pieces_at<'a>(
     alloc: Global,
     text: &'a [u8],
