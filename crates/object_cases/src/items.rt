@@ -29,7 +29,10 @@ pub fn answer(session: &mut Session, form: &[u8], words: &[Word]) -> Result<Opti
         b"load" => load(session)?,
         b"judged" => judged(session, words)?,
         b"fronts" => fronts(alloc, &session.texts.spelled(words)?)?,
-        b"get" => held(alloc, &session.state.store, object_name(session, words)?)?,
+        b"get" => {
+            let name = object_name(session, words)?;
+            held(alloc, &session.state.store, name)?
+        }
         b"count" => format!(in alloc; "{} objects", session.state.store.len())?,
         b"head" => match words {
             [refname] => digits_or_none(alloc, session.state.head(&ref_name_of(alloc, refname)?))?,

@@ -11,11 +11,11 @@ use Rattle.object_cases.proofs.Roots.{root-change}
 use Rattle.object_cases.proofs.commits.commit_one.Goals as goal
 
 pub commit-requires-clause-change : goal.commit-requires-clause-change
-commit-requires-clause-change g c =
-    let batch : Batch = record { blobs = c.one-blobs.result; commits = c.one-commits.result; refs = c.args.refs } in
+commit-requires-clause-change c =
+    let batch : Batch = record { blobs = c.in_ok-blobs.blobs; commits = c.in_ok-commits.commits; refs = c.args.refs } in
     subst (λ (s : Stored). IsChange s.objects s.held.objects (change_of batch)) c.state.view_is
-    (root-change c.state.inside.store _ c.args.blob.0 c.args.commit.0 (map name_bytes c.one-blobs.result.items) (map name_bytes c.one-commits.result.items) (map setting c.args.refs.items)
-    (ap (λ (ns : List Name). map name_bytes ns) c.one-blobs.ensures) (ap (λ (ns : List Name). map name_bytes ns) c.one-commits.ensures)
-    (sym c.has.ensures ∙ c.if-not-has.false)
+    (root-change c.state.inside.store _ c.args.blob.0 c.args.commit.0 (map name_bytes c.in_ok-blobs.blobs.items) (map name_bytes c.in_ok-commits.commits.items) (map setting c.args.refs.items)
+    (ap (λ (ns : List Name). map name_bytes ns) c.in_ok-blobs.ensures) (ap (λ (ns : List Name). map name_bytes ns) c.in_ok-commits.ensures)
+    (sym c.is_held.ensures ∙ c.if-not-is_held.false)
     (c.has_root.ensures c.if-not-has_root.false)
     (subst (λ (rs : List Setting). AreRefsOf (map setting rs) c.args.commit.0) c.as_slice.ensures.value (c.are_refs_of.ensures c.if-not-are_refs_of.false)))

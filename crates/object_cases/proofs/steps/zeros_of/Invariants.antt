@@ -1,4 +1,4 @@
 use Rattle.object_cases.proofs.steps.zeros_of.Given as goal
 
 abbrev pub ghosts-counted : goal.ghosts-counted
-ghosts-counted g a = record { name = a.blank.name; parts = a.blank.parts }
+ghosts-counted g = record { name = g.blank.name; parts = g.blank.parts }
