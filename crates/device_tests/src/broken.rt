@@ -11,21 +11,24 @@ use proj_journal::Journal;
 use std::alloc::{AllocError, Global};
 use std::test::Fail;
 
+// Bytes, and the place where they are broken.
+const BROKEN: [(&[u8], u64); 9] = [
+    (b"proj 02\n\0", 0),
+    (b"proj 01x", 0),
+    (b"", 0),
+    (b"proj 01\n", 8),
+    (b"proj 01\n\x01\0\0\0", 8),
+    (b"proj 01\n\x01\0\0\0\0\0", 8),
+    (b"proj 01\n\x01\0\0\0\x01a", 14),
+    (b"proj 01\n\x01\0\0\0\x02a", 8),
+    (b"proj 01\n\x01\x20\0\0\x01a", 8),
+];
+
 #[test]
 fn bytes_that_are_no_journal_are_broken(rt: HostRuntime) -> Result<(), Fail> {
     let alloc = rt.alloc();
-    for (bytes, at) in [
-        (&b"proj 02\n\0"[..], 0),
-        (b"proj 01x", 0),
-        (b"", 0),
-        (b"proj 01\n", 8),
-        (b"proj 01\n\x01\0\0\0", 8),
-        (b"proj 01\n\x01\0\0\0\0\0", 8),
-        (b"proj 01\n\x01\0\0\0\x01a", 14),
-        (b"proj 01\n\x01\0\0\0\x02a", 8),
-        (b"proj 01\n\x01\x20\0\0\x01a", 8),
-    ] {
-        assert!(rt; opened(alloc, bytes)? == Found::Broken(at), "{at}");
+    for (bytes, at) in &BROKEN {
+        assert!(rt; opened(alloc, bytes)? == Found::Broken(*at));
     }
     Ok(())
 }
@@ -84,20 +87,21 @@ fn spells(alloc: Global, bytes: &[u8], size: usize) -> Result<bool, AllocError> 
     )
 }
 
+// Where the journal is broken, cut to so many bytes.
+fn cut(length: usize) -> u64 {
+    match length {
+        0..8 => 0,
+        8..262 => 8,
+        _ => 262,
+    }
+}
+
 #[test]
 fn a_cut_journal_is_broken(rt: HostRuntime) -> Result<(), Fail> {
     let alloc = rt.alloc();
     let bytes = whole(alloc)?;
     for length in 0..263 {
-        let at = match length {
-            0..8 => 0,
-            8..262 => 8,
-            _ => 262,
-        };
-        assert!(rt;
-            opened(alloc, &bytes[..length])? == Found::Broken(at),
-            "{length}"
-        );
+        assert!(rt; opened(alloc, &bytes[..length])? == Found::Broken(cut(length)));
     }
     assert!(rt; spells(alloc, &bytes, 249)?);
     Ok(())
@@ -128,14 +132,18 @@ fn a_changed_byte_is_told_or_leaves_what_is_spelled(rt: HostRuntime) -> Result<(
     let alloc = rt.alloc();
     for place in 0..263 {
         for flip in [1, 128, 255] {
-            let mut bytes = whole(alloc)?;
-            let byte = bytes[place] ^ flip;
-            bytes[place] = byte;
-            assert!(rt;
-                is_as(alloc, &bytes, changed(place, byte))?,
-                "{place} {byte}"
-            );
+            assert!(rt; is_told(alloc, place, flip)?);
         }
     }
     Ok(())
+}
+
+// Whether the journal with some bits of one byte changed is what it must be.
+fn is_told(alloc: Global, place: usize, flip: u8) -> Result<bool, AllocError>
+    requires { place < 263 }
+{
+    let mut bytes = whole(alloc)?;
+    let byte = bytes[place] ^ flip;
+    bytes[place] = byte;
+    is_as(alloc, &bytes, changed(place, byte))
 }

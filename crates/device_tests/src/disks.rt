@@ -37,34 +37,43 @@ fn leaves(disk: &MemDisk, calls: u64, fill: Fill, image: &[u8]) -> Result<bool, 
     Ok(calls <= disk.calls() && disk.image(calls, fill)?.as_slice() == image)
 }
 
+const STEPS: [Step; 6] = [
+    Step::Len(Ok(3)),
+    Step::Sync(Err(Failed)),
+    Step::Write(1, b"xyz", Ok(())),
+    Step::Sync(Ok(())),
+    Step::Write(0, b"w", Err(SinkError::Failed)),
+    Step::Write(4, b"vv", Ok(())),
+];
+
+// A number of calls, what fills the ranges that aren't stable, and the image.
+const IMAGES: [(u64, Fill, &[u8]); 8] = [
+    (2, Fill::Ones, b"abc"),
+    (3, Fill::Old, b"abc"),
+    (3, Fill::Written, b"axyz"),
+    (3, Fill::Ones, b"a\x01\x01\x01"),
+    (4, Fill::Ones, b"axyz"),
+    (6, Fill::Old, b"axyz"),
+    (6, Fill::Written, b"axyzvv"),
+    (6, Fill::Ones, b"axyz\x01\x01"),
+];
+
 #[test]
 fn a_disk_leaves_images(rt: HostRuntime) -> Result<(), Fail> {
     let alloc = rt.alloc();
     let mut disk = MemDisk::new(alloc, b"abc".to_vec(alloc)?, [1, 4].to_vec(alloc)?);
-    for step in [
-        Step::Len(Ok(3)),
-        Step::Sync(Err(Failed)),
-        Step::Write(1, b"xyz", Ok(())),
-        Step::Sync(Ok(())),
-        Step::Write(0, b"w", Err(SinkError::Failed)),
-        Step::Write(4, b"vv", Ok(())),
-    ] {
-        assert!(rt; steps(&mut disk, step));
+    for step in &STEPS {
+        assert!(rt; steps(&mut disk, *step));
     }
-    assert!(rt; disk.bytes() == b"axyzvv".as_slice() && disk.faults() == 2 && disk.calls() == 6);
-    for (calls, fill, image) in [
-        (2, Fill::Ones, &b"abc"[..]),
-        (3, Fill::Old, b"abc"),
-        (3, Fill::Written, b"axyz"),
-        (3, Fill::Ones, b"a\x01\x01\x01"),
-        (4, Fill::Ones, b"axyz"),
-        (6, Fill::Old, b"axyz"),
-        (6, Fill::Written, b"axyzvv"),
-        (6, Fill::Ones, b"axyz\x01\x01"),
-    ] {
-        assert!(rt; leaves(&disk, calls, fill, image)?, "{calls} {fill:?}");
+    assert!(rt; is_as_written(&disk));
+    for (calls, fill, image) in &IMAGES {
+        assert!(rt; leaves(&disk, *calls, *fill, image)?);
     }
     Ok(())
+}
+
+fn is_as_written(disk: &MemDisk) -> bool {
+    disk.bytes() == b"axyzvv".as_slice() && disk.faults() == 2 && disk.calls() == 6
 }
 
 const PATH: &str = "device_tests.disk";

@@ -64,19 +64,21 @@ fn leaves_items(
     Ok(number < 9 && has_items(alloc, &image, number + 1, false)?)
 }
 
+const ITEMS: [(u32, &[u8]); 3] = [(0, &[0]), (1, &[1, 1]), (2, &[2, 2, 2])];
+
 #[test]
 fn each_image_has_what_was_acknowledged(rt: HostRuntime) -> Result<(), Fail> {
     let alloc = rt.alloc();
     let Some(mut journal) = new_journal(alloc, Vec::new(alloc)) else {
         return Err(Fail::from(Found::Fault));
     };
-    for (number, item) in [(0, &[0u8][..]), (1, &[1, 1]), (2, &[2, 2, 2])] {
+    for (number, item) in &ITEMS {
         let before = journal.disk().calls();
         let Ok(()) = append(&mut journal, item) else {
             return Err(Fail::from(Found::Fault));
         };
         assert!(rt;
-            leaves_items(alloc, journal.disk(), before, number)?,
+            leaves_items(alloc, journal.disk(), before, *number)?,
             "{number}"
         );
     }
@@ -100,7 +102,8 @@ fn items_after_fault(alloc: Global, failing: u64) -> Result<Found, AllocError> {
 #[test]
 fn a_failed_append_leaves_a_list(rt: HostRuntime) -> Result<(), Fail> {
     let alloc = rt.alloc();
-    for (failing, count) in [(2, 0), (3, 0), (4, 0), (5, 0), (6, 0), (7, 1)] {
+    for failing in 2..8 {
+        let count = if failing == 7 { 1 } else { 0 };
         assert!(rt;
             items_after_fault(alloc, failing)? == Found::Items(count),
             "{failing}"
