@@ -2,4 +2,4 @@ use Rattle.std.proofs.Common.{◌≡◌}
 use Rattle.object_cases.proofs.commits.put_all.Given as goal
 
 abbrev pub invariant-loop-object : goal.invariant-loop-object
-invariant-loop-object g l = l.state.number ≡ l.fn.state.number
+invariant-loop-object l = l.state.number ≡ l.fn.state.number
