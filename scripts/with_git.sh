@@ -1,7 +1,7 @@
 #!/usr/bin/env bash
-# Makes the same histories with real Git and compares its names with those that `proj` prints and that the tests of pushes expect.
-# It takes the program that `PROJ` names, or the built one, and builds that where it isn't there: a gate that has proved all of it
-# before builds nothing.
+# Makes the same histories with real Git and compares its names with those that `proj` prints and that the cases of pushes
+# expect. It takes the program that `PROJ` names, or the built one, and builds that where it isn't there: a gate that has
+# proved all of it before builds nothing.
 set -u
 cd "$(dirname "$0")/.." || exit 1
 proj=${PROJ:-$PWD/crates/proj/out/proj}
@@ -51,9 +51,10 @@ upon() {
     printf '%s\n' "$message" | git commit-tree "$tree" "$@"
 }
 
-# the expected line of a test
+# what the answers of the cases have as the output of a run, the first time that it stands there
 expected() {
-    sed -n "/^const $1: /,/;\$/s/.*b\"\\(.*\\)\\\\n\";\$/\\1/p" crates/proj_cli/src/push_tests.rt
+    awk -v run="$1" '$0 == run { getline; getline; sub(/^  out "/, ""); sub(/\\n"$/, ""); print; exit }' \
+        crates/program_cases/stdout
 }
 
 # ---- a history, and what is shown of it
@@ -73,14 +74,14 @@ head=$(git rev-parse main)
 projected=$(upon init "$(git rev-parse main:a)")
 pushed=$(upon push "$(with_file "$projected" g 1)" -p "$projected")
 original=$(upon push "$(with_file "$head" a/g 1)" -p "$head")
-same 'a push into a directory' "$pushed $original" "$(expected G_LINE)"
+same 'a push into a directory' "$pushed $original" "$(expected 'run push refs/heads/main :/a < $g')"
 { commit init a/f hello ''; commit push a/g 1 ''; } >"$work/history"
 same 'the original commit' "refs/heads/main $original" "$("$proj" "$work/store" import <"$work/history")"
 same 'the projection of the original commit' "$pushed" "$("$proj" name refs/heads/main :/a <"$work/history")"
 again=$(upon push "$(with_file "$pushed" g 2)" -p "$pushed")
-same 'a push upon the first' "$again $(upon push "$(with_file "$original" a/g 2)" -p "$original")" "$(expected SECOND_LINE)"
+same 'a push upon the first' "$again $(upon push "$(with_file "$original" a/g 2)" -p "$original")" "$(expected 'run push refs/heads/main :/a < $second')"
 anew=$(upon push "$(with_file '' x x)")
-same 'a push of a new directory' "$anew $(upon push "$(with_file "$head" new/x x)" -p "$head")" "$(expected X_LINE)"
+same 'a push of a new directory' "$anew $(upon push "$(with_file "$head" new/x x)" -p "$head")" "$(expected 'run push refs/heads/main :/new < $x')"
 
 printf 'git: %d passed, %d failed\n' "$passed" "$failed"
 [ "$failed" -eq 0 ]
