@@ -19,7 +19,7 @@ use Rattle.proj_words.specs.declared.outcome.Outcome.TheVariants.{Done, NotBuilt
 use Rattle.proj_cli.proofs.Makes.{stays_follow}
 
 -- what is read of the same items is the same
-same-held : (a b : Held) (r : Result Held Break) → r ≡ Ok a → r ≡ Ok b → a ≡ b
+pub same-held : (a b : Held) (r : Result Held Break) → r ≡ Ok a → r ≡ Ok b → a ≡ b
 same-held a b r e f = cc
 
 module _ (s : Stored) (p : Plan) (report : Bytes) (items : List Bytes) (k l : KeeperView) where

@@ -18,4 +18,5 @@ pub mod LaidCommits
 pub mod PushedCommits
 pub mod ShownRoots
 pub mod Laws
+pub mod Stopping
 pub mod StoredTrees

@@ -1,6 +1,7 @@
 pub mod Texts
 pub mod Push
 pub mod Step
+pub mod Stopped
 pub mod Answer
 pub mod Pushed
 pub mod Rows

@@ -6,6 +6,7 @@ ghost use Rattle.git_objects.specs.Paths.{Bytes};
 ghost use Rattle.git_objects.specs.declared.kind.Kind.TheVariants.{Commit};
 ghost use Rattle.object_store.specs.Objects.{has};
 ghost use Rattle.proj_io.specs.Counts.{Counts};
+ghost use Rattle.proj_io.specs.Stops.{OnlyAdds};
 ghost use Rattle.proj_io.specs.Views.{keeper_view};
 ghost use Rattle.repo_state.specs.Changes.{IsCurrent};
 ghost use Rattle.repo_state.specs.Loads.{IsStored};
@@ -17,6 +18,7 @@ ghost use Rattle.small_streams.specs.Replays.{IsReplayFault, IsReplayed, parent_
 ghost use Rattle.object_store.specs.Growth.{IsGrownBy};
 ghost use Rattle.history_project.specs.Snapshots.{base_tree};
 ghost use Rattle.proj_cli.specs.Step.{import_smalls, import_step, import_stream, input_max, report_line, step};
+ghost use Rattle.proj_cli.specs.Stopped.{ForInput, MayLeave};
 ghost use Rattle.history_project.specs.Histories.{is_same_name, tree_upon};
 ghost use Rattle.small_streams.specs.Streams.{stream};
 ghost use Rattle.small_streams.specs.Views.{small_value};
@@ -170,6 +172,10 @@ fn import_text<K: Keeper>(
         IsMadeFrom (IsStreamInHand state.held (stream text.now)) (import_stream state.held (room_in state)
         (stream text.now)) items (kept store.old) (kept store.new) result }
     ensures early { (result ≢ Err Outcome.WriteFault) × (result ≢ Err Outcome.ReadFault) }
+    ensures stops { (items : List Bytes) → K.items store.old ≡ Some items → IsCurrent items state →
+        OnlyAdds (K.moment store.old) (K.moment store.new)
+        (K.left_since store.old) (K.left_since store.new)
+        (MayLeave (import_stream state.held (room_in state) (stream text.now)) items) }
     ensures cause { Counts (K.faults store.old) (K.faults store.new) (result ≡ Err Outcome.StoreFault) }
     ensures is_open { (result ≢ Err Outcome.StoreFault) → K.is_open store.new }
 {
@@ -200,6 +206,10 @@ fn import_input<S: Source, K: Keeper>(
         (room_in state) all state.held) (S.left input.old) items (kept store.old) (kept store.new) result }
     ensures early { result ≢ Err Outcome.WriteFault }
     ensures read { Counts (S.faults input.old) (S.faults input.new) (result ≡ Err Outcome.ReadFault) }
+    ensures stops { (items : List Bytes) → K.items store.old ≡ Some items → IsCurrent items state →
+        ForInput (S.left input.old) (λ all. OnlyAdds (K.moment store.old) (K.moment store.new)
+        (K.left_since store.old) (K.left_since store.new)
+        (MayLeave (import_step (room_in state) all state.held) items)) }
     ensures cause { Counts (K.faults store.old) (K.faults store.new) (result ≡ Err Outcome.StoreFault) }
     ensures is_open { (result ≢ Err Outcome.StoreFault) → K.is_open store.new }
 {
@@ -228,6 +238,10 @@ pub fn import<S: Source, K: Keeper>(
         (kept store.old) (kept store.new) result }
     ensures early { result ≢ Err Outcome.WriteFault }
     ensures read { Counts (S.faults input.old) (S.faults input.new) (result ≡ Err Outcome.ReadFault) }
+    ensures stops { (items : List Bytes) → K.items store.old ≡ Some items →
+        ForInput (S.left input.old) (λ all. OnlyAdds (K.moment store.old) (K.moment store.new)
+        (K.left_since store.old) (K.left_since store.new)
+        (MayLeave (step (Import false) items all) items)) }
     ensures cause { Counts (K.faults store.old) (K.faults store.new) (result ≡ Err Outcome.StoreFault) }
     ensures is_open { (result ≢ Err Outcome.StoreFault) → K.is_open store.new }
 {

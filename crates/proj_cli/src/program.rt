@@ -6,12 +6,14 @@ ghost use Rattle.path_names.specs.RefNames.{is_ref_name};
 ghost use Rattle.proj_io.specs.Items.{Stays};
 ghost use Rattle.repo_state.specs.Items.{read_items};
 ghost use Rattle.proj_io.specs.Counts.{Counts};
+ghost use Rattle.proj_io.specs.Stops.{OnlyAdds, Nothing};
 ghost use Rattle.proj_io.specs.Views.{source_view, sink_view, keeper_view};
 ghost use Rattle.proj_words.specs.Words.{command, is_formed};
 ghost use Rattle.small_streams.specs.Streams.{stream};
 ghost use Rattle.proj_words.specs.Views.{command_of};
 ghost use Rattle.proj_words.specs.Outcomes.{text_of};
 ghost use Rattle.proj_cli.specs.Step.{by_items, loads, name_step, name_stream, project_step, reads, step, writes};
+ghost use Rattle.proj_cli.specs.Stopped.{ForInput, MayLeave};
 ghost use Rattle.proj_cli.specs.Answer.{GetsText, IsAnswer, IsComplete, IsConcluded, IsIdle, IsInHand, IsInStream};
 ghost use Rattle.proj_cli.specs.Answer.{IsMade, IsReport, IsReported, IsSent, NoObject, Plainly, TakesMemory};
 ghost use Rattle.proj_cli.specs.Pushed.{IsLawful};
@@ -61,6 +63,8 @@ fn project<K: Keeper>(
     requires refname { is_ref_name refname.now ≡ true }
     ensures report { (items : List Bytes) → K.items store.old ≡ Some items →
         IsReport NoObject (by_items (read_items items) (project_step refname.now place.now)) result }
+    ensures stops { OnlyAdds (K.moment store.old) (K.moment store.new)
+        (K.left_since store.old) (K.left_since store.new) Nothing }
     ensures cause { Counts (K.faults store.old) (K.faults store.new) (result ≡ Err Outcome.StoreFault) }
     ensures early { (result ≢ Err Outcome.WriteFault) × (result ≢ Err Outcome.ReadFault) }
     ensures number { K.number store.new ≡ K.number store.old }
@@ -127,6 +131,10 @@ fn make<S: Source, K: Keeper>(
     ensures lawful { (items : List Bytes) (all : Bytes) → K.items store.old ≡ Some items →
         S.left input.old ≡ Some all → IfOk result (λ _. IsLawful (command_of asked.entry) items all (step
         (command_of asked.entry) items all)) }
+    ensures stops { (items : List Bytes) → K.items store.old ≡ Some items →
+        ForInput (S.left input.old) (λ all. OnlyAdds (K.moment store.old) (K.moment store.new)
+        (K.left_since store.old) (K.left_since store.new)
+        (MayLeave (step (command_of asked.entry) items all) items)) }
     ensures unread { reads (command_of asked.entry) ≡ false → input.new ≡ input.old }
     ensures unloaded { loads (command_of asked.entry) ≡ false → store.new ≡ store.old }
     ensures idle { reads (command_of asked.entry) ≡ false → loads (command_of asked.entry) ≡ false →
@@ -253,6 +261,21 @@ pub fn run<S: Source, O: Sink, E: Sink, K: Keeper>(
         (text_of result) }
     // Only after a fault of the store it may have to be opened again.
     ensures is_open { result ≢ Outcome.StoreFault → K.is_open store.new }
+    // A stop at any moment of the call leaves the items at entry, or these and behind them, whole, the item of the
+    // step's change, which is then done.
+    ensures stops { let asked = command (map (λ word. string_bytes word) words.now) in
+        (items : List Bytes) → K.items store.old ≡ Some items → ForInput (S.left input.old) (λ all.
+        (list : List Bytes) → K.left_since store.new (K.moment store.old) list →
+        MayLeave (step asked items all) items list) }
+    // Since a moment before the call it leaves what it might have left then, or one of these two lists.
+    ensures adds { let asked = command (map (λ word. string_bytes word) words.now) in
+        (items : List Bytes) → K.items store.old ≡ Some items → ForInput (S.left input.old) (λ all.
+        OnlyAdds (K.moment store.old) (K.moment store.new)
+        (K.left_since store.old) (K.left_since store.new)
+        (MayLeave (step asked items all) items)) }
+    // After a call that didn't answer a fault of the store it leaves the items that the store then has.
+    ensures settled { result ≢ Outcome.StoreFault → (all : List Bytes) → K.items store.new ≡ Some all →
+        (list : List Bytes) → K.left_since store.new (K.moment store.new) list → list ≡ all }
 {
     let asked = read_command(words);
     let made = make(alloc, asked, input, store);

@@ -10,6 +10,7 @@ ghost use Rattle.path_names.specs.RefNames.{is_ref_name};
 ghost use Rattle.git_objects.specs.declared.kind.Kind.TheVariants.{Commit, Tree};
 ghost use Rattle.object_store.specs.Objects.{has, object_name};
 ghost use Rattle.proj_io.specs.Counts.{Counts};
+ghost use Rattle.proj_io.specs.Stops.{OnlyAdds};
 ghost use Rattle.proj_io.specs.Views.{keeper_view};
 ghost use Rattle.filter_unapply.specs.Laying.{below};
 ghost use Rattle.repo_state.specs.Changes.{IsCurrent, changed, held_after, plan_in};
@@ -27,6 +28,7 @@ ghost use Rattle.proj_cli.specs.Pushed.{IsLawfulRead, IsLawfulStream, IsPushedAl
 ghost use Rattle.proj_cli.specs.Pushes.{IsAccepted, IsPreparedPush, IsPushBatch, IsPushFault, start_value};
 ghost use Rattle.object_store.specs.Growth.{IsGrownBy};
 ghost use Rattle.history_project.specs.Shown.{shown_value};
+ghost use Rattle.proj_cli.specs.Stopped.{ForInput, MayLeave};
 ghost use Rattle.proj_cli.specs.Step.{by_items, input_max, push_at, push_line, push_made, push_smalls, push_step};
 ghost use Rattle.proj_cli.specs.Step.{push_stream, room_of, start_below};
 ghost use Rattle.small_streams.specs.Streams.{stream};
@@ -277,6 +279,10 @@ fn push_text<K: Keeper>(
     ensures lawful { IfOk result (λ _. IsLawfulStream place.now refname.now state.held (stream text.now)
         (push_stream refname.now place.now (room_in state) state.held head.0 (stream text.now))) }
     ensures early { (result ≢ Err Outcome.WriteFault) × (result ≢ Err Outcome.ReadFault) }
+    ensures stops { (items : List Bytes) → K.items store.old ≡ Some items → IsCurrent items state →
+        OnlyAdds (K.moment store.old) (K.moment store.new)
+        (K.left_since store.old) (K.left_since store.new)
+        (MayLeave (push_stream refname.now place.now (room_in state) state.held head.0 (stream text.now)) items) }
     ensures cause { Counts (K.faults store.old) (K.faults store.new) (result ≡ Err Outcome.StoreFault) }
     ensures is_open { (result ≢ Err Outcome.StoreFault) → K.is_open store.new }
 {
@@ -318,6 +324,10 @@ fn push_input<S: Source, K: Keeper>(
         (room_in state) all state.held (Some head.0)))) }
     ensures early { result ≢ Err Outcome.WriteFault }
     ensures read { Counts (S.faults input.old) (S.faults input.new) (result ≡ Err Outcome.ReadFault) }
+    ensures stops { (items : List Bytes) → K.items store.old ≡ Some items → IsCurrent items state →
+        ForInput (S.left input.old) (λ all. OnlyAdds (K.moment store.old) (K.moment store.new)
+        (K.left_since store.old) (K.left_since store.new)
+        (MayLeave (push_at refname.now place.now (room_in state) all state.held (Some head.0)) items)) }
     ensures cause { Counts (K.faults store.old) (K.faults store.new) (result ≡ Err Outcome.StoreFault) }
     ensures is_open { (result ≢ Err Outcome.StoreFault) → K.is_open store.new }
 {
@@ -363,6 +373,10 @@ fn push_loaded<S: Source, K: Keeper>(
         (room_in state) all state.held))) }
     ensures early { result ≢ Err Outcome.WriteFault }
     ensures read { Counts (S.faults input.old) (S.faults input.new) (result ≡ Err Outcome.ReadFault) }
+    ensures stops { (items : List Bytes) → K.items store.old ≡ Some items → IsCurrent items state →
+        ForInput (S.left input.old) (λ all. OnlyAdds (K.moment store.old) (K.moment store.new)
+        (K.left_since store.old) (K.left_since store.new)
+        (MayLeave (push_step refname.now place.now (room_in state) all state.held) items)) }
     ensures cause { Counts (K.faults store.old) (K.faults store.new) (result ≡ Err Outcome.StoreFault) }
     ensures is_open { (result ≢ Err Outcome.StoreFault) → K.is_open store.new }
 {
@@ -393,6 +407,10 @@ pub fn push<S: Source, K: Keeper>(
         (push_step refname.now place.now (room_of items) all)))) }
     ensures early { result ≢ Err Outcome.WriteFault }
     ensures read { Counts (S.faults input.old) (S.faults input.new) (result ≡ Err Outcome.ReadFault) }
+    ensures stops { (items : List Bytes) → K.items store.old ≡ Some items →
+        ForInput (S.left input.old) (λ all. OnlyAdds (K.moment store.old) (K.moment store.new)
+        (K.left_since store.old) (K.left_since store.new)
+        (MayLeave (by_items (read_items items) (push_step refname.now place.now (room_of items) all)) items)) }
     ensures cause { Counts (K.faults store.old) (K.faults store.new) (result ≡ Err Outcome.StoreFault) }
     ensures is_open { (result ≢ Err Outcome.StoreFault) → K.is_open store.new }
 {

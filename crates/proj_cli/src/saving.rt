@@ -2,6 +2,7 @@
 ghost use Rattle.std.specs.Prelude.{◌≡◌, ◌≢◌, List, Err, Some, OnOk};
 ghost use Rattle.git_objects.specs.Paths.{Bytes};
 ghost use Rattle.proj_io.specs.Counts.{Counts};
+ghost use Rattle.proj_io.specs.Stops.{OnlyAdds};
 ghost use Rattle.proj_io.specs.Views.{keeper_view};
 ghost use Rattle.repo_state.specs.Changes.{IsChange, IsCurrent, IsWithin, changed, plan_in};
 ghost use Rattle.repo_state.specs.Commits.{change_of};
@@ -9,6 +10,7 @@ ghost use Rattle.repo_state.specs.Loads.{IsStored};
 ghost use Rattle.proj_cli.specs.Answer.{IsMadeFrom, NoObject};
 ghost use Rattle.proj_cli.specs.Prepared.{room_in};
 ghost use Rattle.proj_cli.specs.Step.{changing};
+ghost use Rattle.proj_cli.specs.Stopped.{MayLeave};
 
 use crate::Outcome;
 use git_objects::Bytes;
@@ -48,6 +50,12 @@ pub fn save<K: Keeper>(
         }) }
     ensures stored { OnOk result (IsStored (changed state (plan_in state (change_of prepared.batch)))) }
     ensures early { (result ≢ Err Outcome.WriteFault) × (result ≢ Err Outcome.ReadFault) }
+    // A stop leaves the items, or these with the item of the change behind them.
+    ensures stops { (items : List Bytes) → K.items store.old ≡ Some items → IsCurrent items state →
+        IsWithin state.objects state.held.objects (change_of prepared.batch) → OnlyAdds (K.moment store.old) (K.moment store.new)
+        (K.left_since store.old) (K.left_since store.new)
+        (MayLeave (changing state.held (room_in state) prepared.report
+        (plan_in state (change_of prepared.batch))) items) }
     ensures cause { Counts (K.faults store.old) (K.faults store.new) (result ≡ Err Outcome.StoreFault) }
     ensures is_open { (result ≢ Err Outcome.StoreFault) → K.is_open store.new }
 {

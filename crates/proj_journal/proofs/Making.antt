@@ -1,7 +1,7 @@
 -- A new journal.
-use Rattle.std.proofs.Common.{◌≡◌, ◌+◌, ◌++◌, [], ◌∷◌, ℕ, List, length, take, Some, None, sym, ◌∙◌, ap, subst, arith}
+use Rattle.std.proofs.Common.{◌≡◌, ◌+◌, ◌++◌, [], ◌∷◌, ℕ, List, length, take, Some, None, refl, sym, ◌∙◌, ap, subst, arith, ◌↔◌}
 use Rattle.std.specs.declared.option.Option.{Option}
-use Rattle.std.specs.Prelude.{IfSome}
+use Rattle.std.specs.Prelude.{IfSome, IsSome}
 use Rattle.std.specs.Option.{option_map}
 use Rattle.proj_disk.specs.Disks.{DiskView, put, stable, written}
 use Rattle.proj_journal.specs.Spelling.{header, spelled, listed, list_in}
@@ -31,3 +31,8 @@ new_list (Some d) (Some e) (Some f) none is sync =
     let now : f ≡ stable (header ++ (0 ∷ [])) = made ∙ ap stable bytes in
     let list : listed f.bytes ≡ [] = ap (λ (v : DiskView). list_in (spelled v.bytes)) now ∙ ap list_in spelled-none in
     (subst (λ (l : List (List ℕ)). StandsAt 8 l f) (sym list) (new_stands f now), list)
+
+-- a disk that is known stays known
+pub still_known : (o p q : Option DiskView) (f g : DiskView → DiskView) → p ≡ option_map f o → q ≡ option_map g p → IsSome q ↔ IsSome o
+still_known None p q f g wrote synced = subst (λ (x : Option DiskView). IsSome x ↔ IsSome {A = DiskView} None) (sym (synced ∙ ap (option_map g) wrote)) (λ is. is, λ is. is)
+still_known (Some d) p q f g wrote synced = subst (λ (x : Option DiskView). IsSome x ↔ IsSome (Some d)) (sym (synced ∙ ap (option_map g) wrote)) (λ is. refl, λ is. refl)

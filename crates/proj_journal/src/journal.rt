@@ -1,6 +1,6 @@
 // The journal, a keeper of items over a disk.
 ghost use Rattle.std.specs.Prelude.{◌≡◌, ◌≢◌, [], ◌<◌, ◌≤◌, ◌+◌, ◌^◌, ◌⊎◌, List, ℕ, length, take, drop, IsSome};
-ghost use Rattle.std.specs.Prelude.{IsErr, IfOk, IfErr, IfSome, MatchResult, false};
+ghost use Rattle.std.specs.Prelude.{◌↔◌, IsErr, IfOk, IfErr, IfSome, MatchResult, false};
 ghost use Rattle.std.specs.Option.{option_map};
 ghost use Rattle.proj_io.specs.Stops.{OnlyAdds, Nothing};
 ghost use Rattle.proj_journal.specs.Journals.{AllFit, IsEmpty, IsOpen, IsReadAs, ListsLeft, disk_of, place_at};
@@ -38,6 +38,7 @@ impl<D: Disk> Journal<D> {
         requires { IfSome (D.content disk) (λ view. view.bytes ≡ []) }
         ensures created { IfOk result (λ journal. IsOpen D.content journal) }
         ensures empty { IfOk result (λ journal. IsEmpty (D.content (disk_of journal))) }
+        ensures told { IfOk result (λ journal. IsSome (D.content (disk_of journal)) ↔ IsSome (D.content disk)) }
         ensures not_broken { IfErr result (λ none. (place : ℕ) → none.error ≢ JournalError.Broken place) }
         ensures cause { MatchResult result
             (λ journal. D.faults disk ≤ D.faults (disk_of journal))

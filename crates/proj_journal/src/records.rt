@@ -1,5 +1,5 @@
 // Writing a record behind the others, in two steps: the record behind a shut gate, and then the gate.
-ghost use Rattle.std.specs.Prelude.{List, ℕ, [], ◌≡◌, ◌<◌, ◌≤◌, ◌+◌, ◌^◌, length, OnOk, OnErr, IfSome, IsErrOf};
+ghost use Rattle.std.specs.Prelude.{List, ℕ, [], ◌≡◌, ◌<◌, ◌≤◌, ◌+◌, ◌^◌, length, OnOk, OnErr, IfSome, IsErrOf, IsSome, ◌↔◌};
 ghost use Rattle.git_objects.specs.declared.limits.TheConstants.{ITEM_BYTES, ITEMS};
 ghost use Rattle.proj_io.specs.Counts.{Counts};
 ghost use Rattle.proj_io.specs.Stops.{OnlyAdds};
@@ -14,6 +14,7 @@ use proj_io::SinkError;
 pub(crate) fn write_header<D: Disk>(disk: &mut D) -> Result<(), SinkError>
     requires { IfSome (D.content disk.old) (λ view. view.bytes ≡ []) }
     ensures made { OnOk result (IsEmptyList (D.content disk.new)) }
+    ensures told { OnOk result (IsSome (D.content disk.new) ↔ IsSome (D.content disk.old)) }
     ensures cause { Counts (D.faults disk.old) (D.faults disk.new) (IsErrOf result SinkError.Failed) }
 {
     disk.write_at(0, b"proj 01\n\0")?;

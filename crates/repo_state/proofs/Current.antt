@@ -10,11 +10,12 @@ use Rattle.git_objects.specs.Paths.{Bytes}
 use Rattle.git_objects.specs.Parts.{name_bytes}
 use Rattle.git_objects.specs.declared.name.Name.{Name}
 use Rattle.proj_io.specs.Items.{Stays, Gets}
+use Rattle.proj_io.specs.Stops.{IsBeforeOrAfter}
 use Rattle.proj_io.specs.declared.keeper.KeepError.{KeepError}
 use Rattle.proj_io.specs.declared.keeper.KeepError.TheVariants.{Failed, OutOfMemory}
 use Rattle.object_store.specs.Objects.{Object}
 use Rattle.repo_state.specs.Changes.{Change, IsChange, IsCurrent, IsWithin, Plan, held_after, objects_of, plan, plan_in}
-use Rattle.repo_state.specs.Commits.{IsSpelled}
+use Rattle.repo_state.specs.Commits.{IsSpelled, IsStopOf, IsWithItem}
 use Rattle.repo_state.specs.Drafts.{IsDraft}
 use Rattle.repo_state.specs.Growing.{grown, held_of}
 use Rattle.repo_state.specs.Items.{Held, has_room, held_with, item_fits, item_text, nothing, numbered, read_from, read_item, read_items, then_read}
@@ -153,6 +154,19 @@ module _ (objects : List Object) (old new : List Name) (refs : Refs) (commits nu
       (subst (λ (b : Stored). IsChange b.objects b.held.objects c) (sym same) g)
       (subst (λ (b : Stored). IsWithin b.objects b.held.objects c) (sym same) w)
       made xs ys (subst (λ (b : Stored). IsCurrent xs b) (sym same) now) e)
+
+  -- what a stop leaves of an append of the draft's item
+  pub item-left : (o : Option (List Bytes)) → stored objects old refs number size ≡ before → HoldsState objects old refs commits number size → IsChange before.objects before.held.objects c →
+      IsDraft objects new (held_with (held_of objects old) refs) number size (plan objects (held_with (held_of objects old) refs) c) d → (list : List Bytes) → IsBeforeOrAfter o d.item.items list → IsStopOf before c o list
+  item-left None same s g made list left = tt
+  item-left (Some xs) same s g made list (inl was) = inl was
+  item-left (Some xs) same s g made list (inr more) = inr (subst (λ (b : Stored). IsWithItem b c xs list) same (record {
+    says = made.says;
+    passes = made.fits;
+    behind = more ∙ ap (λ (t : Bytes). xs ++ t ∷ []) made.item;
+    spelled = λ now w. ap read_items more
+        ∙ read-after objects old new refs commits number size c d s (subst (λ (b : Stored). IsChange b.objects b.held.objects c) (sym same) g) w made xs now;
+  }))
 
 -- by why the keeper did not say that it has the item
 pub fault-spelled : {R : Type 0} (error : KeepError) (A B C : Type 0) → (IsErrOf {T = Unit {0}} (Err error) Failed → A ⊎ B) → (IsErrOf {T = Unit {0}} (Err error) OutOfMemory → C) → (A → R) → (B → R) → (C → R) → R

@@ -18,6 +18,7 @@ pub mod ReadBack
 pub mod RefRuns
 pub mod Settled
 pub mod States
+pub mod Stopping
 pub mod StoredCommits
 pub mod TreeLaw
 pub mod Walks

@@ -1,5 +1,6 @@
 -- What comes of committing a change.
-use Rattle.std.specs.Prelude.{◌≡◌, ◌⊎◌, ◌+◌, true, false, List, [], ◌∷◌, ◌++◌, map, None, Some, Result, Ok, Err}
+use Rattle.std.specs.Prelude.{◌≡◌, ◌⊎◌, ◌+◌, true, false, List, [], ◌∷◌, ◌++◌, map, None, Some, Result, Ok, Err, ⊤}
+use Rattle.std.specs.declared.option.Option.{Option}
 use Rattle.git_objects.specs.Paths.{Bytes}
 use Rattle.git_objects.specs.Parts.{name_bytes}
 use Rattle.proj_io.specs.Items.{Stays, Gets}
@@ -8,7 +9,7 @@ use Rattle.proj_io.specs.declared.keeper.KeepError.{KeepError}
 use Rattle.proj_io.specs.declared.keeper.KeepError.TheVariants.{Failed, OutOfMemory as NoMemory}
 use Rattle.repo_state.specs.Items.{Held, read_items}
 use Rattle.repo_state.specs.Loads.{Stored}
-use Rattle.repo_state.specs.Changes.{Change, Plan, is_empty, plan_text, held_after, passed, changed}
+use Rattle.repo_state.specs.Changes.{Change, IsCurrent, IsWithin, Plan, is_empty, plan_text, held_after, passed, changed, plan_in}
 use Rattle.repo_state.specs.declared.commit.Batch.{Batch}
 use Rattle.repo_state.specs.declared.commit.Setting.{Setting}
 use Rattle.repo_state.specs.declared.commit.CommitError.{CommitError}
@@ -52,6 +53,26 @@ Appends p before after (Err OutOfMemory) = KeepsItems before after
 abbrev pub IsSpelled : List Bytes → Held → Plan → List Bytes → Type 0
 IsSpelled items h p after =
     ((after ≡ items) × (read_items after ≡ Ok h)) ⊎ ((is_empty p ≡ false) × (after ≡ items ++ plan_text p ∷ []) × (read_items after ≡ Ok (held_after h p)))
+
+-- the items with the item of a change behind them, which says something and passes no limit; they spell what is held after it, where the
+-- items spell the state and the change is within the limits of objects
+pub record IsWithItem (s : Stored) (c : Change) (items list : List Bytes) : Type 0 where
+  pub says : is_empty (plan_in s c) ≡ false
+  pub passes : passed s.held s.number s.size (plan_in s c) ≡ None
+  pub behind : list ≡ items ++ plan_text (plan_in s c) ∷ []
+  pub spelled : IsCurrent items s → IsWithin s.objects s.held.objects c → read_items list ≡ Ok (held_after s.held (plan_in s c))
+
+-- what a stop during a commit leaves of the items of a keeper that tells them: these, or these with the item of the change
+abbrev pub IsStopOf : Stored → Change → Option (List Bytes) → List Bytes → Type 0
+IsStopOf s c None list = ⊤
+IsStopOf s c (Some items) list = (list ≡ items) ⊎ IsWithItem s c items list
+
+-- the plan was refused, and the keeper has no item more
+abbrev pub IsRefusal : Result (Unit {0}) CommitError → Type 0
+IsRefusal (Ok _) = ⊥
+IsRefusal (Err StoreFault) = ⊥
+IsRefusal (Err (Limit q)) = ⊤
+IsRefusal (Err OutOfMemory) = ⊤
 
 -- why the keeper has no item more
 abbrev pub keep_error : KeepError → CommitError

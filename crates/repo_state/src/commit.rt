@@ -1,9 +1,11 @@
 // Committing a change.
 ghost use Rattle.std.specs.Prelude.{◌≡◌, ◌≢◌, ◌↔◌, true, IfSome, IsErrOf, MatchResult, OnOk};
 ghost use Rattle.proj_io.specs.Counts.{Counts};
+ghost use Rattle.proj_io.specs.Stops.{OnlyAdds, IsPresent};
 ghost use Rattle.proj_io.specs.Views.{keeper_view};
 ghost use Rattle.repo_state.specs.Changes.{IsChange, IsCurrent, IsWithin, held_after, plan_in};
-ghost use Rattle.repo_state.specs.Commits.{Appends, IsCommitted, IsRefused, IsSpelled, change_of, keep_error};
+ghost use Rattle.repo_state.specs.Commits.{Appends, IsCommitted, IsRefusal, IsRefused, IsSpelled, IsStopOf};
+ghost use Rattle.repo_state.specs.Commits.{change_of, keep_error};
 ghost use Rattle.repo_state.specs.Repos.{is_kept};
 
 use crate::State;
@@ -77,6 +79,11 @@ impl State {
         ensures is_open { MatchResult result (λ _. K.is_open keeper.new) (λ e. e ≢ CommitError.StoreFault →
             K.is_open keeper.new) }
         ensures told { K.tells keeper.new ↔ K.tells keeper.old }
+        // A stop during the call leaves the items, or these with the plan's item behind them.
+        ensures stops { OnlyAdds (K.moment keeper.old) (K.moment keeper.new) (K.left_since keeper.old)
+            (K.left_since keeper.new) (IsStopOf self.old (change_of batch) (K.items keeper.old)) }
+        ensures stops_refused { IsRefusal result → OnlyAdds (K.moment keeper.old) (K.moment keeper.new)
+            (K.left_since keeper.old) (K.left_since keeper.new) (IsPresent (K.items keeper.old)) }
         ensures cause { Counts (K.faults keeper.old) (K.faults keeper.new) (IsErrOf result CommitError.StoreFault) }
     {
         let before = self.held.len();

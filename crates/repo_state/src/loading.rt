@@ -4,6 +4,7 @@ ghost use Rattle.std.specs.Prelude.{IfSome, OnOk, MatchResult, sum_by};
 ghost use Rattle.git_objects.specs.declared.limits.TheConstants.{ITEM_BYTES, ITEMS, STORE_BYTES};
 ghost use Rattle.proj_io.specs.Counts.{Counts};
 ghost use Rattle.proj_io.specs.Items.{Stays, item_of};
+ghost use Rattle.proj_io.specs.Stops.{OnlyAdds, Nothing};
 ghost use Rattle.repo_state.specs.Items.{held_with, item_fits, read_items};
 ghost use Rattle.repo_state.specs.Loads.{IsLoadFault};
 ghost use Rattle.repo_state.specs.Steps.{IsUnread, load_error, step};
@@ -63,6 +64,8 @@ fn fetch<K: Keeper>(
     ensures items { Stays (K.items keeper.old) (K.items keeper.new) }
     ensures is_open { K.is_open keeper.new }
     ensures told { K.tells keeper.new ↔ K.tells keeper.old }
+    ensures stops { OnlyAdds (K.moment keeper.old) (K.moment keeper.new) (K.left_since keeper.old)
+        (K.left_since keeper.new) Nothing }
     ensures cause { Counts (K.faults keeper.old) (K.faults keeper.new) (result ≡ Err LoadError.StoreFault) }
 {
     let size = match keeper.size(number) {
@@ -116,6 +119,8 @@ fn load_item<K: Keeper>(
     ensures items { Stays (K.items keeper.old) (K.items keeper.new) }
     ensures is_open { K.is_open keeper.new }
     ensures told { K.tells keeper.new ↔ K.tells keeper.old }
+    ensures stops { OnlyAdds (K.moment keeper.old) (K.moment keeper.new) (K.left_since keeper.old)
+        (K.left_since keeper.new) Nothing }
     ensures cause { Counts (K.faults keeper.old) (K.faults keeper.new) (result ≡ Err LoadError.StoreFault) }
 {
     let Loaded {
@@ -155,6 +160,8 @@ pub(crate) fn load_items<K: Keeper>(
     ensures items { Stays (K.items keeper.old) (K.items keeper.new) }
     ensures is_open { K.is_open keeper.new }
     ensures told { K.tells keeper.new ↔ K.tells keeper.old }
+    ensures stops { OnlyAdds (K.moment keeper.old) (K.moment keeper.new) (K.left_since keeper.old)
+        (K.left_since keeper.new) Nothing }
     ensures cause { Counts (K.faults keeper.old) (K.faults keeper.new) (result ≡ Err LoadError.StoreFault) }
 {
     let mut buffer = Vec::new(alloc);

@@ -5,6 +5,7 @@ ghost use Rattle.std.specs.Option.{option_map};
 ghost use Rattle.git_objects.specs.Parts.{name_bytes};
 ghost use Rattle.proj_io.specs.Counts.{Counts};
 ghost use Rattle.proj_io.specs.Items.{Stays};
+ghost use Rattle.proj_io.specs.Stops.{OnlyAdds, Nothing};
 ghost use Rattle.git_objects.specs.declared.kind.Kind.TheVariants.{Commit};
 ghost use Rattle.object_store.specs.Objects.{has, object_name};
 ghost use Rattle.repo_state.specs.Items.{held_with, read_items};
@@ -120,6 +121,8 @@ impl State {
         ensures items { Stays (K.items keeper.old) (K.items keeper.new) }
         ensures is_open { K.is_open keeper.new }
         ensures told { K.tells keeper.new ↔ K.tells keeper.old }
+        ensures stops { OnlyAdds (K.moment keeper.old) (K.moment keeper.new) (K.left_since keeper.old)
+            (K.left_since keeper.new) Nothing }
         ensures cause { Counts (K.faults keeper.old) (K.faults keeper.new) (result ≡ Err LoadError.StoreFault) }
     {
         let count = match keeper.count() {

@@ -9,6 +9,9 @@ use Rattle.proj_words.specs.Words.{command, is_formed}
 use Rattle.proj_words.specs.declared.outcome.Outcome.{Outcome}
 use Rattle.proj_cli.proofs.Joins.{answers, complete}
 use Rattle.proj_cli.proofs.Laws.{run_lawful}
+use Rattle.proj_cli.specs.Stopped.{ForInput, MayLeave}
+use Rattle.proj_cli.proofs.Stopping.{no_fault_made, since_began, still_there}
+use Rattle.proj_io.specs.Stops.{OnlyAdds}
 use Rattle.proj_cli.proofs.program.run.Goals as goal
 
 pub returns-clause-answer : goal.returns-clause-answer
@@ -39,3 +42,17 @@ returns-clause-lawful g c = λ (items : List Bytes) (all : Bytes) told left done
     run_lawful c.make-made.result c.conclude-outcome.result c.finish.result (shown c.args.out.now) (shown c.conclude-outcome.new.out) (IsLawful asked items all (step asked items all)) c.conclude-outcome.ensures.concluded c.finish.ensures.outcome
     (λ e. subst (λ (x : Result Bytes Outcome). IsDone (IsInHand asked items r.all) (step asked items r.all) x) e r.made.report) done
     (subst (λ a. IfOk c.make-made.result (λ _. IsLawful a items all (step a items all))) c.read_command-asked.ensures.command (c.make-made.ensures.lawful items all told left))
+
+pub returns-clause-adds : goal.returns-clause-adds
+returns-clause-adds g c = λ (items : List Bytes) told.
+    subst (λ a. ForInput (g.S.Source.left c.args.input.now) (λ all. OnlyAdds (g.K.Keeper.moment c.args.store.now) (g.K.Keeper.moment c.make-made.new.store) (g.K.Keeper.left_since c.args.store.now) (g.K.Keeper.left_since c.make-made.new.store) (MayLeave (step a items all) items))) c.read_command-asked.ensures.command (c.make-made.ensures.stops items told)
+
+pub returns-clause-stops : goal.returns-clause-stops
+returns-clause-stops g c = λ (items : List Bytes) told.
+    since_began (g.S.Source.left c.args.input.now) items _ _ _ _ (step (command (map (λ word. string_bytes word) c.args.words.now)) items) (returns-clause-adds g c items told)
+    (λ list left. still_there (g.K.Keeper.items c.args.store.now) items list told (g.met.K.Keeper.settled c.args.store.now list c.requires left))
+
+pub returns-clause-settled : goal.returns-clause-settled
+returns-clause-settled g c = λ no_fault (all : List Bytes) told list left.
+    still_there (g.K.Keeper.items c.make-made.new.store) all list told (g.met.K.Keeper.settled c.make-made.new.store list (c.make-made.ensures.is_open
+    (no_fault_made c.make-made.result _ _ c.conclude-outcome.result c.finish.result c.conclude-outcome.ensures.concluded c.finish.ensures.outcome no_fault)) left)

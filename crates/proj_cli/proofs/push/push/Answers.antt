@@ -12,6 +12,9 @@ use Rattle.small_streams.specs.Streams.{stream}
 use Rattle.proj_words.specs.declared.outcome.Outcome.{Outcome}
 use Rattle.proj_words.specs.declared.outcome.Outcome.TheVariants.{NotBuilt, OutOfMemory}
 use Rattle.proj_cli.proofs.Inputs.{input_none, loaded_made, made_then, unloaded_made}
+use Rattle.proj_cli.specs.Stopped.{ForInput, MayLeave}
+use Rattle.proj_cli.proofs.Stopping.{loaded_for, none_for, nothing_for, still_told, then_for}
+use Rattle.proj_io.specs.Stops.{OnlyAdds}
 use Rattle.proj_cli.proofs.push.push.Goals as goal
 
 pub returns-in-Err-OutOfMemory-clause-made : goal.returns-in-Err-OutOfMemory-clause-made
@@ -40,3 +43,21 @@ returns-clause-made g c = λ (items : List Bytes) told.
     (made_then (seen c.args.store.now) (seen c.load.new.keeper) (seen c.push_loaded.new.store) (c.in-Ok-load.ensures.same, c.in-Ok-load.ensures.items)
     (λ all. IsPushOf c.in-Ok.refname place (read_items items) (stream all)) (λ all. by_items (read_items items) (push_step c.in-Ok.refname place (room_of items) all)) left items c.push_loaded.result
     (loaded_made (λ r all. IsPushOf c.in-Ok.refname place r (stream all)) (push_step c.in-Ok.refname place) items left (seen c.load.new.keeper) (seen c.push_loaded.new.store) c.push_loaded.result c.in-Ok-load.state loaded (c.push_loaded.ensures.made items (λ _. current))))
+
+pub returns-in-Err-OutOfMemory-clause-stops : goal.returns-in-Err-OutOfMemory-clause-stops
+returns-in-Err-OutOfMemory-clause-stops g c = λ (items : List Bytes) told. none_for (g.S.Source.left c.args.input.now) (g.K.Keeper.moment c.args.store.now) (g.K.Keeper.left_since c.args.store.now) (λ all. MayLeave (by_items (read_items items) (push_step c.args.refname.now c.args.place.now (room_of items) all)) items)
+
+pub returns-in-Err-clause-stops : goal.returns-in-Err-clause-stops
+returns-in-Err-clause-stops g c = λ (items : List Bytes) told. nothing_for (g.S.Source.left c.args.input.now) _ _ _ _ (λ all. MayLeave (by_items (read_items items) (push_step c.args.refname.now c.args.place.now (room_of items) all)) items) c.in-Err.ensures.stops
+
+pub returns-clause-stops : goal.returns-clause-stops
+returns-clause-stops g c = λ (items : List Bytes) told.
+    let loaded : IsLoaded items c.in-Ok-load.state = subst (λ (o : Option (List Bytes)). IfSome o (λ xs. IsLoaded xs c.in-Ok-load.state)) told c.in-Ok-load.ensures.read in
+    let current : IsCurrent items c.in-Ok-load.state = record { held = loaded.held; number = loaded.number; size = loaded.size } in
+    let still = still_told (g.K.Keeper.items c.args.store.now) (g.K.Keeper.items c.load.new.keeper) items c.in-Ok-load.ensures.items told in
+    let left = g.S.Source.left c.args.input.now in
+    let place = c.args.place.now in
+    let refname = c.in-Ok.refname in
+    subst (λ (r : Bytes). ForInput left (λ all. OnlyAdds (g.K.Keeper.moment c.args.store.now) (g.K.Keeper.moment c.push_loaded.new.store) (g.K.Keeper.left_since c.args.store.now) (g.K.Keeper.left_since c.push_loaded.new.store) (MayLeave (by_items (read_items items) (push_step r place (room_of items) all)) items))) c.in-Ok.ensures.ok.0
+    (then_for left _ _ _ _ _ _ (λ all. MayLeave (by_items (read_items items) (push_step refname place (room_of items) all)) items) c.in-Ok-load.ensures.stops
+    (loaded_for left (push_step refname place) items _ _ _ _ c.in-Ok-load.state loaded (c.push_loaded.ensures.stops items still current)))

@@ -10,6 +10,9 @@ use Rattle.proj_cli.specs.Step.{Step, push_at, push_stream}
 use Rattle.small_streams.specs.Streams.{stream}
 use Rattle.proj_words.specs.declared.outcome.Outcome.TheVariants.{OutOfMemory, ReadFault}
 use Rattle.proj_cli.proofs.Inputs.{input_lawful, input_long, input_none, input_whole}
+use Rattle.proj_cli.specs.Stopped.{MayLeave}
+use Rattle.proj_cli.proofs.Stopping.{none_for, whole_for}
+use Rattle.proj_io.specs.Stops.{OnlyAdds}
 use Rattle.proj_cli.proofs.push.push_input.Goals as goal
 
 pub returns-then-taken-clause-made : goal.returns-then-taken-clause-made
@@ -50,3 +53,20 @@ returns-clause-made g c = λ (items : List Bytes) current.
     let k = keeper_view g.K.Keeper.items g.K.Keeper.number g.K.Keeper.faults c.args.store.now in
     input_none (λ all. IsPushInHand c.args.place.now h (Some c.args.head.0) (stream all)) (λ all. push_stream c.args.refname.now c.args.place.now (room_in c.args.state) h c.args.head.0 (stream all)) (g.S.Source.left c.args.input.now) items k k
     (λ all. push_at c.args.refname.now c.args.place.now (room_in c.args.state) all h (Some c.args.head.0)) OutOfMemory (λ f all. tt)
+
+pub returns-then-taken-clause-stops : goal.returns-then-taken-clause-stops
+returns-then-taken-clause-stops g c = λ (items : List Bytes) told current. none_for (g.S.Source.left c.args.input.now) (g.K.Keeper.moment c.args.store.now) (g.K.Keeper.left_since c.args.store.now) (λ all. MayLeave (push_at c.args.refname.now c.args.place.now (room_in c.args.state) all c.args.state.held (Some c.args.head.0)) items)
+
+pub returns-in-Err-Fault-clause-stops : goal.returns-in-Err-Fault-clause-stops
+returns-in-Err-Fault-clause-stops g c = λ (items : List Bytes) told current. none_for (g.S.Source.left c.args.input.now) (g.K.Keeper.moment c.args.store.now) (g.K.Keeper.left_since c.args.store.now) (λ all. MayLeave (push_at c.args.refname.now c.args.place.now (room_in c.args.state) all c.args.state.held (Some c.args.head.0)) items)
+
+pub returns-clause-stops : goal.returns-clause-stops
+returns-clause-stops g c = λ (items : List Bytes) told current. none_for (g.S.Source.left c.args.input.now) (g.K.Keeper.moment c.args.store.now) (g.K.Keeper.left_since c.args.store.now) (λ all. MayLeave (push_at c.args.refname.now c.args.place.now (room_in c.args.state) all c.args.state.held (Some c.args.head.0)) items)
+
+pub returns-in-Ok-clause-stops : goal.returns-in-Ok-clause-stops
+returns-in-Ok-clause-stops g c = λ (items : List Bytes) told current.
+    let h = c.args.state.held in
+    let rest : Bytes → Step = λ all. push_stream c.args.refname.now c.args.place.now (room_in c.args.state) h c.args.head.0 (stream all) in
+    whole_for (g.S.Source.left c.args.input.now) rest items _ _ _ _ c.in-Ok.taken.bytes c.in-Ok.taken.more c.in-Ok.ensures.bytes c.in-Ok.ensures.more c.in-Ok.ensures.within c.if-taken.false
+    (subst (λ (t : Bytes). OnlyAdds (g.K.Keeper.moment c.args.store.now) (g.K.Keeper.moment c.push_text.new.store) (g.K.Keeper.left_since c.args.store.now) (g.K.Keeper.left_since c.push_text.new.store) (MayLeave (rest t) items)) c.bytes.ensures
+    (c.push_text.ensures.stops items told current))

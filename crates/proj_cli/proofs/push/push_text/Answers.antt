@@ -15,6 +15,8 @@ use Rattle.proj_cli.proofs.Committing.{current_same}
 use Rattle.proj_cli.proofs.Inputs.{more_made}
 use Rattle.proj_cli.proofs.Makes.{keeps, made_plain}
 use Rattle.proj_cli.proofs.PushStreams.{saved-lawful}
+use Rattle.proj_cli.specs.Stopped.{MayLeave}
+use Rattle.proj_io.specs.Stops.{OnlyAdds}
 use Rattle.proj_cli.proofs.push.push_text.Goals as goal
 
 pub returns-in-Err-prepare_push-clause-made : goal.returns-in-Err-prepare_push-clause-made
@@ -59,3 +61,14 @@ returns-in-Ok-clause-lawful g c =
     let is : Some ss ≡ stream c.args.text.now = ap (λ (v : List SmallCommit). Some (map small_value v)) c.deref.ensures.value ∙ ap smalls_read (sym c.in-Ok-Some.field-0-is) ∙ c.in-Ok-Some.ensures in
     subst (λ (o : Option (List Small)). IfOk c.save.result (λ _. IsLawfulStream place refname h o (push_stream refname place room h n o))) is
     (saved-lawful place refname h ss c.prepare_push.new.state c.in-Ok.prepared (push_smalls refname place room h n ss) c.save.result c.in-Ok.ensures.ok.step_is c.save.ensures.done c.save.ensures.stored c.in-Ok.ensures.lawful)
+
+pub returns-in-Ok-clause-stops : goal.returns-in-Ok-clause-stops
+returns-in-Ok-clause-stops g c = λ (items : List Bytes) told current.
+    let h = c.args.state.held in
+    let after = c.prepare_push.new.state in
+    let ss = map small_value c.deref.result.now in
+    let is : Some ss ≡ stream c.args.text.now = ap (λ (v : List SmallCommit). Some (map small_value v)) c.deref.ensures.value ∙ ap smalls_read (sym c.in-Ok-Some.field-0-is) ∙ c.in-Ok-Some.ensures in
+    let now = current_same c.args.state after items c.prepare_push.ensures.same current in
+    let Adds : Step → Type 0 = λ s. OnlyAdds (g.K.Keeper.moment c.args.store.now) (g.K.Keeper.moment c.save.new.store) (g.K.Keeper.left_since c.args.store.now) (g.K.Keeper.left_since c.save.new.store) (MayLeave s items) in
+    subst (λ (o : Option (List Small)). Adds (push_stream c.args.refname.now c.args.place.now (room_in c.args.state) h c.args.head.0 o)) is
+    (subst Adds (sym c.in-Ok.ensures.ok.step_is) (c.save.ensures.stops items told now (c.in-Ok.ensures.fits items c.args.text.now now.held c.requires.short (sym is))))

@@ -1,5 +1,6 @@
 use Rattle.std.proofs.Common.{◌≡◌, ◌≤◌, ◌^◌, ◌↔◌, true}
 use Rattle.proj_io.specs.Items.{Stays}
+use Rattle.proj_io.specs.Stops.{OnlyAdds, Nothing}
 use Rattle.repo_state.specs.Items.{held_with}
 use Rattle.repo_state.specs.Stops.{are_heads}
 use Rattle.repo_state.proofs.ItemRuns.{RestOf}
@@ -14,5 +15,6 @@ invariant-loop-number g l = record {
   items : Stays (g.K.Keeper.items l.fn.keeper) (g.K.Keeper.items l.keeper);
   is_open : g.K.Keeper.is_open l.keeper;
   told : g.K.Keeper.tells l.keeper ↔ g.K.Keeper.tells l.fn.keeper;
+  stops : OnlyAdds (g.K.Keeper.moment l.fn.keeper) (g.K.Keeper.moment l.keeper) (g.K.Keeper.left_since l.fn.keeper) (g.K.Keeper.left_since l.keeper) Nothing;
   faults : g.K.Keeper.faults l.fn.keeper ≤ g.K.Keeper.faults l.keeper;
 }

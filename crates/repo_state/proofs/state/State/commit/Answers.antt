@@ -1,8 +1,9 @@
-use Rattle.std.proofs.Common.{◌≡◌, ◌<◌, ◌+◌, Option, refl, sym, subst, ap, ◌∙◌, length}
+use Rattle.std.proofs.Common.{◌≡◌, ◌<◌, ◌+◌, List, Option, refl, sym, subst, ap, ◌∙◌, length}
 use Rattle.git_objects.specs.Paths.{Bytes}
 use Rattle.proj_io.specs.Items.{Stays, Gets}
+use Rattle.proj_io.specs.Stops.{IsBeforeOrAfter, adds_as}
 use Rattle.repo_state.specs.Changes.{IsChange, IsCurrent, IsWithin, plan, plan_in}
-use Rattle.repo_state.specs.Commits.{change_of}
+use Rattle.repo_state.specs.Commits.{IsStopOf, change_of}
 use Rattle.repo_state.specs.Drafts.{DraftOrNot}
 use Rattle.repo_state.specs.Growing.{held_of}
 use Rattle.repo_state.specs.Items.{held_with}
@@ -10,7 +11,7 @@ use Rattle.repo_state.specs.Loads.{Stored}
 use Rattle.repo_state.specs.Views.{stored}
 use Rattle.repo_state.specs.declared.draft.Draft.{Draft}
 use Rattle.repo_state.proofs.Adopting.{adopted}
-use Rattle.repo_state.proofs.Current.{current-after, fault-spelled, gets-current, gets-spelled, stays-spelled}
+use Rattle.repo_state.proofs.Current.{current-after, fault-spelled, gets-current, gets-spelled, item-left, stays-spelled}
 use Rattle.repo_state.proofs.Keeping.{kept-after}
 use Rattle.repo_state.proofs.Lengths.{item-some}
 use Rattle.repo_state.proofs.state.State.commit.Goals as goal
@@ -99,3 +100,35 @@ returns-in-Err-clause-kept g c = kept-after _ _ _ _ _ _ _ _ c.self.view_is c.sel
 
 pub returns-in-Err-append-clause-kept : goal.returns-in-Err-append-clause-kept
 returns-in-Err-append-clause-kept g c = kept-after _ _ _ _ _ _ _ _ c.self.view_is c.self.invariant c.requires.change
+
+pub returns-clause-stops : goal.returns-clause-stops
+returns-clause-stops g c =
+    let S = c.self.inside.store in
+    let old = c.self.inside.held.keys in
+    let new = c.prepare.new.held.keys in
+    let h = held_with (held_of S old) c.self.inside.refs in
+    let change = change_of c.args.batch in
+    let draft = c.in-Ok-Some.draft in
+    let items = g.K.Keeper.items c.args.keeper.now in
+    let made = subst (λ (o : Option Draft). DraftOrNot S old new h c.self.inside.number c.self.inside.size (plan S h change) o) c.in-Ok-Some.field-0-is c.in-Ok-Some.ensures.prepared in
+    adds_as _ _ _ _ (IsBeforeOrAfter items c.deref.result.now) (IsStopOf c.args.self.now change items)
+    (λ (list : List Bytes) left.
+    item-left c.self.inside.store old new c.self.inside.refs c.self.inside.commits c.self.inside.number c.self.inside.size change draft c.args.self.now
+    items c.self.view_is c.self.invariant c.requires.change made list (subst (λ (t : Bytes). IsBeforeOrAfter items t list) c.deref.ensures.value left))
+    c.append.ensures.stops
+
+pub returns-in-Err-append-clause-stops : goal.returns-in-Err-append-clause-stops
+returns-in-Err-append-clause-stops g c =
+    let S = c.self.inside.store in
+    let old = c.self.inside.held.keys in
+    let new = c.prepare.new.held.keys in
+    let h = held_with (held_of S old) c.self.inside.refs in
+    let change = change_of c.args.batch in
+    let draft = c.in-Ok-Some.draft in
+    let items = g.K.Keeper.items c.args.keeper.now in
+    let made = subst (λ (o : Option Draft). DraftOrNot S old new h c.self.inside.number c.self.inside.size (plan S h change) o) c.in-Ok-Some.field-0-is c.in-Ok-Some.ensures.prepared in
+    adds_as _ _ _ _ (IsBeforeOrAfter items c.deref.result.now) (IsStopOf c.args.self.now change items)
+    (λ (list : List Bytes) left.
+    item-left c.self.inside.store old new c.self.inside.refs c.self.inside.commits c.self.inside.number c.self.inside.size change draft c.args.self.now
+    items c.self.view_is c.self.invariant c.requires.change made list (subst (λ (t : Bytes). IsBeforeOrAfter items t list) c.deref.ensures.value left))
+    c.append.ensures.stops
