@@ -19,4 +19,6 @@ pub mod PushedCommits
 pub mod ShownRoots
 pub mod Laws
 pub mod Stopping
+pub mod DiskLists
+pub mod Lifting
 pub mod StoredTrees

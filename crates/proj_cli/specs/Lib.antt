@@ -10,3 +10,4 @@ pub mod Prepared
 pub mod Pushes
 pub mod PushRows
 pub mod Brought
+pub mod Served

@@ -9,7 +9,9 @@ mod project;
 mod push;
 mod pushing;
 mod saving;
+mod serving;
 mod texts;
 
 pub use program::run;
 pub use proj_words::{Outcome, outcome_code, outcome_text};
+pub use serving::{Served, serve};

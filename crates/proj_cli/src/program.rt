@@ -195,7 +195,7 @@ fn conclude<O: Sink>(made: Result<Bytes, Outcome>, out: &mut O) -> Outcome
 }
 
 // Writes a text as far as the sink takes it.
-fn tell<E: Sink>(text: &[u8], err: &mut E)
+pub fn tell<E: Sink>(text: &[u8], err: &mut E)
     ensures { let seen = sink_view E.written E.faults E.refusals in GetsText (seen err.old) (seen err.new) text.now }
 {
     let _ = write_whole(err, text);

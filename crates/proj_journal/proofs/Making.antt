@@ -32,7 +32,15 @@ new_list (Some d) (Some e) (Some f) none is sync =
     let list : listed f.bytes ≡ [] = ap (λ (v : DiskView). list_in (spelled v.bytes)) now ∙ ap list_in spelled-none in
     (subst (λ (l : List (List ℕ)). StandsAt 8 l f) (sym list) (new_stands f now), list)
 
+known_map : (o p : Option DiskView) (f : DiskView → DiskView) → p ≡ option_map f o → IsSome p ↔ IsSome o
+known_map None None f is = (λ some. some, λ some. some)
+known_map None (Some e) f is = cc
+known_map (Some d) None f is = cc
+known_map (Some d) (Some e) f is = (λ some. refl, λ some. refl)
+
 -- a disk that is known stays known
 pub still_known : (o p q : Option DiskView) (f g : DiskView → DiskView) → p ≡ option_map f o → q ≡ option_map g p → IsSome q ↔ IsSome o
-still_known None p q f g wrote synced = subst (λ (x : Option DiskView). IsSome x ↔ IsSome {A = DiskView} None) (sym (synced ∙ ap (option_map g) wrote)) (λ is. is, λ is. is)
-still_known (Some d) p q f g wrote synced = subst (λ (x : Option DiskView). IsSome x ↔ IsSome (Some d)) (sym (synced ∙ ap (option_map g) wrote)) (λ is. refl, λ is. refl)
+still_known o p q f g wrote synced =
+    let first = known_map o p f wrote in
+    let second = known_map p q g synced in
+    (λ some. first.0 (second.0 some), λ some. second.1 (first.1 some))

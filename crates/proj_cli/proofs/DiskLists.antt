@@ -1,0 +1,177 @@
+-- A call of the program on a disk.
+use Rattle.std.proofs.Common.{◌≡◌, ◌≢◌, ◌⊎◌, inl, inr, ⊎_elim, ◌≤◌, ◌+◌, ◌++◌, [], ◌∷◌, ℕ, Bool, false, List, take, length, Option, Some, None, Ok, Err, Result, IfSome, ◌↔◌, refl, sym, ap, subst, ◌∙◌, arith, length-append}
+use Rattle.std.specs.Prelude.{IfOk, IsSome, MatchResult, unwrap_or, ⊤}
+use Rattle.std.specs.Option.{option_map}
+use Rattle.git_objects.specs.Paths.{Bytes}
+use Rattle.repo_state.specs.Changes.{plan_text}
+use Rattle.proj_io.specs.Stops.{OnlyAdds, Nothing}
+use Rattle.proj_disk.specs.Disks.{DiskView, IsImage, IsLeftBy, stable}
+use Rattle.proj_journal.specs.Journals.{IsBrokenAt, IsEmpty, ListsLeft, SpellsItsItems, TellsWhy, items_of}
+use Rattle.proj_journal.specs.Rest.{Leaves}
+use Rattle.proj_journal.specs.Spelling.{list_in, listed, spelled}
+use Rattle.proj_journal.specs.Spelled.{spelled-other}
+use Rattle.proj_journal.specs.declared.opening.JournalError.{JournalError}
+use Rattle.proj_journal.specs.declared.opening.JournalError.TheVariants.{Failed, Broken, OutOfMemory as NoMemory}
+use Rattle.proj_cli.specs.Step.{Step}
+use Rattle.proj_cli.specs.Served.{HasList, IsOnlySynced, IsSteady, LeavesList, SaysWhy}
+use Rattle.proj_cli.specs.Stopped.{ForInput, MayLeave}
+use Rattle.proj_cli.proofs.Makes.{long, told_input}
+
+-- ---- an empty disk
+
+spelled_empty : spelled [] ≡ Err 0
+spelled_empty = spelled-other [] (λ is. cc)
+
+not_both : (r : Result (List Bytes) ℕ) (place : ℕ) (items : List Bytes) → r ≡ Err place → r ≡ Ok items → ⊥
+not_both r place items broken is = cc
+
+nil_of : (bytes : List ℕ) → length bytes ≡ 0 → bytes ≡ []
+nil_of [] none = refl
+nil_of (b ∷ bytes) none = absurd (omega (arith, none))
+
+-- bytes that spell a list are some
+pub spelled_some : (bytes : List ℕ) (items : List Bytes) → spelled bytes ≡ Ok items → bytes ≢ []
+spelled_some bytes items is none = not_both (spelled []) 0 items spelled_empty (ap spelled (sym none) ∙ is)
+
+pub steady_some : (o : Option DiskView) (disk : DiskView) → o ≡ Some disk → IfSome o (λ view. IsImage view view.bytes) → IsSteady disk → disk.bytes ≢ []
+steady_some o disk e reads steady =
+    spelled_some disk.bytes (listed disk.bytes) (steady disk.bytes (subst (λ (p : Option DiskView). IfSome p (λ view. IsImage view view.bytes)) e reads))
+
+-- so many bytes
+pub none_long : (o p : Option DiskView) (n : ℕ) → IfSome o (λ disk. n ≡ length disk.bytes) → p ≡ o → n ≡ 0 → IfSome p (λ disk. disk.bytes ≡ [])
+none_long None None n count same e = tt
+none_long None (Some q) n count same e = cc
+none_long (Some d) None n count same e = cc
+none_long (Some d) (Some q) n count same e =
+    let is : q ≡ d = cc in
+    nil_of q.bytes (ap (λ (v : DiskView). length v.bytes) is ∙ sym count ∙ e)
+
+pub some_long : (o : Option DiskView) (disk : DiskView) (n : ℕ) → IfSome o (λ disk. n ≡ length disk.bytes) → o ≡ Some disk → disk.bytes ≢ [] → n ≡ 0 → ⊥
+some_long o disk n count told some e =
+    some (nil_of disk.bytes (sym (subst (λ (p : Option DiskView). IfSome p (λ d. n ≡ length d.bytes)) told count) ∙ e))
+
+-- a new journal has the items of the empty disk
+new_of : (p q : Option DiskView) → IfSome p (λ disk. disk.bytes ≡ []) → (IsSome q ↔ IsSome p) → IsEmpty q → items_of q ≡ items_of p
+new_of None None none told empty = refl
+new_of None (Some e) none told empty = let no_disk = told.0 refl in cc
+new_of (Some d) None none told empty = let no_disk = told.1 refl in cc
+new_of (Some d) (Some e) none told empty = ap Some (empty ∙ sym (ap (λ (b : List ℕ). list_in (spelled b)) none ∙ ap list_in spelled_empty))
+
+pub new_items : (o p q : Option DiskView) → IfSome p (λ disk. disk.bytes ≡ []) → p ≡ o → (IsSome q ↔ IsSome p) → IsEmpty q → items_of q ≡ items_of o
+new_items o p q none same told empty = new_of p q none told empty ∙ ap items_of same
+
+pub new_list : (o p : Option DiskView) → IfSome p (λ disk. disk.bytes ≡ []) → p ≡ o → HasList o
+new_list o p none same = by o (subst (λ (x : Option DiskView). IfSome x (λ disk. disk.bytes ≡ [])) same none)
+  where
+    by : (x : Option DiskView) → IfSome x (λ disk. disk.bytes ≡ []) → HasList x
+    by None none = tt
+    by (Some d) none = inl none
+
+pub new_synced : (o p q : Option DiskView) → IfSome p (λ disk. disk.bytes ≡ []) → p ≡ o → IsOnlySynced o q
+new_synced o p q none same = by o (subst (λ (x : Option DiskView). IfSome x (λ disk. disk.bytes ≡ [])) same none)
+  where
+    by : (x : Option DiskView) → IfSome x (λ disk. disk.bytes ≡ []) → IsOnlySynced x q
+    by None none = tt
+    by (Some d) none = λ some. absurd (some none)
+
+-- ---- a journal that was there
+
+pub open_list : (o p : Option DiskView) → SpellsItsItems p → p ≡ o → HasList o
+open_list o p spells same = by o (subst SpellsItsItems same spells)
+  where
+    by : (x : Option DiskView) → SpellsItsItems x → HasList x
+    by None spells = tt
+    by (Some d) spells = inr spells
+
+pub open_items : (o p q : Option DiskView) → q ≡ option_map (λ disk. stable disk.bytes) p → p ≡ o → items_of q ≡ items_of o
+open_items o p q synced same = ap items_of synced ∙ by p ∙ ap items_of same
+  where
+    by : (x : Option DiskView) → items_of (option_map (λ disk. stable disk.bytes) x) ≡ items_of x
+    by None = refl
+    by (Some d) = refl
+
+pub open_synced : (o p q : Option DiskView) → q ≡ option_map (λ disk. stable disk.bytes) p → p ≡ o → IsOnlySynced o q
+open_synced None p q synced same = tt
+open_synced (Some d) p q synced same = λ some. synced ∙ ap (λ (x : Option DiskView). option_map (λ disk. stable disk.bytes) x) same
+
+pub open_why : (o p : Option DiskView) (n : ℕ) (error : JournalError) → IfSome o (λ disk. n ≡ length disk.bytes) → (n ≡ 0 → ⊥) → p ≡ o → TellsWhy p error → SaysWhy o error
+open_why o p n Failed count some same why = tt
+open_why None p n (Broken at) count some same why = tt
+open_why (Some d) p n (Broken at) count some same why = ((λ none. some (count ∙ ap length none)), subst (IsBrokenAt at) same why)
+open_why o p n NoMemory count some same why = tt
+
+-- ---- what a stop leaves
+
+-- an image whose lists are of a kind that isn't every list isn't broken
+whole_as : (r : Result (List Bytes) ℕ) (Kind : List Bytes → Type 0) (other : List Bytes) → (Kind other → ⊥)
+    → ((list : List Bytes) → MatchResult r (λ items. items ≡ list) (λ _. ⊤) → Kind list) → (r ≡ Ok (list_in r)) × Kind (list_in r)
+whole_as (Ok items) Kind other never stands = (refl, stands items refl)
+whole_as (Err place) Kind other never stands = absurd (never (stands other tt))
+
+-- two more than the items
+abbrev longer : List Bytes → List Bytes
+longer items = items ++ [] ∷ [] ∷ []
+
+longer_than : (items : List Bytes) (item : Bytes) → longer items ≡ items ++ item ∷ [] → ⊥
+longer_than items item same = omega (arith, ap length same, length-append items ([] ∷ [] ∷ []), length-append items (item ∷ []))
+
+pub image_leaves : (s : Step) (items : List Bytes) (image : List ℕ) → ((list : List Bytes) → Leaves image list → MayLeave s items list) → LeavesList s items image
+image_leaves s items image stands = whole_as (spelled image) (MayLeave s items) (longer items) other stands
+  where
+    other : MayLeave s items (longer items) → ⊥
+    other (inl same) = omega (arith, ap length same, length-append items ([] ∷ [] ∷ []))
+    other (inr more) = longer_than items (plan_text s.change) more.behind
+
+pub image_spells : (items : List Bytes) (image : List ℕ) → ((list : List Bytes) → Leaves image list → list ≡ items) → spelled image ≡ Ok items
+image_spells items image stands =
+    let whole = whole_as (spelled image) (λ list. list ≡ items) (longer items) (λ same. omega (arith, ap length same, length-append items ([] ∷ [] ∷ []))) stands in
+    whole.0 ∙ ap Ok whole.1
+
+-- a list that a steady disk leaves is its own
+pub steady_list : (o : Option DiskView) (disk : DiskView) (image : List ℕ) (list : List Bytes) → o ≡ Some disk → IsSteady disk → IsLeftBy o image → Leaves image list → list ≡ listed disk.bytes
+steady_list o disk image list told steady left leaves =
+    let is = steady image (subst (λ (p : Option DiskView). IsLeftBy p image) told left) in
+    sym (subst (λ (r : Result (List Bytes) ℕ). MatchResult r (λ items. items ≡ list) (λ _. ⊤)) is leaves)
+
+module _ (left : Option Bytes) (asks : Bytes → Step) (view : DiskView) (o : Option DiskView) (told : o ≡ Some view) (steady : IsSteady view) (d j : ℕ) (x y : ℕ → List ℕ → Type 0)
+    (only : (image : List ℕ) → x d image → IsLeftBy o image) (opened : OnlyAdds d j x y Nothing) where
+  abbrev items : List Bytes
+  items = listed view.bytes
+
+  -- what the disk left at entry
+  at_entry : (image : List ℕ) → y d image → IsLeftBy o image
+  at_entry image since = ⊎_elim (λ was. only image was) (λ new. absurd new) (opened.each d image (omega arith) since)
+
+  -- a stop during a call on the journal
+  pub run_stops : (e : ℕ) (z : ℕ → List ℕ → Type 0) → ForInput left (λ all. OnlyAdds j e (ListsLeft y) (ListsLeft z) (MayLeave (asks all) items))
+      → ForInput left (λ all. (image : List ℕ) → z d image → LeavesList (asks all) items image)
+  run_stops e z adds = record {
+    all = adds.all;
+    told = adds.told;
+    says = λ image since.
+        image_leaves (asks adds.all) items image (λ list leaves.
+        ⊎_elim (λ was. inl (steady_list o view was.0 list told steady (at_entry was.0 was.1) was.2)) (λ new. new) (adds.says.each d list opened.later (image, since, leaves)));
+  }
+
+  -- a stop where there is no journal
+  pub unopened_stops : ForInput left (λ all. (image : List ℕ) → y d image → LeavesList (asks all) items image)
+  unopened_stops = record {
+    all = unwrap_or left long;
+    told = told_input left long;
+    says = λ image since.
+        let is = steady image (subst (λ (p : Option DiskView). IsLeftBy p image) told (at_entry image since)) in
+        let same : listed image ≡ items = ap list_in is in
+        (is ∙ ap Ok (sym same), inl same);
+  }
+
+-- the disk is steady where a stop leaves its list
+pub settled_steady : (o : Option DiskView) (m : ℕ) (z : ℕ → List ℕ → Type 0) → ((image : List ℕ) → IsLeftBy o image → z m image)
+    → ((all : List Bytes) → items_of o ≡ Some all → (list : List Bytes) → ListsLeft z m list → list ≡ all) → IfSome o IsSteady
+settled_steady None m z counts settled = tt
+settled_steady (Some disk) m z counts settled = λ image is. image_spells (listed disk.bytes) image (λ list leaves. settled (listed disk.bytes) refl list (image, counts image is, leaves))
+
+-- in a result of which this is said
+pub new_items_in : {T E : Type 0} (result : Result T E) (content : T → Option DiskView) (o p : Option DiskView) → IfSome p (λ disk. disk.bytes ≡ []) → p ≡ o
+    → IfOk result (λ journal. IsSome (content journal) ↔ IsSome p) → IfOk result (λ journal. IsEmpty (content journal)) → IfOk result (λ journal. items_of (content journal) ≡ items_of o)
+new_items_in (Ok journal) content o p none same told empty = new_items o p (content journal) none same told empty
+new_items_in (Err e) content o p none same told empty = tt

@@ -1,0 +1,114 @@
+-- What comes of a call of the program on a disk.
+use Rattle.std.specs.Prelude.{◌≡◌, ◌≢◌, ◌⊎◌, ◌≤◌, ◌++◌, [], ◌∷◌, ℕ, false, List, length, codes, decimal, None, Some, Ok, Err, IfSome, ⊤}
+use Rattle.std.specs.declared.option.Option.{Option}
+use Rattle.git_objects.specs.Paths.{Bytes}
+use Rattle.proj_io.specs.Counts.{Counts}
+use Rattle.proj_io.specs.Views.{SourceView, SinkView, KeeperView, source_view, sink_view}
+use Rattle.proj_disk.specs.Disks.{DiskView, IsImage, stable}
+use Rattle.proj_journal.specs.Spelling.{listed, spelled}
+use Rattle.proj_journal.specs.Journals.{items_of}
+use Rattle.proj_journal.specs.declared.opening.JournalError.{JournalError}
+use Rattle.proj_journal.specs.declared.opening.JournalError.TheVariants.{Failed, Broken, OutOfMemory as NoMemory}
+use Rattle.proj_words.specs.Words.{Command}
+use Rattle.proj_words.specs.Outcomes.{code_of, text_of}
+use Rattle.proj_words.specs.declared.outcome.Outcome.{Outcome}
+use Rattle.proj_words.specs.declared.outcome.Outcome.TheVariants.{Done, OutOfMemory, StoreFault}
+use Rattle.proj_cli.specs.Step.{Step, loads, reads, step, writes}
+use Rattle.proj_cli.specs.Answer.{Devices, GetsText, IsAnswer, IsComplete, IsInHand}
+use Rattle.proj_cli.specs.Pushed.{IsLawful}
+use Rattle.proj_cli.specs.Stopped.{MayLeave}
+
+-- what a call sees of its devices at one moment
+pub record Seen : Type 0 where
+  pub input : SourceView
+  pub out : SinkView
+  pub err : SinkView
+  -- the disk, where it is known, and how often it has failed
+  pub content : Option DiskView
+  pub faults : ℕ
+
+abbrev pub seen : {S O E D : Type 0} → (S → Option (List ℕ)) → (S → ℕ) → (O → Option (List ℕ)) → (O → ℕ) → (O → ℕ) → (E → Option (List ℕ)) → (E → ℕ) → (E → ℕ) → (D → Option DiskView) → (D → ℕ) → S → O → E → D → Seen
+seen left read written faults refusals told told_faults told_refusals content failed source sink errors disk = record {
+  input = source_view left read source;
+  out = sink_view written faults refusals sink;
+  err = sink_view told told_faults told_refusals errors;
+  content = content disk;
+  faults = failed disk;
+}
+
+-- the devices of a command: the disk keeps the items that its bytes spell, which are so many
+abbrev pub over_disk : Seen → ℕ → Devices
+over_disk s number = record { input = s.input; out = s.out; store = record { items = items_of s.content; number = number; faults = s.faults } }
+
+-- the bytes of a known disk spell a list, or there are none yet
+abbrev pub HasList : Option DiskView → Type 0
+HasList None = ⊤
+HasList (Some disk) = (disk.bytes ≡ []) ⊎ (spelled disk.bytes ≡ Ok (listed disk.bytes))
+
+-- a known disk that wasn't empty has the same bytes, and all of them are stable
+abbrev pub IsOnlySynced : Option DiskView → Option DiskView → Type 0
+IsOnlySynced None now = ⊤
+IsOnlySynced (Some disk) now = disk.bytes ≢ [] → now ≡ Some (stable disk.bytes)
+
+-- ---- stops
+
+-- whatever a stop leaves of the disk spells the list that its bytes spell
+abbrev pub IsSteady : DiskView → Type 0
+IsSteady disk = (image : List ℕ) → IsImage disk image → spelled image ≡ Ok (listed disk.bytes)
+
+-- the bytes spell a list, which is one that a stop during the step may leave
+abbrev pub LeavesList : Step → List Bytes → List ℕ → Type 0
+LeavesList step items image = (spelled image ≡ Ok (listed image)) × MayLeave step items (listed image)
+
+-- ---- a journal
+
+-- The words were run over the journal on the disk. Each clause is one of `run`, with the list that the bytes spelled as the items at entry,
+-- and the list that they then spell as the items after it.
+pub record IsRan (asked : Command) (before after : Seen) (exit : ℕ) : Type 0 where
+  pub outcome : Outcome
+  pub status : exit ≡ code_of outcome
+  pub list : HasList before.content
+  -- how many items there are, also where the disk doesn't tell them
+  pub number : ℕ
+  pub number_now : ℕ
+  pub counted : IfSome (items_of before.content) (λ all. length all ≡ number)
+  pub counted_now : IfSome (items_of after.content) (λ all. length all ≡ number_now)
+  pub answer : IsAnswer (IsInHand asked) (step asked) (loads asked) (writes asked) (over_disk before number) (over_disk after number_now) outcome
+  pub complete : IsComplete (IsInHand asked) (step asked) (loads asked) (over_disk before number) (over_disk after number_now) outcome
+  pub lawful : (items : List Bytes) (all : Bytes) → items_of before.content ≡ Some items → before.input.left ≡ Some all → outcome ≡ Done → IsLawful asked items all (step asked items all)
+  pub unloaded : loads asked ≡ false → IsOnlySynced before.content after.content
+  pub idle : reads asked ≡ false → loads asked ≡ false → (outcome ≡ OutOfMemory) ⊎ (outcome ≡ (step asked [] []).outcome)
+  pub text : GetsText before.err after.err (text_of outcome)
+  pub settled : outcome ≢ StoreFault → IfSome after.content IsSteady
+
+-- ---- no journal
+
+-- the exit status and the text where there is no journal
+abbrev pub error_code : JournalError → ℕ
+error_code Failed = 24
+error_code (Broken at) = 25
+error_code NoMemory = 1
+
+abbrev pub error_text : JournalError → Bytes
+error_text Failed = codes "store fault\n"
+error_text (Broken at) = codes "damaged: journal at " ++ (decimal at ++ 10 ∷ [])
+error_text NoMemory = codes "out of memory\n"
+
+-- what that says of a known disk: it isn't empty, and is broken at the place
+abbrev pub SaysWhy : Option DiskView → JournalError → Type 0
+SaysWhy content Failed = ⊤
+SaysWhy None (Broken at) = ⊤
+SaysWhy (Some disk) (Broken at) = (disk.bytes ≢ []) × (spelled disk.bytes ≡ Err at)
+SaysWhy content NoMemory = ⊤
+
+-- There is no journal on the disk, or no memory for it or for its text, and input and output are untouched.
+pub record IsUnopened (Untouched : Type 0) (before after : Seen) (exit : ℕ) : Type 0 where
+  pub untouched : Untouched
+  pub error : JournalError
+  pub status : exit ≡ error_code error
+  pub why : SaysWhy before.content error
+  pub cause : Counts before.faults after.faults (error ≡ Failed)
+  pub text : GetsText before.err after.err (error_text error)
+
+abbrev pub IsServed : Command → Type 0 → Seen → Seen → ℕ → Type 0
+IsServed asked Untouched before after exit = IsRan asked before after exit ⊎ IsUnopened Untouched before after exit

@@ -1,0 +1,155 @@
+// The program on a disk.
+ghost use Rattle.std.specs.Prelude.{◌≡◌, ◌≢◌, ◌≤◌, ◌⊎◌, ◌++◌, ◌∷◌, [], ℕ, List, map, string_bytes, codes, decimal};
+ghost use Rattle.std.specs.Prelude.{false, Some, IfErr, IfOk, MatchResult};
+ghost use Rattle.proj_io.specs.Counts.{Counts};
+ghost use Rattle.proj_io.specs.Stops.{OnlyAdds, Nothing};
+ghost use Rattle.proj_io.specs.Views.{sink_view};
+ghost use Rattle.proj_disk.specs.Disks.{DiskView};
+ghost use Rattle.proj_journal.specs.Journals.{IsOpen, disk_of, items_of};
+ghost use Rattle.proj_journal.specs.Spelling.{listed};
+ghost use Rattle.proj_words.specs.Words.{command};
+ghost use Rattle.proj_cli.specs.Answer.{GetsText};
+ghost use Rattle.proj_cli.specs.Step.{loads, reads, step};
+ghost use Rattle.proj_cli.specs.Stopped.{ForInput};
+ghost use Rattle.proj_cli.specs.Served.{HasList, IsOnlySynced, IsServed, IsSteady, LeavesList, SaysWhy};
+ghost use Rattle.proj_cli.specs.Served.{error_code, error_text, seen};
+
+use crate::program::{run, tell};
+use crate::{Outcome, outcome_code};
+use itoa::Buffer;
+use proj_disk::Disk;
+use proj_io::{Sink, Source};
+use proj_journal::{Journal, JournalError, NoJournal};
+use std::alloc::{AllocError, Global};
+
+/// How a call ended: the exit status, and the disk.
+#[derive(Drop)]
+pub struct Served<D> {
+    pub status: u8,
+    pub disk: D,
+}
+
+// The journal on a disk, a new one where the disk is empty.
+fn journal_on<D: Disk>(alloc: Global, disk: D) -> Result<Journal<D>, NoJournal<D>>
+    ensures opened { IfOk result (λ journal. IsOpen D.content journal) }
+    ensures list { IfOk result (λ _. HasList (D.content disk)) }
+    ensures items { IfOk result (λ journal. items_of (D.content (disk_of journal)) ≡ items_of (D.content disk)) }
+    ensures synced { IfOk result (λ journal. IsOnlySynced (D.content disk) (D.content (disk_of journal))) }
+    ensures why { IfErr result (λ none. SaysWhy (D.content disk) none.error) }
+    // A stop leaves nothing of a disk that wasn't empty that it wouldn't have left before.
+    ensures stops { (view : DiskView) → D.content disk ≡ Some view → view.bytes ≢ [] → MatchResult result
+        (λ journal. OnlyAdds (D.moment disk) (D.moment (disk_of journal))
+        (D.left_since disk) (D.left_since (disk_of journal)) Nothing)
+        (λ none. OnlyAdds (D.moment disk) (D.moment none.disk) (D.left_since disk)
+        (D.left_since none.disk) Nothing) }
+    ensures cause { MatchResult result
+        (λ journal. D.faults disk ≤ D.faults (disk_of journal))
+        (λ none. Counts (D.faults disk) (D.faults none.disk) (none.error ≡ JournalError.Failed)) }
+{
+    let mut disk = disk;
+    match disk.len() {
+        Err(_) => Err(NoJournal {
+            disk,
+            error: JournalError::Failed,
+        }),
+        Ok(count) => {
+            if count == 0 {
+                Journal::create(alloc, disk)
+            } else {
+                Journal::open(alloc, disk)
+            }
+        }
+    }
+}
+
+// The text of a journal that is broken at a place.
+fn broken_text(alloc: Global, at: u64) -> Result<Vec<u8>, AllocError>
+    ensures { IfOk result (λ text. text.items ≡ error_text (JournalError.Broken at)) }
+{
+    let mut text = b"damaged: journal at ".to_vec(alloc)?;
+    let mut buffer = Buffer::new();
+    text.extend_from_slice(buffer.format(at).as_bytes())?;
+    text.push(b'\n')?;
+    Ok(text)
+}
+
+// Writes why there is no journal, and answers what was written: where there is no memory for the text of a broken one,
+// it is that.
+fn tell_error<E: Sink>(alloc: Global, error: JournalError, err: &mut E) -> JournalError
+    ensures error { (result ≡ error) ⊎ (result ≡ JournalError.OutOfMemory) }
+    ensures text { let seen = sink_view E.written E.faults E.refusals in GetsText (seen err.old) (seen err.new)
+        (error_text result) }
+{
+    match error {
+        JournalError::Failed => tell(b"store fault\n", err),
+        JournalError::OutOfMemory => tell(b"out of memory\n", err),
+        JournalError::Broken { at } => match broken_text(alloc, at) {
+            Ok(text) => tell(&text, err),
+            Err(_) => {
+                tell(b"out of memory\n", err);
+                return JournalError::OutOfMemory;
+            }
+        },
+    }
+    error
+}
+
+// The exit status where there is no journal.
+fn error_code(error: JournalError) -> u8
+    ensures { result ≡ error_code error }
+{
+    match error {
+        JournalError::Failed => 24,
+        JournalError::Broken { at: _ } => 25,
+        JournalError::OutOfMemory => 1,
+    }
+}
+
+/// Runs the command that the words ask for over the journal on the disk, which is made where the disk is empty. The
+/// status is the number of its outcome.
+///
+/// Where there is no journal, `input` and `out` are untouched, and `err` gets one text: `store fault` with status 24
+/// where the disk failed, `damaged: journal at` and the place with status 25 where its bytes are no journal's, and
+/// `out of memory` with status 1.
+pub fn serve<S: Source, O: Sink, E: Sink, D: Disk>(
+    alloc: Global,
+    words: &[String],
+    input: &mut S,
+    out: &mut O,
+    err: &mut E,
+    disk: D,
+) -> Served<D>
+    // The words were run, with the list that the bytes spell as the items at entry and the list on the disk handed
+    // back as the items after; or there was no journal.
+    ensures served { let at = seen S.left S.faults O.written O.faults O.refusals E.written E.faults E.refusals
+        D.content D.faults in
+        IsServed (command (map (λ word. string_bytes word) words.now)) ((input.new ≡ input.old) × (out.new ≡ out.old))
+        (at input.old out.old err.old disk) (at input.new out.new err.new result.disk) result.status }
+    // A form that doesn't read leaves the input, and one that neither reads nor loads writes nothing.
+    ensures unread { reads (command (map (λ word. string_bytes word) words.now)) ≡ false → input.new ≡ input.old }
+    ensures idle { let asked = command (map (λ word. string_bytes word) words.now) in reads asked ≡ false →
+        loads asked ≡ false → out.new ≡ out.old }
+    // Of a disk of which a stop at entry leaves the list that its bytes spell, a stop at any moment since leaves this
+    // list, or it with the item of the step's change behind it, and never a broken journal.
+    ensures stops { let asked = command (map (λ word. string_bytes word) words.now) in
+        (view : DiskView) → D.content disk ≡ Some view → IsSteady view → ForInput (S.left input.old) (λ all.
+        (image : List ℕ) → D.left_since result.disk (D.moment disk) image →
+        LeavesList (step asked (listed view.bytes) all) (listed view.bytes) image) }
+{
+    match journal_on(alloc, disk) {
+        Ok(mut journal) => {
+            let outcome = run(alloc, words, input, out, err, &mut journal);
+            Served {
+                status: outcome_code(&outcome),
+                disk: journal.into_disk(),
+            }
+        }
+        Err(none) => {
+            let error = tell_error(alloc, none.error, err);
+            Served {
+                status: error_code(error),
+                disk: none.disk,
+            }
+        }
+    }
+}
