@@ -10,6 +10,13 @@ pub struct Word {
     pub is_quoted: bool,
 }
 
+impl Word {
+    /// The word as text. Bytes that are no text are no name of anything, so they are the empty text.
+    pub fn text(&self) -> &str {
+        str::from_utf8(&self.bytes).unwrap_or("")
+    }
+}
+
 /// The words of a line, which spaces part. One that begins with a double quote is read as git-fast-import(1) quotes
 /// paths.
 pub fn words_of(alloc: Global, line: &[u8]) -> Result<Vec<Word>, Fault> {

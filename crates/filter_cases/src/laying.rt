@@ -2,14 +2,13 @@
 ghost use Rattle.std.specs.Prelude.{◌≡◌};
 ghost use Rattle.object_store.specs.Objects.{has};
 
-use crate::session::Session;
-use case_lines::{Fault, Word, digits_of, path_of, printed};
+use case_lines::{Fault, Texts, Word, digits_of, path_of, printed};
 use filter_unapply::{LayFault, laid_below};
 use git_objects::{Kind, Mode, Name};
 use object_store::Store;
 use path_names::Path;
 use path_trees::{Found, put_at};
-use std::alloc::Global;
+use std::alloc::{AllocError, Global};
 
 // Whether an object of that kind has the name.
 fn is_held(store: &Store, kind: Kind, name: &Name) -> bool
@@ -36,9 +35,17 @@ fn with_file(
         mode: Mode::File,
         name,
     };
-    put_at(alloc, store, root, path, found)
-        .ok()
-        .ok_or(Fault::BadLine)
+    let put = put_at(alloc, store, root, path, found);
+    put.ok().ok_or(Fault::BadLine)
+}
+
+// Puts the file with this path, which is its text too, into a tree.
+fn grown(alloc: Global, store: &mut Store, root: Name, file: &[u8]) -> Result<Name, Fault> {
+    let name = put(store, Kind::Blob, file)?;
+    match &Path::parse(alloc, file) {
+        Ok(path) => with_file(alloc, store, root, path, name),
+        Err(_) => Err(Fault::BadLine),
+    }
 }
 
 // The tree of the files with these paths, which spaces part. Each has its own path as its text.
@@ -46,9 +53,7 @@ fn tree(alloc: Global, store: &mut Store, files: &[u8]) -> Result<Name, Fault> {
     let mut root = put(store, Kind::Tree, b"")?;
     for file in files.split(|byte| *byte == b' ') {
         if !file.is_empty() {
-            let name = put(store, Kind::Blob, file)?;
-            let path = Path::parse(alloc, file).ok().ok_or(Fault::BadLine)?;
-            root = with_file(alloc, store, root, &path, name)?;
+            root = grown(alloc, store, root, file)?;
         }
     }
     Ok(root)
@@ -60,25 +65,49 @@ fn put(store: &mut Store, kind: Kind, body: &[u8]) -> Result<Name, Fault> {
 
 /// The name of the tree that has the files of one tree and, below a place, the files that are laid into it; or the
 /// two paths that have no place beside each other.
-pub fn laid(session: &mut Session, words: &[Word]) -> Result<String, Fault> {
-    let alloc = session.alloc;
+pub fn laid(
+    alloc: Global,
+    texts: &Texts,
+    store: &mut Store,
+    words: &[Word],
+) -> Result<String, Fault> {
     let [place, base, pushed] = words else {
         return Err(Fault::BadLine);
     };
-    let place = path_of(alloc, &session.texts, place)?;
-    let store = &mut session.store;
     let base = tree(alloc, store, &base.bytes)?;
     let pushed = tree(alloc, store, &pushed.bytes)?;
+    let place = path_of(alloc, texts, place)?;
+    laid_text(alloc, &laid_trees(alloc, store, &place, base, pushed)?)
+}
+
+// What comes of laying one stored tree into another.
+fn laid_trees(
+    alloc: Global,
+    store: &mut Store,
+    place: &Path,
+    base: Name,
+    pushed: Name,
+) -> Result<Result<Name, LayFault>, Fault> {
     if !is_held(store, Kind::Tree, &base) || !is_held(store, Kind::Tree, &pushed) {
         return Err(Fault::BadLine);
     }
-    match laid_below(alloc, store, &place, base, pushed) {
-        Ok(name) => digits_of(alloc, &name),
-        Err(LayFault::Blocked { path, by }) => {
-            let path = printed(alloc, &path.text(alloc)?)?;
-            let by = printed(alloc, &by.text(alloc)?)?;
-            Ok(format!(in alloc; "{path} by {by}")?)
-        }
+    Ok(laid_below(alloc, store, place, base, pushed))
+}
+
+fn laid_text(alloc: Global, laid: &Result<Name, LayFault>) -> Result<String, Fault> {
+    match laid {
+        Ok(name) => digits_of(alloc, name),
+        Err(LayFault::Blocked { path, by }) => Ok(blocked_text(alloc, path, by)?),
         Err(_) => Err(Fault::BadLine),
     }
+}
+
+fn blocked_text(alloc: Global, path: &Path, by: &Path) -> Result<String, AllocError> {
+    let path = path_text(alloc, path)?;
+    let by = path_text(alloc, by)?;
+    format!(in alloc; "{path} by {by}")
+}
+
+fn path_text(alloc: Global, path: &Path) -> Result<String, AllocError> {
+    printed(alloc, &path.text(alloc)?)
 }

@@ -4,12 +4,12 @@ ghost use Rattle.git_objects.specs.declared.limits.TheConstants.{FILTER_PIECES};
 ghost use Rattle.filter_text.specs.Filters.{pieces};
 ghost use Rattle.filter_text.specs.Shapes.{shape};
 
-use crate::session::Session;
 use case_lines::{Fault, Texts, Word, number_of, path_of, printed};
-use filter_routes::{RouteFault, Table, check, is_sound, list_within};
+use filter_routes::{RouteFault, Table, Tables, check, is_sound, list_within};
 use filter_text::{Filter, parse, print};
 use git_objects::Component;
-use std::alloc::Global;
+use path_names::Path;
+use std::alloc::{AllocError, Global};
 
 // The filter of a text.
 fn filter_of(alloc: Global, text: &[u8]) -> Result<Filter, Fault>
@@ -22,56 +22,88 @@ fn filter_of(alloc: Global, text: &[u8]) -> Result<Filter, Fault>
 }
 
 // What a fault says.
-fn fault_text(alloc: Global, fault: RouteFault) -> Result<String, Fault> {
-    let text = match fault {
-        RouteFault::NotKeeping { piece } => format!(in alloc; "piece {piece} is not keeping")?,
+fn fault_text(alloc: Global, fault: RouteFault) -> Result<String, AllocError> {
+    match fault {
+        RouteFault::NotKeeping { piece } => format!(in alloc; "piece {piece} is not keeping"),
         RouteFault::Overlap {
             list,
             first,
             second,
-        } => format!(in alloc; "branches {first} and {second} of list {list} overlap")?,
-        RouteFault::OutOfMemory => String::from_str(alloc, "want of memory")?,
-    };
-    Ok(text)
+        } => format!(in alloc; "branches {first} and {second} of list {list} overlap"),
+        RouteFault::OutOfMemory => String::from_str(alloc, "want of memory"),
+    }
 }
 
 // What a call says of a filter that is sound, or its fault.
-fn verdict(alloc: Global, answer: Result<(), RouteFault>, good: &str) -> Result<String, Fault> {
+fn verdict(
+    alloc: Global,
+    answer: Result<(), RouteFault>,
+    good: &str,
+) -> Result<String, AllocError> {
     match answer {
-        Ok(()) => Ok(String::from_str(alloc, good)?),
+        Ok(()) => String::from_str(alloc, good),
         Err(fault) => fault_text(alloc, fault),
     }
 }
 
-/// Whether the filter of a text is sound, what a check says of it, and whether it has a table.
-pub fn soundness(alloc: Global, text: &[u8]) -> Result<String, Fault> {
+/// The answer to a line on one filter.
+pub fn answer(alloc: Global, texts: &Texts, form: &str, words: &[Word]) -> Result<String, Fault> {
+    match form {
+        "sound" => soundness(alloc, &texts.spelled(words)?),
+        "list" => listed(alloc, texts, words),
+        "image" => image(alloc, texts, words),
+        "origin" => origin(alloc, texts, words),
+        _ => Err(Fault::BadLine),
+    }
+}
+
+// Whether the filter of a text is sound, what a check says of it, and whether it has a table.
+fn soundness(alloc: Global, text: &[u8]) -> Result<String, Fault> {
     let filter = filter_of(alloc, text)?;
     let sound = if is_sound(alloc, &filter)? {
         "sound"
     } else {
         "not sound"
     };
-    let checked = verdict(alloc, check(alloc, &filter), "sound")?;
-    let made = Table::compile(alloc, &filter).map(|_| ());
-    let table = verdict(alloc, made, "made")?;
-    Ok(format!(in alloc; "{sound}\ncheck: {checked}\ntable: {table}")?)
+    Ok(verdicts(alloc, &filter, sound)?)
 }
 
-/// How many entries the decision list of a filter has, or `none` where it has more than the number in front.
-pub fn listed(session: &Session, words: &[Word]) -> Result<String, Fault> {
-    let alloc = session.alloc;
+fn verdicts(alloc: Global, filter: &Filter, sound: &str) -> Result<String, AllocError>
+    requires { pieces (shape filter.now) ≤ FILTER_PIECES }
+{
+    let checked = verdict(alloc, check(alloc, filter), "sound")?;
+    let table = verdict(alloc, made(alloc, filter), "made")?;
+    format!(in alloc; "{sound}\ncheck: {checked}\ntable: {table}")
+}
+
+// Whether a table is made of a filter.
+fn made(alloc: Global, filter: &Filter) -> Result<(), RouteFault>
+    requires { pieces (shape filter.now) ≤ FILTER_PIECES }
+{
+    Table::compile(alloc, filter)?;
+    Ok(())
+}
+
+// How many entries the decision list of a filter has, or `none` where it has more than the number in front.
+fn listed(alloc: Global, texts: &Texts, words: &[Word]) -> Result<String, Fault> {
     let [most, pieces @ ..] = words else {
         return Err(Fault::BadLine);
     };
-    let most = usize::try_from(number_of(&most.bytes)?);
-    let filter = filter_of(alloc, &session.texts.spelled(pieces)?)?;
-    match list_within(alloc, most.ok().ok_or(Fault::BadLine)?, &filter) {
-        Err(_) => Ok(String::from_str(alloc, "none")?),
-        Ok(list) => {
-            let count = list.len();
-            Ok(format!(in alloc; "{count} entries")?)
-        }
+    let most = count_of(most)?;
+    let filter = filter_of(alloc, &texts.spelled(pieces)?)?;
+    match &list_within(alloc, most, &filter) {
+        Err(_) => none(alloc),
+        Ok(list) => Ok(format!(in alloc; "{} entries", list.len())?),
     }
+}
+
+fn none(alloc: Global) -> Result<String, Fault> {
+    String::from_str(alloc, "none").map_err(Fault::from)
+}
+
+fn count_of(word: &Word) -> Result<usize, Fault> {
+    let count = number_of(&word.bytes)?;
+    usize::try_from(count).ok().ok_or(Fault::BadLine)
 }
 
 // The table of a sound filter.
@@ -81,7 +113,11 @@ fn table_of(alloc: Global, texts: &Texts, word: &Word) -> Result<Table, Fault> {
 }
 
 // The components with slashes between them.
-fn joined(alloc: Global, front: &[Component], rest: &[Component]) -> Result<String, Fault> {
+fn joined(
+    alloc: Global,
+    front: &[Component],
+    rest: &[Component],
+) -> Result<String, AllocError> {
     let mut text = Vec::new(alloc);
     for component in front.iter().chain(rest) {
         if !text.is_empty() {
@@ -89,93 +125,102 @@ fn joined(alloc: Global, front: &[Component], rest: &[Component]) -> Result<Stri
         }
         text.extend_from_slice(component.bytes())?;
     }
-    Ok(printed(alloc, &text)?)
+    printed(alloc, &text)
 }
 
-/// The image of a path under a sound filter.
-pub fn image(session: &Session, words: &[Word]) -> Result<String, Fault> {
-    let alloc = session.alloc;
+// A sound filter's table, and a path.
+fn table_and_path(
+    alloc: Global,
+    texts: &Texts,
+    words: &[Word],
+) -> Result<(Table, Path), Fault> {
     let [filter, path] = words else {
         return Err(Fault::BadLine);
     };
-    let table = table_of(alloc, &session.texts, filter)?;
-    let path = path_of(alloc, &session.texts, path)?;
+    let table = table_of(alloc, texts, filter)?;
+    let path = path_of(alloc, texts, path)?;
+    Ok((table, path))
+}
+
+// The image of a path under a sound filter.
+fn image(alloc: Global, texts: &Texts, words: &[Word]) -> Result<String, Fault> {
+    let (table, path) = table_and_path(alloc, texts, words)?;
     match table.image(&path) {
-        None => Ok(String::from_str(alloc, "none")?),
+        None => none(alloc),
         Some(hit) => {
             let rest = &path.components()[hit.cut..];
-            joined(alloc, table.target(hit.route), rest)
+            Ok(joined(alloc, table.target(hit.route), rest)?)
         }
     }
 }
 
-/// The path with an image under a sound filter.
-pub fn origin(session: &Session, words: &[Word]) -> Result<String, Fault> {
-    let alloc = session.alloc;
-    let [filter, path] = words else {
-        return Err(Fault::BadLine);
-    };
-    let table = table_of(alloc, &session.texts, filter)?;
-    let image = path_of(alloc, &session.texts, path)?;
+// The path with an image under a sound filter.
+fn origin(alloc: Global, texts: &Texts, words: &[Word]) -> Result<String, Fault> {
+    let (table, image) = table_and_path(alloc, texts, words)?;
     match table.origin(&image) {
-        None => Ok(String::from_str(alloc, "none")?),
+        None => none(alloc),
         Some(hit) => {
             let rest = &image.components()[hit.cut..];
-            joined(alloc, table.source(hit.route), rest)
+            Ok(joined(alloc, table.source(hit.route), rest)?)
         }
     }
 }
 
 /// How many tables there are, the table with a number, or the number of a filter's table.
-pub fn tables(session: &mut Session, words: &[Word]) -> Result<String, Fault> {
-    let alloc = session.alloc;
+pub fn tables(
+    alloc: Global,
+    texts: &Texts,
+    tables: &mut Tables,
+    words: &[Word],
+) -> Result<String, Fault> {
     let [form, inner @ ..] = words else {
         return Err(Fault::BadLine);
     };
-    match (form.bytes.as_slice(), inner) {
-        (b"count", []) => {
-            if session.tables.is_empty() {
-                return Ok(String::from_str(alloc, "none")?);
-            }
-            let count = session.tables.len();
-            Ok(format!(in alloc; "{count}")?)
-        }
-        (b"get", [number]) => {
-            let number = usize::try_from(number_of(&number.bytes)?);
-            shown(session, number.ok().ok_or(Fault::BadLine)?)
-        }
-        (b"intern", pieces) => {
-            let text = session.texts.spelled(pieces)?;
-            interned(session, &text)
-        }
+    match inner {
+        [] if form.text() == "count" => counted(alloc, tables),
+        [number] if form.text() == "get" => shown(alloc, tables, count_of(number)?),
+        pieces if form.text() == "intern" => interned(alloc, tables, &texts.spelled(pieces)?),
         _ => Err(Fault::BadLine),
     }
 }
 
+fn counted(alloc: Global, tables: &Tables) -> Result<String, Fault> {
+    if tables.is_empty() {
+        return none(alloc);
+    }
+    Ok(format!(in alloc; "{}", tables.len())?)
+}
+
 // The filter of the table with that number.
-fn shown(session: &Session, number: usize) -> Result<String, Fault> {
-    let alloc = session.alloc;
-    match session.tables.get(number) {
-        None => Ok(String::from_str(alloc, "none")?),
+fn shown(alloc: Global, tables: &Tables, number: usize) -> Result<String, Fault> {
+    match tables.get(number) {
+        None => none(alloc),
         Some(table) => Ok(printed(alloc, &print(alloc, table.filter())?)?),
     }
 }
 
-fn interned(session: &mut Session, text: &[u8]) -> Result<String, Fault> {
-    let alloc = session.alloc;
+fn interned(alloc: Global, tables: &mut Tables, text: &[u8]) -> Result<String, Fault> {
     let filter = filter_of(alloc, text)?;
-    let before = session.tables.len();
-    let answer = session.tables.intern(&filter);
-    let count = session.tables.len();
-    match answer {
-        Ok(number) => {
-            let table = shown(session, number)?;
-            Ok(format!(in alloc; "{number} of {count}: {table}")?)
-        }
-        Err(fault) => {
-            let fault = fault_text(alloc, fault)?;
-            let change = if count == before { "as before" } else { "now" };
-            Ok(format!(in alloc; "{fault}\n{count} {change}")?)
-        }
+    let before = tables.len();
+    match tables.intern(&filter) {
+        Ok(number) => numbered(alloc, tables, number),
+        Err(fault) => Ok(refused(alloc, tables, before, fault)?),
     }
+}
+
+fn numbered(alloc: Global, tables: &Tables, number: usize) -> Result<String, Fault> {
+    let table = shown(alloc, tables, number)?;
+    Ok(format!(in alloc; "{number} of {}: {table}", tables.len())?)
+}
+
+fn refused(
+    alloc: Global,
+    tables: &Tables,
+    before: usize,
+    fault: RouteFault,
+) -> Result<String, AllocError> {
+    let count = tables.len();
+    let change = if count == before { "as before" } else { "now" };
+    let fault = fault_text(alloc, fault)?;
+    format!(in alloc; "{fault}\n{count} {change}")
 }

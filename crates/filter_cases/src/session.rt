@@ -8,10 +8,10 @@ use std::alloc::Global;
 /// What earlier lines made.
 #[derive(Drop)]
 pub struct Session {
-    pub alloc: Global,
-    pub texts: Texts,
-    pub tables: Tables,
-    pub store: Store,
+    alloc: Global,
+    texts: Texts,
+    tables: Tables,
+    store: Store,
 }
 
 impl Session {
@@ -39,20 +39,20 @@ impl Session {
     }
 
     fn answered(&mut self, words: &[Word]) -> Result<Option<String>, Fault> {
-        let [first, inner @ ..] = words else {
-            return Err(Fault::BadLine);
-        };
-        let said = match first.bytes.as_slice() {
-            b"parse" => texts::parsed(self.alloc, &self.texts.spelled(inner)?)?,
-            b"items" => texts::items(self.alloc, &self.texts.spelled(inner)?)?,
-            b"sound" => routes::soundness(self.alloc, &self.texts.spelled(inner)?)?,
-            b"list" => routes::listed(self, inner)?,
-            b"image" => routes::image(self, inner)?,
-            b"origin" => routes::origin(self, inner)?,
-            b"tables" => routes::tables(self, inner)?,
-            b"lay" => laying::laid(self, inner)?,
-            _ => return Err(Fault::BadLine),
-        };
-        Ok(Some(said))
+        match words {
+            [form, inner @ ..] => self.answer(form.text(), inner).map(Some),
+            [] => Err(Fault::BadLine),
+        }
+    }
+
+    fn answer(&mut self, form: &str, words: &[Word]) -> Result<String, Fault> {
+        let (alloc, texts) = (self.alloc, &self.texts);
+        match form {
+            "parse" => texts::parsed(alloc, &texts.spelled(words)?),
+            "items" => texts::items(alloc, &texts.spelled(words)?),
+            "tables" => routes::tables(alloc, texts, &mut self.tables, words),
+            "lay" => laying::laid(alloc, texts, &mut self.store, words),
+            _ => routes::answer(alloc, texts, form, words),
+        }
     }
 }

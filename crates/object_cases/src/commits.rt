@@ -6,8 +6,9 @@ ghost use Rattle.repo_state.specs.Commits.{setting};
 ghost use Rattle.object_cases.specs.Batches.{AreRefsOf, has_root};
 
 use crate::held::is_held;
-use crate::session::Session;
-use case_lines::{Fault, Word, name_of, ref_name_of, reopened};
+use crate::items::Kept;
+use crate::values::text;
+use case_lines::{Fault, Texts, Word, name_of, ref_name_of, reopened};
 use git_objects::{CommitView, Kind, Name};
 use object_store::{PutError, Store};
 use proj_io::MemKeeper;
@@ -136,24 +137,31 @@ fn commit_upon(
     commit_one(alloc, &mut state, keeper, blob, commit, refs)
 }
 
-/// Commits upon the keeper's items the objects that the session has ready, of which a blob and a commit are named, and
-/// refs to the commit. It says what came of it.
-pub fn commit(session: &mut Session, words: &[Word]) -> Result<String, Fault> {
+/// Commits upon the keeper's items the objects that are ready, of which a blob and a commit are named, and refs to the
+/// commit. It says what came of it.
+pub fn commit(
+    alloc: Global,
+    texts: &Texts,
+    kept: &mut Kept,
+    words: &[Word],
+) -> Result<String, Fault> {
     let [blob, commit, refs @ ..] = words else {
         return Err(Fault::BadLine);
     };
-    let alloc = session.alloc;
-    let blob = name_of(&session.texts, blob)?;
-    let commit = name_of(&session.texts, commit)?;
+    let blob = name_of(texts, blob)?;
+    let commit = name_of(texts, commit)?;
     let refs = refs_to(alloc, refs, commit)?;
-    let mut keeper = reopened(alloc, &mut session.keeper);
-    let said = commit_upon(alloc, &mut keeper, &session.made, blob, commit, refs);
-    session.keeper = keeper;
-    let text = match said? {
-        Ok(()) => "committed",
-        Err(CommitError::StoreFault) => "store fault",
-        Err(CommitError::Limit { .. }) => "limit",
-        Err(CommitError::OutOfMemory) => return Err(Fault::OutOfMemory),
-    };
-    Ok(String::from_str(alloc, text)?)
+    let mut keeper = reopened(alloc, &mut kept.keeper);
+    let said = commit_upon(alloc, &mut keeper, &kept.made, blob, commit, refs);
+    kept.keeper = keeper;
+    text(alloc, told(said?)?)
+}
+
+fn told(answer: Result<(), CommitError>) -> Result<&'static str, Fault> {
+    match answer {
+        Ok(()) => Ok("committed"),
+        Err(CommitError::StoreFault) => Ok("store fault"),
+        Err(CommitError::Limit { .. }) => Ok("limit"),
+        Err(CommitError::OutOfMemory) => Err(Fault::OutOfMemory),
+    }
 }

@@ -1,38 +1,44 @@
 // Graphs of commits.
-use crate::session::Session;
-use case_lines::{Fault, Word, digits_of, name_of, number_of};
+use crate::values::text;
+use case_lines::{Fault, Texts, Word, digits_of, name_of, number_of};
 use commit_graph::Graph;
 use git_objects::Name;
-use std::alloc::Global;
+use std::alloc::{AllocError, Global};
 
 /// The answer to a line on the graph.
-pub fn answer(session: &mut Session, form: &[u8], words: &[Word]) -> Result<Option<String>, Fault> {
-    let alloc = session.alloc;
-    let said = match form {
-        b"new" => {
-            session.graph = Graph::new(alloc);
-            return Ok(None);
+pub fn answer(
+    alloc: Global,
+    texts: &Texts,
+    graph: &mut Graph,
+    form: &str,
+    words: &[Word],
+) -> Result<Option<String>, Fault> {
+    match form {
+        "new" => {
+            *graph = Graph::new(alloc);
+            Ok(None)
         }
-        b"add" => add(session, words)?,
-        b"cut" => cut(session, place_of(words)?)?,
-        b"ancestors" => ancestors(alloc, &session.graph, place_of(words)?)?,
-        b"below" => below(alloc, &session.graph, place_of(words)?)?,
-        b"row" => row(alloc, &session.graph, place_of(words)?)?,
-        b"place" => match words {
-            [word] => place(alloc, &session.graph, name_of(&session.texts, word)?)?,
-            _ => return Err(Fault::BadLine),
-        },
-        b"length" => {
-            let word = if session.graph.is_empty() {
-                ", empty"
-            } else {
-                ""
-            };
-            format!(in alloc; "{}{word}", session.graph.len())?
-        }
-        _ => return Err(Fault::BadLine),
-    };
-    Ok(Some(said))
+        "add" => add(alloc, texts, graph, words).map(Some),
+        "cut" => cut(alloc, graph, place_of(words)?).map(Some),
+        "length" => Ok(Some(length(alloc, graph)?)),
+        "place" => place(alloc, texts, graph, words).map(Some),
+        _ => asked(alloc, graph, form, place_of(words)?).map(Some),
+    }
+}
+
+// What is asked of a place.
+fn asked(alloc: Global, graph: &Graph, form: &str, place: u32) -> Result<String, Fault> {
+    match form {
+        "ancestors" => ancestors(alloc, graph, place),
+        "below" => below(alloc, graph, place),
+        "row" => row(alloc, graph, place),
+        _ => Err(Fault::BadLine),
+    }
+}
+
+fn length(alloc: Global, graph: &Graph) -> Result<String, AllocError> {
+    let word = if graph.is_empty() { ", empty" } else { "" };
+    format!(in alloc; "{}{word}", graph.len())
 }
 
 fn place_number(word: &Word) -> Result<u32, Fault> {
@@ -48,53 +54,70 @@ fn place_of(words: &[Word]) -> Result<u32, Fault> {
     }
 }
 
-// The place of the commit of that name.
-fn place(alloc: Global, graph: &Graph, name: Name) -> Result<String, Fault> {
+// The place of the commit whose name is the only word.
+fn place(alloc: Global, texts: &Texts, graph: &Graph, words: &[Word]) -> Result<String, Fault> {
+    match words {
+        [word] => place_text(alloc, graph, name_of(texts, word)?),
+        _ => Err(Fault::BadLine),
+    }
+}
+
+fn place_text(alloc: Global, graph: &Graph, name: Name) -> Result<String, Fault> {
     match graph.index_of(&name) {
         Some(place) => Ok(format!(in alloc; "{place}")?),
-        None => Ok(String::from_str(alloc, "none")?),
+        None => text(alloc, "none"),
     }
 }
 
 fn listed(alloc: Global, places: &[u32]) -> Result<String, Fault> {
     let mut list = String::new(alloc);
     for place in places {
-        if !list.is_empty() {
-            list.push(' ')?;
-        }
-        list.push_str(format!(in alloc; "{place}")?.as_str())?;
+        add_place(&mut list, *place)?;
     }
     Ok(list)
 }
 
+fn add_place(list: &mut String, place: u32) -> Result<(), AllocError> {
+    let alloc = *list.allocator();
+    let space = if list.is_empty() { "" } else { " " };
+    list.push_str(format!(in alloc; "{space}{place}")?.as_str())
+}
+
+fn places_of(alloc: Global, words: &[Word]) -> Result<Vec<u32>, Fault> {
+    let mut places = Vec::new(alloc);
+    for word in words {
+        places.push(place_number(word)?)?;
+    }
+    Ok(places)
+}
+
 // Adds a commit: its name, its tree and the places of its parents. It is told where it stands.
-fn add(session: &mut Session, words: &[Word]) -> Result<String, Fault> {
+fn add(alloc: Global, texts: &Texts, graph: &mut Graph, words: &[Word]) -> Result<String, Fault> {
     let [name, tree, parents @ ..] = words else {
         return Err(Fault::BadLine);
     };
-    let alloc = session.alloc;
-    let name = name_of(&session.texts, name)?;
-    let tree = name_of(&session.texts, tree)?;
-    let mut places = Vec::new(alloc);
-    for parent in parents {
-        places.push(place_number(parent)?)?;
-    }
-    let length = session.graph.len();
-    let is_placed = places.iter().all(|parent| *parent < length);
-    if !is_placed || length >= 1 << 30 || session.graph.index_of(&name).is_some() {
+    let name = name_of(texts, name)?;
+    let tree = name_of(texts, tree)?;
+    grow(graph, name, tree, places_of(alloc, parents)?)?;
+    place_text(alloc, graph, name)
+}
+
+fn grow(graph: &mut Graph, name: Name, tree: Name, parents: Vec<u32>) -> Result<(), Fault> {
+    let length = graph.len();
+    let is_placed = parents.iter().all(|parent| *parent < length);
+    if !is_placed || length >= 1 << 30 || graph.index_of(&name).is_some() {
         return Err(Fault::BadLine);
     }
-    session.graph.add(name, tree, places)?;
-    place(alloc, &session.graph, name)
+    Ok(graph.add(name, tree, parents)?)
 }
 
 // Leaves the first so many commits.
-fn cut(session: &mut Session, length: u32) -> Result<String, Fault> {
-    if length > session.graph.len() {
+fn cut(alloc: Global, graph: &mut Graph, length: u32) -> Result<String, Fault> {
+    if length > graph.len() {
         return Err(Fault::BadLine);
     }
-    session.graph.truncate(length);
-    Ok(format!(in session.alloc; "{}", session.graph.len())?)
+    graph.truncate(length);
+    Ok(format!(in alloc; "{}", graph.len())?)
 }
 
 fn ancestors(alloc: Global, graph: &Graph, head: u32) -> Result<String, Fault> {

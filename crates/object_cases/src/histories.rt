@@ -5,8 +5,8 @@ ghost use Rattle.git_objects.specs.declared.kind.Kind.TheVariants.{Commit};
 ghost use Rattle.object_store.specs.Objects.{has};
 
 use crate::held::is_held;
-use crate::session::Session;
-use case_lines::{Fault, Word, name_of, path_of};
+use crate::stores::Objects;
+use case_lines::{Fault, Texts, Word, name_of, path_of};
 use git_objects::{Kind, Name};
 use history_project::{name_line, projection};
 use object_store::Store;
@@ -14,17 +14,26 @@ use path_names::Path;
 use std::alloc::Global;
 
 /// The answer to a line on histories.
-pub fn answer(session: &mut Session, form: &[u8], words: &[Word]) -> Result<Option<String>, Fault> {
-    let alloc = session.alloc;
-    match (form, words) {
-        (b"shown", [place, head]) => {
-            let place = path_of(alloc, &session.texts, place)?;
-            let head = name_of(&session.texts, head)?;
-            let line = line(alloc, &session.store, &session.commits, &place, &head)?;
-            Ok(Some(String::from_utf8(line).ok().ok_or(Fault::BadLine)?))
+pub fn answer(
+    alloc: Global,
+    texts: &Texts,
+    objects: &Objects,
+    form: &str,
+    words: &[Word],
+) -> Result<String, Fault> {
+    match words {
+        [place, head] if form == "shown" => {
+            let head = name_of(texts, head)?;
+            let place = path_of(alloc, texts, place)?;
+            shown(alloc, objects, &place, &head)
         }
         _ => Err(Fault::BadLine),
     }
+}
+
+fn shown(alloc: Global, objects: &Objects, place: &Path, head: &Name) -> Result<String, Fault> {
+    let line = line(alloc, &objects.store, &objects.commits, place, head)?;
+    String::from_utf8(line).ok().ok_or(Fault::BadLine)
 }
 
 fn are_commits(store: &Store, names: &[Name]) -> bool

@@ -1,63 +1,110 @@
 // Items of a keeper, loaded and committed.
 use crate::commits::{Made, commit};
 use crate::keepers::Misjudging;
-use crate::session::Session;
-use crate::stores::{held, object_name, object_of};
-use crate::values::digits_or_none;
+use crate::stores::{count, held, object_of};
+use crate::values::{digits_or_none, text, word_and_digits};
 use case_lines::{
-    Fault, Word, add_item, digits_of, failing_of, items_said, number_of, ref_name_of, reopened,
+    Fault, Texts, Word, add_item, failing_of, items_said, number_of, ref_name_of, reopened,
 };
 use proj_io::{Keeper, MemKeeper};
 use repo_state::{LoadError, State};
-use std::alloc::Global;
+use std::alloc::{AllocError, Global};
+
+/// A keeper, what was loaded of its items, and objects that are to be committed.
+#[derive(Drop)]
+pub struct Kept {
+    pub keeper: MemKeeper,
+    pub state: State,
+    pub made: Vec<Made>,
+}
+
+impl Kept {
+    pub fn new(alloc: Global) -> Result<Kept, AllocError> {
+        let state = State::empty(alloc)?;
+        Ok(Kept {
+            keeper: MemKeeper::new(alloc, Vec::new(alloc)),
+            state,
+            made: Vec::new(alloc),
+        })
+    }
+}
 
 /// The answer to a line on items.
-pub fn answer(session: &mut Session, form: &[u8], words: &[Word]) -> Result<Option<String>, Fault> {
-    let alloc = session.alloc;
-    let said = match form {
-        b"new" => {
-            session.keeper = MemKeeper::new(alloc, failing_of(alloc, words)?);
-            session.state = State::empty(alloc)?;
-            session.made = Vec::new(alloc);
-            return Ok(None);
-        }
-        b"add" => {
-            let item = session.texts.spelled(words)?;
-            add_item(alloc, &mut session.keeper, &item)?;
-            return Ok(None);
-        }
-        b"load" => load(session)?,
-        b"judged" => judged(session, words)?,
-        b"fronts" => fronts(alloc, &session.texts.spelled(words)?)?,
-        b"get" => {
-            let name = object_name(session, words)?;
-            held(alloc, &session.state.store, name)?
-        }
-        b"count" => format!(in alloc; "{} objects", session.state.store.len())?,
-        b"head" => match words {
-            [refname] => digits_or_none(alloc, session.state.head(&ref_name_of(alloc, refname)?))?,
-            _ => return Err(Fault::BadLine),
-        },
-        b"list" => items_said(alloc, &session.texts, &session.keeper)?,
-        b"make" => {
-            let (kind, body) = object_of(session, words)?;
-            session.made.push(Made { kind, body })?;
-            return Ok(None);
-        }
-        b"commit" => commit(session, words)?,
-        _ => return Err(Fault::BadLine),
+pub fn answer(
+    alloc: Global,
+    texts: &Texts,
+    kept: &mut Kept,
+    form: &str,
+    words: &[Word],
+) -> Result<Option<String>, Fault> {
+    match form {
+        "new" => renew(alloc, kept, words),
+        "add" => add(alloc, texts, kept, words),
+        "make" => make(texts, kept, words),
+        "load" => load(alloc, kept).map(Some),
+        "judged" => judged(alloc, kept, words).map(Some),
+        "commit" => commit(alloc, texts, kept, words).map(Some),
+        _ => asked(alloc, texts, kept, form, words).map(Some),
+    }
+}
+
+// What is asked of a keeper and a state that stay.
+fn asked(
+    alloc: Global,
+    texts: &Texts,
+    kept: &Kept,
+    form: &str,
+    words: &[Word],
+) -> Result<String, Fault> {
+    match form {
+        "fronts" => fronts(alloc, texts, words),
+        "get" => held(alloc, texts, &kept.state.store, words),
+        "count" => count(alloc, &kept.state.store),
+        "head" => head(alloc, &kept.state, words),
+        "list" => items_said(alloc, texts, &kept.keeper),
+        _ => Err(Fault::BadLine),
+    }
+}
+
+fn renew(alloc: Global, kept: &mut Kept, words: &[Word]) -> Result<Option<String>, Fault> {
+    let failing = failing_of(alloc, words)?;
+    let mut other = Kept::new(alloc)?;
+    other.keeper = MemKeeper::new(alloc, failing);
+    *kept = other;
+    Ok(None)
+}
+
+fn add(
+    alloc: Global,
+    texts: &Texts,
+    kept: &mut Kept,
+    words: &[Word],
+) -> Result<Option<String>, Fault> {
+    let item = texts.spelled(words)?;
+    add_item(alloc, &mut kept.keeper, &item)?;
+    Ok(None)
+}
+
+fn make(texts: &Texts, kept: &mut Kept, words: &[Word]) -> Result<Option<String>, Fault> {
+    let (kind, body) = object_of(texts, words)?;
+    kept.made.push(Made { kind, body })?;
+    Ok(None)
+}
+
+fn head(alloc: Global, state: &State, words: &[Word]) -> Result<String, Fault> {
+    let [refname] = words else {
+        return Err(Fault::BadLine);
     };
-    Ok(Some(said))
+    let refname = ref_name_of(alloc, refname)?;
+    digits_or_none(alloc, state.head(&refname))
 }
 
 // Why items are not loaded.
 fn fault_text(alloc: Global, error: LoadError) -> Result<String, Fault> {
     match error {
-        LoadError::StoreFault => Ok(String::from_str(alloc, "store fault")?),
+        LoadError::StoreFault => text(alloc, "store fault"),
         LoadError::Damaged { item, at } => Ok(format!(in alloc; "damaged: item {item} at {at}")?),
-        LoadError::Collision { name } => {
-            Ok(format!(in alloc; "collision {}", digits_of(alloc, &name)?)?)
-        }
+        LoadError::Collision { name } => word_and_digits(alloc, "collision", &name),
         LoadError::OutOfMemory => Err(Fault::OutOfMemory),
     }
 }
@@ -65,36 +112,36 @@ fn fault_text(alloc: Global, error: LoadError) -> Result<String, Fault> {
 // What came of loading.
 fn state_text(alloc: Global, loaded: &Result<State, LoadError>) -> Result<String, Fault> {
     match loaded {
-        Ok(state) => Ok(format!(in alloc; "{} objects", state.store.len())?),
+        Ok(state) => count(alloc, &state.store),
         Err(error) => fault_text(alloc, *error),
     }
 }
 
-fn load(session: &mut Session) -> Result<String, Fault> {
-    let mut keeper = reopened(session.alloc, &mut session.keeper);
-    let loaded = State::load(session.alloc, &mut keeper);
-    session.keeper = keeper;
-    let text = state_text(session.alloc, &loaded)?;
+fn load(alloc: Global, kept: &mut Kept) -> Result<String, Fault> {
+    let mut keeper = reopened(alloc, &mut kept.keeper);
+    let loaded = State::load(alloc, &mut keeper);
+    kept.keeper = keeper;
+    let said = state_text(alloc, &loaded);
     if let Ok(state) = loaded {
-        session.state = state;
+        kept.state = state;
     }
-    Ok(text)
+    said
 }
 
 // Loads from a keeper that says this size of each item.
-fn judged(session: &mut Session, words: &[Word]) -> Result<String, Fault> {
+fn judged(alloc: Global, kept: &mut Kept, words: &[Word]) -> Result<String, Fault> {
     let [size] = words else {
         return Err(Fault::BadLine);
     };
     let size = u32::try_from(number_of(&size.bytes)?);
     let size = size.ok().ok_or(Fault::BadLine)?;
     let mut keeper = Misjudging {
-        inner: reopened(session.alloc, &mut session.keeper),
+        inner: reopened(alloc, &mut kept.keeper),
         size,
     };
-    let loaded = State::load(session.alloc, &mut keeper);
-    session.keeper = keeper.inner;
-    state_text(session.alloc, &loaded)
+    let loaded = State::load(alloc, &mut keeper);
+    kept.keeper = keeper.inner;
+    state_text(alloc, &loaded)
 }
 
 // What comes of loading this item alone.
@@ -106,35 +153,55 @@ fn load_one(alloc: Global, item: &[u8]) -> Result<String, Fault> {
     if keeper.append(item).is_err() {
         return Err(Fault::OutOfMemory);
     }
-    state_text(alloc, &State::load(alloc, &mut keeper))
+    let loaded = State::load(alloc, &mut keeper);
+    state_text(alloc, &loaded)
+}
+
+// Sizes of fronts of which the same is said, up to those of which other things are.
+#[derive(Drop)]
+struct Runs {
+    lines: String,
+    first: usize,
+    said: String,
+}
+
+impl Runs {
+    // Takes in what is said of a front of this size, which is the next.
+    fn take(&mut self, size: usize, said: String) -> Result<(), AllocError> {
+        if size > 1 && said.as_str() != self.said.as_str() {
+            self.end(size.saturating_sub(1))?;
+            self.first = size;
+        }
+        self.said = said;
+        Ok(())
+    }
+
+    // Adds the line of the run that ends with this size.
+    fn end(&mut self, last: usize) -> Result<(), AllocError> {
+        let alloc = *self.lines.allocator();
+        let (first, said) = (self.first, &self.said);
+        let line = format!(in alloc; "{first} to {last}: {said}\n")?;
+        self.lines.push_str(line.as_str())
+    }
 }
 
 // What comes of loading each front of an item that is shorter than it, a line for each run of sizes.
-fn fronts(alloc: Global, item: &[u8]) -> Result<String, Fault> {
-    let mut lines = String::new(alloc);
-    let mut first = 1usize;
-    let mut text = String::new(alloc);
-    for size in 1..item.len() {
-        let front = item.get(..size).unwrap_or(&[]);
-        let next = load_one(alloc, front)?;
-        if size > 1 && next.as_str() != text.as_str() {
-            add_run(&mut lines, first, size - 1, text.as_str())?;
-            first = size;
-        }
-        text = next;
-    }
-    add_run(
-        &mut lines,
-        first,
-        item.len().saturating_sub(1),
-        text.as_str(),
-    )?;
-    Ok(lines)
+fn fronts(alloc: Global, texts: &Texts, words: &[Word]) -> Result<String, Fault> {
+    let item = texts.spelled(words)?;
+    let mut runs = Runs {
+        lines: String::new(alloc),
+        first: 1,
+        said: String::new(alloc),
+    };
+    load_fronts(alloc, &mut runs, &item)?;
+    runs.end(item.len().saturating_sub(1))?;
+    Ok(runs.lines)
 }
 
-fn add_run(lines: &mut String, first: usize, last: usize, text: &str) -> Result<(), Fault> {
-    let alloc = *lines.allocator();
-    let line = format!(in alloc; "{first} to {last}: {text}\n")?;
-    lines.push_str(line.as_str())?;
+fn load_fronts(alloc: Global, runs: &mut Runs, item: &[u8]) -> Result<(), Fault> {
+    for size in 1..item.len() {
+        let said = load_one(alloc, item.get(..size).unwrap_or(&[]))?;
+        runs.take(size, said)?;
+    }
     Ok(())
 }

@@ -1,48 +1,34 @@
 // What lines of cases work on.
-use crate::commits::Made;
+use crate::items::Kept;
+use crate::refs::TwoRefs;
+use crate::stores::Objects;
 use crate::{bodies, graphs, histories, items, names, refs, stores, trees};
 use case_lines::{Fault, Line, Texts, Word, number_of, read_line, said};
 use commit_graph::Graph;
-use git_objects::Name;
-use object_store::Store;
-use proj_io::MemKeeper;
-use ref_store::Refs;
-use repo_state::State;
 use std::alloc::Global;
 
 /// What earlier lines made.
 #[derive(Drop)]
 pub struct Session {
-    pub alloc: Global,
-    /// Named texts, among them the names of trees that `tree` lines made.
-    pub texts: Texts,
-    pub store: Store,
-    /// The commits that were put into the store, in order.
-    pub commits: Vec<Name>,
-    pub graph: Graph,
-    pub refs: Refs,
-    /// A copy of the refs, or the refs that were copied.
-    pub other_refs: Refs,
-    pub keeper: MemKeeper,
-    /// What was loaded of the keeper's items.
-    pub state: State,
-    /// Objects that are to be committed.
-    pub made: Vec<Made>,
+    alloc: Global,
+    // Named texts, among them the names of trees that `tree` lines made.
+    texts: Texts,
+    objects: Objects,
+    graph: Graph,
+    refs: TwoRefs,
+    kept: Kept,
 }
 
 impl Session {
     pub fn new(alloc: Global) -> Result<Session, Fault> {
+        let kept = Kept::new(alloc)?;
         Ok(Session {
             alloc,
             texts: Texts::new(alloc),
-            store: Store::new(alloc),
-            commits: Vec::new(alloc),
+            objects: Objects::new(alloc),
             graph: Graph::new(alloc),
-            refs: Refs::new(alloc),
-            other_refs: Refs::new(alloc),
-            keeper: MemKeeper::new(alloc, Vec::new(alloc)),
-            state: State::empty(alloc)?,
-            made: Vec::new(alloc),
+            refs: TwoRefs::new(alloc),
+            kept,
         })
     }
 
@@ -62,40 +48,48 @@ impl Session {
 
     fn answered(&mut self, words: &[Word]) -> Result<Option<String>, Fault> {
         match words {
-            [first, count, inner @ ..] if first.bytes.as_slice() == b"repeat".as_slice() => {
+            [first, count, inner @ ..] if first.text() == "repeat" => {
                 self.repeated(number_of(&count.bytes)?, inner)
             }
-            [first, inner @ ..] => self.asked(&first.bytes, inner),
-            [] => Err(Fault::BadLine),
+            _ => self.asked(words),
         }
     }
 
     // Asks so many times, and answers what came last.
     fn repeated(&mut self, count: u64, words: &[Word]) -> Result<Option<String>, Fault> {
-        let [first, inner @ ..] = words else {
+        if words.is_empty() {
             return Err(Fault::BadLine);
-        };
+        }
         let mut answer = None;
         for _ in 0..count {
-            answer = self.asked(&first.bytes, inner)?;
+            answer = self.asked(words)?;
         }
         Ok(answer)
     }
 
-    fn asked(&mut self, subject: &[u8], words: &[Word]) -> Result<Option<String>, Fault> {
-        let [form, inner @ ..] = words else {
-            return Err(Fault::BadLine);
-        };
-        let form = form.bytes.as_slice();
+    fn asked(&mut self, words: &[Word]) -> Result<Option<String>, Fault> {
+        match words {
+            [subject, form, inner @ ..] => self.answer(subject.text(), form.text(), inner),
+            _ => Err(Fault::BadLine),
+        }
+    }
+
+    fn answer(
+        &mut self,
+        subject: &str,
+        form: &str,
+        words: &[Word],
+    ) -> Result<Option<String>, Fault> {
+        let (alloc, texts) = (self.alloc, &mut self.texts);
         match subject {
-            b"object" => names::answer(self, form, inner),
-            b"body" => bodies::answer(self, form, inner),
-            b"store" => stores::answer(self, form, inner),
-            b"tree" => trees::answer(self, form, inner),
-            b"graph" => graphs::answer(self, form, inner),
-            b"refs" => refs::answer(self, form, inner),
-            b"items" => items::answer(self, form, inner),
-            b"history" => histories::answer(self, form, inner),
+            "object" => names::answer(alloc, texts, form, words).map(Some),
+            "body" => bodies::answer(alloc, texts, form, words).map(Some),
+            "store" => stores::answer(alloc, texts, &mut self.objects, form, words),
+            "tree" => trees::answer(alloc, texts, &mut self.objects.store, form, words).map(Some),
+            "graph" => graphs::answer(alloc, texts, &mut self.graph, form, words),
+            "refs" => refs::answer(alloc, texts, &self.graph, &mut self.refs, form, words),
+            "items" => items::answer(alloc, texts, &mut self.kept, form, words),
+            "history" => histories::answer(alloc, texts, &self.objects, form, words).map(Some),
             _ => Err(Fault::BadLine),
         }
     }

@@ -1,98 +1,153 @@
 // Stores of objects.
-use crate::session::Session;
-use crate::values::kind_of;
-use case_lines::{Fault, Word, digits_of, name_of, printed};
+use crate::values::{kind_of, text, word_and_digits};
+use case_lines::{Fault, Texts, Word, name_of, printed};
 use git_objects::{Kind, Name};
 use object_store::{PutError, Store};
-use std::alloc::Global;
+use std::alloc::{AllocError, Global};
 
-/// The answer to a line on the store.
-pub fn answer(session: &mut Session, form: &[u8], words: &[Word]) -> Result<Option<String>, Fault> {
-    let alloc = session.alloc;
-    let said = match form {
-        b"new" => {
-            session.store = Store::new(alloc);
-            session.commits = Vec::new(alloc);
-            return Ok(None);
-        }
-        b"put" => put(session, words, false)?,
-        b"lend" => put(session, words, true)?,
-        b"get" => held(alloc, &session.store, object_name(session, words)?)?,
-        b"count" => format!(in alloc; "{} objects", session.store.len())?,
-        b"stats" => stats(alloc, &session.store, object_name(session, words)?)?,
-        b"fronts" => fronts(session, words)?,
-        b"flips" => flips(session, words)?,
-        _ => return Err(Fault::BadLine),
-    };
-    Ok(Some(said))
+/// A store, and the commits that were put into it, in order.
+#[derive(Drop)]
+pub struct Objects {
+    pub store: Store,
+    pub commits: Vec<Name>,
 }
 
-/// The only word, as a name.
-pub fn object_name(session: &Session, words: &[Word]) -> Result<Name, Fault> {
+impl Objects {
+    pub fn new(alloc: Global) -> Objects {
+        Objects {
+            store: Store::new(alloc),
+            commits: Vec::new(alloc),
+        }
+    }
+}
+
+/// The answer to a line on the store.
+pub fn answer(
+    alloc: Global,
+    texts: &mut Texts,
+    objects: &mut Objects,
+    form: &str,
+    words: &[Word],
+) -> Result<Option<String>, Fault> {
+    match form {
+        "new" => {
+            *objects = Objects::new(alloc);
+            Ok(None)
+        }
+        "put" => put(alloc, texts, objects, words, false).map(Some),
+        "lend" => put(alloc, texts, objects, words, true).map(Some),
+        _ => asked(alloc, texts, &objects.store, form, words).map(Some),
+    }
+}
+
+// What is asked of a store that stays.
+fn asked(
+    alloc: Global,
+    texts: &Texts,
+    store: &Store,
+    form: &str,
+    words: &[Word],
+) -> Result<String, Fault> {
+    match form {
+        "get" => held(alloc, texts, store, words),
+        "count" => count(alloc, store),
+        "stats" => stats(alloc, store, object_name(texts, words)?),
+        "fronts" => fronts(alloc, texts, words),
+        "flips" => flips(alloc, texts, words),
+        _ => Err(Fault::BadLine),
+    }
+}
+
+// The only word, as a name.
+fn object_name(texts: &Texts, words: &[Word]) -> Result<Name, Fault> {
     match words {
-        [word] => name_of(&session.texts, word),
+        [word] => name_of(texts, word),
         _ => Err(Fault::BadLine),
     }
 }
 
 /// A kind, and the body that pieces spell.
-pub fn object_of(session: &Session, words: &[Word]) -> Result<(Kind, Vec<u8>), Fault> {
-    match words {
-        [kind, pieces @ ..] => Ok((kind_of(kind)?, session.texts.spelled(pieces)?)),
-        [] => Err(Fault::BadLine),
-    }
+pub fn object_of(texts: &Texts, words: &[Word]) -> Result<(Kind, Vec<u8>), Fault> {
+    let [kind, pieces @ ..] = words else {
+        return Err(Fault::BadLine);
+    };
+    let kind = kind_of(kind)?;
+    Ok((kind, texts.spelled(pieces)?))
 }
 
 // Puts an object, owned or lent. Its name's bytes are the text `last` then.
-fn put(session: &mut Session, words: &[Word], is_lent: bool) -> Result<String, Fault> {
-    let (kind, body) = object_of(session, words)?;
-    let result = if is_lent {
-        session.store.put_slice(kind, &body)
-    } else {
-        session.store.put(kind, body)
-    };
+fn put(
+    alloc: Global,
+    texts: &mut Texts,
+    objects: &mut Objects,
+    words: &[Word],
+    is_lent: bool,
+) -> Result<String, Fault> {
+    let (kind, body) = object_of(texts, words)?;
+    let result = taken(&mut objects.store, kind, body, is_lent);
     if let Ok(name) = result {
-        let bytes = name.bytes().to_vec(session.alloc)?;
-        session.texts.set(b"last", bytes)?;
-        if kind == Kind::Commit {
-            session.commits.push(name)?;
-        }
+        remember(alloc, texts, objects, kind, name)?;
     }
-    told(session.alloc, result)
+    told(alloc, result)
+}
+
+fn taken(store: &mut Store, kind: Kind, body: Vec<u8>, is_lent: bool) -> Result<Name, PutError> {
+    if is_lent {
+        return store.put_slice(kind, &body);
+    }
+    store.put(kind, body)
+}
+
+fn remember(
+    alloc: Global,
+    texts: &mut Texts,
+    objects: &mut Objects,
+    kind: Kind,
+    name: Name,
+) -> Result<(), AllocError> {
+    if kind == Kind::Commit {
+        objects.commits.push(name)?;
+    }
+    texts.set(b"last", name.bytes().to_vec(alloc)?)
 }
 
 // What a store says to an object.
 fn told(alloc: Global, answer: Result<Name, PutError>) -> Result<String, Fault> {
     match answer {
-        Ok(name) => Ok(format!(in alloc; "taken {}", digits_of(alloc, &name)?)?),
-        Err(PutError::NotCanonical) => Ok(String::from_str(alloc, "no body")?),
-        Err(PutError::MissingChild { name }) => {
-            Ok(format!(in alloc; "missing {}", digits_of(alloc, &name)?)?)
-        }
-        Err(PutError::Collision { name }) => {
-            Ok(format!(in alloc; "collision {}", digits_of(alloc, &name)?)?)
-        }
+        Ok(name) => word_and_digits(alloc, "taken", &name),
+        Err(PutError::NotCanonical) => text(alloc, "no body"),
+        Err(PutError::MissingChild { name }) => word_and_digits(alloc, "missing", &name),
+        Err(PutError::Collision { name }) => word_and_digits(alloc, "collision", &name),
         Err(PutError::OutOfMemory) => Err(Fault::OutOfMemory),
     }
 }
 
-/// The kind and the body of the object of that name.
-pub fn held(alloc: Global, store: &Store, name: Name) -> Result<String, Fault> {
-    let Some(object) = store.get(&name) else {
-        return Ok(String::from_str(alloc, "none")?);
-    };
-    let kind = match object.kind {
+/// The kind and the body of the object whose name is the only word.
+pub fn held(alloc: Global, texts: &Texts, store: &Store, words: &[Word]) -> Result<String, Fault> {
+    match store.get(&object_name(texts, words)?) {
+        None => text(alloc, "none"),
+        Some(object) => object_text(alloc, object.kind, object.body),
+    }
+}
+
+fn object_text(alloc: Global, kind: Kind, body: &[u8]) -> Result<String, Fault> {
+    let kind = match kind {
         Kind::Blob => "blob",
         Kind::Tree => "tree",
         Kind::Commit => "commit",
     };
-    let body = printed(alloc, object.body)?;
+    let body = printed(alloc, body)?;
     Ok(format!(in alloc; "{kind} {body}")?)
+}
+
+/// How many objects there are.
+pub fn count(alloc: Global, store: &Store) -> Result<String, Fault> {
+    Ok(format!(in alloc; "{} objects", store.len())?)
 }
 
 fn stats(alloc: Global, store: &Store, name: Name) -> Result<String, Fault> {
     match store.stats(&name) {
-        None => Ok(String::from_str(alloc, "no tree")?),
+        None => text(alloc, "no tree"),
         Some(sizes) => Ok(format!(in alloc;
             "files {} depth {} longest {}",
             sizes.files, sizes.depth, sizes.longest
@@ -100,38 +155,49 @@ fn stats(alloc: Global, store: &Store, name: Name) -> Result<String, Fault> {
     }
 }
 
-// Whether a store without objects finds the bytes to be a body.
-fn is_body(alloc: Global, kind: Kind, body: &[u8]) -> bool {
+// A sign for whether a store without objects finds the bytes to be a body.
+fn sign(alloc: Global, kind: Kind, body: &[u8]) -> char {
     let mut store = Store::new(alloc);
-    store.put_slice(kind, body) != Err(PutError::NotCanonical)
-}
-
-fn sign(is_body: bool) -> char {
-    if is_body { '+' } else { '-' }
+    if store.put_slice(kind, body) == Err(PutError::NotCanonical) {
+        '-'
+    } else {
+        '+'
+    }
 }
 
 // A sign for each front of a body that is shorter than it, and for the body: whether it is a body.
-fn fronts(session: &Session, words: &[Word]) -> Result<String, Fault> {
-    let (kind, body) = object_of(session, words)?;
-    let mut signs = String::new(session.alloc);
+fn fronts(alloc: Global, texts: &Texts, words: &[Word]) -> Result<String, Fault> {
+    let (kind, body) = object_of(texts, words)?;
+    Ok(front_signs(alloc, kind, &body)?)
+}
+
+fn front_signs(alloc: Global, kind: Kind, body: &[u8]) -> Result<String, AllocError> {
+    let mut signs = String::new(alloc);
     for size in 0..body.len() {
-        let front = body.get(..size).unwrap_or(&[]);
-        signs.push(sign(is_body(session.alloc, kind, front)))?;
+        signs.push(sign(alloc, kind, body.get(..size).unwrap_or(&[])))?;
     }
-    signs.push(sign(is_body(session.alloc, kind, &body)))?;
+    signs.push(sign(alloc, kind, body))?;
     Ok(signs)
 }
 
 // A sign for each byte of a body: whether it is a body where the lowest bit of that byte is another.
-fn flips(session: &Session, words: &[Word]) -> Result<String, Fault> {
-    let (kind, body) = object_of(session, words)?;
-    let mut signs = String::new(session.alloc);
+fn flips(alloc: Global, texts: &Texts, words: &[Word]) -> Result<String, Fault> {
+    let (kind, body) = object_of(texts, words)?;
+    Ok(flip_signs(alloc, kind, &body)?)
+}
+
+fn flip_signs(alloc: Global, kind: Kind, body: &[u8]) -> Result<String, AllocError> {
+    let mut signs = String::new(alloc);
     for at in 0..body.len() {
-        let mut other = body.to_vec(session.alloc)?;
-        if let Some(byte) = other.get_mut(at) {
-            *byte ^= 1;
-        }
-        signs.push(sign(is_body(session.alloc, kind, &other)))?;
+        signs.push(flip_sign(alloc, kind, body, at)?)?;
     }
     Ok(signs)
+}
+
+fn flip_sign(alloc: Global, kind: Kind, body: &[u8], at: usize) -> Result<char, AllocError> {
+    let mut other = body.to_vec(alloc)?;
+    if let Some(byte) = other.get_mut(at) {
+        *byte ^= 1;
+    }
+    Ok(sign(alloc, kind, &other))
 }

@@ -1,9 +1,8 @@
 // Stored trees: edits, lookups and joins. A tree has a name of its own in the texts, which stands for its name's bytes.
 use crate::held::{is_held, is_there};
-use crate::session::Session;
-use crate::values::{mode_digits, mode_of};
+use crate::values::{mode_digits, mode_of, text, word_and_digits};
 use crate::walks::{leaves, sizes};
-use case_lines::{Fault, Word, digits_of, name_of, path_of, printed};
+use case_lines::{Fault, Texts, Word, digits_of, name_of, path_of, printed};
 use git_objects::{Kind, Mode, Name};
 use object_store::Store;
 use path_names::Path;
@@ -11,31 +10,43 @@ use path_trees::{Found, JoinFault, TreeFault, entry_at, join_disjoint, put_at, r
 use std::alloc::Global;
 
 /// The answer to a line on trees.
-pub fn answer(session: &mut Session, form: &[u8], words: &[Word]) -> Result<Option<String>, Fault> {
-    let said = match form {
-        b"new" => planted(session, words)?,
-        b"put" => put(session, words)?,
-        b"remove" => removed(session, words)?,
-        b"move" => moved(session, words, false)?,
-        b"copy" => moved(session, words, true)?,
-        b"at" => standing(session, words)?,
-        b"leaves" => match words {
-            [tree] => leaves(session.alloc, &session.store, root_of(session, tree)?)?,
-            _ => return Err(Fault::BadLine),
-        },
-        b"sizes" => match words {
-            [tree] => sizes(session.alloc, &session.store, root_of(session, tree)?)?,
-            _ => return Err(Fault::BadLine),
-        },
-        b"join" => joined(session, words)?,
-        _ => return Err(Fault::BadLine),
-    };
-    Ok(Some(said))
+pub fn answer(
+    alloc: Global,
+    texts: &mut Texts,
+    store: &mut Store,
+    form: &str,
+    words: &[Word],
+) -> Result<String, Fault> {
+    match form {
+        "new" => planted(alloc, texts, store, words),
+        "put" => put(alloc, texts, store, words),
+        "remove" => removed(alloc, texts, store, words),
+        "move" => moved(alloc, texts, store, words, false),
+        "copy" => moved(alloc, texts, store, words, true),
+        "join" => joined(alloc, texts, store, words),
+        _ => asked(alloc, texts, store, form, words),
+    }
+}
+
+// What is asked of a tree that stays.
+fn asked(
+    alloc: Global,
+    texts: &Texts,
+    store: &Store,
+    form: &str,
+    words: &[Word],
+) -> Result<String, Fault> {
+    match words {
+        [tree, path] if form == "at" => standing(alloc, texts, store, root_of(texts, tree)?, path),
+        [tree] if form == "leaves" => leaves(alloc, store, root_of(texts, tree)?),
+        [tree] if form == "sizes" => sizes(alloc, store, root_of(texts, tree)?),
+        _ => Err(Fault::BadLine),
+    }
 }
 
 // The name of the tree that has this name in the texts.
-fn root_of(session: &Session, tree: &Word) -> Result<Name, Fault> {
-    let bytes = session.texts.get(&tree.bytes).ok_or(Fault::BadLine)?;
+fn root_of(texts: &Texts, tree: &Word) -> Result<Name, Fault> {
+    let bytes = texts.get(&tree.bytes).ok_or(Fault::BadLine)?;
     match bytes.split_first_chunk::<20>() {
         Some((name, [])) => Ok(Name(*name)),
         _ => Err(Fault::BadLine),
@@ -43,23 +54,25 @@ fn root_of(session: &Session, tree: &Word) -> Result<Name, Fault> {
 }
 
 // Gives a tree's name to that tree, and says its digits.
-fn rooted(session: &mut Session, tree: &Word, root: Name) -> Result<String, Fault> {
-    let bytes = root.bytes().to_vec(session.alloc)?;
-    session.texts.set(&tree.bytes, bytes)?;
-    digits_of(session.alloc, &root)
+fn rooted(alloc: Global, texts: &mut Texts, tree: &Word, root: Name) -> Result<String, Fault> {
+    let bytes = root.bytes().to_vec(alloc)?;
+    texts.set(&tree.bytes, bytes)?;
+    digits_of(alloc, &root)
 }
 
 // A file, executable or link with a text, or a module with a name.
-fn leaf(session: &mut Session, mode: &Word, text: &Word) -> Result<Found, Fault> {
+fn leaf(texts: &Texts, store: &mut Store, mode: &Word, text: &Word) -> Result<Found, Fault> {
     let mode = mode_of(mode)?;
     let name = if mode == Mode::Module {
-        name_of(&session.texts, text)?
+        name_of(texts, text)?
     } else {
-        let text = session.texts.word(text)?;
-        let put = session.store.put_slice(Kind::Blob, &text);
-        put.ok().ok_or(Fault::BadLine)?
+        blob(store, &texts.word(text)?)?
     };
     Ok(Found { mode, name })
+}
+
+fn blob(store: &mut Store, text: &[u8]) -> Result<Name, Fault> {
+    store.put_slice(Kind::Blob, text).ok().ok_or(Fault::BadLine)
 }
 
 fn edited(answer: Result<Name, TreeFault>) -> Result<Name, Fault> {
@@ -101,89 +114,144 @@ fn without(alloc: Global, store: &mut Store, root: Name, path: &Path) -> Result<
 }
 
 // The tree of leaves of three words each, put one after another: mode, path and text.
-fn planted(session: &mut Session, words: &[Word]) -> Result<String, Fault> {
+fn planted(
+    alloc: Global,
+    texts: &mut Texts,
+    store: &mut Store,
+    words: &[Word],
+) -> Result<String, Fault> {
     let [tree, leaves @ ..] = words else {
         return Err(Fault::BadLine);
     };
-    let empty = session.store.put_slice(Kind::Tree, b"");
-    let mut root = empty.ok().ok_or(Fault::BadLine)?;
+    let mut root = store.put_slice(Kind::Tree, b"").ok().ok_or(Fault::BadLine)?;
     for triple in leaves.chunks(3) {
-        let [mode, path, text] = triple else {
-            return Err(Fault::BadLine);
-        };
-        let found = leaf(session, mode, text)?;
-        let path = path_of(session.alloc, &session.texts, path)?;
-        root = with(session.alloc, &mut session.store, root, &path, found)?;
+        root = grown(alloc, texts, store, root, triple)?;
     }
-    rooted(session, tree, root)
+    rooted(alloc, texts, tree, root)
 }
 
-// Whether something stands at a path.
-fn presence(store: &Store, root: Name, path: &Path) -> Result<&'static str, Fault> {
-    match at(store, root, path)? {
-        Some(_) => Ok("there"),
-        None => Ok("not there"),
-    }
+// The tree with one leaf more.
+fn grown(
+    alloc: Global,
+    texts: &Texts,
+    store: &mut Store,
+    root: Name,
+    words: &[Word],
+) -> Result<Name, Fault> {
+    let [mode, path, text] = words else {
+        return Err(Fault::BadLine);
+    };
+    let found = leaf(texts, store, mode, text)?;
+    let path = path_of(alloc, texts, path)?;
+    with(alloc, store, root, &path, found)
 }
 
-fn put(session: &mut Session, words: &[Word]) -> Result<String, Fault> {
+// Says of an edited tree its name, and whether something stands at a path.
+fn told(
+    alloc: Global,
+    texts: &mut Texts,
+    store: &Store,
+    tree: &Word,
+    root: Name,
+    path: &Path,
+) -> Result<String, Fault> {
+    let presence = match at(store, root, path)? {
+        Some(_) => ", there",
+        None => ", not there",
+    };
+    let mut said = rooted(alloc, texts, tree, root)?;
+    said.push_str(presence)?;
+    Ok(said)
+}
+
+fn put(
+    alloc: Global,
+    texts: &mut Texts,
+    store: &mut Store,
+    words: &[Word],
+) -> Result<String, Fault> {
     let [tree, mode, path, text] = words else {
         return Err(Fault::BadLine);
     };
-    let alloc = session.alloc;
-    let root = root_of(session, tree)?;
-    let found = leaf(session, mode, text)?;
-    let path = path_of(alloc, &session.texts, path)?;
-    let root = with(alloc, &mut session.store, root, &path, found)?;
-    let presence = presence(&session.store, root, &path)?;
-    Ok(format!(in alloc; "{}, {presence}", rooted(session, tree, root)?)?)
+    let root = root_of(texts, tree)?;
+    let found = leaf(texts, store, mode, text)?;
+    let path = path_of(alloc, texts, path)?;
+    let root = with(alloc, store, root, &path, found)?;
+    told(alloc, texts, store, tree, root, &path)
 }
 
-fn removed(session: &mut Session, words: &[Word]) -> Result<String, Fault> {
+fn removed(
+    alloc: Global,
+    texts: &mut Texts,
+    store: &mut Store,
+    words: &[Word],
+) -> Result<String, Fault> {
     let [tree, path] = words else {
         return Err(Fault::BadLine);
     };
-    let alloc = session.alloc;
-    let root = root_of(session, tree)?;
-    let path = path_of(alloc, &session.texts, path)?;
-    let root = without(alloc, &mut session.store, root, &path)?;
-    let presence = presence(&session.store, root, &path)?;
-    Ok(format!(in alloc; "{}, {presence}", rooted(session, tree, root)?)?)
+    let root = root_of(texts, tree)?;
+    let path = path_of(alloc, texts, path)?;
+    let root = without(alloc, store, root, &path)?;
+    told(alloc, texts, store, tree, root, &path)
 }
 
 // Puts what stands at a path at another, after taking it out if it is moved. Where nothing stands, nothing is done.
-fn moved(session: &mut Session, words: &[Word], is_copy: bool) -> Result<String, Fault> {
+fn moved(
+    alloc: Global,
+    texts: &mut Texts,
+    store: &mut Store,
+    words: &[Word],
+    is_copy: bool,
+) -> Result<String, Fault> {
     let [tree, from, to] = words else {
         return Err(Fault::BadLine);
     };
-    let alloc = session.alloc;
-    let root = root_of(session, tree)?;
-    let from = path_of(alloc, &session.texts, from)?;
-    let to = path_of(alloc, &session.texts, to)?;
-    let Some(found) = at(&session.store, root, &from)? else {
-        return Ok(format!(in alloc; "{}, nothing there", digits_of(alloc, &root)?)?);
+    let root = root_of(texts, tree)?;
+    let from = path_of(alloc, texts, from)?;
+    let to = path_of(alloc, texts, to)?;
+    match relinked(alloc, store, root, &from, &to, is_copy)? {
+        None => Ok(nothing_there(alloc, &root)?),
+        Some(root) => rooted(alloc, texts, tree, root),
+    }
+}
+
+fn nothing_there(alloc: Global, root: &Name) -> Result<String, Fault> {
+    let mut said = digits_of(alloc, root)?;
+    said.push_str(", nothing there")?;
+    Ok(said)
+}
+
+// The tree with what stands at a path at another. None: nothing stands there.
+fn relinked(
+    alloc: Global,
+    store: &mut Store,
+    root: Name,
+    from: &Path,
+    to: &Path,
+    is_copy: bool,
+) -> Result<Option<Name>, Fault> {
+    let Some(found) = at(store, root, from)? else {
+        return Ok(None);
     };
     let rest = if is_copy {
         root
     } else {
-        without(alloc, &mut session.store, root, &from)?
+        without(alloc, store, root, from)?
     };
-    let root = with(alloc, &mut session.store, rest, &to, found)?;
-    rooted(session, tree, root)
+    with(alloc, store, rest, to, found).map(Some)
 }
 
-fn standing(session: &Session, words: &[Word]) -> Result<String, Fault> {
-    let [tree, path] = words else {
-        return Err(Fault::BadLine);
-    };
-    let alloc = session.alloc;
-    let path = path_of(alloc, &session.texts, path)?;
-    match at(&session.store, root_of(session, tree)?, &path)? {
-        None => Ok(String::from_str(alloc, "none")?),
-        Some(found) => {
-            let mode = mode_digits(found.mode);
-            Ok(format!(in alloc; "{mode} {}", digits_of(alloc, &found.name)?)?)
-        }
+fn standing(
+    alloc: Global,
+    texts: &Texts,
+    store: &Store,
+    root: Name,
+    path: &Word,
+) -> Result<String, Fault> {
+    let path = path_of(alloc, texts, path)?;
+    match at(store, root, &path)? {
+        None => text(alloc, "none"),
+        Some(found) => word_and_digits(alloc, mode_digits(found.mode), &found.name),
     }
 }
 
@@ -196,24 +264,40 @@ fn join(alloc: Global, store: &mut Store, a: Name, b: Name) -> Result<Name, Join
 }
 
 // The name of two trees together, or their first clash, which has to leave the store as it was.
-fn joined(session: &mut Session, words: &[Word]) -> Result<String, Fault> {
+fn joined(
+    alloc: Global,
+    texts: &Texts,
+    store: &mut Store,
+    words: &[Word],
+) -> Result<String, Fault> {
     let [left, right] = words else {
         return Err(Fault::BadLine);
     };
-    let alloc = session.alloc;
-    let (a, b) = (root_of(session, left)?, root_of(session, right)?);
-    let objects = session.store.len();
-    match join(alloc, &mut session.store, a, b) {
-        Ok(name) => digits_of(alloc, &name),
-        Err(JoinFault::Clash { path, by }) => {
-            if session.store.len() != objects {
-                return Err(Fault::BadLine);
-            }
-            let path = printed(alloc, &path.text(alloc)?)?;
-            let by = printed(alloc, &by.text(alloc)?)?;
-            Ok(format!(in alloc; "clash {path} by {by}")?)
-        }
-        Err(JoinFault::Collision { .. }) => Err(Fault::BadLine),
+    let (a, b) = (root_of(texts, left)?, root_of(texts, right)?);
+    let objects = store.len();
+    let answer = join(alloc, store, a, b);
+    join_text(alloc, &answer, store.len() == objects)
+}
+
+fn join_text(
+    alloc: Global,
+    answer: &Result<Name, JoinFault>,
+    is_as_before: bool,
+) -> Result<String, Fault> {
+    match answer {
+        Ok(name) => digits_of(alloc, name),
+        Err(JoinFault::Clash { path, by }) if is_as_before => clash_text(alloc, path, by),
         Err(JoinFault::OutOfMemory) => Err(Fault::OutOfMemory),
+        Err(_) => Err(Fault::BadLine),
     }
+}
+
+fn clash_text(alloc: Global, path: &Path, by: &Path) -> Result<String, Fault> {
+    let path = path_text(alloc, path)?;
+    let by = path_text(alloc, by)?;
+    Ok(format!(in alloc; "clash {path} by {by}")?)
+}
+
+fn path_text(alloc: Global, path: &Path) -> Result<String, Fault> {
+    Ok(printed(alloc, &path.text(alloc)?)?)
 }

@@ -4,21 +4,21 @@ use git_objects::{Kind, Mode, Name};
 use std::alloc::Global;
 
 pub fn kind_of(word: &Word) -> Result<Kind, Fault> {
-    match word.bytes.as_slice() {
-        b"blob" => Ok(Kind::Blob),
-        b"tree" => Ok(Kind::Tree),
-        b"commit" => Ok(Kind::Commit),
+    match word.text() {
+        "blob" => Ok(Kind::Blob),
+        "tree" => Ok(Kind::Tree),
+        "commit" => Ok(Kind::Commit),
         _ => Err(Fault::BadLine),
     }
 }
 
 pub fn mode_of(word: &Word) -> Result<Mode, Fault> {
-    match word.bytes.as_slice() {
-        b"100644" => Ok(Mode::File),
-        b"100755" => Ok(Mode::Exec),
-        b"120000" => Ok(Mode::Link),
-        b"160000" => Ok(Mode::Module),
-        b"40000" => Ok(Mode::Dir),
+    match word.text() {
+        "100644" => Ok(Mode::File),
+        "100755" => Ok(Mode::Exec),
+        "120000" => Ok(Mode::Link),
+        "160000" => Ok(Mode::Module),
+        "40000" => Ok(Mode::Dir),
         _ => Err(Fault::BadLine),
     }
 }
@@ -37,7 +37,18 @@ pub fn mode_digits(mode: Mode) -> &'static str {
 /// The digits of a name, or `none`.
 pub fn digits_or_none(alloc: Global, name: Option<Name>) -> Result<String, Fault> {
     match name {
-        None => Ok(String::from_str(alloc, "none")?),
+        None => text(alloc, "none"),
         Some(name) => digits_of(alloc, &name),
     }
+}
+
+/// A text as an answer.
+pub fn text(alloc: Global, text: &str) -> Result<String, Fault> {
+    String::from_str(alloc, text).map_err(Fault::from)
+}
+
+/// A word and the digits of a name.
+pub fn word_and_digits(alloc: Global, word: &str, name: &Name) -> Result<String, Fault> {
+    let digits = digits_of(alloc, name)?;
+    Ok(format!(in alloc; "{word} {digits}")?)
 }

@@ -9,30 +9,50 @@ pub fn name(alloc: Global, number: usize) -> Result<String, AllocError> {
     Ok(name)
 }
 
-// One member of a text.
-fn member(alloc: Global, mode: &str, number: usize) -> Result<String, AllocError> {
-    let name = name(alloc, number)?;
+// A member of a mode, where `@` is in place of its name.
+fn pattern(mode: &str) -> &'static str {
     match mode {
-        "dirs" => format!(in alloc; "::{name}/"),
-        "targets" => format!(in alloc; "{name}=:/x{name}"),
-        "deep" => {
-            let mut text = String::new(alloc);
-            for _ in 0..number {
-                text.push_str("a/")?;
-            }
-            format!(in alloc; "::{text}b/")
-        }
-        "nops" => format!(in alloc; ":nop"),
-        "chain" => format!(in alloc; ":/{name}"),
-        "lists" | "listed" => format!(in alloc; ":[:/a,:/b]"),
-        "swaps" => format!(in alloc; ":[a=:/b,b=:/a]"),
-        "prefixes" => format!(in alloc; ":prefix={name}"),
-        "excludes" => format!(in alloc; ":exclude[::{name}]"),
-        "holes" => format!(in alloc;
-            "{name}=:/x{name}:exclude[::a,::b/,::c/,::d/,::e/,::f/,::g/,::h/,::i/,::j/,::k/,::l/,::m/]"
-        ),
-        _ => format!(in alloc; "::{name}"),
+        "dirs" => "::@/",
+        "targets" => "@=:/x@",
+        "nops" => ":nop",
+        "chain" => ":/@",
+        "lists" | "listed" => ":[:/a,:/b]",
+        "swaps" => ":[a=:/b,b=:/a]",
+        "prefixes" => ":prefix=@",
+        "excludes" => ":exclude[::@]",
+        "holes" => "@=:/x@:exclude[::a,::b/,::c/,::d/,::e/,::f/,::g/,::h/,::i/,::j/,::k/,::l/,::m/]",
+        _ => "::@",
     }
+}
+
+// Adds one member of a text.
+fn add_member(
+    alloc: Global,
+    text: &mut String,
+    mode: &str,
+    number: usize,
+) -> Result<(), AllocError> {
+    if mode == "deep" {
+        return add_deep(text, number);
+    }
+    let name = name(alloc, number)?;
+    let mut rest = false;
+    for part in pattern(mode).split('@') {
+        if rest {
+            text.push_str(name.as_str())?;
+        }
+        text.push_str(part)?;
+        rest = true;
+    }
+    Ok(())
+}
+
+fn add_deep(text: &mut String, number: usize) -> Result<(), AllocError> {
+    text.push_str("::")?;
+    for _ in 0..number {
+        text.push_str("a/")?;
+    }
+    text.push_str("b/")
 }
 
 // What stands before the members, between two of them, and behind all of them. None: no such mode.
@@ -58,7 +78,7 @@ fn joined(
         if number > 0 {
             text.push_str(frame.1)?;
         }
-        text.push_str(member(alloc, mode, number)?.as_str())?;
+        add_member(alloc, &mut text, mode, number)?;
     }
     text.push_str(frame.2)?;
     Ok(text)
@@ -76,11 +96,15 @@ fn nested(alloc: Global, count: usize) -> Result<String, AllocError> {
         text.push_str(":[:/a,:/b]")?;
     }
     for number in 0..count {
-        text.push_str(":prefix=y,::")?;
-        text.push_str(name(alloc, number)?.as_str())?;
-        text.push_str(":prefix=x]")?;
+        add_end(alloc, &mut text, number)?;
     }
     Ok(text)
+}
+
+fn add_end(alloc: Global, text: &mut String, number: usize) -> Result<(), AllocError> {
+    text.push_str(":prefix=y,::")?;
+    text.push_str(name(alloc, number)?.as_str())?;
+    text.push_str(":prefix=x]")
 }
 
 /// The text of a mode with this many members. None: no such mode, or no memory.

@@ -10,7 +10,7 @@ mod routes;
 mod streams;
 mod trees;
 
-use std::alloc::Global;
+use std::alloc::{AllocError, Global};
 use std::rt::Clock;
 use std::{env, io};
 
@@ -36,13 +36,25 @@ fn answer(
     mode: &str,
     numbers: (u32, u32),
 ) -> io::Result<Option<String>> {
+    if bench == "graph" {
+        return graph::answer(rt, alloc, mode, u64::from(numbers.0));
+    }
+    Ok(untimed(alloc, bench, mode, numbers)?)
+}
+
+// The work that reads no clock.
+fn untimed(
+    alloc: Global,
+    bench: &str,
+    mode: &str,
+    numbers: (u32, u32),
+) -> Result<Option<String>, AllocError> {
     let count = numbers.0;
     match bench {
-        "objects" => Ok(objects::answer(alloc, mode, u64::from(count))?),
-        "graph" => graph::answer(rt, alloc, mode, u64::from(count)),
-        "trees" => Ok(trees::answer(alloc, mode, count, numbers.1)?),
-        "streams" => Ok(streams::answer(alloc, mode, u64::from(count))?),
-        "routes" => Ok(routes::answer(alloc, mode, count as usize)?),
+        "objects" => objects::answer(alloc, mode, u64::from(count)),
+        "trees" => trees::answer(alloc, mode, count, numbers.1),
+        "streams" => streams::answer(alloc, mode, u64::from(count)),
+        "routes" => routes::answer(alloc, mode, count as usize),
         _ => Ok(None),
     }
 }
@@ -57,28 +69,39 @@ fn do_all(rt: &(impl Clock + Print), alloc: Global) -> io::Result<()> {
     Ok(())
 }
 
-fn main(rt: HostRuntime) -> io::Result<()> {
-    let alloc = rt.alloc();
-    let mut words = env::args(&rt)?;
-    let _program = words.next();
-    let Some(bench) = words.next() else {
-        return println!(rt; "{USAGE}");
-    };
-    if bench.as_str() == "all" {
-        return do_all(&rt, alloc);
-    }
-    let (Some(mode), Some(first)) = (words.next(), words.next()) else {
+// Does the work of a bench, a mode and a number or two, and prints what came of it.
+fn do_one(
+    rt: &(impl Clock + Print),
+    alloc: Global,
+    bench: &str,
+    words: &[String],
+) -> io::Result<()> {
+    let [mode, first, rest @ ..] = words else {
         return println!(rt; "{USAGE}");
     };
     let Ok(first) = first.as_str().parse::<u32>() else {
         return println!(rt; "not a number");
     };
-    let second = match words.next() {
-        None => 0,
-        Some(word) => word.as_str().parse::<u32>().unwrap_or(0),
-    };
-    match answer(&rt, alloc, bench.as_str(), mode.as_str(), (first, second))? {
+    match answer(rt, alloc, bench, mode.as_str(), (first, second(rest)))? {
         None => println!(rt; "{USAGE}"),
         Some(line) => println!(rt; "{line}"),
+    }
+}
+
+// The second number; 0 where there is none.
+fn second(words: &[String]) -> u32 {
+    match words {
+        [word, ..] => word.as_str().parse::<u32>().unwrap_or(0),
+        [] => 0,
+    }
+}
+
+fn main(rt: HostRuntime) -> io::Result<()> {
+    let alloc = rt.alloc();
+    let words: Vec<String> = env::args(&rt)?.collect(alloc)?;
+    match words.as_slice() {
+        [_, word, ..] if word.as_str() == "all" => do_all(&rt, alloc),
+        [_, bench, rest @ ..] => do_one(&rt, alloc, bench.as_str(), rest),
+        _ => println!(rt; "{USAGE}"),
     }
 }

@@ -3,7 +3,7 @@ use case_lines::{Fault, digits_of, printed};
 use fast_import::{BlobRef, Change, Command, CommitHead, CommitRef, Placed, Target};
 use git_objects::Mode;
 use path_names::Path;
-use std::alloc::Global;
+use std::alloc::{AllocError, Global};
 
 /// A command behind its place.
 pub fn line_of(alloc: Global, placed: &Placed) -> Result<String, Fault> {
@@ -13,64 +13,93 @@ pub fn line_of(alloc: Global, placed: &Placed) -> Result<String, Fault> {
 
 fn command_text(alloc: Global, command: &Command) -> Result<String, Fault> {
     match command {
-        Command::Blob { mark, content } => {
-            let mark = mark_text(alloc, *mark)?;
-            let content = printed(alloc, content.bytes())?;
-            Ok(format!(in alloc; "blob {mark} [{content}]")?)
-        }
+        Command::Blob { mark, content } => mark_and_content(alloc, *mark, content.bytes()),
         Command::Commit(head) => head_text(alloc, head),
         Command::Change(change) => change_text(alloc, change),
-        Command::CommitEnd => Ok(String::from_str(alloc, "commit end")?),
-        Command::Reset { refname, from } => {
-            let refname = printed(alloc, refname.text())?;
-            let from = from_text(alloc, from)?;
-            Ok(format!(in alloc; "reset {refname} {from}")?)
-        }
-        Command::Done => Ok(String::from_str(alloc, "done")?),
+        Command::CommitEnd => text_of(alloc, "commit end"),
+        Command::Reset { refname, from } => reset_text(alloc, refname.text(), from),
+        Command::Done => text_of(alloc, "done"),
     }
+}
+
+fn text_of(alloc: Global, text: &str) -> Result<String, Fault> {
+    String::from_str(alloc, text).map_err(Fault::from)
+}
+
+fn mark_and_content(alloc: Global, mark: Option<u64>, content: &[u8]) -> Result<String, Fault> {
+    let mark = mark_text(alloc, mark)?;
+    let content = printed(alloc, content)?;
+    Ok(format!(in alloc; "blob {mark} [{content}]")?)
+}
+
+fn reset_text(alloc: Global, refname: &[u8], from: &Option<CommitRef>) -> Result<String, Fault> {
+    let refname = printed(alloc, refname)?;
+    let from = from_text(alloc, from)?;
+    Ok(format!(in alloc; "reset {refname} {from}")?)
 }
 
 // A mark, or `-` for none.
 fn mark_text(alloc: Global, mark: Option<u64>) -> Result<String, Fault> {
     match mark {
-        None => Ok(String::from_str(alloc, "-")?),
+        None => text_of(alloc, "-"),
         Some(mark) => Ok(format!(in alloc; "{mark}")?),
     }
 }
 
 // A commit behind the place of the line that names it.
 fn ref_text(alloc: Global, found: &CommitRef) -> Result<String, Fault> {
-    let target = match &found.target {
-        Target::Mark(mark) => format!(in alloc; "{mark}")?,
-        Target::Digits(name) => digits_of(alloc, name)?,
-        Target::Ref(refname) => printed(alloc, refname.text())?,
-    };
+    let target = target_text(alloc, &found.target)?;
     Ok(format!(in alloc; "{}:{target}", found.at)?)
+}
+
+fn target_text(alloc: Global, target: &Target) -> Result<String, Fault> {
+    match target {
+        Target::Mark(mark) => Ok(format!(in alloc; "{mark}")?),
+        Target::Digits(name) => digits_of(alloc, name),
+        Target::Ref(refname) => Ok(printed(alloc, refname.text())?),
+    }
 }
 
 fn from_text(alloc: Global, from: &Option<CommitRef>) -> Result<String, Fault> {
     match from {
-        None => Ok(String::from_str(alloc, "-")?),
+        None => text_of(alloc, "-"),
         Some(found) => ref_text(alloc, found),
     }
 }
 
 // Ref, mark, author, committer and message, and then the parents.
 fn head_text(alloc: Global, head: &CommitHead) -> Result<String, Fault> {
+    let mut text = front_text(alloc, head)?;
+    add_bracketed(&mut text, head.author.bytes())?;
+    add_bracketed(&mut text, head.committer.bytes())?;
+    add_bracketed(&mut text, head.message.bytes())?;
+    add_parents(alloc, &mut text, head)?;
+    Ok(text)
+}
+
+fn front_text(alloc: Global, head: &CommitHead) -> Result<String, Fault> {
     let refname = printed(alloc, head.refname.text())?;
     let mark = mark_text(alloc, head.mark)?;
-    let author = printed(alloc, head.author.bytes())?;
-    let committer = printed(alloc, head.committer.bytes())?;
-    let message = printed(alloc, head.message.bytes())?;
-    let from = from_text(alloc, &head.from)?;
-    let mut text = format!(in alloc;
-        "commit {refname} {mark} [{author}] [{committer}] [{message}] {from}"
-    )?;
+    Ok(format!(in alloc; "commit {refname} {mark}")?)
+}
+
+fn add_bracketed(text: &mut String, bytes: &[u8]) -> Result<(), AllocError> {
+    let alloc = *text.allocator();
+    let bytes = printed(alloc, bytes)?;
+    text.push_str(format!(in alloc; " [{bytes}]")?.as_str())
+}
+
+fn add_parents(alloc: Global, text: &mut String, head: &CommitHead) -> Result<(), Fault> {
+    add_word(text, from_text(alloc, &head.from)?.as_str())?;
     for merge in head.merges.refs() {
-        text.push(' ')?;
-        text.push_str(ref_text(alloc, merge)?.as_str())?;
+        add_word(text, ref_text(alloc, merge)?.as_str())?;
     }
-    Ok(text)
+    Ok(())
+}
+
+fn add_word(text: &mut String, word: &str) -> Result<(), AllocError> {
+    text.push(' ')?;
+    text.push_str(word)
 }
 
 fn path_text(alloc: Global, path: &Path) -> Result<String, Fault> {
@@ -91,29 +120,35 @@ fn blob_text(alloc: Global, blob: &BlobRef) -> Result<String, Fault> {
     match blob {
         BlobRef::Mark(mark) => Ok(format!(in alloc; "{mark}")?),
         BlobRef::Digits(name) => digits_of(alloc, name),
-        BlobRef::Inline(bytes) => {
-            let bytes = printed(alloc, bytes.bytes())?;
-            Ok(format!(in alloc; "[{bytes}]")?)
-        }
+        BlobRef::Inline(bytes) => Ok(inline_text(alloc, bytes.bytes())?),
     }
+}
+
+fn inline_text(alloc: Global, bytes: &[u8]) -> Result<String, AllocError> {
+    let bytes = printed(alloc, bytes)?;
+    format!(in alloc; "[{bytes}]")
 }
 
 fn change_text(alloc: Global, change: &Change) -> Result<String, Fault> {
     match change {
-        Change::Modify { mode, blob, path } => {
-            let mode = mode_text(*mode);
-            let blob = blob_text(alloc, blob)?;
-            let path = path_text(alloc, path)?;
-            Ok(format!(in alloc; "M {mode} {blob} {path}")?)
-        }
-        Change::Delete { path } => {
-            let path = path_text(alloc, path)?;
-            Ok(format!(in alloc; "D {path}")?)
-        }
+        Change::Modify { mode, blob, path } => modify_text(alloc, *mode, blob, path),
+        Change::Delete { path } => delete_text(alloc, path),
         Change::Rename { from, to } => moved_text(alloc, "R", from, to),
         Change::Copy { from, to } => moved_text(alloc, "C", from, to),
-        Change::DeleteAll => Ok(String::from_str(alloc, "deleteall")?),
+        Change::DeleteAll => text_of(alloc, "deleteall"),
     }
+}
+
+fn modify_text(alloc: Global, mode: Mode, blob: &BlobRef, path: &Path) -> Result<String, Fault> {
+    let mode = mode_text(mode);
+    let blob = blob_text(alloc, blob)?;
+    let path = path_text(alloc, path)?;
+    Ok(format!(in alloc; "M {mode} {blob} {path}")?)
+}
+
+fn delete_text(alloc: Global, path: &Path) -> Result<String, Fault> {
+    let path = path_text(alloc, path)?;
+    Ok(format!(in alloc; "D {path}")?)
 }
 
 fn moved_text(alloc: Global, word: &str, from: &Path, to: &Path) -> Result<String, Fault> {

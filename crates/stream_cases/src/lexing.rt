@@ -2,9 +2,10 @@
 ghost use Rattle.std.specs.Prelude.{◌≡◌, ◌<◌, ◌∷◌, [], false};
 
 use case_lines::{Fault, Texts, Word, number_of, printed};
-use std::alloc::Global;
+use std::alloc::{AllocError, Global};
 use stream_lex::{
-    BlockAnswer, Cursor, Lexer, LineAnswer, LineView, Stop, any_line, block, is_comment, line,
+    BlockAnswer, LexFault, Lexer, LimitFault, LineAnswer, LineView, Stop, any_line, block,
+    is_comment, line,
 };
 
 // What is asked of a lexer.
@@ -26,28 +27,92 @@ fn ask_of(byte: u8) -> Result<Ask, Fault> {
 }
 
 // What a lexer tells, and nothing where more must come.
-fn told(alloc: Global, lexer: &mut Lexer, ask: Ask) -> Result<Option<String>, Fault> {
-    let answer = match ask {
-        Ask::Line => match lexer.line() {
-            Ok(LineAnswer::Line { at, bytes }) => {
-                let bytes = printed(alloc, bytes.bytes())?;
-                format!(in alloc; "at {at} [{bytes}]\n")?
-            }
-            Ok(LineAnswer::Ended { at }) => format!(in alloc; "end at {at}\n")?,
-            Ok(LineAnswer::More) => return Ok(None),
-            Err(fault) => format!(in alloc; "{fault:?}\n")?,
-        },
-        Ask::Block(size) => match lexer.block(size) {
-            Ok(BlockAnswer::Block(bytes)) => {
-                let bytes = printed(alloc, bytes.bytes())?;
-                format!(in alloc; "block [{bytes}]\n")?
-            }
-            Ok(BlockAnswer::Short) => String::from_str(alloc, "short\n")?,
-            Ok(BlockAnswer::More) => return Ok(None),
-            Err(fault) => format!(in alloc; "{fault:?}\n")?,
-        },
-    };
-    Ok(Some(answer))
+fn told(alloc: Global, lexer: &mut Lexer, ask: Ask) -> Result<Option<String>, AllocError> {
+    match ask {
+        Ask::Line => line_told(alloc, &lexer.line()),
+        Ask::Block(size) => block_told(alloc, &lexer.block(size)),
+    }
+}
+
+fn line_told(
+    alloc: Global,
+    answer: &Result<LineAnswer, LexFault>,
+) -> Result<Option<String>, AllocError> {
+    match answer {
+        Ok(LineAnswer::Line { at, bytes }) => placed_text(alloc, *at, bytes.bytes()).map(Some),
+        Ok(LineAnswer::Ended { at }) => end_text(alloc, *at).map(Some),
+        Ok(LineAnswer::More) => Ok(None),
+        Err(fault) => fault_text(alloc, fault).map(Some),
+    }
+}
+
+fn block_told(
+    alloc: Global,
+    answer: &Result<BlockAnswer, LexFault>,
+) -> Result<Option<String>, AllocError> {
+    match answer {
+        Ok(BlockAnswer::Block(bytes)) => block_text(alloc, bytes.bytes()).map(Some),
+        Ok(BlockAnswer::Short) => String::from_str(alloc, "short\n").map(Some),
+        Ok(BlockAnswer::More) => Ok(None),
+        Err(fault) => fault_text(alloc, fault).map(Some),
+    }
+}
+
+fn placed_text(alloc: Global, at: u64, bytes: &[u8]) -> Result<String, AllocError> {
+    let bytes = printed(alloc, bytes)?;
+    format!(in alloc; "at {at} [{bytes}]\n")
+}
+
+fn end_text(alloc: Global, at: u64) -> Result<String, AllocError> {
+    format!(in alloc; "end at {at}\n")
+}
+
+fn block_text(alloc: Global, bytes: &[u8]) -> Result<String, AllocError> {
+    let bytes = printed(alloc, bytes)?;
+    format!(in alloc; "block [{bytes}]\n")
+}
+
+fn fault_text(alloc: Global, fault: &LexFault) -> Result<String, AllocError> {
+    format!(in alloc; "{fault:?}\n")
+}
+
+// Feeds the next piece of at most so many bytes, or tells the end where nothing is left. What is left then is handed
+// out.
+fn feed_next<'a>(lexer: &mut Lexer, rest: &'a [u8], most: usize) -> Result<&'a [u8], Fault>
+    requires { lexer.old.ended ≡ false }
+{
+    if rest.is_empty() {
+        lexer.end();
+        return Ok(rest);
+    }
+    let (piece, others) = rest.split_at(most.min(rest.len()));
+    lexer.feed(piece)?;
+    Ok(others)
+}
+
+// Adds the answer to an ask, for which pieces are fed where what came before isn't enough. What is left of the text
+// then is handed out.
+fn add_told<'a>(
+    alloc: Global,
+    lexer: &mut Lexer,
+    text: &'a [u8],
+    most: usize,
+    ask: Ask,
+    all: &mut String,
+) -> Result<&'a [u8], Fault> {
+    let mut rest = text;
+    for _ in 0..u64::MAX {
+        if let Some(answer) = told(alloc, lexer, ask)? {
+            all.push_str(answer.as_str())?;
+            break;
+        }
+        if lexer.has_ended() {
+            all.push_str("more behind the end\n")?;
+            break;
+        }
+        rest = feed_next(lexer, rest, most)?;
+    }
+    Ok(rest)
 }
 
 // The answers to all asks, where a text is fed in pieces of at most so many bytes, each where the ones before aren't
@@ -57,24 +122,7 @@ fn told_in_pieces(alloc: Global, text: &[u8], most: usize, asks: &[u8]) -> Resul
     let mut rest = text;
     let mut all = String::new(alloc);
     for ask in asks {
-        let ask = ask_of(*ask)?;
-        for _ in 0..u64::MAX {
-            if let Some(answer) = told(alloc, &mut lexer, ask)? {
-                all.push_str(answer.as_str())?;
-                break;
-            }
-            if lexer.has_ended() {
-                all.push_str("more behind the end\n")?;
-                break;
-            }
-            if rest.is_empty() {
-                lexer.end();
-            } else {
-                let (piece, others) = rest.split_at(most.min(rest.len()));
-                lexer.feed(piece)?;
-                rest = others;
-            }
-        }
+        rest = add_told(alloc, &mut lexer, rest, most, ask_of(*ask)?, &mut all)?;
     }
     Ok(all)
 }
@@ -86,11 +134,15 @@ pub fn answer(alloc: Global, texts: &Texts, words: &[Word]) -> Result<String, Fa
     };
     let text = texts.spelled(pieces)?;
     let whole = told_in_pieces(alloc, &text, usize::MAX, &asks.bytes)?;
-    let mut all = String::new(alloc);
-    all.push_str(whole.as_str())?;
+    with_pieces(alloc, &text, &asks.bytes, whole.as_str())
+}
+
+// The answers to asks of the whole text, and those by pieces where they are others.
+fn with_pieces(alloc: Global, text: &[u8], asks: &[u8], whole: &str) -> Result<String, Fault> {
+    let mut all = String::from_str(alloc, whole)?;
     for most in [7, 1] {
-        let pieces = told_in_pieces(alloc, &text, most, &asks.bytes)?;
-        if pieces.as_str() != whole.as_str() {
+        let pieces = told_in_pieces(alloc, text, most, asks)?;
+        if pieces.as_str() != whole {
             all.push_str("in pieces:\n")?;
             all.push_str(pieces.as_str())?;
         }
@@ -99,61 +151,78 @@ pub fn answer(alloc: Global, texts: &Texts, words: &[Word]) -> Result<String, Fa
 }
 
 // A line with its place, or the end, and the place behind it.
-fn line_text<'a>(
-    alloc: Global,
-    found: Option<LineView<'a>>,
-    after: Cursor<'a>,
-) -> Result<String, Fault> {
-    let Some(found) = found else {
-        return Ok(format!(in alloc; "end, to {}\n", after.at)?);
-    };
+fn line_text(alloc: Global, found: Option<LineView<'_>>, to: u64) -> Result<String, AllocError> {
+    match found {
+        None => format!(in alloc; "end, to {to}\n"),
+        Some(found) => found_text(alloc, found, to),
+    }
+}
+
+fn found_text(alloc: Global, found: LineView<'_>, to: u64) -> Result<String, AllocError> {
     let word = if is_comment(found.bytes) {
         "comment"
     } else {
         "line"
     };
     let bytes = printed(alloc, found.bytes)?;
-    Ok(format!(in alloc; "{word} at {} [{bytes}], to {}\n", found.at, after.at)?)
+    format!(in alloc; "{word} at {} [{bytes}], to {to}\n", found.at)
 }
 
-// The answer to one ask of what a lexer holds, which is lent. Lines and blocks are then passed over; a line that may be
-// a comment isn't.
-fn lent_one(alloc: Global, lexer: &mut Lexer, ask: &[u8]) -> Result<String, Fault> {
-    let ended = lexer.has_ended();
-    if ask == b"end".as_slice() {
-        lexer.end();
-        return Ok(String::new(alloc));
+fn stop_text(alloc: Global, stop: Stop<LimitFault>) -> Result<String, AllocError> {
+    format!(in alloc; "{stop:?}\n")
+}
+
+// The next line, a comment or not, which stays.
+fn lent_any(alloc: Global, lexer: &Lexer) -> Result<String, AllocError> {
+    match any_line(lexer.has_ended(), lexer.cursor()) {
+        Ok((found, after)) => line_text(alloc, found, after.at),
+        Err(stop) => stop_text(alloc, stop),
     }
-    if ask == b"any".as_slice() {
-        return match any_line(ended, lexer.cursor()) {
-            Ok((found, after)) => line_text(alloc, found, after),
-            Err(stop) => Ok(format!(in alloc; "{stop:?}\n")?),
-        };
-    }
-    if ask == b"line".as_slice() {
-        return match line(ended, lexer.cursor()) {
-            Ok((found, after)) => {
-                let text = line_text(alloc, found, after)?;
-                let to = after.at;
-                lexer.pass(to);
-                Ok(text)
-            }
-            Err(stop) => Ok(format!(in alloc; "{stop:?}\n")?),
-        };
-    }
-    let size = number_of(ask)?;
-    let size = usize::try_from(size).ok().ok_or(Fault::BadLine)?;
-    match block(size, ended, lexer.cursor()) {
-        Ok((Some(found), after)) => {
-            let bytes = printed(alloc, found)?;
+}
+
+// The next line, which is passed over. One that may be a comment isn't.
+fn lent_line(alloc: Global, lexer: &mut Lexer) -> Result<String, AllocError> {
+    match line(lexer.has_ended(), lexer.cursor()) {
+        Ok((found, after)) => {
             let to = after.at;
+            let text = line_text(alloc, found, to)?;
             lexer.pass(to);
-            Ok(format!(in alloc; "block [{bytes}], to {to}\n")?)
+            Ok(text)
         }
-        Ok((None, _)) => Ok(String::from_str(alloc, "short\n")?),
-        Err(Stop::More(wanted)) => Ok(format!(in alloc; "More({wanted:?})\n")?),
-        Err(stop) => Ok(format!(in alloc; "{stop:?}\n")?),
+        Err(stop) => stop_text(alloc, stop),
     }
+}
+
+// A block of so many bytes, which is passed over.
+fn lent_block(alloc: Global, lexer: &mut Lexer, size: usize) -> Result<String, AllocError> {
+    match block(size, lexer.has_ended(), lexer.cursor()) {
+        Ok((Some(found), after)) => {
+            let to = after.at;
+            let bytes = printed(alloc, found)?;
+            lexer.pass(to);
+            format!(in alloc; "block [{bytes}], to {to}\n")
+        }
+        Ok((None, _)) => String::from_str(alloc, "short\n"),
+        Err(stop) => stop_text(alloc, stop),
+    }
+}
+
+// The answer to one ask of what a lexer holds, which is lent.
+fn lent_one(alloc: Global, lexer: &mut Lexer, ask: &Word) -> Result<String, Fault> {
+    match ask.text() {
+        "end" => {
+            lexer.end();
+            Ok(String::new(alloc))
+        }
+        "any" => Ok(lent_any(alloc, lexer)?),
+        "line" => Ok(lent_line(alloc, lexer)?),
+        _ => Ok(lent_block(alloc, lexer, size_of(ask)?)?),
+    }
+}
+
+fn size_of(word: &Word) -> Result<usize, Fault> {
+    let size = number_of(&word.bytes)?;
+    usize::try_from(size).ok().ok_or(Fault::BadLine)
 }
 
 /// The answers to asks of a text that was fed whole, read without copies: `any` for the next line, a comment or not,
@@ -167,7 +236,7 @@ pub fn lent(alloc: Global, texts: &Texts, words: &[Word]) -> Result<String, Faul
     lexer.feed(&texts.word(piece)?)?;
     let mut all = String::new(alloc);
     for ask in asks {
-        all.push_str(lent_one(alloc, &mut lexer, &ask.bytes)?.as_str())?;
+        all.push_str(lent_one(alloc, &mut lexer, ask)?.as_str())?;
     }
     Ok(all)
 }

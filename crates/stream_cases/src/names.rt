@@ -1,24 +1,41 @@
 // Paths, ref names, texts between quotes, words and numbers.
 use case_lines::{Fault, Texts, Word, printed};
+use git_objects::Component;
 use path_names::{
-    Path, PathFault, QuoteFault, RefFault, RefName, before, comparable, is_ref_name, number,
-    path_in, quote, quoted, strip, unquote,
+    Path, PathFault, QuoteFault, RefFault, RefName, Unquoted, before, comparable, is_ref_name,
+    number, path_in, quote, quoted, strip, unquote,
 };
-use std::alloc::Global;
+use std::alloc::{AllocError, Global};
 
 /// The answer to a line on names.
-pub fn answer(alloc: Global, texts: &Texts, form: &[u8], words: &[Word]) -> Result<String, Fault> {
+pub fn answer(alloc: Global, texts: &Texts, form: &str, words: &[Word]) -> Result<String, Fault> {
     match form {
-        b"path" => path_answer(alloc, &texts.spelled(words)?),
-        b"join" => joined(alloc, texts, words),
-        b"order" => ordered(alloc, texts, words),
-        b"ref" => ref_answer(alloc, &texts.spelled(words)?),
-        b"quote" => quoted_answer(alloc, &texts.spelled(words)?),
-        b"unquote" => unquoted_answer(alloc, &texts.spelled(words)?),
-        b"number" => number_answer(alloc, &texts.spelled(words)?),
-        b"strip" => stripped(alloc, texts, words),
+        "join" => joined(alloc, texts, words),
+        "order" => ordered(alloc, texts, words),
+        "strip" => stripped(alloc, texts, words),
+        _ => read(alloc, form, &texts.spelled(words)?),
+    }
+}
+
+// What is read of one text.
+fn read(alloc: Global, form: &str, text: &[u8]) -> Result<String, Fault> {
+    match form {
+        "path" => path_answer(alloc, text),
+        "ref" => ref_answer(alloc, text),
+        "quote" => quoted_answer(alloc, text),
+        "unquote" => unquoted_answer(alloc, text),
+        "number" => number_answer(alloc, text),
         _ => Err(Fault::BadLine),
     }
+}
+
+fn text_of(alloc: Global, text: &str) -> Result<String, Fault> {
+    String::from_str(alloc, text).map_err(Fault::from)
+}
+
+fn bracketed(alloc: Global, bytes: &[u8]) -> Result<String, AllocError> {
+    let bytes = printed(alloc, bytes)?;
+    format!(in alloc; "[{bytes}]")
 }
 
 // A path, which a line of another form needs.
@@ -32,24 +49,34 @@ fn path_of(alloc: Global, texts: &Texts, word: &Word) -> Result<Path, Fault> {
 
 // The number of components, the components where the text is short, and whether the path writes the text again.
 fn path_answer(alloc: Global, text: &[u8]) -> Result<String, Fault> {
-    match Path::parse(alloc, text) {
-        Ok(path) => {
-            let mut answer = format!(in alloc; "{}", path.components().len())?;
-            if text.len() <= 100 {
-                for component in path.components() {
-                    answer.push_str(" [")?;
-                    answer.push_str(printed(alloc, component.bytes())?.as_str())?;
-                    answer.push(']')?;
-                }
-            }
-            if path.text(alloc)?.as_slice() != text {
-                answer.push_str(", written otherwise")?;
-            }
-            Ok(answer)
-        }
+    match &Path::parse(alloc, text) {
+        Ok(path) => Ok(path_text(alloc, text, path)?),
         Err(PathFault::OutOfMemory) => Err(Fault::OutOfMemory),
         Err(fault) => Ok(format!(in alloc; "{fault:?}")?),
     }
+}
+
+fn path_text(alloc: Global, text: &[u8], path: &Path) -> Result<String, AllocError> {
+    let mut answer = format!(in alloc; "{}", path.components().len())?;
+    if text.len() <= 100 {
+        add_components(alloc, &mut answer, path.components())?;
+    }
+    if path.text(alloc)?.as_slice() != text {
+        answer.push_str(", written otherwise")?;
+    }
+    Ok(answer)
+}
+
+fn add_components(
+    alloc: Global,
+    answer: &mut String,
+    components: &[Component],
+) -> Result<(), AllocError> {
+    for component in components {
+        answer.push(' ')?;
+        answer.push_str(bracketed(alloc, component.bytes())?.as_str())?;
+    }
+    Ok(())
 }
 
 // Two paths as one, made in two ways and copied.
@@ -59,16 +86,24 @@ fn joined(alloc: Global, texts: &Texts, words: &[Word]) -> Result<String, Fault>
     };
     let head = path_of(alloc, texts, head)?;
     let tail = path_of(alloc, texts, tail)?;
-    let both = head.joined(alloc, &tail)?;
-    let parts = Path::of_parts(alloc, head.components(), tail.components())?;
-    let copy = both.copy(alloc)?;
     let mut answer = String::new(alloc);
-    for path in [&both, &parts, &copy] {
-        let text = path.text(alloc)?;
-        answer.push_str(path_answer(alloc, &text)?.as_str())?;
-        answer.push('\n')?;
-    }
+    add_joined(alloc, &mut answer, &head, &tail)?;
     Ok(answer)
+}
+
+fn add_joined(alloc: Global, answer: &mut String, head: &Path, tail: &Path) -> Result<(), Fault> {
+    let both = head.joined(alloc, tail)?;
+    add_path(alloc, answer, &both)?;
+    let parts = Path::of_parts(alloc, head.components(), tail.components())?;
+    add_path(alloc, answer, &parts)?;
+    add_path(alloc, answer, &both.copy(alloc)?)
+}
+
+fn add_path(alloc: Global, answer: &mut String, path: &Path) -> Result<(), Fault> {
+    let text = path.text(alloc)?;
+    answer.push_str(path_answer(alloc, &text)?.as_str())?;
+    answer.push('\n')?;
+    Ok(())
 }
 
 // A line for each path: `<` where it stands before the path of that column, else `.`, and `~` where one is a prefix
@@ -77,70 +112,90 @@ fn ordered(alloc: Global, texts: &Texts, words: &[Word]) -> Result<String, Fault
     let mut answer = String::new(alloc);
     for lower in words {
         let lower = path_of(alloc, texts, lower)?;
-        let mut first = true;
-        for upper in words {
-            let upper = path_of(alloc, texts, upper)?;
-            if !first {
-                answer.push(' ')?;
-            }
-            first = false;
-            answer.push(if before(&lower, &upper) { '<' } else { '.' })?;
-            answer.push(if comparable(&lower, &upper) { '~' } else { '.' })?;
-        }
-        answer.push('\n')?;
+        add_row(alloc, texts, &mut answer, &lower, words)?;
     }
     Ok(answer)
 }
 
+fn add_row(
+    alloc: Global,
+    texts: &Texts,
+    answer: &mut String,
+    lower: &Path,
+    words: &[Word],
+) -> Result<(), Fault> {
+    let mut space = "";
+    for upper in words {
+        let upper = path_of(alloc, texts, upper)?;
+        answer.push_str(space)?;
+        add_signs(answer, lower, &upper)?;
+        space = " ";
+    }
+    answer.push('\n')?;
+    Ok(())
+}
+
+fn add_signs(answer: &mut String, lower: &Path, upper: &Path) -> Result<(), AllocError> {
+    answer.push(if before(lower, upper) { '<' } else { '.' })?;
+    answer.push(if comparable(lower, upper) { '~' } else { '.' })
+}
+
 // The copy of a ref name.
 fn ref_answer(alloc: Global, text: &[u8]) -> Result<String, Fault> {
-    match RefName::parse(alloc, text) {
-        Ok(name) => {
-            let copy = name.copy(alloc)?;
-            if !is_ref_name(copy.text()) || copy != name {
-                return Ok(String::from_str(alloc, "copied otherwise")?);
-            }
-            Ok(printed(alloc, copy.text())?)
-        }
-        Err(RefFault::Bad) => Ok(String::from_str(alloc, "Bad")?),
+    match &RefName::parse(alloc, text) {
+        Ok(name) => Ok(copied(alloc, name)?),
+        Err(RefFault::Bad) => text_of(alloc, "Bad"),
         Err(RefFault::OutOfMemory) => Err(Fault::OutOfMemory),
     }
 }
 
+fn copied(alloc: Global, name: &RefName) -> Result<String, AllocError> {
+    let copy = name.copy(alloc)?;
+    if !is_ref_name(copy.text()) || copy != *name {
+        return String::from_str(alloc, "copied otherwise");
+    }
+    printed(alloc, copy.text())
+}
+
 // A text as a line has it: quoted where it must be, and quoted always, and whether that is read again.
 fn quoted_answer(alloc: Global, text: &[u8]) -> Result<String, Fault> {
-    let written = quote(alloc, text)?;
     let always = quoted(alloc, text)?;
-    let is_read_again = match unquote(alloc, &always) {
-        Ok(read) => read.bytes.bytes() == text && read.used == always.len(),
-        Err(QuoteFault::Bad) => false,
-        Err(QuoteFault::OutOfMemory) => return Err(Fault::OutOfMemory),
-    };
-    let again = if is_read_again {
+    let again = if is_read_again(alloc, &always, text)? {
         ""
     } else {
         "\nread otherwise"
     };
-    let written = printed(alloc, &written)?;
+    let written = printed(alloc, &quote(alloc, text)?)?;
     let always = printed(alloc, &always)?;
     Ok(format!(in alloc; "{written}\n{always}{again}")?)
 }
 
-fn unquoted_answer(alloc: Global, text: &[u8]) -> Result<String, Fault> {
-    match unquote(alloc, text) {
-        Ok(read) => {
-            let bytes = printed(alloc, read.bytes.bytes())?;
-            Ok(format!(in alloc; "[{bytes}] of {} bytes", read.used)?)
-        }
-        Err(QuoteFault::Bad) => Ok(String::from_str(alloc, "Bad")?),
+// Whether a quoted text is read as this text.
+fn is_read_again(alloc: Global, quoted: &[u8], text: &[u8]) -> Result<bool, Fault> {
+    match &unquote(alloc, quoted) {
+        Ok(read) => Ok(read.bytes.bytes() == text && read.used == quoted.len()),
+        Err(QuoteFault::Bad) => Ok(false),
         Err(QuoteFault::OutOfMemory) => Err(Fault::OutOfMemory),
     }
+}
+
+fn unquoted_answer(alloc: Global, text: &[u8]) -> Result<String, Fault> {
+    match &unquote(alloc, text) {
+        Ok(read) => Ok(read_text(alloc, read)?),
+        Err(QuoteFault::Bad) => text_of(alloc, "Bad"),
+        Err(QuoteFault::OutOfMemory) => Err(Fault::OutOfMemory),
+    }
+}
+
+fn read_text(alloc: Global, read: &Unquoted) -> Result<String, AllocError> {
+    let bytes = bracketed(alloc, read.bytes.bytes())?;
+    format!(in alloc; "{bytes} of {} bytes", read.used)
 }
 
 fn number_answer(alloc: Global, text: &[u8]) -> Result<String, Fault> {
     match number(text) {
         Some(number) => Ok(format!(in alloc; "{number}")?),
-        None => Ok(String::from_str(alloc, "none")?),
+        None => text_of(alloc, "none"),
     }
 }
 
@@ -152,10 +207,7 @@ fn stripped(alloc: Global, texts: &Texts, words: &[Word]) -> Result<String, Faul
     let word = texts.word(word)?;
     let text = texts.spelled(pieces)?;
     match strip(&word, &text) {
-        Some(rest) => {
-            let rest = printed(alloc, rest)?;
-            Ok(format!(in alloc; "[{rest}]")?)
-        }
-        None => Ok(String::from_str(alloc, "none")?),
+        Some(rest) => Ok(bracketed(alloc, rest)?),
+        None => text_of(alloc, "none"),
     }
 }

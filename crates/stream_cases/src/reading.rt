@@ -1,30 +1,48 @@
 // Streams, whole and in pieces.
-ghost use Rattle.std.specs.Prelude.{◌≡◌, ◌<◌, IfOk, true};
+ghost use Rattle.std.specs.Prelude.{◌≡◌, ◌<◌, IfOk, true, false};
 
 use crate::commands::line_of;
 use case_lines::Fault;
-use fast_import::{Next, Reader};
-use std::alloc::Global;
+use fast_import::{Next, Placed, Reader, StreamFault};
+use std::alloc::{AllocError, Global};
+
+// Adds the line of what a reader told. That more must come has none.
+fn add_answer(
+    alloc: Global,
+    lines: &mut String,
+    answer: &Result<Next, StreamFault>,
+) -> Result<(), Fault> {
+    match answer {
+        Ok(Next::Command(placed)) => add_command(alloc, lines, placed),
+        Ok(Next::More) => Ok(()),
+        Ok(Next::Ended) => Ok(lines.push_str("end\n")?),
+        Err(fault) => Ok(add_fault(alloc, lines, fault)?),
+    }
+}
+
+fn add_command(alloc: Global, lines: &mut String, placed: &Placed) -> Result<(), Fault> {
+    let line = line_of(alloc, placed)?;
+    lines.push_str(line.as_str())?;
+    lines.push('\n')?;
+    Ok(())
+}
+
+fn add_fault(alloc: Global, lines: &mut String, fault: &StreamFault) -> Result<(), AllocError> {
+    let line = format!(in alloc; "{fault:?}\n")?;
+    lines.push_str(line.as_str())
+}
 
 // What a reader tells, a line each, up to the end, a fault, or that more must come, which is true.
 fn drained(alloc: Global, reader: &mut Reader, lines: &mut String) -> Result<bool, Fault>
     ensures { IfOk result (λ more. more ≡ true → reader.new.ended ≡ reader.old.ended) }
 {
     'commands: for _ in 0..u64::MAX {
-        match reader.next() {
-            Ok(Next::Command(placed)) => {
-                lines.push_str(line_of(alloc, &placed)?.as_str())?;
-                lines.push('\n')?;
-            }
+        let answer = reader.next();
+        add_answer(alloc, lines, &answer)?;
+        match &answer {
+            Ok(Next::Command(_)) => {}
             Ok(Next::More) => return Ok(true),
-            Ok(Next::Ended) => {
-                lines.push_str("end\n")?;
-                return Ok(false);
-            }
-            Err(fault) => {
-                lines.push_str(format!(in alloc; "{fault:?}\n")?.as_str())?;
-                return Ok(false);
-            }
+            _ => return Ok(false),
         }
     }
     Ok(false)
@@ -39,10 +57,16 @@ fn asked_again(alloc: Global, reader: &mut Reader, lines: &mut String) -> Result
         }
         let mut again = String::new(alloc);
         drained(alloc, reader, &mut again)?;
-        if again.as_str() != last.as_str() {
-            lines.push_str("then ")?;
-            lines.push_str(again.as_str())?;
-        }
+        add_other(lines, "then ", again.as_str(), last.as_str())?;
+    }
+    Ok(())
+}
+
+// Adds a text behind a word, where it is another than what came before.
+fn add_other(lines: &mut String, word: &str, text: &str, before: &str) -> Result<(), AllocError> {
+    if text != before {
+        lines.push_str(word)?;
+        lines.push_str(text)?;
     }
     Ok(())
 }
@@ -58,38 +82,57 @@ fn told_in_pieces(alloc: Global, text: &[u8], most: usize) -> Result<String, Fau
 {
     let mut reader = Reader::new(alloc);
     let mut lines = String::new(alloc);
-    'pieces: for piece in text.chunks(most) {
-        reader.feed(piece)?;
-        if !drained(alloc, &mut reader, &mut lines)? {
-            asked_again(alloc, &mut reader, &mut lines)?;
-            return Ok(lines);
-        }
+    if !has_ended(alloc, &mut reader, &mut lines, text, most)? {
+        reader.end();
+        drained(alloc, &mut reader, &mut lines)?;
     }
-    reader.end();
-    drained(alloc, &mut reader, &mut lines)?;
     asked_again(alloc, &mut reader, &mut lines)?;
     Ok(lines)
+}
+
+// Feeds a text in pieces. Whether the end or a fault came before more was wanted behind all of them.
+fn has_ended(
+    alloc: Global,
+    reader: &mut Reader,
+    lines: &mut String,
+    text: &[u8],
+    most: usize,
+) -> Result<bool, Fault>
+    requires most { 0 < most }
+    requires open { reader.old.ended ≡ false }
+{
+    'pieces: for piece in text.chunks(most) {
+        reader.feed(piece)?;
+        if !drained(alloc, reader, lines)? {
+            return Ok(true);
+        }
+    }
+    Ok(false)
 }
 
 /// What is told of a text that is fed whole, by 7 bytes, and byte by byte: once where it is the same. A text of more
 /// than 10,000 bytes is fed by 1,000 bytes in place of byte by byte.
 pub fn told(alloc: Global, text: &[u8]) -> Result<String, Fault> {
     let whole = told_in_pieces(alloc, text, usize::MAX)?;
-    let sevens = told_in_pieces(alloc, text, 7)?;
-    let singles = if text.len() <= 10_000 {
-        told_in_pieces(alloc, text, 1)?
-    } else {
-        told_in_pieces(alloc, text, 1000)?
-    };
-    let mut all = String::new(alloc);
-    all.push_str(whole.as_str())?;
-    for pieces in [&sevens, &singles] {
-        if pieces.as_str() != whole.as_str() {
-            all.push_str("in pieces:\n")?;
-            all.push_str(pieces.as_str())?;
-        }
-    }
+    let mut all = String::from_str(alloc, whole.as_str())?;
+    add_told(alloc, &mut all, text, 7, whole.as_str())?;
+    let most = if text.len() <= 10_000 { 1 } else { 1000 };
+    add_told(alloc, &mut all, text, most, whole.as_str())?;
     Ok(all)
+}
+
+// Adds what is told of a text in pieces of at most so many bytes, where it is another than what is told of the whole.
+fn add_told(
+    alloc: Global,
+    all: &mut String,
+    text: &[u8],
+    most: usize,
+    whole: &str,
+) -> Result<(), Fault>
+    requires { 0 < most }
+{
+    let pieces = told_in_pieces(alloc, text, most)?;
+    Ok(add_other(all, "in pieces:\n", pieces.as_str(), whole)?)
 }
 
 /// What is told of a text before the end is told, and then: `more` stands where more must come.

@@ -34,15 +34,18 @@ impl Session {
 }
 
 fn asked(alloc: Global, texts: &Texts, words: &[Word]) -> Result<Option<String>, Fault> {
-    let [form, inner @ ..] = words else {
-        return Err(Fault::BadLine);
-    };
-    let answer = match form.bytes.as_slice() {
-        b"stream" => reading::told(alloc, &texts.spelled(inner)?)?,
-        b"more" => reading::told_before_the_end(alloc, &texts.spelled(inner)?)?,
-        b"lexer" => lexing::answer(alloc, texts, inner)?,
-        b"lent" => lexing::lent(alloc, texts, inner)?,
-        form => names::answer(alloc, texts, form, inner)?,
-    };
-    Ok(Some(answer))
+    match words {
+        [form, inner @ ..] => answer(alloc, texts, form.text(), inner).map(Some),
+        [] => Err(Fault::BadLine),
+    }
+}
+
+fn answer(alloc: Global, texts: &Texts, form: &str, words: &[Word]) -> Result<String, Fault> {
+    match form {
+        "stream" => reading::told(alloc, &texts.spelled(words)?),
+        "more" => reading::told_before_the_end(alloc, &texts.spelled(words)?),
+        "lexer" => lexing::answer(alloc, texts, words),
+        "lent" => lexing::lent(alloc, texts, words),
+        form => names::answer(alloc, texts, form, words),
+    }
 }
