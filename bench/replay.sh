@@ -1,0 +1,53 @@
+#!/bin/sh
+# Times the replay of streams into a store in memory beside `git fast-import` without compression and without deltas, in one run:
+# seconds of each, and how many times faster this is. Run it at the top of the repository; a word picks one of the streams.
+set -e
+. "$(dirname "$0")/program.sh"
+room=$(mktemp -d)
+trap 'rm -rf "$room"' EXIT
+export GIT_CONFIG_NOSYSTEM=1 GIT_CONFIG_GLOBAL=/dev/null HOME=$room
+
+# a commit's lines before its changes
+head='function head(n, from) {
+    printf "commit refs/heads/main\nmark :%d\ncommitter A <a@x> %d +0000\ndata 2\nm\n", n, 1700000000 + n
+    if (from) printf "from :%d\n", from
+}
+function file(path, text) { printf "M 100644 inline %s\ndata %d\n%s\n", path, length(text), text }'
+
+stream() {
+    case $1 in
+    blobs) awk 'BEGIN { for (i = 0; i < 100000; i++) printf "blob\nmark :%d\ndata 12\nblob %07d\n", i + 1, i }' ;;
+    commits) awk "$head"' BEGIN { for (n = 1; n <= 5000; n++) { head(n, n - 1)
+        for (i = 0; i < 10; i++) { k = (n * 7 + i * 131) % 1000; file("d" k % 20 "/e" k % 10 "/f" k, n " " i) } print "" } }' ;;
+    directories) awk "$head"' BEGIN { head(1); for (i = 0; i < 100000; i++) file(sprintf("d%02d/e%02d/f%06d", i / 2000, i / 50 % 40, i), i) }' ;;
+    files) awk "$head"' BEGIN { head(1); for (i = 0; i < 1000000; i++) file(sprintf("f%07d", i), i % 1000) }' ;;
+    deep) awk "$head"' BEGIN { p = "a"; for (i = 0; i < 126; i++) p = p "/a"
+        for (n = 1; n <= 200; n++) { head(n, n - 1); for (i = 0; i < 10; i++) file(p "/f" (n + i) % 50, n " " i); print "" } }' ;;
+    renames) awk "$head"' BEGIN { head(1); for (i = 0; i < 1000; i++) file("a/f" i, i); print ""
+        for (n = 2; n <= 20001; n++) { head(n, n - 1); print n % 2 ? "R b a" : "R a b"; print "" } }' ;;
+    esac
+}
+
+seconds() {
+    start=$(date +%s.%N)
+    "$@" >/dev/null
+    end=$(date +%s.%N)
+    echo "$start $end" | awk '{ printf "%.2f", $2 - $1 }'
+}
+
+by_git() {
+    rm -rf "$room/git"
+    git init -q --bare "$room/git"
+    git -C "$room/git" -c core.compression=0 -c pack.compression=0 -c fastimport.unpackLimit=0 fast-import --quiet --depth=0 <"$room/stream"
+}
+
+here() {
+    "$bench" replay <"$room/stream"
+}
+
+for kind in ${1:-blobs commits directories files deep renames}; do
+    stream "$kind" >"$room/stream"
+    git=$(seconds by_git)
+    own=$(seconds here)
+    echo "$kind $(wc -c <"$room/stream") $git $own" | awk '{ printf "%-12s %11d bytes: git %7.2f s, here %7.2f s, ratio %.1f\n", $1, $2, $3, $4, $3 / ($4 + 0.005) }'
+done
