@@ -19,10 +19,10 @@ use std::{env, io};
 
 const HELP: &[u8] = b"proj shows parts of a monorepo as Git repositories of their own.\n\
 \n\
-  proj STORE import               put the commits of a stream into the store\n\
-  proj STORE project REF FILTER   print the name of what the filter shows of a ref\n\
-  proj STORE push REF FILTER      take a pushed commit back into the ref's history\n\
-  proj name REF FILTER            the same name for a stream alone, without a store\n\
+\x20 proj STORE import               put the commits of a stream into the store\n\
+\x20 proj STORE project REF FILTER   print the name of what the filter shows of a ref\n\
+\x20 proj STORE push REF FILTER      take a pushed commit back into the ref's history\n\
+\x20 proj name REF FILTER            print that name for a stream alone, without a store\n\
 \n\
 STORE is a file, which is made where there is none. A stream is read from the standard\n\
 input, in the form of git fast-export. A store named --help is given as ./--help.\n";
