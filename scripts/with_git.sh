@@ -76,7 +76,7 @@ pushed=$(upon push "$(with_file "$projected" g 1)" -p "$projected")
 original=$(upon push "$(with_file "$head" a/g 1)" -p "$head")
 same 'a push into a directory' "$pushed $original" "$(expected 'run push refs/heads/main :/a < $g')"
 { commit init a/f hello ''; commit push a/g 1 ''; } >"$work/history"
-same 'the original commit' "refs/heads/main $original" "$("$proj" "$work/store" import <"$work/history")"
+same 'the original commit' "refs/heads/main $original" "$("$proj" "$work/pushed" import <"$work/history")"
 same 'the projection of the original commit' "$pushed" "$("$proj" name refs/heads/main :/a <"$work/history")"
 again=$(upon push "$(with_file "$pushed" g 2)" -p "$pushed")
 same 'a push upon the first' "$again $(upon push "$(with_file "$original" a/g 2)" -p "$original")" "$(expected 'run push refs/heads/main :/a < $second')"

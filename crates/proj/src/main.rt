@@ -1,32 +1,110 @@
 //! `proj` shows parts of a monorepo as Git repositories of their own.
+//!
+//! - `proj STORE COMMAND ..` runs the command on the store, a file that is made where there is none.
+//! - Where the first word is `name` or `trial`, all words are the command's, and there is no store.
+//! - Where it is `--help` or `--version`, the program prints what it says, with status 0. A store of such a name is
+//!   given as `./--help`.
+//! - Without a word it tells its usage.
+//!
+//! A store that can't be opened is a fault of the store: `store fault` and status 24.
 #![tactic(auto)]
 
-use proj_cli::{outcome_code, run};
-use proj_io::{MemKeeper, StdSink, StdSource};
+use proj_cli::{outcome_code, run, serve};
+use proj_disk::FileDisk;
+use proj_io::{MemKeeper, StdSink, StdSource, write_whole};
 use std::alloc::Global;
+use std::fs::{File, OpenOptions};
 use std::process::ExitCode;
 use std::{env, io};
 
-// The words behind the program's own name. All of them are the command's where the first is `name` or `trial`; else the
-// first is the store's path.
-fn command_words(alloc: Global, rt: &HostRuntime) -> io::Result<Vec<String>> {
+const HELP: &[u8] = b"proj shows parts of a monorepo as Git repositories of their own.\n\
+\n\
+\x20 proj STORE import               put the commits of a stream into the store\n\
+\x20 proj STORE project REF FILTER   print the name of what the filter shows of a ref\n\
+\x20 proj STORE push REF FILTER      take a pushed commit back into the ref's history\n\
+\x20 proj name REF FILTER            print that name for a stream alone, without a store\n\
+\n\
+STORE is a file, which is made where there is none. A stream is read from the standard\n\
+input, in the form of git fast-export. A store named --help is given as ./--help.\n";
+
+const VERSION: &[u8] = b"proj 0.1\n";
+
+// What the words ask of the program itself.
+enum Form<'a> {
+    Print(&'static [u8]),
+    // The command is run without a store.
+    Alone,
+    // The rest of the words is run on the store of a path.
+    Store(&'a str, &'a [String]),
+}
+
+// The words behind the program's own name.
+fn words_of(alloc: Global, rt: &HostRuntime) -> io::Result<Vec<String>> {
     let mut words = Vec::new(alloc);
     for (i, word) in env::args(rt)?.enumerate() {
-        let dropped = i == 0 || i == 1 && word.as_str() != "name" && word.as_str() != "trial";
-        if !dropped {
+        if i > 0 {
             words.push(word)?;
         }
     }
     Ok(words)
 }
 
-fn main(rt: HostRuntime) -> io::Result<ExitCode> {
-    let alloc = rt.alloc();
-    let words = command_words(alloc, &rt)?;
+fn form_of(words: &[String]) -> Form<'_> {
+    let [first, rest @ ..] = words else {
+        return Form::Alone;
+    };
+    match first.as_str() {
+        "--help" => Form::Print(HELP),
+        "--version" => Form::Print(VERSION),
+        "name" | "trial" => Form::Alone,
+        path => Form::Store(path, rest),
+    }
+}
+
+// Prints a text.
+fn print(rt: &HostRuntime, text: &[u8]) -> u8 {
+    match write_whole(&mut StdSink::new(rt.stdout()), text) {
+        Ok(()) => 0,
+        Err(_) => 23,
+    }
+}
+
+// Runs the words on an empty store in memory.
+fn run_alone(alloc: Global, rt: &HostRuntime, words: &[String]) -> u8 {
     let mut input = StdSource::new(rt.stdin());
     let mut out = StdSink::new(rt.stdout());
     let mut err = StdSink::new(rt.stderr());
     let mut store = MemKeeper::new(alloc, Vec::new(alloc));
-    let outcome = run(alloc, &words, &mut input, &mut out, &mut err, &mut store);
-    Ok(ExitCode::from(outcome_code(&outcome)))
+    outcome_code(&run(alloc, words, &mut input, &mut out, &mut err, &mut store))
+}
+
+// The file of a store, made where there is none.
+fn open_store(rt: &HostRuntime, path: &str) -> io::Result<File> {
+    let mut options = OpenOptions::new();
+    options.read(true).write(true).create(true);
+    options.open(rt, path)
+}
+
+// Runs the words on the store of that path.
+fn run_on(alloc: Global, rt: &HostRuntime, path: &str, words: &[String]) -> u8 {
+    let mut err = StdSink::new(rt.stderr());
+    let Ok(file) = open_store(rt, path) else {
+        let _ = write_whole(&mut err, b"store fault\n");
+        return 24;
+    };
+    let mut input = StdSource::new(rt.stdin());
+    let mut out = StdSink::new(rt.stdout());
+    let disk = FileDisk::new(file);
+    serve(alloc, words, &mut input, &mut out, &mut err, disk).status
+}
+
+fn main(rt: HostRuntime) -> io::Result<ExitCode> {
+    let alloc = rt.alloc();
+    let words = words_of(alloc, &rt)?;
+    let status = match form_of(&words) {
+        Form::Print(text) => print(&rt, text),
+        Form::Alone => run_alone(alloc, &rt, &words),
+        Form::Store(path, words) => run_on(alloc, &rt, path, words),
+    };
+    Ok(ExitCode::from(status))
 }

@@ -11,3 +11,4 @@ pub mod Pushes
 pub mod PushRows
 pub mod Brought
 pub mod Served
+pub mod Examples

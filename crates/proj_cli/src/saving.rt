@@ -52,8 +52,8 @@ pub fn save<K: Keeper>(
     ensures early { (result ≢ Err Outcome.WriteFault) × (result ≢ Err Outcome.ReadFault) }
     // A stop leaves the items, or these with the item of the change behind them.
     ensures stops { (items : List Bytes) → K.items store.old ≡ Some items → IsCurrent items state →
-        IsWithin state.objects state.held.objects (change_of prepared.batch) → OnlyAdds (K.moment store.old) (K.moment store.new)
-        (K.left_since store.old) (K.left_since store.new)
+        IsWithin state.objects state.held.objects (change_of prepared.batch) →
+        OnlyAdds (K.moment store.old) (K.moment store.new) (K.left_since store.old) (K.left_since store.new)
         (MayLeave (changing state.held (room_in state) prepared.report
         (plan_in state (change_of prepared.batch))) items) }
     ensures cause { Counts (K.faults store.old) (K.faults store.new) (result ≡ Err Outcome.StoreFault) }

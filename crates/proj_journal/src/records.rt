@@ -1,5 +1,6 @@
 // Writing a record behind the others, in two steps: the record behind a shut gate, and then the gate.
-ghost use Rattle.std.specs.Prelude.{List, ℕ, [], ◌≡◌, ◌<◌, ◌≤◌, ◌+◌, ◌^◌, length, OnOk, OnErr, IfSome, IsErrOf, IsSome, ◌↔◌};
+ghost use Rattle.std.specs.Prelude.{List, ℕ, [], ◌≡◌, ◌<◌, ◌≤◌, ◌+◌, ◌^◌, ◌↔◌, length, OnOk, OnErr, IfSome, IsSome};
+ghost use Rattle.std.specs.Prelude.{IsErrOf};
 ghost use Rattle.git_objects.specs.declared.limits.TheConstants.{ITEM_BYTES, ITEMS};
 ghost use Rattle.proj_io.specs.Counts.{Counts};
 ghost use Rattle.proj_io.specs.Stops.{OnlyAdds};

@@ -1,0 +1,85 @@
+// The program on disks in memory.
+use crate::calls::{FIRST, IMPORT, PROJECT, sink, source, strings};
+use proj_cli::serve;
+use proj_disk::MemDisk;
+use proj_io::{MemSink, MemSource};
+use std::alloc::{AllocError, Global};
+use std::test::Fail;
+
+// What a call answers and writes, and the disk then.
+#[derive(Drop)]
+struct Answer {
+    status: u8,
+    out: MemSink,
+    err: MemSink,
+    disk: MemDisk,
+}
+
+impl Answer {
+    fn is(&self, status: u8, out: &[u8], err: &[u8]) -> bool {
+        self.status == status && self.out.bytes() == out && self.err.bytes() == err
+    }
+}
+
+fn served(
+    alloc: Global,
+    disk: MemDisk,
+    words: &[&str],
+    input: &[u8],
+) -> Result<Answer, AllocError> {
+    let words = strings(alloc, words)?;
+    let mut input = source(alloc, input)?;
+    let (mut out, mut err) = (sink(alloc), sink(alloc));
+    let end = serve(alloc, &words, &mut input, &mut out, &mut err, disk);
+    Ok(Answer {
+        status: end.status,
+        out,
+        err,
+        disk: end.disk,
+    })
+}
+
+fn disk_of(alloc: Global, bytes: &[u8]) -> Result<MemDisk, AllocError> {
+    Ok(MemDisk::new(alloc, bytes.to_vec(alloc)?, Vec::new(alloc)))
+}
+
+#[test]
+fn a_store_stays(rt: HostRuntime) -> Result<(), Fail> {
+    let alloc = rt.alloc();
+    let imported = served(alloc, disk_of(alloc, b"")?, IMPORT, FIRST)?;
+    assert!(rt; imported.is(0, b"refs/heads/main 5990ba6163d77f77071ca2e8e9899c368dbc6eb7\n", b""));
+    assert!(rt; imported.disk.bytes().len() == 263);
+    let shown = served(alloc, imported.disk, PROJECT, b"")?;
+    assert!(rt; shown.is(0, b"6a27ff6de5d45a65cc66723c6ae6227ea6004aa6\n", b""));
+    assert!(rt; shown.disk.bytes().len() == 263);
+    Ok(())
+}
+
+// Bytes that are no journal, and the text of that.
+const BROKEN: [(&[u8], &[u8]); 4] = [
+    (b"proj 02\n\0", b"damaged: journal at 0\n"),
+    (b"proj 01x\0", b"damaged: journal at 0\n"),
+    (b"proj 01x", b"damaged: journal at 0\n"),
+    (b"proj 01\n\x01\0\0\0", b"damaged: journal at 8\n"),
+];
+
+#[test]
+fn other_files_are_damaged(rt: HostRuntime) -> Result<(), Fail> {
+    let alloc = rt.alloc();
+    for (bytes, text) in &BROKEN {
+        let refused = served(alloc, disk_of(alloc, bytes)?, IMPORT, FIRST)?;
+        assert!(rt; refused.is(25, b"", text));
+        assert!(rt; refused.disk.bytes() == *bytes);
+    }
+    Ok(())
+}
+
+#[test]
+fn a_disk_that_fails_is_a_fault_of_the_store(rt: HostRuntime) -> Result<(), Fail> {
+    let alloc = rt.alloc();
+    for call in 0..3u64 {
+        let disk = MemDisk::new(alloc, Vec::new(alloc), [call].to_vec(alloc)?);
+        assert!(rt; served(alloc, disk, IMPORT, FIRST)?.is(24, b"", b"store fault\n"));
+    }
+    Ok(())
+}

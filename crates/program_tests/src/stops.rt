@@ -1,0 +1,132 @@
+// Four commands on one store, and what a stop at each call of its disk leaves.
+ghost use Rattle.std.specs.Prelude.{◌≡◌, ◌<◌, ◌≤◌, true, Some, IfOk};
+ghost use Rattle.proj_disk.specs.MemDisks.{MemDiskState, view_of};
+ghost use Rattle.proj_journal.specs.Journals.{IsOpen};
+
+use crate::calls::{FIRST, IMPORT, PUSH, PUSHED, SECOND, THIRD, sink, source, strings};
+use git_objects::Name;
+use path_names::RefName;
+use proj_cli::{Outcome, run};
+use proj_disk::{Fill, MemDisk};
+use proj_io::Keeper;
+use proj_journal::Journal;
+use repo_state::State;
+use std::alloc::{AllocError, Global};
+use std::test::Fail;
+
+const COMMANDS: [(&[&str], &[u8]); 4] = [
+    (IMPORT, FIRST),
+    (IMPORT, SECOND),
+    (IMPORT, THIRD),
+    (PUSH, PUSHED),
+];
+
+// The commit of the ref after each number of the commands, as Git names it.
+const HEADS: [&[u8]; 5] = [
+    b"",
+    b"5990ba6163d77f77071ca2e8e9899c368dbc6eb7",
+    b"592cd3665c8a2250cf7988e22686ce308524df8c",
+    b"fcfc493607bfc8dbf616768af28cd698dfb8108a",
+    b"c0087f5ed9a3c59cccefdc3ba1fe9cbbb5ab8376",
+];
+
+// Runs a command, and says whether it is done.
+fn is_done(
+    alloc: Global,
+    journal: &mut Journal<MemDisk>,
+    words: &[&str],
+    input: &[u8],
+) -> Result<bool, AllocError>
+    requires { IsOpen (λ (s : MemDiskState). Some (view_of s)) journal.old }
+    ensures { IfOk result (λ done. done ≡ true → IsOpen (λ (s : MemDiskState). Some (view_of s)) journal.new) }
+{
+    let words = strings(alloc, words)?;
+    let mut input = source(alloc, input)?;
+    let (mut out, mut err) = (sink(alloc), sink(alloc));
+    match run(alloc, &words, &mut input, &mut out, &mut err, journal) {
+        Outcome::Done => Ok(true),
+        _ => Ok(false),
+    }
+}
+
+// Whether that is the commit of the ref after so many of the commands.
+fn is_head(head: Option<Name>, number: usize) -> bool {
+    match head {
+        None => number == 0,
+        Some(head) => HEADS.get(number) == Some(&head.hex().as_slice()),
+    }
+}
+
+// Whether a disk with these bytes has the state after so many of the commands.
+fn has_state(alloc: Global, bytes: Vec<u8>, number: usize) -> Result<bool, AllocError> {
+    let Ok(mut journal) = Journal::open(alloc, MemDisk::new(alloc, bytes, Vec::new(alloc))) else {
+        return Ok(false);
+    };
+    let Ok(count) = journal.count() else {
+        return Ok(false);
+    };
+    let Ok(refname) = RefName::parse(alloc, b"refs/heads/main") else {
+        return Ok(false);
+    };
+    match State::load(alloc, &mut journal) {
+        Ok(state) => Ok(count as usize == number && is_head(state.head(&refname), number)),
+        Err(_) => Ok(false),
+    }
+}
+
+// Whether a stop behind the first so many calls leaves the state after so many of the commands.
+fn leaves(
+    alloc: Global,
+    disk: &MemDisk,
+    calls: u64,
+    fill: Fill,
+    number: usize,
+) -> Result<bool, AllocError>
+    requires { calls ≤ disk.now.calls }
+{
+    has_state(alloc, disk.image(calls, fill)?, number)
+}
+
+// Whether each stop at a call of a command, from the one with this number on, leaves the state before or after it, and
+// one behind its last call the state after it.
+fn leaves_state(
+    alloc: Global,
+    disk: &MemDisk,
+    before: u64,
+    number: usize,
+) -> Result<bool, AllocError>
+    requires { number < 4 }
+{
+    let after = disk.calls();
+    for calls in before..after {
+        for fill in [Fill::Old, Fill::Written, Fill::Ones] {
+            if !leaves(alloc, disk, calls, fill, number)?
+                && !leaves(alloc, disk, calls, fill, number + 1)?
+            {
+                return Ok(false);
+            }
+        }
+    }
+    for fill in [Fill::Old, Fill::Written, Fill::Ones] {
+        if !leaves(alloc, disk, after, fill, number + 1)? {
+            return Ok(false);
+        }
+    }
+    Ok(true)
+}
+
+#[test]
+fn each_image_has_the_acknowledged_commands(rt: HostRuntime) -> Result<(), Fail> {
+    let alloc = rt.alloc();
+    let disk = MemDisk::new(alloc, Vec::new(alloc), Vec::new(alloc));
+    let Ok(mut journal) = Journal::create(alloc, disk) else {
+        return Err(Fail::from("no journal"));
+    };
+    for number in 0..4usize {
+        let (words, input) = &COMMANDS[number];
+        let before = journal.disk().calls();
+        assert!(rt; is_done(alloc, &mut journal, words, input)?, "{number}");
+        assert!(rt; leaves_state(alloc, journal.disk(), before, number)?, "{number}");
+    }
+    Ok(())
+}
