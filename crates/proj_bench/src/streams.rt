@@ -34,17 +34,27 @@ fn changes(alloc: Global, count: u64) -> Result<Vec<u8>, AllocError> {
     Ok(stream)
 }
 
+// Whether a command is told next. None: a fault.
+fn is_told(reader: &mut Reader) -> Option<bool>
+    ensures { IfSome result (λ _. reader.new.ended ≡ reader.old.ended) }
+{
+    match reader.next() {
+        Ok(Next::Command(_)) => Some(true),
+        Ok(_) => Some(false),
+        Err(_) => None,
+    }
+}
+
 // Tells all commands that what was fed holds, and how many they are. None: a fault.
 fn drain(reader: &mut Reader) -> Option<u64>
     ensures { IfSome result (λ _. reader.new.ended ≡ reader.old.ended) }
 {
     let mut told: u64 = 0;
     for _ in 0..u64::MAX {
-        match reader.next() {
-            Ok(Next::Command(_)) => told = told.saturating_add(1),
-            Ok(_) => return Some(told),
-            Err(_) => return None,
+        if !is_told(reader)? {
+            return Some(told);
         }
+        told = told.saturating_add(1);
     }
     Some(told)
 }

@@ -1,22 +1,35 @@
 // Streams, whole and in pieces.
-ghost use Rattle.std.specs.Prelude.{◌≡◌, ◌<◌, IfOk, true, false};
+ghost use Rattle.std.specs.Prelude.{◌≡◌, ◌≢◌, ◌<◌, IfOk, Some, true, false};
+ghost use Rattle.stream_cases.specs.Told.{what_follows};
 
 use crate::commands::line_of;
 use case_lines::Fault;
 use fast_import::{Next, Placed, Reader, StreamFault};
 use std::alloc::{AllocError, Global};
 
-// Adds the line of what a reader told. That more must come has none.
+// Adds the line of what a reader told; that more must come has none. Behind a command the next one follows; else it is
+// said whether more must come.
 fn add_answer(
     alloc: Global,
     lines: &mut String,
     answer: &Result<Next, StreamFault>,
-) -> Result<(), Fault> {
+) -> Result<Option<bool>, Fault>
+    ensures { IfOk result (λ told. told ≡ what_follows answer.now) }
+{
     match answer {
-        Ok(Next::Command(placed)) => add_command(alloc, lines, placed),
-        Ok(Next::More) => Ok(()),
-        Ok(Next::Ended) => Ok(lines.push_str("end\n")?),
-        Err(fault) => Ok(add_fault(alloc, lines, fault)?),
+        Ok(Next::Command(placed)) => {
+            add_command(alloc, lines, placed)?;
+            Ok(None)
+        }
+        Ok(Next::More) => Ok(Some(true)),
+        Ok(Next::Ended) => {
+            lines.push_str("end\n")?;
+            Ok(Some(false))
+        }
+        Err(fault) => {
+            add_fault(alloc, lines, fault)?;
+            Ok(Some(false))
+        }
     }
 }
 
@@ -32,17 +45,25 @@ fn add_fault(alloc: Global, lines: &mut String, fault: &StreamFault) -> Result<(
     lines.push_str(line.as_str())
 }
 
+// Adds the line of what a reader tells next.
+fn add_next(
+    alloc: Global,
+    reader: &mut Reader,
+    lines: &mut String,
+) -> Result<Option<bool>, Fault>
+    ensures { IfOk result (λ told. told ≢ Some false → reader.new.ended ≡ reader.old.ended) }
+{
+    let answer = reader.next();
+    add_answer(alloc, lines, &answer)
+}
+
 // What a reader tells, a line each, up to the end, a fault, or that more must come, which is true.
 fn drained(alloc: Global, reader: &mut Reader, lines: &mut String) -> Result<bool, Fault>
     ensures { IfOk result (λ more. more ≡ true → reader.new.ended ≡ reader.old.ended) }
 {
     'commands: for _ in 0..u64::MAX {
-        let answer = reader.next();
-        add_answer(alloc, lines, &answer)?;
-        match &answer {
-            Ok(Next::Command(_)) => {}
-            Ok(Next::More) => return Ok(true),
-            _ => return Ok(false),
+        if let Some(is_more) = add_next(alloc, reader, lines)? {
+            return Ok(is_more);
         }
     }
     Ok(false)
