@@ -6,7 +6,7 @@ use Rattle.proj_io.specs.Counts.{Counts}
 use Rattle.proj_io.specs.Views.{SourceView, SinkView, KeeperView}
 use Rattle.proj_disk.specs.Disks.{DiskView}
 use Rattle.proj_journal.specs.Journals.{items_of}
-use Rattle.proj_cli.specs.Answer.{Devices, GetsText, IsAnswer, IsInHand, IsLanded, IsSaved, IsStepped}
+use Rattle.proj_cli.specs.Answer.{Devices, GetsText, IsAnswer, IsInHand, IsSaved, IsStepped}
 use Rattle.proj_cli.specs.Pushed.{IsLawful}
 use Rattle.proj_cli.specs.Served.{HasList, IsOnlySynced, IsRan, IsSteady, Seen, over_disk}
 use Rattle.proj_cli.specs.Step.{Step, loads, reads, step, writes}

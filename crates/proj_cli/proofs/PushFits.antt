@@ -15,7 +15,7 @@ use Rattle.object_store.specs.TreeObjects.{leaf_objects}
 use Rattle.filter_routes.specs.Lenses.{Lens, carried, entered}
 use Rattle.filter_unapply.specs.Laying.{LaidTree, first_blocked, first_lost, laid, laid_from, pre, hidden}
 use Rattle.object_store.specs.Fits.{is_known}
-use Rattle.repo_state.specs.Changes.{IsWithin, commit_fits}
+use Rattle.repo_state.specs.Changes.{commit_fits}
 use Rattle.object_store.specs.StoredSnapshots.{commit_named}
 use Rattle.repo_state.specs.Loads.{Stored}
 use Rattle.proj_cli.specs.Prepared.{FitsItems}

@@ -15,7 +15,6 @@ use Rattle.repo_state.specs.Items.{Held}
 use Rattle.git_objects.specs.Snapshots.{Snapshot, snapshot_name}
 use Rattle.repo_state.specs.Changes as changes
 use Rattle.repo_state.specs.Changes.{IsChange, are_distinct, fresh, has_parents, moved, objects_of, plan}
-use Rattle.object_store.specs.StoredSnapshots.{commit_named}
 use Rattle.repo_state.specs.Commits.{change_of}
 use Rattle.small_streams.specs.Replay.{contents, contents_in, stream_objects}
 use Rattle.small_streams.specs.Replays.{AreBlobs}

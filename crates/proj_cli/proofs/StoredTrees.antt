@@ -13,7 +13,6 @@ use Rattle.repo_state.specs.Repos.{repo_of}
 use Rattle.object_store.proofs.Parts.{AreIn}
 use Rattle.history_project.specs.Snapshots.{base_tree}
 use Rattle.history_project.specs.Histories.{tree_upon}
-use Rattle.history_project.proofs.HeldCommits.{held}
 use Rattle.history_project.proofs.HeldTrees.{held-tree, within-in}
 
 -- the tree that a stream stands upon, by what is held and by the store

@@ -1,6 +1,7 @@
 -- Worked examples: a store on a disk, and what a stop leaves of it.
 use Rattle.std.specs.Prelude.{◌≡◌, [], ◌∷◌, refl, codes, List, Some}
 use Rattle.std.proofs.Common.{inl, inr, true≢false}
+use Rattle.std.specs.Fmt.{digits}
 use Rattle.git_objects.specs.Paths.{Bytes}
 use Rattle.proj_disk.specs.Disks.{stable}
 use Rattle.proj_journal.specs.Journals.{items_of}
@@ -18,6 +19,7 @@ nothing_on_an_empty_disk = refl
 
 -- the texts and the numbers where there is no journal
 pub a_damaged_journal : error_text (Broken 8) ≡ codes "damaged: journal at 8\n"
+unfolding digits
 a_damaged_journal = refl
 
 pub a_disk_that_fails : error_text Failed ≡ codes "store fault\n"

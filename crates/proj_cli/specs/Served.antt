@@ -1,9 +1,9 @@
 -- What comes of a call of the program on a disk.
-use Rattle.std.specs.Prelude.{◌≡◌, ◌≢◌, ◌⊎◌, ◌≤◌, ◌++◌, [], ◌∷◌, ℕ, false, List, length, codes, decimal, None, Some, Ok, Err, IfSome, ⊤}
+use Rattle.std.specs.Prelude.{◌≡◌, ◌≢◌, ◌⊎◌, ◌++◌, [], ◌∷◌, ℕ, false, List, length, codes, decimal, None, Some, Ok, Err, IfSome, ⊤}
 use Rattle.std.specs.declared.option.Option.{Option}
 use Rattle.git_objects.specs.Paths.{Bytes}
 use Rattle.proj_io.specs.Counts.{Counts}
-use Rattle.proj_io.specs.Views.{SourceView, SinkView, KeeperView, source_view, sink_view}
+use Rattle.proj_io.specs.Views.{SourceView, SinkView, source_view, sink_view}
 use Rattle.proj_disk.specs.Disks.{DiskView, IsImage, stable}
 use Rattle.proj_journal.specs.Spelling.{listed, spelled}
 use Rattle.proj_journal.specs.Journals.{items_of}

@@ -1,12 +1,11 @@
 -- What the words, the items and the input ask for: the outcome, and what is written before it.
-use Rattle.std.specs.Prelude.{ℕ, ◌^◌, Bool, true, false, cond, ◌&&◌, ◌||◌, nat_le, List, [], ◌∷◌, ◌++◌, length, reverse, filter, sum_by, codes, decimal, Option, Some, None, Result, Ok, Err}
+use Rattle.std.specs.Prelude.{ℕ, Bool, true, false, cond, ◌&&◌, ◌||◌, nat_le, List, [], ◌∷◌, ◌++◌, length, reverse, filter, sum_by, Option, Some, None, Result, Ok, Err}
 use Rattle.std.specs.Option.{is_some, is_none, option_map, option_to_list}
 use Rattle.std.specs.FinMap.{find}
 use Rattle.git_objects.specs.declared.limits.TheConstants.{COMMITS, OBJECTS}
-use Rattle.git_objects.specs.Paths.{Bytes, Path, same_bytes, text}
+use Rattle.git_objects.specs.Paths.{Bytes, Path, same_bytes}
 use Rattle.git_objects.specs.Trees.{under}
 use Rattle.git_objects.specs.declared.name.Name.{Name as ObjectName}
-use Rattle.path_names.specs.Quoting.{quote}
 use Rattle.filter_unapply.specs.Laying.{below}
 use Rattle.git_objects.specs.Commits.{hex}
 use Rattle.object_store.specs.Objects.{Object}
@@ -28,7 +27,7 @@ use Rattle.history_project.specs.Histories.{is_same_name, last_name, tree_upon}
 use Rattle.proj_cli.specs.Push as push
 use Rattle.proj_cli.specs.Push.{Start, Verdict, pushed_commit, start_at, verdict}
 use Rattle.proj_words.specs.declared.outcome.Outcome.{Outcome}
-use Rattle.proj_words.specs.declared.outcome.Outcome.TheVariants.{Done, OutOfMemory, Usage, UnknownRef, OtherRef, NotAtHead, NoChange, Blocked, Collision, ReadFault, WriteFault, StoreFault, Damaged, NotBuilt}
+use Rattle.proj_words.specs.declared.outcome.Outcome.TheVariants.{Done, OutOfMemory, Usage, UnknownRef, OtherRef, NotAtHead, NoChange, Blocked, Collision, StoreFault, Damaged, NotBuilt}
 
 pub record Step : Type 0 where
   pub outcome : Outcome

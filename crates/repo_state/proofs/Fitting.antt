@@ -8,7 +8,7 @@ use Rattle.std.specs.List.{flat_map, list_all, list_any}
 use Rattle.std.specs.Option.{is_none, option_map_or}
 use Rattle.std.proofs.lemmas.Bool.{le-leb, or_right}
 use Rattle.git_objects.specs.Paths.{Bytes, Path, text, same_bytes}
-use Rattle.git_objects.specs.Trees.{Flat, rests}
+use Rattle.git_objects.specs.Trees.{Flat}
 use Rattle.git_objects.specs.Names.{name, depth}
 use Rattle.git_objects.specs.Bodies.{tree_entries}
 use Rattle.git_objects.specs.CommitBodies.{commit_from}
@@ -21,10 +21,9 @@ use Rattle.git_objects.proofs.Basics.{same_bytes-self}
 use Rattle.git_objects.specs.Lists.{Each}
 use Rattle.object_store.specs.Objects.{Object, object_name, is_named, find_named, has, has_name, has_child, body_of, missing_entry, missing_of_commit, is_body, IsStore, HasChildren}
 use Rattle.object_store.specs.Puts.{collision, of_body, of_commit, of_tree, if_missing, refusal}
-use Rattle.object_store.specs.Unfolding.{below, joined, flat, node_of}
+use Rattle.object_store.specs.Unfolding.{below, flat}
 use Rattle.object_store.specs.Sizes.{longest}
-use Rattle.object_store.proofs.Held.{named_kind, named_name, body_named, has_name-from, not_named}
-use Rattle.object_store.proofs.Unfolding.{growing_law}
+use Rattle.object_store.proofs.Held.{named_kind, named_name, body_named, has_name-from}
 use Rattle.repo_state.specs.Changes.{Change, IsChange, IsWithin, blob_object, commit_fits, commit_objects, objects_of, fresh}
 use Rattle.object_store.specs.Fits.{is_known, body_fits, is_commit, tree_fits, tree_map}
 use Rattle.object_store.specs.StoredSnapshots.{commit_named, IsTreeOf}
@@ -38,7 +37,7 @@ use Rattle.repo_state.proofs.ReadBack.{AreTaken, Takes}
 use Rattle.repo_state.proofs.StoredCommits.{commit-spelled, commit_at}
 use Rattle.object_store.proofs.StoredCommits.{stored-commit}
 use Rattle.object_store.proofs.Parts.{AreIn, part-has}
-use Rattle.object_store.proofs.Children.{listed, object-children, tree-children}
+use Rattle.object_store.proofs.Children.{listed, object-children}
 use Rattle.object_store.proofs.FlatParts.{part, flat-part, entries_map}
 
 -- ---- the flat map of a stored tree, by its entries

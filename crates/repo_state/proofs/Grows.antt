@@ -1,18 +1,13 @@
 -- Objects that are taken in one after another.
-use Rattle.std.proofs.Common.{◌≡◌, Bool, true, false, cond, ◌&&◌, ◌||◌, List, [], ◌∷◌, ◌++◌, map, reverse, None, Some, refl, sym, ap, subst, ◌∙◌, true≢false}
+use Rattle.std.proofs.Common.{◌≡◌, true, false, cond, List, [], ◌∷◌, ◌++◌, map, reverse, None, Some, refl, sym, ap, subst, ◌∙◌}
 use Rattle.std.specs.List.{list_any}
 use Rattle.std.specs.Option.{option_to_list}
-use Rattle.std.specs.Cmp.Lexicographic.{bytes_decides}
-use Rattle.std.proofs.lemmas.Bool.{or_right}
 use Rattle.std.proofs.lemmas.List.{reverse-append, map-append, append_assoc}
 use Rattle.git_objects.specs.Paths.{Bytes, same_bytes}
 use Rattle.git_objects.specs.Parts.{name_bytes}
-use Rattle.git_objects.specs.declared.kind.Kind.{Kind}
 use Rattle.git_objects.specs.declared.name.Name.{Name}
 use Rattle.git_objects.specs.Lists.{Each}
-use Rattle.object_store.specs.Objects.{Object, object_name, same_kind, is_named, find_named, has, has_name, body_of, is_body, IsStore}
-use Rattle.object_store.proofs.Held.{named_name}
-use Rattle.object_store.proofs.Finding.{has-found}
+use Rattle.object_store.specs.Objects.{Object, object_name, find_named, has_name, is_body, IsStore}
 use Rattle.indexmap.specs.IndexSet.{insert_key}
 use Rattle.repo_state.specs.Changes.{fresh}
 use Rattle.repo_state.specs.HeldObjects.{AreNamed}

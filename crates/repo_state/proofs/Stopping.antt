@@ -1,5 +1,5 @@
 -- What a stop may leave while items are read, and while one is appended.
-use Rattle.std.proofs.Common.{◌≡◌, ◌⊎◌, inl, inr, ⊎_elim, ◌++◌, [], ◌∷◌, ℕ, List, false, None, Some, Ok, refl, arith}
+use Rattle.std.proofs.Common.{inl, ℕ, arith}
 use Rattle.proj_io.specs.Stops.{OnlyAdds, Nothing, adds_as}
 
 -- no call was made

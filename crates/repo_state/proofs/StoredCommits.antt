@@ -1,28 +1,20 @@
 -- Commits of a store.
-use Rattle.std.proofs.Common.{◌≡◌, ℕ, zero, suc, ◌<◌, Bool, true, false, cond, ◌&&◌, ◌||◌, List, [], ◌∷◌, ◌++◌, ◌+◌, map, length, get_or, drop, add-one, None, Some, refl, sym, ap, ◌∙◌, true≢false, arith}
+use Rattle.std.proofs.Common.{◌≡◌, ℕ, zero, suc, ◌<◌, Bool, true, List, [], ◌∷◌, ◌++◌, ◌+◌, map, length, get_or, drop, add-one, sym, ap, ◌∙◌, arith}
 use Rattle.std.proofs.Math.Seq.{drop-cons}
 use Rattle.std.specs.Cmp.{first_so, second_so}
 use Rattle.std.specs.List.{list_all}
-use Rattle.std.specs.Option.{is_none, option_map_or}
-use Rattle.std.proofs.lemmas.Bool.{or_right}
-use Rattle.git_objects.specs.Paths.{Bytes, is_bytes}
+use Rattle.std.specs.Option.{option_map_or}
+use Rattle.git_objects.specs.Paths.{Bytes}
 use Rattle.git_objects.specs.Parts.{name_bytes}
-use Rattle.git_objects.specs.Commits.{Commit}
-use Rattle.git_objects.specs.CommitBodies.{commit_from}
-use Rattle.git_objects.specs.declared.kind.Kind.TheVariants.{Tree, Commit as CommitKind}
+use Rattle.git_objects.specs.declared.kind.Kind.TheVariants.{Commit as CommitKind}
 use Rattle.git_objects.specs.declared.name.Name.{Name}
-use Rattle.git_objects.specs.Lists.{Each}
-use Rattle.object_store.specs.Objects.{Object, is_named, find_named, has, body_of, missing_parent, missing_of_commit, is_body, IsStore}
+use Rattle.object_store.specs.Objects.{Object, body_of, IsStore}
 use Rattle.object_store.specs.Unfolding.{flat}
-use Rattle.object_store.proofs.Finding.{has-found}
-use Rattle.object_store.proofs.Held.{named_kind}
 use Rattle.repo_state.specs.Changes.{commit_objects}
-use Rattle.object_store.specs.StoredSnapshots.{commit_named, IsTreeOf}
+use Rattle.object_store.specs.StoredSnapshots.{IsTreeOf}
 use Rattle.repo_state.specs.StoredObjects.{stored_objects}
 use Rattle.object_store.specs.TreeObjects.{tree_objects}
-use Rattle.object_store.proofs.Parts.{found-has}
 use Rattle.repo_state.proofs.TreeLaw.{tree_law-stored}
-use Rattle.object_store.proofs.StoredCommits.{IsHeldCommit}
 
 -- ---- what the code finds
 

@@ -1,23 +1,18 @@
 -- A walk over a stored tree.
-use Rattle.std.proofs.Common.{◌≡◌, true, false, not, cond, ◌&&◌, ◌||◌, List, [], ◌∷◌, ◌++◌, map, reverse, drop, slice_get, None, Some, Result, Ok, Err, refl, sym, ap, subst, ◌∙◌, true≢false, append-nil}
+use Rattle.std.proofs.Common.{◌≡◌, true, false, cond, ◌||◌, List, [], ◌∷◌, ◌++◌, map, reverse, drop, slice_get, None, Some, Result, Ok, Err, refl, sym, ap, subst, ◌∙◌, true≢false, append-nil}
 use Rattle.std.proofs.lemmas.List.{append_assoc}
-use Rattle.std.specs.Cmp.{first_so, second_so}
-use Rattle.std.specs.Option.{is_none, unwrap_or}
-use Rattle.std.proofs.lemmas.Bool.{or_right, not-false}
-use Rattle.git_objects.specs.Paths.{Bytes, same_bytes, is_nil}
+use Rattle.std.specs.Cmp.{first_so}
+use Rattle.std.proofs.lemmas.Bool.{or_right}
+use Rattle.git_objects.specs.Paths.{Bytes, same_bytes}
 use Rattle.git_objects.specs.Names.{name}
-use Rattle.git_objects.specs.Bodies.{tree_entries}
 use Rattle.git_objects.specs.declared.entry.Entry.{Entry}
 use Rattle.git_objects.specs.declared.kind.Kind.{Kind}
 use Rattle.git_objects.specs.declared.kind.Kind.TheVariants.{Blob, Tree}
 use Rattle.git_objects.specs.declared.mode.Mode.{Mode}
 use Rattle.git_objects.specs.declared.mode.Mode.TheVariants.{File, Exec, Link, Module, Dir}
 use Rattle.git_objects.proofs.Basics.{same_bytes-self}
-use Rattle.object_store.specs.Objects.{Object, object_name, same_kind, is_named, find_named, has, has_name, has_child, body_of, missing_entry, is_body, IsStore, HasChildren}
-use Rattle.object_store.proofs.Held.{named_kind, named_name, body_named, tree_held, kind_is, not_named, has_name-from}
-use denote.Enum.Bare.{sameb}
-use Rattle.git_objects.specs.contracts.kind.Kind.{the_type}
-use Rattle.object_store.proofs.Finding.{has-found, kind_test}
+use Rattle.object_store.specs.Objects.{Object, object_name, is_named, find_named, has, has_name, has_child, body_of, IsStore, HasChildren}
+use Rattle.object_store.proofs.Held.{named_kind, named_name, body_named, not_named, has_name-from}
 use Rattle.std.specs.Result.{OnOk}
 use Rattle.repo_state.specs.declared.walk.Child.{Child}
 use Rattle.repo_state.specs.declared.walk.Frame.{Frame}

@@ -1,12 +1,11 @@
 -- A change of a state: the objects and the refs that it adds, the item that tells them, and the limits.
-use Rattle.std.specs.Prelude.{◌≡◌, ℕ, ◌+◌, ◌^◌, Bool, true, false, not, cond, ◌&&◌, ◌||◌, nat_le, List, [], ◌∷◌, ◌++◌, length, map, filter, fold, reverse, sum_by, Option, Some, None, Ok}
+use Rattle.std.specs.Prelude.{◌≡◌, ℕ, ◌+◌, Bool, true, false, not, cond, ◌&&◌, ◌||◌, nat_le, List, [], ◌∷◌, ◌++◌, length, map, filter, fold, reverse, sum_by, Option, Some, None, Ok}
 use Rattle.std.specs.List.{flat_map, list_all, list_any}
 use Rattle.std.specs.Option.{option_map_or}
 use Rattle.std.specs.FinMap.{find, put as put_entry}
 use Rattle.git_objects.specs.declared.limits.TheConstants.{COMMITS, OBJECTS, ITEM_BYTES, ITEMS, STORE_BYTES, MESSAGE_BYTES, BLOB_BYTES}
 use Rattle.git_objects.specs.Paths.{Bytes, is_nil, same_bytes}
 use Rattle.git_objects.specs.Commits.{Commit}
-use Rattle.git_objects.specs.CommitBodies.{commit_from}
 use Rattle.git_objects.specs.declared.kind.Kind.TheVariants.{Blob, Commit as CommitKind}
 use Rattle.git_objects.specs.declared.quantity.Quantity.{Quantity}
 use Rattle.git_objects.specs.declared.quantity.Quantity.TheVariants.{Commits, Objects, Item, Items, Store}

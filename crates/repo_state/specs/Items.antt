@@ -1,26 +1,18 @@
 -- The items of a store: objects and refs, each item a change. The state that a list of items spells, or its first break.
-use Rattle.std.specs.Prelude.{ℕ, zero, suc, ◌+◌, ◌^◌, Bool, true, false, not, cond, ◌&&◌, ◌==◌, nat_le, nat_lt, List, [], ◌∷◌, ◌++◌, length, filter, Option, Some, None, Result, Ok, Err}
-use Rattle.std.specs.Option.{option_map_or, unwrap_or}
+use Rattle.std.specs.Prelude.{ℕ, zero, suc, ◌+◌, Bool, true, not, cond, ◌&&◌, ◌==◌, nat_le, nat_lt, List, [], ◌∷◌, ◌++◌, length, filter, Option, Some, None, Result, Ok, Err}
 use Rattle.std.specs.List.{flat_map}
 use Rattle.std.specs.Int.{w16, w32, to_be_bytes}
-use Rattle.std.specs.declared.cmp.Ordering.{Ordering}
-use Rattle.std.specs.Ordering.{nat_cmp, is_lt}
-use Rattle.std.specs.Cmp.Lexicographic.{slice_cmp}
+use Rattle.std.specs.Ordering.{is_lt}
 use Rattle.std.specs.FinMap.{put as put_entry}
 use Rattle.git_objects.specs.declared.limits.TheConstants.{COMMITS, OBJECTS, ITEM_BYTES, ITEMS, STORE_BYTES}
 use Rattle.git_objects.specs.Paths.{Bytes}
 use Rattle.git_objects.specs.Refs.{Refs, bytes_cmp}
-use Rattle.git_objects.specs.Trees.{Flat}
-use Rattle.git_objects.specs.Names.{name, depth}
-use Rattle.git_objects.specs.Bodies.{tree_entries}
-use Rattle.git_objects.specs.CommitBodies.{commit_from}
+use Rattle.git_objects.specs.Names.{name}
 use Rattle.git_objects.specs.declared.kind.Kind.{Kind}
 use Rattle.git_objects.specs.declared.kind.Kind.TheVariants.{Blob, Tree, Commit}
 use Rattle.path_names.specs.RefNames.{is_ref_name}
-use Rattle.object_store.specs.Objects.{Object, same_kind, has, has_name, body_of}
+use Rattle.object_store.specs.Objects.{Object, has, has_name}
 use Rattle.object_store.specs.Puts.{Refusal, NotBody, Missing, Collides, refusal}
-use Rattle.object_store.specs.Unfolding.{joined, flat}
-use Rattle.object_store.specs.Sizes.{longest}
 use Rattle.repo_state.specs.Fields.{Spot, Fault, BrokenAt, Clash, Read, ◌>>=◌, start, field, number, marker, ended}
 use Rattle.object_store.specs.Fits.{is_commit, body_fits}
 

@@ -1,19 +1,13 @@
 -- What the held objects and refs are to a reader: known blobs, commits with their flat trees, and refs.
-use Rattle.std.specs.Prelude.{Bool, true, ◌&&◌, List, [], ◌∷◌, ◌++◌}
+use Rattle.std.specs.Prelude.{Bool, true, ◌&&◌, List}
 use Rattle.std.specs.List.{list_all, list_any}
-use Rattle.std.specs.Option.{option_to_list, option_map}
 use Rattle.git_objects.specs.Paths.{Bytes, same_bytes}
-use Rattle.git_objects.specs.Trees.{Flat}
-use Rattle.git_objects.specs.Names.{tree_name}
-use Rattle.git_objects.specs.Commits.{Letter, Commit, commit_body, commit_name}
-use Rattle.git_objects.specs.CommitBodies.{commit_from}
 use Rattle.git_objects.specs.declared.kind.Kind.{Kind}
 use Rattle.git_objects.specs.declared.kind.Kind.TheVariants.{Blob, Tree, Commit as CommitKind}
 use Rattle.object_store.specs.Objects.{Object, same_kind}
-use Rattle.object_store.specs.Unfolding.{flat}
 use Rattle.repo_state.specs.Items.{Held}
 use Rattle.git_objects.specs.Refs.{Refs}
-use Rattle.git_objects.specs.Snapshots.{Snapshot, snapshot_commit, snapshot_name}
+use Rattle.git_objects.specs.Snapshots.{Snapshot}
 use Rattle.object_store.specs.TreeObjects.{tree_objects}
 use Rattle.object_store.specs.StoredSnapshots.{snapshots_in, blobs_in}
 

@@ -8,9 +8,7 @@ use Rattle.git_objects.specs.declared.entry.Entry.{Entry}
 use Rattle.git_objects.specs.declared.kind.Kind.TheVariants.{Blob, Tree}
 use Rattle.git_objects.specs.declared.mode.Mode.{Mode}
 use Rattle.git_objects.specs.declared.mode.Mode.TheVariants.{File, Exec, Link, Module, Dir}
-use Rattle.object_store.specs.Objects.{Object, is_named, has, has_child, body_of, HasChildren}
-use Rattle.git_objects.specs.Commits.{Commit}
-use Rattle.object_store.specs.StoredSnapshots.{commit_named}
+use Rattle.object_store.specs.Objects.{Object, is_named, has, body_of, HasChildren}
 use Rattle.repo_state.specs.declared.walk.Child.{Child}
 use Rattle.repo_state.specs.declared.walk.Child.TheVariants.{BlobChild, TreeChild}
 use Rattle.repo_state.specs.declared.walk.Frame.{Frame}

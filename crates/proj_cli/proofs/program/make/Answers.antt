@@ -1,11 +1,11 @@
-use Rattle.std.proofs.Common.{List, true, Err, ap, sym, subst, ◌∙◌, refl, inr, Option}
+use Rattle.std.proofs.Common.{List, true, Err, ap, sym, subst, ◌∙◌, refl, inr}
 use Rattle.std.specs.Prelude.{IfOk}
-use Rattle.git_objects.specs.Paths.{Bytes, Path}
+use Rattle.git_objects.specs.Paths.{Bytes}
 use Rattle.proj_io.specs.Views.{source_view, keeper_view}
 use Rattle.proj_cli.specs.Answer.{IsInHand, IsMade}
 use Rattle.proj_words.specs.Views.{command_of}
 use Rattle.proj_cli.specs.Pushed.{IsLawful}
-use Rattle.proj_cli.specs.Step.{loads, step, writes, by_items, push_step, push_by, room_of, Step}
+use Rattle.proj_cli.specs.Step.{loads, step, writes, Step}
 use Rattle.proj_cli.specs.Texts.{filter_path}
 use Rattle.proj_words.specs.Words.{Command, Import, Name, Project, Push}
 use Rattle.proj_words.specs.declared.outcome.Outcome.TheVariants.{NotBuilt, Usage}
@@ -14,7 +14,6 @@ use Rattle.proj_cli.proofs.Laws.{done_lawful}
 use Rattle.proj_cli.specs.Stopped.{ForInput, MayLeave}
 use Rattle.proj_cli.proofs.Stopping.{none_for, nothing_for, pushed_for}
 use Rattle.proj_io.specs.Stops.{OnlyAdds}
-use Rattle.repo_state.specs.Items.{read_items}
 use Rattle.proj_cli.proofs.program.make.Goals as goal
 
 pub returns-in-Ok-None-clause-made : goal.returns-in-Ok-None-clause-made

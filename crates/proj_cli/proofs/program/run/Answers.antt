@@ -1,11 +1,11 @@
-use Rattle.std.proofs.Common.{List, Result, ap, subst, ◌∙◌, map, string_bytes}
+use Rattle.std.proofs.Common.{List, Result, ap, subst, map, string_bytes}
 use Rattle.std.specs.Prelude.{IfOk}
 use Rattle.git_objects.specs.Paths.{Bytes}
 use Rattle.proj_io.specs.Views.{source_view, sink_view, keeper_view}
 use Rattle.proj_cli.specs.Answer.{IsDone, IsInHand, IsMade}
 use Rattle.proj_cli.specs.Pushed.{IsLawful}
 use Rattle.proj_cli.specs.Step.{loads, step, writes}
-use Rattle.proj_words.specs.Words.{command, is_formed}
+use Rattle.proj_words.specs.Words.{command}
 use Rattle.proj_words.specs.declared.outcome.Outcome.{Outcome}
 use Rattle.proj_cli.proofs.Joins.{answers, complete}
 use Rattle.proj_cli.proofs.Laws.{run_lawful}

@@ -1,6 +1,5 @@
-use Rattle.std.proofs.Common.{◌≡◌, ◌≢◌, ℕ, List, map, string_bytes, Some, inl, sym, ap, subst, ◌∙◌, arith}
+use Rattle.std.proofs.Common.{◌≡◌, ℕ, List, map, string_bytes, inl, sym, ap, subst, ◌∙◌, arith}
 use Rattle.proj_io.specs.Views.{source_view, sink_view}
-use Rattle.proj_disk.specs.Disks.{DiskView, IsLeftBy}
 use Rattle.proj_journal.specs.Journals.{disk_of, items_counted, items_of, number_of}
 use Rattle.proj_journal.specs.Spelling.{listed}
 use Rattle.proj_words.specs.Words.{command}
