@@ -113,11 +113,7 @@ fn table_of(alloc: Global, texts: &Texts, word: &Word) -> Result<Table, Fault> {
 }
 
 // The components with slashes between them.
-fn joined(
-    alloc: Global,
-    front: &[Component],
-    rest: &[Component],
-) -> Result<String, AllocError> {
+fn joined(alloc: Global, front: &[Component], rest: &[Component]) -> Result<String, AllocError> {
     let mut text = Vec::new(alloc);
     for component in front.iter().chain(rest) {
         if !text.is_empty() {
@@ -129,11 +125,7 @@ fn joined(
 }
 
 // A sound filter's table, and a path.
-fn table_and_path(
-    alloc: Global,
-    texts: &Texts,
-    words: &[Word],
-) -> Result<(Table, Path), Fault> {
+fn table_and_path(alloc: Global, texts: &Texts, words: &[Word]) -> Result<(Table, Path), Fault> {
     let [filter, path] = words else {
         return Err(Fault::BadLine);
     };

@@ -8,8 +8,8 @@ ghost use Rattle.git_objects.specs.Paths.{is_component};
 use crate::values::{mode_digits, mode_of, text};
 use case_lines::{Fault, Texts, Word, digits_of, name_of as name_in, printed};
 use git_objects::{
-    Bytes, CommitParts, CommitView, Component, Entry, EntryView, Ident, Kind, Name, TreeView, add_entry,
-    encode_commit, encode_tree, is_component, name_of,
+    Bytes, CommitParts, CommitView, Component, Entry, EntryView, Ident, Kind, Name, TreeView,
+    add_entry, encode_commit, encode_tree, is_component, name_of,
 };
 use std::alloc::{AllocError, Global};
 
@@ -139,9 +139,7 @@ fn is_entry(seen: Option<EntryView<'_>>, entry: &Entry) -> bool {
     let Some(seen) = seen else {
         return false;
     };
-    seen.mode == entry.mode
-        && seen.name == entry.name
-        && seen.component == entry.component.bytes()
+    seen.mode == entry.mode && seen.name == entry.name && seen.component == entry.component.bytes()
 }
 
 // The entries of a body, a line each.

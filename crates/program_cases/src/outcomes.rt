@@ -6,29 +6,38 @@ use std::alloc::Global;
 
 /// The number and the text of an outcome.
 pub fn outcome(alloc: Global, texts: &Texts, words: &[Word]) -> Result<String, Fault> {
-    let [name, values @ ..] = words else {
-        return Err(Fault::BadLine);
-    };
-    let outcome = match values {
-        [] => plain_outcome(&name.bytes)?,
-        _ => told_outcome(alloc, texts, &name.bytes, values)?,
-    };
-    let number = outcome_code(&outcome);
-    let text = outcome_text(alloc, &outcome)?;
-    Ok(format!(in alloc; "{number}\n{}", printed(alloc, &text)?)?)
+    let outcome = outcome_of(alloc, texts, words)?;
+    told(alloc, &outcome)
+}
+
+fn told(alloc: Global, outcome: &Outcome) -> Result<String, Fault> {
+    let number = outcome_code(outcome);
+    let text = outcome_text(alloc, outcome)?;
+    let text = printed(alloc, &text)?;
+    Ok(format!(in alloc; "{number}\n{text}")?)
+}
+
+fn outcome_of(alloc: Global, texts: &Texts, words: &[Word]) -> Result<Outcome, Fault> {
+    match words {
+        [name] => plain_outcome(name.text()),
+        [name, value] => outcome_of_one(texts, name.text(), value),
+        [name, first, second] => outcome_of_two(texts, name.text(), first, second),
+        [name, n, path, by] if name.text() == "blocked" => blocked(alloc, texts, n, path, by),
+        _ => Err(Fault::BadLine),
+    }
 }
 
 // The outcomes that tell nothing more.
-fn plain_outcome(name: &[u8]) -> Result<Outcome, Fault> {
+fn plain_outcome(name: &str) -> Result<Outcome, Fault> {
     match name {
-        b"done" => Ok(Outcome::Done),
-        b"out-of-memory" => Ok(Outcome::OutOfMemory),
-        b"usage" => Ok(Outcome::Usage),
-        b"unknown-ref" => Ok(Outcome::UnknownRef),
-        b"read-fault" => Ok(Outcome::ReadFault),
-        b"write-fault" => Ok(Outcome::WriteFault),
-        b"store-fault" => Ok(Outcome::StoreFault),
-        b"not-built" => Ok(Outcome::NotBuilt),
+        "done" => Ok(Outcome::Done),
+        "out-of-memory" => Ok(Outcome::OutOfMemory),
+        "usage" => Ok(Outcome::Usage),
+        "unknown-ref" => Ok(Outcome::UnknownRef),
+        "read-fault" => Ok(Outcome::ReadFault),
+        "write-fault" => Ok(Outcome::WriteFault),
+        "store-fault" => Ok(Outcome::StoreFault),
+        "not-built" => Ok(Outcome::NotBuilt),
         _ => Err(Fault::BadLine),
     }
 }
@@ -40,42 +49,57 @@ fn small_number(word: &Word) -> Result<u32, Fault> {
 
 // A name, or none.
 fn name_or_none(texts: &Texts, word: &Word) -> Result<Option<Name>, Fault> {
-    if word.bytes.as_slice() == b"none".as_slice() {
+    if word.text() == "none" {
         return Ok(None);
     }
     Ok(Some(name_of(texts, word)?))
 }
 
-// The outcomes that tell more.
-fn told_outcome(
-    alloc: Global,
-    texts: &Texts,
-    name: &[u8],
-    values: &[Word],
-) -> Result<Outcome, Fault> {
-    match (name, values) {
-        (b"other-ref", [at]) => Ok(Outcome::OtherRef {
-            at: number_of(&at.bytes)?,
+// The outcomes that tell one value.
+fn outcome_of_one(texts: &Texts, name: &str, value: &Word) -> Result<Outcome, Fault> {
+    match name {
+        "other-ref" => Ok(Outcome::OtherRef {
+            at: number_of(&value.bytes)?,
         }),
-        (b"not-at-head", [expected, got]) => Ok(Outcome::NotAtHead {
-            expected: name_or_none(texts, expected)?,
-            got: name_or_none(texts, got)?,
+        "no-change" => Ok(Outcome::NoChange {
+            n: small_number(value)?,
         }),
-        (b"no-change", [n]) => Ok(Outcome::NoChange {
-            n: small_number(n)?,
-        }),
-        (b"blocked", [n, path, by]) => Ok(Outcome::Blocked {
-            n: small_number(n)?,
-            path: path_of(alloc, texts, path)?,
-            by: path_of(alloc, texts, by)?,
-        }),
-        (b"collision", [name]) => Ok(Outcome::Collision {
-            name: name_of(texts, name)?,
-        }),
-        (b"damaged", [item, at]) => Ok(Outcome::Damaged {
-            item: small_number(item)?,
-            at: number_of(&at.bytes)?,
+        "collision" => Ok(Outcome::Collision {
+            name: name_of(texts, value)?,
         }),
         _ => Err(Fault::BadLine),
     }
+}
+
+// The outcomes that tell two values.
+fn outcome_of_two(
+    texts: &Texts,
+    name: &str,
+    first: &Word,
+    second: &Word,
+) -> Result<Outcome, Fault> {
+    match name {
+        "not-at-head" => Ok(Outcome::NotAtHead {
+            expected: name_or_none(texts, first)?,
+            got: name_or_none(texts, second)?,
+        }),
+        "damaged" => Ok(Outcome::Damaged {
+            item: small_number(first)?,
+            at: number_of(&second.bytes)?,
+        }),
+        _ => Err(Fault::BadLine),
+    }
+}
+
+fn blocked(
+    alloc: Global,
+    texts: &Texts,
+    n: &Word,
+    path: &Word,
+    by: &Word,
+) -> Result<Outcome, Fault> {
+    let n = small_number(n)?;
+    let path = path_of(alloc, texts, path)?;
+    let by = path_of(alloc, texts, by)?;
+    Ok(Outcome::Blocked { n, path, by })
 }

@@ -1,8 +1,10 @@
 // Calls of the program.
+ghost use Rattle.std.specs.Prelude.{◌≡◌, ◌<◌, false};
+
 use crate::session::{FailingCalls, Session};
 use case_lines::{Fault, Texts, Word, items_said, printed, reopened};
-use proj_cli::{outcome_code, run};
-use proj_io::{MemSink, MemSource};
+use proj_cli::{Outcome, outcome_code, run};
+use proj_io::{MemKeeper, MemSink, MemSource};
 use std::alloc::Global;
 use std::mem;
 
@@ -13,26 +15,63 @@ pub fn run_words(session: &mut Session, words: &[Word]) -> Result<String, Fault>
     let (front, pieces) = parted(words);
     let words = strings(alloc, &session.texts, front)?;
     let input = session.texts.spelled(pieces)?;
-    let most = session.most.max(1);
     let failing = mem::replace(&mut session.failing, FailingCalls::new(alloc));
-    let mut input = MemSource::new(input, most, failing.input);
-    let mut out = MemSink::new(alloc, most, failing.out);
-    let mut err = MemSink::new(alloc, most, failing.err);
     let mut keeper = reopened(alloc, &mut session.keeper);
-    let outcome = run(alloc, &words, &mut input, &mut out, &mut err, &mut keeper);
+    let said = called(
+        alloc,
+        &words,
+        input,
+        session.most.max(1),
+        failing,
+        &mut keeper,
+    );
     session.keeper = keeper;
-    let mut text = format!(in alloc; "{}\n", outcome_code(&outcome))?;
-    add_stream(alloc, &mut text, "out", out.bytes())?;
-    add_stream(alloc, &mut text, "err", err.bytes())?;
+    with_items(alloc, session, said)
+}
+
+// Adds the items of the store.
+fn with_items(
+    alloc: Global,
+    session: &Session,
+    said: Result<String, Fault>,
+) -> Result<String, Fault> {
+    let mut text = said?;
     let items = items_said(alloc, &session.texts, &session.keeper)?;
     text.push_str(items.as_str())?;
     Ok(text)
 }
 
+// What one call of the program comes to, and what it writes.
+fn called(
+    alloc: Global,
+    words: &[String],
+    input: Vec<u8>,
+    most: usize,
+    failing: FailingCalls,
+    keeper: &mut MemKeeper,
+) -> Result<String, Fault>
+    requires most { 0 < most }
+    requires open { keeper.old.broken ≡ false }
+{
+    let mut input = MemSource::new(input, most, failing.input);
+    let mut out = MemSink::new(alloc, most, failing.out);
+    let mut err = MemSink::new(alloc, most, failing.err);
+    let outcome = run(alloc, words, &mut input, &mut out, &mut err, keeper);
+    told(alloc, &outcome, out.bytes(), err.bytes())
+}
+
+fn told(alloc: Global, outcome: &Outcome, out: &[u8], err: &[u8]) -> Result<String, Fault> {
+    let mut text = format!(in alloc; "{}\n", outcome_code(outcome))?;
+    add_stream(alloc, &mut text, "out", out)?;
+    add_stream(alloc, &mut text, "err", err)?;
+    Ok(text)
+}
+
 // The words of a call, and the pieces of its input.
 fn parted(words: &[Word]) -> (&[Word], &[Word]) {
-    let place = words.iter().position(|word| !word.is_quoted
-        && word.bytes.as_slice() == b"<".as_slice());
+    let place = words
+        .iter()
+        .position(|word| !word.is_quoted && word.text() == "<");
     let at = place.unwrap_or(words.len());
     match words.split_at_checked(at) {
         Some((front, [_, pieces @ ..])) => (front, pieces),

@@ -20,7 +20,8 @@ fn pattern(mode: &str) -> &'static str {
         "swaps" => ":[a=:/b,b=:/a]",
         "prefixes" => ":prefix=@",
         "excludes" => ":exclude[::@]",
-        "holes" => "@=:/x@:exclude[::a,::b/,::c/,::d/,::e/,::f/,::g/,::h/,::i/,::j/,::k/,::l/,::m/]",
+        "holes" =>
+            "@=:/x@:exclude[::a,::b/,::c/,::d/,::e/,::f/,::g/,::h/,::i/,::j/,::k/,::l/,::m/]",
         _ => "::@",
     }
 }

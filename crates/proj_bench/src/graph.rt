@@ -72,14 +72,24 @@ pub fn answer(
         return Ok(None);
     }
     let mut graph = Graph::new(alloc);
+    timed(rt, alloc, &mut graph, mode == "time", count).map(Some)
+}
+
+fn timed(
+    rt: &impl Clock,
+    alloc: Global,
+    graph: &mut Graph,
+    is_timed: bool,
+    count: u64,
+) -> io::Result<String> {
     let start = Instant::now(rt)?;
-    grow(alloc, &mut graph, count)?;
+    grow(alloc, graph, count)?;
     let grown = start.elapsed(rt)?.as_millis();
     let asked = Instant::now(rt)?;
-    let found = count_ancestors(&graph)?;
+    let found = count_ancestors(graph)?;
     let answered = asked.elapsed(rt)?.as_millis();
-    if mode == "count" {
-        return Ok(Some(format!(in alloc; "{found} ancestors")?));
+    if !is_timed {
+        return Ok(format!(in alloc; "{found} ancestors")?);
     }
-    Ok(Some(format!(in alloc; "{found} ancestors in {answered} ms, the graph in {grown} ms")?))
+    Ok(format!(in alloc; "{found} ancestors in {answered} ms, the graph in {grown} ms")?)
 }

@@ -48,9 +48,12 @@ pub fn answer(alloc: Global, mode: &str, count: u64) -> Result<Option<String>, A
         return Ok(None);
     }
     let mut store = Store::new(alloc);
-    let Ok(names) = put_all(alloc, &mut store, count) else {
-        return Ok(Some(format!(in alloc; "not all were taken in")?));
-    };
-    let found = found(&store, &names);
-    Ok(Some(format!(in alloc; "{} put, {found} found", names.len())?))
+    put_and_found(alloc, &mut store, count).map(Some)
+}
+
+fn put_and_found(alloc: Global, store: &mut Store, count: u64) -> Result<String, AllocError> {
+    match put_all(alloc, store, count) {
+        Err(_) => format!(in alloc; "not all were taken in"),
+        Ok(names) => format!(in alloc; "{} put, {} found", names.len(), found(store, &names)),
+    }
 }

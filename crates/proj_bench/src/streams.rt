@@ -1,7 +1,8 @@
 // Streams of blobs or of small changes, read in pieces.
 ghost use Rattle.std.specs.Prelude.{◌≡◌, false, IfSome};
+ghost use Rattle.proj_bench.specs.Told.{is_command};
 
-use fast_import::{Next, Reader};
+use fast_import::{Next, Reader, StreamFault};
 use std::alloc::{AllocError, Global};
 
 // The bytes of a blob.
@@ -34,15 +35,23 @@ fn changes(alloc: Global, count: u64) -> Result<Vec<u8>, AllocError> {
     Ok(stream)
 }
 
-// Whether a command is told next. None: a fault.
-fn is_told(reader: &mut Reader) -> Option<bool>
-    ensures { IfSome result (λ _. reader.new.ended ≡ reader.old.ended) }
+// Whether a command was told. None: a fault.
+fn is_command(answer: &Result<Next, StreamFault>) -> Option<bool>
+    ensures { result ≡ is_command answer.now }
 {
-    match reader.next() {
+    match answer {
         Ok(Next::Command(_)) => Some(true),
         Ok(_) => Some(false),
         Err(_) => None,
     }
+}
+
+// Whether a command is told next. None: a fault.
+fn is_told(reader: &mut Reader) -> Option<bool>
+    ensures { IfSome result (λ _. reader.new.ended ≡ reader.old.ended) }
+{
+    let answer = reader.next();
+    is_command(&answer)
 }
 
 // Tells all commands that what was fed holds, and how many they are. None: a fault.
@@ -90,8 +99,12 @@ pub fn answer(alloc: Global, mode: &str, count: u64) -> Result<Option<String>, A
     if mode.starts_with("make-") {
         return Ok(Some(format!(in alloc; "{} bytes", stream.len())?));
     }
-    match read(alloc, &stream) {
-        None => Ok(Some(format!(in alloc; "a fault")?)),
-        Some(told) => Ok(Some(format!(in alloc; "{} bytes, {told} commands", stream.len())?)),
+    read_text(alloc, &stream).map(Some)
+}
+
+fn read_text(alloc: Global, stream: &[u8]) -> Result<String, AllocError> {
+    match read(alloc, stream) {
+        None => format!(in alloc; "a fault"),
+        Some(told) => format!(in alloc; "{} bytes, {told} commands", stream.len()),
     }
 }

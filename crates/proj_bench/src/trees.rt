@@ -101,16 +101,27 @@ pub fn answer(
     edits: u32,
 ) -> Result<Option<String>, AllocError> {
     let mut store = Store::new(alloc);
-    if mode == "put" {
-        let done = put_all(alloc, &mut store, width, edits).is_some();
-        return Ok(Some(format!(in alloc; "{edits} put: {done}, {} objects", store.len())?));
+    match mode {
+        "put" => put_text(alloc, &mut store, width, edits).map(Some),
+        "walk" => walk_text(alloc, &mut store, width).map(Some),
+        _ => Ok(None),
     }
-    if mode != "walk" {
-        return Ok(None);
-    }
-    let Some(root) = tree(alloc, &mut store, width) else {
-        return Ok(Some(format!(in alloc; "no tree")?));
+}
+
+fn put_text(
+    alloc: Global,
+    store: &mut Store,
+    width: u32,
+    edits: u32,
+) -> Result<String, AllocError> {
+    let done = put_all(alloc, store, width, edits).is_some();
+    format!(in alloc; "{edits} put: {done}, {} objects", store.len())
+}
+
+fn walk_text(alloc: Global, store: &mut Store, width: u32) -> Result<String, AllocError> {
+    let Some(root) = tree(alloc, store, width) else {
+        return format!(in alloc; "no tree");
     };
-    let leaves = walk_all(alloc, &store, root)?;
-    Ok(Some(format!(in alloc; "{leaves} leaves")?))
+    let leaves = walk_all(alloc, store, root)?;
+    format!(in alloc; "{leaves} leaves")
 }

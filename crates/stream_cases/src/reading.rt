@@ -46,11 +46,7 @@ fn add_fault(alloc: Global, lines: &mut String, fault: &StreamFault) -> Result<(
 }
 
 // Adds the line of what a reader tells next.
-fn add_next(
-    alloc: Global,
-    reader: &mut Reader,
-    lines: &mut String,
-) -> Result<Option<bool>, Fault>
+fn add_next(alloc: Global, reader: &mut Reader, lines: &mut String) -> Result<Option<bool>, Fault>
     ensures { IfOk result (λ told. told ≢ Some false → reader.new.ended ≡ reader.old.ended) }
 {
     let answer = reader.next();

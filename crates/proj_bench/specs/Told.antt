@@ -1,0 +1,12 @@
+-- What a reader tells.
+use Rattle.std.specs.Prelude.{Bool, true, false, Option, Some, None, Result, Ok, Err}
+use Rattle.fast_import.specs.declared.fault.StreamFault.{StreamFault}
+use Rattle.fast_import.specs.declared.reader.Next.{Next}
+use Rattle.fast_import.specs.declared.reader.Next.TheVariants as nexts
+
+-- whether it is a command; none of a fault
+abbrev pub is_command : Result Next StreamFault → Option Bool
+is_command (Ok (nexts.Command p)) = Some true
+is_command (Ok nexts.More) = Some false
+is_command (Ok nexts.Ended) = Some false
+is_command (Err f) = None
