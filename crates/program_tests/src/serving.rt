@@ -47,7 +47,13 @@ fn disk_of(alloc: Global, bytes: &[u8]) -> Result<MemDisk, AllocError> {
 fn a_store_stays(rt: HostRuntime) -> Result<(), Fail> {
     let alloc = rt.alloc();
     let imported = served(alloc, disk_of(alloc, b"")?, IMPORT, FIRST)?;
-    assert!(rt; imported.is(0, b"refs/heads/main 5990ba6163d77f77071ca2e8e9899c368dbc6eb7\n", b""));
+    assert!(rt;
+        imported.is(
+            0,
+            b"refs/heads/main 5990ba6163d77f77071ca2e8e9899c368dbc6eb7\n",
+            b""
+        )
+    );
     assert!(rt; imported.disk.bytes().len() == 263);
     let shown = served(alloc, imported.disk, PROJECT, b"")?;
     assert!(rt; shown.is(0, b"6a27ff6de5d45a65cc66723c6ae6227ea6004aa6\n", b""));

@@ -126,7 +126,10 @@ fn each_image_has_the_acknowledged_commands(rt: HostRuntime) -> Result<(), Fail>
         let (words, input) = &COMMANDS[number];
         let before = journal.disk().calls();
         assert!(rt; is_done(alloc, &mut journal, words, input)?, "{number}");
-        assert!(rt; leaves_state(alloc, journal.disk(), before, number)?, "{number}");
+        assert!(rt;
+            leaves_state(alloc, journal.disk(), before, number)?,
+            "{number}"
+        );
     }
     Ok(())
 }
