@@ -1,11 +1,12 @@
 -- A call of the program on a disk.
-use Rattle.std.proofs.Common.{◌≡◌, ◌≢◌, inl, inr, ⊎_elim, ◌++◌, [], ◌∷◌, ℕ, List, length, Option, Some, None, Ok, Err, Result, IfSome, ◌↔◌, refl, sym, ap, subst, ◌∙◌, arith, length-append}
+use Rattle.std.proofs.Common.{◌≡◌, ◌⊎◌, ◌+◌, ◌≢◌, inl, inr, ⊎_elim, ◌++◌, [], ◌∷◌, ℕ, List, length, Option, Some, None, Ok, Err, Result, IfSome, ◌↔◌, refl, sym, ap, subst, ◌∙◌, arith, length-append, replicate}
+use Rattle.std.proofs.lemmas.List.{length-replicate}
 use Rattle.std.specs.Prelude.{IfOk, IsSome, MatchResult, unwrap_or, ⊤}
 use Rattle.std.specs.Option.{option_map}
 use Rattle.git_objects.specs.Paths.{Bytes}
 use Rattle.repo_state.specs.Changes.{plan_text}
 use Rattle.proj_io.specs.Stops.{OnlyAdds, Nothing}
-use Rattle.proj_disk.specs.Disks.{DiskView, IsImage, IsLeftBy, stable}
+use Rattle.proj_disk.specs.Disks.{DiskView, IsImage, IsLeftBy, furthest, stable}
 use Rattle.proj_journal.specs.Journals.{IsBrokenAt, IsEmpty, ListsLeft, SpellsItsItems, TellsWhy, items_of}
 use Rattle.proj_journal.specs.Rest.{Leaves}
 use Rattle.proj_journal.specs.Spelling.{list_in, listed, spelled}
@@ -13,8 +14,9 @@ use Rattle.proj_journal.specs.Spelled.{spelled-other}
 use Rattle.proj_journal.specs.declared.opening.JournalError.{JournalError}
 use Rattle.proj_journal.specs.declared.opening.JournalError.TheVariants.{Failed, Broken, OutOfMemory as NoMemory}
 use Rattle.proj_cli.specs.Step.{Step}
-use Rattle.proj_cli.specs.Served.{HasList, IsOnlySynced, IsSteady, LeavesList, SaysWhy}
+use Rattle.proj_cli.specs.Served.{HasList, IsOnlySynced, IsSteady, IsWhole, LeavesList, LeavesWhole, SaysWhy, Spells}
 use Rattle.proj_cli.specs.Stopped.{ForInput, MayLeave}
+use Rattle.proj_cli.proofs.ListLengths.{list_short}
 use Rattle.proj_cli.proofs.Makes.{long, told_input}
 
 -- ---- an empty disk
@@ -33,9 +35,9 @@ nil_of (b ∷ bytes) none = absurd (omega (arith, none))
 pub spelled_some : (bytes : List ℕ) (items : List Bytes) → spelled bytes ≡ Ok items → bytes ≢ []
 spelled_some bytes items is none = not_both (spelled []) 0 items spelled_empty (ap spelled (sym none) ∙ is)
 
-pub steady_some : (o : Option DiskView) (disk : DiskView) → o ≡ Some disk → IfSome o (λ view. IsImage view view.bytes) → IsSteady disk → disk.bytes ≢ []
-steady_some o disk e reads steady =
-    spelled_some disk.bytes (listed disk.bytes) (steady disk.bytes (subst (λ (p : Option DiskView). IfSome p (λ view. IsImage view view.bytes)) e reads))
+pub whole_some : (o : Option DiskView) (disk : DiskView) → o ≡ Some disk → IfSome o (λ view. IsImage view view.bytes) → IsWhole disk → disk.bytes ≢ []
+whole_some o disk e reads whole =
+    spelled_some disk.bytes (listed disk.bytes) (whole disk.bytes (subst (λ (p : Option DiskView). IfSome p (λ view. IsImage view view.bytes)) e reads))
 
 -- so many bytes
 pub none_long : (o p : Option DiskView) (n : ℕ) → IfSome o (λ disk. n ≡ length disk.bytes) → p ≡ o → n ≡ 0 → IfSome p (λ disk. disk.bytes ≡ [])
@@ -112,57 +114,72 @@ whole_as (Err place) Kind other never stands = absurd (never (stands other tt))
 abbrev longer : List Bytes → List Bytes
 longer items = items ++ [] ∷ [] ∷ []
 
-longer_than : (items : List Bytes) (item : Bytes) → longer items ≡ items ++ item ∷ [] → ⊥
-longer_than items item same = omega (arith, ap length same, length-append items ([] ∷ [] ∷ []), length-append items (item ∷ []))
-
-pub image_leaves : (s : Step) (items : List Bytes) (image : List ℕ) → ((list : List Bytes) → Leaves image list → MayLeave s items list) → LeavesList s items image
-image_leaves s items image stands = whole_as (spelled image) (MayLeave s items) (longer items) other stands
-  where
-    other : MayLeave s items (longer items) → ⊥
-    other (inl same) = omega (arith, ap length same, length-append items ([] ∷ [] ∷ []))
-    other (inr more) = longer_than items (plan_text s.change) more.behind
-
 pub image_spells : (items : List Bytes) (image : List ℕ) → ((list : List Bytes) → Leaves image list → list ≡ items) → spelled image ≡ Ok items
 image_spells items image stands =
     let whole = whole_as (spelled image) (λ list. list ≡ items) (longer items) (λ same. omega (arith, ap length same, length-append items ([] ∷ [] ∷ []))) stands in
     whole.0 ∙ ap Ok whole.1
 
--- a list that a steady disk leaves is its own
-pub steady_list : (o : Option DiskView) (disk : DiskView) (image : List ℕ) (list : List Bytes) → o ≡ Some disk → IsSteady disk → IsLeftBy o image → Leaves image list → list ≡ listed disk.bytes
-steady_list o disk image list told steady left leaves =
-    let is = steady image (subst (λ (p : Option DiskView). IsLeftBy p image) told left) in
-    sym (subst (λ (r : Result (List Bytes) ℕ). MatchResult r (λ items. items ≡ list) (λ _. ⊤)) is leaves)
+-- so many items more than any image of the disk spells, and than the step leaves
+abbrev number_of : DiskView → ℕ
+number_of disk = furthest (length disk.synced) disk.ranges + length (listed disk.bytes) + 2
 
-module _ (left : Option Bytes) (asks : Bytes → Step) (view : DiskView) (o : Option DiskView) (told : o ≡ Some view) (steady : IsSteady view) (d j : ℕ) (x y : ℕ → List ℕ → Type 0)
+many : DiskView → List Bytes
+many disk = replicate (number_of disk) []
+
+many_long : (disk : DiskView) → length (many disk) ≡ number_of disk
+unfolding many
+many_long disk = length-replicate {A = Bytes} (number_of disk) []
+
+none_so_many : (s : Step) (disk : DiskView) → Spells disk (many disk) ⊎ MayLeave s (listed disk.bytes) (many disk) → ⊥
+none_so_many s disk (inl is) = omega (arith, ap length is.2, many_long disk, list_short is.0, is.1.no_longer)
+none_so_many s disk (inr (inl same)) = omega (arith, ap length same, many_long disk)
+none_so_many s disk (inr (inr more)) =
+    omega (arith, ap length more.behind, many_long disk, length-append (listed disk.bytes) (plan_text s.change ∷ []))
+
+-- a list that a whole disk leaves is one of its lists
+whole_list : (disk : DiskView) (whole : IsWhole disk) (image : List ℕ) (list : List Bytes) → IsImage disk image → Leaves image list → Spells disk list
+whole_list disk whole image list is leaves =
+    (image, is, subst (λ (r : Result (List Bytes) ℕ). MatchResult r (λ items. items ≡ list) (λ _. ⊤)) (whole image is) leaves)
+
+module _ (left : Option Bytes) (asks : Bytes → Step) (view : DiskView) (o : Option DiskView) (told : o ≡ Some view) (whole : IsWhole view) (d j : ℕ) (x y : ℕ → List ℕ → Type 0)
     (only : (image : List ℕ) → x d image → IsLeftBy o image) (opened : OnlyAdds d j x y Nothing) where
-  abbrev items : List Bytes
-  items = listed view.bytes
-
   -- what the disk left at entry
-  at_entry : (image : List ℕ) → y d image → IsLeftBy o image
-  at_entry image since = ⊎_elim (λ was. only image was) (λ new. absurd new) (opened.each d image (omega arith) since)
+  at_entry : (image : List ℕ) → y d image → IsImage view image
+  at_entry image since = subst (λ (p : Option DiskView). IsLeftBy p image) told (⊎_elim (λ was. only image was) (λ new. absurd new) (opened.each d image (omega arith) since))
 
   -- a stop during a call on the journal
-  pub run_stops : (e : ℕ) (z : ℕ → List ℕ → Type 0) → ForInput left (λ all. OnlyAdds j e (ListsLeft y) (ListsLeft z) (MayLeave (asks all) items))
-      → ForInput left (λ all. (image : List ℕ) → z d image → LeavesList (asks all) items image)
+  pub run_stops : (e : ℕ) (z : ℕ → List ℕ → Type 0) → ForInput left (λ all. OnlyAdds j e (ListsLeft y) (ListsLeft z) (MayLeave (asks all) (listed view.bytes)))
+      → ForInput left (λ all. (image : List ℕ) → z d image → LeavesWhole (asks all) view image)
   run_stops e z adds = record {
     all = adds.all;
     told = adds.told;
     says = λ image since.
-        image_leaves (asks adds.all) items image (λ list leaves.
-        ⊎_elim (λ was. inl (steady_list o view was.0 list told steady (at_entry was.0 was.1) was.2)) (λ new. new) (adds.says.each d list opened.later (image, since, leaves)));
+        whole_as (spelled image) (λ list. Spells view list ⊎ MayLeave (asks adds.all) (listed view.bytes) list) (many view) (none_so_many (asks adds.all) view) (λ list leaves.
+        ⊎_elim (λ was. inl (whole_list view whole was.0 list (at_entry was.0 was.1) was.2)) (λ new. inr new) (adds.says.each d list opened.later (image, since, leaves)));
   }
 
   -- a stop where there is no journal
-  pub unopened_stops : ForInput left (λ all. (image : List ℕ) → y d image → LeavesList (asks all) items image)
+  pub unopened_stops : ForInput left (λ all. (image : List ℕ) → y d image → LeavesWhole (asks all) view image)
   unopened_stops = record {
     all = unwrap_or left long;
     told = told_input left long;
-    says = λ image since.
-        let is = steady image (subst (λ (p : Option DiskView). IsLeftBy p image) told (at_entry image since)) in
-        let same : listed image ≡ items = ap list_in is in
-        (is ∙ ap Ok (sym same), inl same);
+    says = λ image since. (whole image (at_entry image since), inl (image, at_entry image since, refl));
   }
+
+-- a steady disk is whole
+pub steady_whole : (disk : DiskView) → IsSteady disk → IsWhole disk
+steady_whole disk steady image is = steady image is ∙ ap Ok (sym (ap list_in (steady image is)))
+
+-- of a steady disk a stop leaves its list, or that with the item
+pub steady_stops : (left : Option Bytes) (asks : Bytes → Step) (disk : DiskView) (z : List ℕ → Type 0) → IsSteady disk → ForInput left (λ all. (image : List ℕ) → z image → LeavesWhole (asks all) disk image)
+    → ForInput left (λ all. (image : List ℕ) → z image → LeavesList (asks all) (listed disk.bytes) image)
+steady_stops left asks disk z steady stops = record {
+  all = stops.all;
+  told = stops.told;
+  says = λ image since.
+      let is = stops.says image since in
+      (is.0, ⊎_elim (λ was. inl (sym was.2 ∙ ap list_in (steady was.0 was.1))) (λ new. new) is.1);
+}
 
 -- the disk is steady where a stop leaves its list
 pub settled_steady : (o : Option DiskView) (m : ℕ) (z : ℕ → List ℕ → Type 0) → ((image : List ℕ) → IsLeftBy o image → z m image)

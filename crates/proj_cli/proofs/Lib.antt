@@ -20,5 +20,6 @@ pub mod ShownRoots
 pub mod Laws
 pub mod Stopping
 pub mod DiskLists
+mod ListLengths
 pub mod Lifting
 pub mod StoredTrees

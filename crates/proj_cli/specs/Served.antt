@@ -56,6 +56,18 @@ IsOnlySynced (Some disk) now = disk.bytes ≢ [] → now ≡ Some (stable disk.b
 abbrev pub IsSteady : DiskView → Type 0
 IsSteady disk = (image : List ℕ) → IsImage disk image → spelled image ≡ Ok (listed disk.bytes)
 
+-- whatever a stop leaves of the disk is a whole journal
+abbrev pub IsWhole : DiskView → Type 0
+IsWhole disk = (image : List ℕ) → IsImage disk image → spelled image ≡ Ok (listed image)
+
+-- a stop may leave this list of the disk
+abbrev pub Spells : DiskView → List Bytes → Type 0
+Spells disk list = (image : List ℕ) × IsImage disk image × (listed image ≡ list)
+
+-- the bytes spell a list, which is one that a stop may have left of the disk before, or may leave during the step
+abbrev pub LeavesWhole : Step → DiskView → List ℕ → Type 0
+LeavesWhole step disk image = (spelled image ≡ Ok (listed image)) × (Spells disk (listed image) ⊎ MayLeave step (listed disk.bytes) (listed image))
+
 -- the bytes spell a list, which is one that a stop during the step may leave
 abbrev pub LeavesList : Step → List Bytes → List ℕ → Type 0
 LeavesList step items image = (spelled image ≡ Ok (listed image)) × MayLeave step items (listed image)

@@ -11,8 +11,8 @@ ghost use Rattle.proj_words.specs.Words.{command};
 ghost use Rattle.proj_cli.specs.Answer.{GetsText};
 ghost use Rattle.proj_cli.specs.Step.{loads, reads, step};
 ghost use Rattle.proj_cli.specs.Stopped.{ForInput};
-ghost use Rattle.proj_cli.specs.Served.{HasList, IsOnlySynced, IsServed, IsSteady, LeavesList, SaysWhy};
-ghost use Rattle.proj_cli.specs.Served.{error_code, error_text, seen};
+ghost use Rattle.proj_cli.specs.Served.{HasList, IsOnlySynced, IsServed, IsSteady, IsWhole, LeavesList};
+ghost use Rattle.proj_cli.specs.Served.{LeavesWhole, SaysWhy, error_code, error_text, seen};
 
 use crate::program::{run, tell};
 use crate::{Outcome, outcome_code};
@@ -129,9 +129,15 @@ pub fn serve<S: Source, O: Sink, E: Sink, D: Disk>(
     ensures unread { reads (command (map (λ word. string_bytes word) words.now)) ≡ false → input.new ≡ input.old }
     ensures idle { let asked = command (map (λ word. string_bytes word) words.now) in reads asked ≡ false →
         loads asked ≡ false → out.new ≡ out.old }
-    // Of a disk of which a stop at entry leaves the list that its bytes spell, a stop at any moment since leaves this
-    // list, or it with the item of the step's change behind it, and never a broken journal.
+    // Of a disk of which no stop at entry leaves a broken journal, a stop at any moment since leaves none: it leaves a
+    // list that a stop at entry might have left, or the list that the bytes spell, or this with the item of the step's
+    // change behind it.
     ensures stops { let asked = command (map (λ word. string_bytes word) words.now) in
+        (view : DiskView) → D.content disk ≡ Some view → IsWhole view → ForInput (S.left input.old) (λ all.
+        (image : List ℕ) → D.left_since result.disk (D.moment disk) image →
+        LeavesWhole (step asked (listed view.bytes) all) view image) }
+    // Where a stop at entry leaves the list that the bytes spell, it is this or this with the item.
+    ensures steady { let asked = command (map (λ word. string_bytes word) words.now) in
         (view : DiskView) → D.content disk ≡ Some view → IsSteady view → ForInput (S.left input.old) (λ all.
         (image : List ℕ) → D.left_since result.disk (D.moment disk) image →
         LeavesList (step asked (listed view.bytes) all) (listed view.bytes) image) }

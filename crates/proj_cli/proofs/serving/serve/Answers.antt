@@ -5,8 +5,8 @@ use Rattle.proj_journal.specs.Spelling.{listed}
 use Rattle.proj_words.specs.Words.{command}
 use Rattle.proj_cli.specs.Step.{step}
 use Rattle.proj_cli.specs.Stopped.{ForInput}
-use Rattle.proj_cli.specs.Served.{IsServed, LeavesList, seen}
-use Rattle.proj_cli.proofs.DiskLists.{run_stops, settled_steady, steady_some, unopened_stops}
+use Rattle.proj_cli.specs.Served.{IsServed, LeavesWhole, seen}
+use Rattle.proj_cli.proofs.DiskLists.{run_stops, settled_steady, steady_stops, steady_whole, unopened_stops, whole_some}
 use Rattle.proj_cli.proofs.Lifting.{ran_on}
 use Rattle.proj_cli.proofs.serving.serve.Goals as goal
 
@@ -31,7 +31,7 @@ returns-in-Ok-clause-served g c =
     (λ no_fault. settled_steady (content end) (g.D.Disk.moment end) (g.D.Disk.left_since end) (λ image is. g.met.D.Disk.counts_now end (g.D.Disk.moment end) image (omega arith) is) (ran.ensures.settled no_fault))))
 
 pub returns-in-Ok-clause-stops : goal.returns-in-Ok-clause-stops
-returns-in-Ok-clause-stops g c view told steady =
+returns-in-Ok-clause-stops g c view told whole =
     let asked = command (map (λ word. string_bytes word) c.args.words.now) in
     let d = c.args.disk in
     let m = g.D.Disk.moment in
@@ -40,15 +40,25 @@ returns-in-Ok-clause-stops g c view told steady =
     let end = disk_of c.run-outcome.new.store in
     let items = listed view.bytes in
     let still = c.in-Ok.ensures.items ∙ ap items_of told in
-    subst (λ (disk : _). ForInput (g.S.Source.left c.args.input.now) (λ all. (image : List ℕ) → left disk (m d) image → LeavesList (step asked items all) items image)) (sym c.into_disk.ensures)
-    (run_stops (g.S.Source.left c.args.input.now) (step asked items) view (g.D.Disk.content d) told steady (m d) (m j) (left d) (left j) (λ image was. g.met.D.Disk.only_now d image was)
-    (c.in-Ok.ensures.stops view told (steady_some (g.D.Disk.content d) view told (g.met.D.Disk.reads d) steady)) (m end) (left end) (c.run-outcome.ensures.adds items still))
+    subst (λ (disk : _). ForInput (g.S.Source.left c.args.input.now) (λ all. (image : List ℕ) → left disk (m d) image → LeavesWhole (step asked items all) view image)) (sym c.into_disk.ensures)
+    (run_stops (g.S.Source.left c.args.input.now) (step asked items) view (g.D.Disk.content d) told whole (m d) (m j) (left d) (left j) (λ image was. g.met.D.Disk.only_now d image was)
+    (c.in-Ok.ensures.stops view told (whole_some (g.D.Disk.content d) view told (g.met.D.Disk.reads d) whole)) (m end) (left end) (c.run-outcome.ensures.adds items still))
+
+pub returns-in-Ok-clause-steady : goal.returns-in-Ok-clause-steady
+returns-in-Ok-clause-steady g c view told steady =
+    let asked = command (map (λ word. string_bytes word) c.args.words.now) in
+    steady_stops (g.S.Source.left c.args.input.now) (step asked (listed view.bytes)) view _ steady (returns-in-Ok-clause-stops g c view told (steady_whole view steady))
 
 pub returns-in-Err-clause-stops : goal.returns-in-Err-clause-stops
-returns-in-Err-clause-stops g c view told steady =
+returns-in-Err-clause-stops g c view told whole =
     let asked = command (map (λ word. string_bytes word) c.args.words.now) in
     let d = c.args.disk in
     let m = g.D.Disk.moment in
     let left = g.D.Disk.left_since in
-    unopened_stops (g.S.Source.left c.args.input.now) (step asked (listed view.bytes)) view (g.D.Disk.content d) told steady (m d) _ (left d) _ (λ image was. g.met.D.Disk.only_now d image was)
-    (c.in-Err.ensures.stops view told (steady_some (g.D.Disk.content d) view told (g.met.D.Disk.reads d) steady))
+    unopened_stops (g.S.Source.left c.args.input.now) (step asked (listed view.bytes)) view (g.D.Disk.content d) told whole (m d) _ (left d) _ (λ image was. g.met.D.Disk.only_now d image was)
+    (c.in-Err.ensures.stops view told (whole_some (g.D.Disk.content d) view told (g.met.D.Disk.reads d) whole))
+
+pub returns-in-Err-clause-steady : goal.returns-in-Err-clause-steady
+returns-in-Err-clause-steady g c view told steady =
+    let asked = command (map (λ word. string_bytes word) c.args.words.now) in
+    steady_stops (g.S.Source.left c.args.input.now) (step asked (listed view.bytes)) view _ steady (returns-in-Err-clause-stops g c view told (steady_whole view steady))
