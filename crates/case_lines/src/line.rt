@@ -4,7 +4,7 @@ use crate::{Fault, Texts, Word, words_of};
 use std::alloc::Global;
 
 /// What a line is.
-#[derive(Debug, Drop)]
+#[derive(Drop)]
 pub enum Line {
     /// An empty line or a comment: it is printed as it is.
     Comment,

@@ -4,7 +4,7 @@ use path_names::{QuoteFault, unquote};
 use std::alloc::Global;
 
 /// A word of a line. What stood between double quotes is only its bytes; what didn't may stand for other bytes.
-#[derive(Debug, Drop)]
+#[derive(Drop)]
 pub struct Word {
     pub bytes: Vec<u8>,
     pub is_quoted: bool,
