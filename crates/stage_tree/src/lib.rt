@@ -2,6 +2,7 @@
 #![tactic(auto)]
 
 mod edits;
+mod fault;
 mod gather;
 mod listing;
 mod nodes;
@@ -9,4 +10,5 @@ mod root;
 mod stage;
 mod ways;
 
+pub use fault::StageFault;
 pub use stage::Stage;
