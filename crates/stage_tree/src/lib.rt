@@ -8,6 +8,7 @@ mod listing;
 mod nodes;
 mod root;
 mod stage;
+mod walks;
 mod ways;
 
 pub use fault::StageFault;

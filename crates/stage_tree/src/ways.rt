@@ -49,7 +49,7 @@ impl Nodes {
     }
 
     // The place of a component in a directory.
-    fn spot(&self, directory: usize, component: &[u8]) -> Spot
+    pub fn spot(&self, directory: usize, component: &[u8]) -> Spot
         requires link { is_link self.now.cells.items (Link.First directory) ≡ true }
         requires walk { Walks self.now (target self.now.cells.items (Link.First directory)) }
         ensures link { result.link ≡ sought component.now (Link.First directory) (hanging self.now (Link.First directory)) }
