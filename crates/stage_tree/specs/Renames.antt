@@ -14,7 +14,7 @@ use Rattle.stage_tree.specs.Forests.{Forest, Nil, Bin, one, count, Reads, Sound}
 use Rattle.stage_tree.specs.Pools.{IsKept, IsPool, StayBut, inside, spare}
 use Rattle.stage_tree.specs.Directories.{IsDirectory}
 use Rattle.stage_tree.specs.Leaves.{leaf_in, is_held}
-use Rattle.stage_tree.specs.Ways.{IsBlocked, IsOpen, IsPlaceOf, kids_of}
+use Rattle.stage_tree.specs.Ways.{IsBlocked, IsOpen, IsPlaceOf, IsStill, kids_of}
 
 -- ---- ways without a stored directory
 
@@ -53,3 +53,18 @@ pub record IsStop (S : List Object) (s : Nodes) (p : Path) (level : ℕ) (link :
   pub level_is : length before ≡ level
   pub place : IsPlaceOf S s before component link child
   pub ended : (behind ≡ []) ⊎ IsBlocked component place.rest
+
+-- how many siblings there are
+abbrev pub breadth : Forest → ℕ
+breadth Nil = 0
+breadth (Bin k c x l r) = breadth r + 1
+
+-- the ways that were clear are clear
+abbrev pub StaysClear : Nodes → Nodes → Type 0
+StaysClear s s' = (q : Path) → is_clear (kids_of s) q ≡ true → is_clear (kids_of s') q ≡ true
+
+-- the nodes stand for what they stood for, and the way to a path is clear
+pub record IsCleared (S : List Object) (s s' : Nodes) (p : Path) : Type 0 where
+  pub still : IsStill S s s'
+  pub kept : StaysClear s s'
+  pub clear : is_clear (kids_of s') p ≡ true

@@ -1,13 +1,17 @@
 // Walks to a path, from the root down.
-ghost use Rattle.std.specs.Prelude.{◌≡◌, ◌<◌, true, length};
+ghost use Rattle.std.specs.Prelude.{◌≡◌, ◌+◌, ◌<◌, true, length, IfOk, IfSome, OnErr, OnOk};
+ghost use Rattle.stage_tree.specs.Forests.{is_link, target};
+ghost use Rattle.stage_tree.specs.Pools.{Walks, hanging};
 ghost use Rattle.git_objects.specs.Paths.{is_path};
-ghost use Rattle.stage_tree.specs.Renames.{IsStop, IsWalkable, is_clear, open_number};
-ghost use Rattle.stage_tree.specs.Ways.{kids_of};
-ghost use Rattle.std.specs.Prelude.{IfSome};
+ghost use Rattle.stage_tree.specs.Renames.{IsCleared, IsStop, IsWalkable, StaysClear, breadth, is_clear, open_number};
+ghost use Rattle.stage_tree.specs.Ways.{HasPlace, IsEntered, IsOpen, IsStill, kids_of};
 
-use crate::nodes::{Content, Nodes};
-use crate::ways::Way;
-use git_objects::Component;
+use crate::nodes::{Content, Link, Nodes};
+use crate::ways::{Way, is_dir};
+use git_objects::{Component, Steps};
+use object_store::Store;
+use std::alloc::{AllocError, Global};
+use std::sync::ledger::Ledger;
 
 impl Nodes {
     // A node's number, if it is a directory whose children are nodes.
@@ -40,5 +44,74 @@ impl Nodes {
         }
         let spot = self.spot(directory, components[last].bytes());
         Way { level: last, spot }
+    }
+
+    // A step for each sibling from a link on.
+    fn tick_siblings<L: Ledger>(&self, start: Link, steps: &mut Steps<L>)
+        requires link { is_link self.now.cells.items start ≡ true }
+        requires walk { Walks self.now (target self.now.cells.items start) }
+        ensures { steps.new ≡ steps.old + breadth (hanging self.now start) }
+    {
+        let mut link = start;
+        'siblings: while let Some(number) = self.target(link) {
+            steps.tick();
+            link = Link::Next(number);
+        }
+    }
+
+    // Enters the directory of that number, whose entries are made nodes where they aren't yet, with a step for each. None:
+    // it is no directory.
+    fn enter<L: Ledger>(
+        &mut self,
+        alloc: Global,
+        store: &Store,
+        child: Option<usize>,
+        steps: &mut Steps<L>,
+    ) -> Result<Option<usize>, AllocError>
+        requires opened { IsOpen store.now self.old }
+        requires place { HasPlace store.now self.old child }
+        ensures ok { IfOk result (IsEntered store.now self.old self.new child) }
+        ensures clear { OnOk result (StaysClear self.old self.new) }
+        ensures err { OnErr result (IsStill store.now self.old self.new) }
+    {
+        let Some(number) = child else {
+            return Ok(None);
+        };
+        match self.cells[number].content {
+            Content::Open => Ok(Some(number)),
+            Content::Held(found) => {
+                if !is_dir(found.mode) {
+                    return Ok(None);
+                }
+                self.expand(alloc, store, number, &found.name)?;
+                self.tick_siblings(Link::First(number), steps);
+                Ok(Some(number))
+            }
+        }
+    }
+
+    // Makes nodes of the entries of each stored directory above a path's last component.
+    pub fn open_way<L: Ledger>(
+        &mut self,
+        alloc: Global,
+        store: &Store,
+        components: &[Component],
+        steps: &mut Steps<L>,
+    ) -> Result<(), AllocError>
+        requires opened { IsOpen store.now self.old }
+        requires path { is_path components.now ≡ true }
+        ensures ok { OnOk result (IsCleared store.now self.old self.new components.now) }
+        ensures err { OnErr result (IsStill store.now self.old self.new) }
+    {
+        let last = components.len() - 1;
+        let mut directory = 0;
+        for level in 0..last {
+            let spot = self.spot(directory, components[level].bytes());
+            match self.enter(alloc, store, spot.child, steps)? {
+                Some(number) => directory = number,
+                None => return Ok(()),
+            }
+        }
+        Ok(())
     }
 }

@@ -26,7 +26,7 @@ pub struct Way {
     pub spot: Spot,
 }
 
-fn is_dir(mode: Mode) -> bool
+pub fn is_dir(mode: Mode) -> bool
     ensures { result ≡ is_dir mode }
 {
     mode == Mode::Dir
