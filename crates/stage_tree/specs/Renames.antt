@@ -1,5 +1,5 @@
 -- Nodes moved from one path to another.
-use Rattle.std.specs.Prelude.{◌≡◌, ℕ, ◌+◌, ◌<◌, ◌⊎◌, Bool, true, false, not, cond, ◌==◌, List, [], ◌∷◌, ◌++◌, length, slice_get, Option, Some, None}
+use Rattle.std.specs.Prelude.{◌≡◌, ℕ, ◌+◌, ◌<◌, ◌≤◌, ◌⊎◌, Bool, true, false, not, cond, ◌==◌, List, [], ◌∷◌, ◌++◌, length, slice_get, Option, Some, None}
 use Rattle.std.specs.Option.{option_and_then}
 use Rattle.git_objects.specs.Paths.{Bytes, Path, same_bytes}
 use Rattle.git_objects.specs.Trees.{Flat, at, remove}
@@ -68,3 +68,49 @@ pub record IsCleared (S : List Object) (s s' : Nodes) (p : Path) : Type 0 where
   pub still : IsStill S s s'
   pub kept : StaysClear s s'
   pub clear : is_clear (kids_of s') p ≡ true
+
+-- ---- a path removed without memory
+
+-- the way to a path is clear
+pub record CanPrune (s : Nodes) (p : Path) : Type 0 where
+  pub objects : List Object
+  pub opened : IsOpen objects s
+  pub clear : is_clear (kids_of s) p ≡ true
+
+-- ---- a branch with children at its end
+
+abbrev pub trunk_content : Path → Content → Content
+trunk_content [] x = x
+trunk_content (d ∷ p) x = Open
+
+-- a node for each component, of which the last has this content and these children
+abbrev pub trunk : List ℕ → Path → Content → Forest → Forest
+trunk ks [] x l = l
+trunk [] (c ∷ p) x l = Nil
+trunk (k ∷ ks) (c ∷ p) x l = Bin k c (trunk_content p x) (trunk ks p x l) Nil
+
+abbrev pub last_of : ℕ → List ℕ → ℕ
+last_of k [] = k
+last_of k (i ∷ ks) = last_of i ks
+
+-- they are there without the children, and nothing reaches the first
+pub record IsTrunk (s s' : Nodes) (p : Path) (x : Content) (e k : ℕ) : Type 0 where
+  pub below : List ℕ
+  pub long : length below + 1 ≡ length p
+  pub last : last_of k below ≡ e
+  pub reads : Reads s'.names.items s'.cells.items (Some k) (trunk (k ∷ below) p x Nil)
+  pub pool : IsPool s'
+  pub old_pool : IsPool s
+  pub names : IsKept s.names.items s'.names.items
+  pub counts : (m : ℕ) → count m (trunk (k ∷ below) p x Nil) + count m (spare s') + inside s m ≡ count m (spare s) + inside s' m
+  pub stay : StayBut s s' (λ m. count m (spare s))
+
+-- they are there, with the nodes from a number on as the children
+pub record IsGraft (s s' : Nodes) (p : Path) (x : Content) (j : Option ℕ) (k : ℕ) : Type 0 where
+  pub below : List ℕ
+  pub long : length below + 1 ≡ length p
+  pub reads : (l : Forest) → Reads s.names.items s.cells.items j l → ((m : ℕ) → count m l + count m (spare s) ≤ inside s m) → Reads s'.names.items s'.cells.items (Some k) (trunk (k ∷ below) p x l)
+  pub pool : IsPool s'
+  pub names : IsKept s.names.items s'.names.items
+  pub counts : (m : ℕ) → count m (trunk (k ∷ below) p x Nil) + count m (spare s') + inside s m ≡ count m (spare s) + inside s' m
+  pub stay : StayBut s s' (λ m. count m (spare s))

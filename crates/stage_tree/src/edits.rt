@@ -45,7 +45,7 @@ impl Nodes {
     }
 
     // Puts a node at a link, in the place of the node that has its component there.
-    fn replace(&mut self, link: Link, child: Option<usize>, number: usize)
+    pub fn replace(&mut self, link: Link, child: Option<usize>, number: usize)
         requires { HasSpot self.old link child number }
         ensures { (h : HasSpot self.old link child number) → IsReplaced self.old self.new link child number h }
     {
@@ -84,7 +84,7 @@ impl Nodes {
     }
 
     // The node at the end of a way through so many components.
-    fn reached(&self, way: Way, level: usize) -> Option<usize>
+    pub fn reached(&self, way: Way, level: usize) -> Option<usize>
         requires { way.level < level }
         ensures { result ≡ reached level way }
     {
@@ -96,7 +96,7 @@ impl Nodes {
     }
 
     // Whether a node is its directory's only child.
-    fn is_alone(&self, link: Link, child: usize) -> bool
+    pub fn is_alone(&self, link: Link, child: usize) -> bool
         requires { is_link self.now.cells.items (Link.Next child) ≡ true }
         ensures { result ≡ is_alone self.now.cells.items link child }
     {
@@ -107,7 +107,7 @@ impl Nodes {
     }
 
     // Takes a node out, with all below it.
-    fn cut(&mut self, link: Link, child: usize)
+    pub fn cut(&mut self, link: Link, child: usize)
         requires { CanCut self.old link child }
         ensures { (h : CanCut self.old link child) → IsCut self.old self.new link child h }
     {

@@ -6,6 +6,7 @@ mod fault;
 mod gather;
 mod listing;
 mod nodes;
+mod renames;
 mod root;
 mod stage;
 mod walks;
