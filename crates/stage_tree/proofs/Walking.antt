@@ -1,5 +1,5 @@
 -- Walks to a path on whose way no stored directory stands.
-use Rattle.std.proofs.Common.{◌≡◌, ℕ, ◌+◌, ◌<◌, ◌⊎◌, inl, inr, Bool, true, false, not, cond, List, [], ◌∷◌, ◌++◌, length, take, drop, get_or, Option, Some, None, refl, sym, ap, subst, ◌∙◌, arith, append_assoc, length-take}
+use Rattle.std.proofs.Common.{◌≡◌, ℕ, ◌+◌, ◌<◌, ◌⊎◌, inl, inr, Bool, true, false, not, cond, List, [], ◌∷◌, ◌++◌, length, take, drop, get_or, Option, Some, None, refl, sym, ap, subst, ◌∙◌, arith, append_assoc, length-append, length-take}
 use Rattle.std.specs.Prelude.{slice_get}
 use Rattle.std.specs.Option.{option_and_then, IfSome}
 use Rattle.std.proofs.lemmas.List.{drop_all}
@@ -101,3 +101,6 @@ module _ (S : List Object) (s : Nodes) (base : IsDirectory s 0 (kids_of s)) (p :
 
 pub way_of : (S : List Object) (s : Nodes) (p : Path) (level : ℕ) (link : Link) (child : Option ℕ) → IsOpen S s → IsStop S s p level link child → IsWay S s s p level link child
 way_of S s p level link child o h = record { still = still_same S s o; component = h.component; before = h.before; behind = h.behind; path = h.path; level_is = h.level_is; place = h.place; ended = h.ended }
+
+pub stop_within : (S : List Object) (s : Nodes) (p : Path) (level : ℕ) (link : Link) (child : Option ℕ) → IsStop S s p level link child → level < length p
+stop_within S s p level link child h = omega (arith, ap length h.path, length-append h.before (h.component ∷ h.behind), h.level_is)

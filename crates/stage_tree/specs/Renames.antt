@@ -1,10 +1,14 @@
 -- Nodes moved from one path to another.
-use Rattle.std.specs.Prelude.{◌≡◌, ℕ, ◌+◌, ◌<◌, ◌≤◌, ◌⊎◌, Bool, true, false, not, cond, ◌==◌, List, [], ◌∷◌, ◌++◌, length, slice_get, Option, Some, None}
+use Rattle.std.specs.Prelude.{◌≡◌, ℕ, ◌+◌, ◌<◌, ◌≤◌, ◌⊎◌, Bool, true, false, not, cond, ◌==◌, List, [], ◌∷◌, ◌++◌, length, slice_get, Option, Some, None, replicate}
 use Rattle.std.specs.Option.{option_and_then}
-use Rattle.git_objects.specs.Paths.{Bytes, Path, same_bytes}
-use Rattle.git_objects.specs.Trees.{Flat, at, remove}
+use Rattle.git_objects.specs.Paths.{Bytes, Path, comparable, same_bytes}
+use Rattle.git_objects.specs.Trees.{Flat, Node as FlatNode, at, put, remove, rests}
 use Rattle.git_objects.specs.Entries.{is_dir}
+use Rattle.git_objects.specs.declared.mode.Mode.TheVariants.{Module}
+use Rattle.git_objects.specs.declared.name.Name.{Name}
 use Rattle.object_store.specs.Objects.{Object}
+use Rattle.path_trees.specs.Standing.{node}
+use Rattle.path_trees.specs.declared.found.Found.{Found}
 use Rattle.stage_tree.specs.declared.nodes.Node.{Node}
 use Rattle.stage_tree.specs.declared.nodes.Nodes.{Nodes}
 use Rattle.stage_tree.specs.declared.nodes.Content.{Content}
@@ -14,6 +18,7 @@ use Rattle.stage_tree.specs.Forests.{Forest, Nil, Bin, one, count, Reads, Sound}
 use Rattle.stage_tree.specs.Pools.{IsKept, IsPool, StayBut, inside, spare}
 use Rattle.stage_tree.specs.Directories.{IsDirectory}
 use Rattle.stage_tree.specs.Leaves.{leaf_in, is_held}
+use Rattle.stage_tree.specs.Branches.{Stands}
 use Rattle.stage_tree.specs.Ways.{IsBlocked, IsOpen, IsPlaceOf, IsStill, kids_of}
 
 -- ---- ways without a stored directory
@@ -114,3 +119,25 @@ pub record IsGraft (s s' : Nodes) (p : Path) (x : Content) (j : Option ℕ) (k :
   pub names : IsKept s.names.items s'.names.items
   pub counts : (m : ℕ) → count m (trunk (k ∷ below) p x Nil) + count m (spare s') + inside s m ≡ count m (spare s) + inside s' m
   pub stay : StayBut s s' (λ m. count m (spare s))
+
+-- ---- a node taken to another path
+
+-- what stands at a node while its own content is on its way: a module, which every store holds
+abbrev pub stand_in : Found
+stand_in = record { mode = Module; name = record { 0 = replicate 20 0 } }
+
+-- the node may be taken to a path: it has a place, and the way to the path is clear
+pub record CanMove (s : Nodes) (k : ℕ) (p : Path) : Type 0 where
+  pub objects : List Object
+  pub opened : IsOpen objects s
+  pub path : Path
+  pub component : Bytes
+  pub link : Link
+  pub place : IsPlaceOf objects s path component link (Some k)
+  pub clear : is_clear (kids_of s) p ≡ true
+
+-- A leaf stands at the node, and what stood there is put at the path.
+pub record IsMoved (s s' : Nodes) (k : ℕ) (p : Path) (h : CanMove s k p) : Type 0 where
+  pub opened : IsOpen h.objects s'
+  pub puts : (t : Flat) → Stands h.objects s t → (n : FlatNode) → ((r : Path) → at (rests n) r ≡ at t (h.path ++ h.component ∷ r)) → Stands h.objects s' (put (put t (h.path ++ h.component ∷ []) (node h.objects stand_in)) p n)
+  pub clear : (q : Path) → comparable p q ≡ false → is_clear (kids_of s) q ≡ true → is_clear (kids_of s') q ≡ true

@@ -4,12 +4,24 @@ ghost use Rattle.git_objects.specs.Paths.{is_path};
 ghost use Rattle.stage_tree.specs.Branches.{IsRemoved};
 ghost use Rattle.stage_tree.specs.Expanding.{IsWaste};
 ghost use Rattle.stage_tree.specs.Pools.{IsPool};
-ghost use Rattle.stage_tree.specs.Renames.{CanPrune, IsGraft};
+ghost use Rattle.stage_tree.specs.Ways.{IsStill};
+ghost use Rattle.stage_tree.specs.Renames.{CanMove, CanPrune, IsGraft, IsMoved, stand_in};
 
-use crate::nodes::{Content, Link, Nodes};
-use git_objects::{Component, Steps};
+use crate::nodes::{Content, Link, Node, Nodes};
+use git_objects::{Component, Mode, Name, Steps};
+use path_trees::Found;
 use std::alloc::AllocError;
 use std::sync::ledger::Ledger;
+
+// What stands at a node while its own content is on its way: a module, which every store holds.
+fn stand_in() -> Found
+    ensures { result ≡ stand_in }
+{
+    Found {
+        mode: Mode::Module,
+        name: Name([0; 20]),
+    }
+}
 
 impl Nodes {
     // Removes a path whose way is clear and all below it, and the directories that would be left empty. Needs no memory.
@@ -70,5 +82,38 @@ impl Nodes {
         }
         self.point(Link::First(end), first);
         Ok(number)
+    }
+
+    // Takes what stands at a node to a path whose way is clear, with a step for each node made. A leaf is left there.
+    fn relocate<L: Ledger>(
+        &mut self,
+        number: usize,
+        to: &[Component],
+        steps: &mut Steps<L>,
+    ) -> Result<(), AllocError>
+        requires node { CanMove self.old number to.now }
+        requires path { is_path to.now ≡ true }
+        ensures ok { OnOk result ((h : CanMove self.old number to.now) → IsMoved self.old self.new number to.now h) }
+        ensures err { OnErr result ((h : CanMove self.old number to.now) → IsStill h.objects self.old self.new) }
+        ensures few { steps.new ≤ steps.old + length to.now }
+    {
+        let source = self.cells[number];
+        let emptied = Node {
+            content: Content::Held(stand_in()),
+            first: None,
+            ..source
+        };
+        self.set(number, emptied);
+        let way = self.walk(to);
+        match self.graft(to, way.level, source.content, source.first, steps) {
+            Ok(top) => {
+                self.replace(way.spot.link, way.spot.child, top);
+                Ok(())
+            }
+            Err(_) => {
+                self.set(number, source);
+                Err(AllocError)
+            }
+        }
     }
 }
