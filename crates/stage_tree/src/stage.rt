@@ -22,6 +22,8 @@ use std::marker::Model;
 pub struct Stage {
     alloc: Global,
     nodes: Nodes,
+    // No more files than these are shown; 4,294,967,295 stands for any number.
+    most: u32,
 }
 
 impl Model for Stage {
@@ -29,7 +31,7 @@ impl Model for Stage {
 
     ghost Value = { Staged };
 
-    ghost view = { λ s. staged s.nodes };
+    ghost view = { λ s. staged s.nodes s.most };
 
     ghost invariant = { λ s. IsStage s.nodes };
 }
@@ -41,6 +43,10 @@ impl Stage {
         ensures shows { IfOk result (λ s. Shows store.now s (flat store.now root.0)) }
         ensures nodes { IfOk result (λ s. s.nodes ≡ 1) }
     {
+        let most = match store.stats(&root) {
+            None => unreachable!(),
+            Some(stats) => stats.files,
+        };
         // Every answer rests on what the store keeps.
         let _ = store.get(&root);
         let mut cells = Vec::new(alloc);
@@ -60,7 +66,7 @@ impl Stage {
             names: Vec::new(alloc),
             free: None,
         };
-        Ok(Stage { alloc, nodes })
+        Ok(Stage { alloc, nodes, most })
     }
 
     /// Puts a leaf at a path, where every path that is comparable with it goes. After a refusal the stage stands for what
@@ -81,7 +87,9 @@ impl Stage {
             mode: leaf.mode,
             name: leaf.name,
         };
-        self.nodes.put(self.alloc, store, path, found)
+        self.nodes.put(self.alloc, store, path, found)?;
+        self.most = self.most.saturating_add(1);
+        Ok(())
     }
 
     /// Removes a path and all below it. Nothing there is no fault.
@@ -100,6 +108,7 @@ impl Stage {
         ensures { (S : List Object) → Shows S self.new [] }
     {
         self.nodes.clear();
+        self.most = 0;
     }
 
     /// How many nodes there are. Needs no memory.
