@@ -3,6 +3,7 @@
 
 mod edits;
 mod fault;
+mod finish;
 mod gather;
 mod listing;
 mod nodes;
