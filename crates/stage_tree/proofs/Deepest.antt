@@ -1,6 +1,6 @@
 -- A directory below the root stored and closed.
-use Rattle.std.proofs.Common.{◌≡◌, ℕ, ◌+◌, ◌⊎◌, inr, Bool, true, List, [], ◌∷◌, ◌++◌, Option, Some, None, refl, sym, ap, subst, ◌∙◌, arith}
-use Rattle.git_objects.specs.Paths.{Bytes, Path}
+use Rattle.std.proofs.Common.{◌≡◌, ℕ, inr, List, ◌∷◌, Option, refl, sym, ap, subst, ◌∙◌}
+use Rattle.git_objects.specs.Paths.{Bytes}
 use Rattle.git_objects.specs.Trees.{at}
 use Rattle.git_objects.specs.Names.{name}
 use Rattle.git_objects.specs.declared.kind.Kind.TheVariants.{Tree}
@@ -13,7 +13,7 @@ use Rattle.stage_tree.specs.declared.nodes.Nodes.{Nodes}
 use Rattle.stage_tree.specs.declared.nodes.Content.TheVariants.{Held, Open}
 use Rattle.stage_tree.specs.declared.nodes.Link.TheVariants.{First}
 use Rattle.stage_tree.specs.Forests.{Forest, Nil, Bin, IsFilled, Reads}
-use Rattle.stage_tree.specs.Frames.{Frame, Below, plug, path_of, ReadsUp}
+use Rattle.stage_tree.specs.Frames.{Frame, Below, plug, ReadsUp}
 use Rattle.stage_tree.specs.Pools.{hanging}
 use Rattle.stage_tree.specs.Leaves.{leaf_in, is_held}
 use Rattle.stage_tree.specs.Ways.{IsHere, IsOpen, kids_of}

@@ -1,7 +1,7 @@
 -- From one directory that is stored to the next, and the root's last.
-use Rattle.std.proofs.Common.{◌≡◌, ℕ, ◌+◌, ◌<◌, ◌⊎◌, inl, inr, Bool, true, false, true≢false, length, List, [], ◌∷◌, ◌++◌, IfOk, IfErr, Result, Ok, Err, Option, Some, None, refl, sym, ap, subst, ◌∙◌, arith}
-use Rattle.git_objects.specs.Paths.{Bytes, Path}
-use Rattle.git_objects.specs.Trees.{Flat, IsTree, under}
+use Rattle.std.proofs.Common.{◌≡◌, ℕ, ◌+◌, ◌<◌, inl, true, false, true≢false, length, List, [], ◌∷◌, ◌++◌, IfOk, IfErr, Result, Ok, Err, refl, sym, ap, subst, ◌∙◌, arith}
+use Rattle.git_objects.specs.Paths.{Bytes}
+use Rattle.git_objects.specs.Trees.{Flat, IsTree}
 use Rattle.git_objects.specs.Names.{name}
 use Rattle.git_objects.specs.declared.kind.Kind.TheVariants.{Tree}
 use Rattle.git_objects.specs.declared.mode.Mode.TheVariants.{Dir}
@@ -9,21 +9,18 @@ use Rattle.git_objects.specs.declared.name.Name.{Name}
 use Rattle.object_store.specs.Objects.{Object, IsStore}
 use Rattle.object_store.specs.Unfolding.{StandsFor}
 use Rattle.path_trees.specs.Levels.{IsRefused, IsTaken}
-use Rattle.path_trees.specs.declared.found.Found.{Found}
 use Rattle.path_trees.specs.declared.found.TreeFault.{TreeFault}
 use Rattle.path_trees.proofs.Lookups.{under_nil}
 use Rattle.stage_tree.specs.declared.nodes.Nodes.{Nodes}
-use Rattle.stage_tree.specs.declared.nodes.Content.{Content}
 use Rattle.stage_tree.specs.declared.nodes.Content.TheVariants.{Held, Open}
-use Rattle.stage_tree.specs.declared.nodes.Link.TheVariants.{First, Next}
+use Rattle.stage_tree.specs.declared.nodes.Link.TheVariants.{Next}
 use Rattle.stage_tree.specs.Forests.{Forest, Nil, Bin}
 use Rattle.stage_tree.specs.Frames.{Frame, Below, Behind, plug}
-use Rattle.stage_tree.specs.Pools.{hanging}
 use Rattle.stage_tree.specs.Leaves.{is_held}
-use Rattle.stage_tree.specs.Ways.{IsOpen, kids_of}
+use Rattle.stage_tree.specs.Ways.{kids_of}
 use Rattle.stage_tree.specs.Branches.{Stands}
 use Rattle.stage_tree.specs.Closing.{AreTips, TipsUp, HasTips, IsTurn, IsTurned, IsDeepest, IsStoring, IsStoringFault, IsStoredAt, children_body, numbers_of, opens}
-use Rattle.stage_tree.proofs.Storing.{dir_tips, dir_fault, dir_storing, dir_stands, storing_on, storing_none, stands_on}
+use Rattle.stage_tree.proofs.Storing.{dir_tips, dir_fault, dir_storing, dir_stands, storing_on, stands_on}
 
 -- ---- the last directory that was entered
 

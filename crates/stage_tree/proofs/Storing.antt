@@ -1,49 +1,45 @@
 -- A directory whose children are leaves and stored directories is taken in.
-use Rattle.std.proofs.Common.{◌≡◌, ℕ, ◌+◌, ◌≤◌, ◌⊎◌, inl, inr, Bool, true, false, cond, not, List, [], ◌∷◌, ◌++◌, IfErr, IfOk, Result, Ok, Err, Option, Some, None, refl, sym, ap, subst, ◌∙◌, arith, append_assoc, le_refl}
+use Rattle.std.proofs.Common.{◌≡◌, ℕ, ◌⊎◌, inl, inr, true, false, cond, not, List, [], ◌∷◌, ◌++◌, Option, Some, None, refl, sym, ap, subst, ◌∙◌, append_assoc, le_refl}
 use Rattle.git_objects.specs.Paths.{Bytes, Path, is_nil}
 use Rattle.git_objects.specs.Trees.{Flat, IsTree, at, under}
-use Rattle.git_objects.specs.Names.{name, body, body_within, depth, line}
-use Rattle.git_objects.specs.Entries.{body_text, entry_line}
+use Rattle.git_objects.specs.Names.{name, body, depth, line}
+use Rattle.git_objects.specs.Entries.{body_text}
 use Rattle.git_objects.specs.declared.entry.Entry.{Entry}
 use Rattle.git_objects.specs.declared.kind.Kind.TheVariants.{Tree}
 use Rattle.git_objects.specs.declared.mode.Mode.{Mode}
 use Rattle.git_objects.specs.declared.mode.Mode.TheVariants.{File, Exec, Link as LinkMode, Module, Dir}
-use Rattle.git_objects.specs.declared.name.Name.{Name}
 use Rattle.git_objects.proofs.Basics.{and_both}
 use Rattle.git_objects.proofs.Digests.{name-is_name}
 use Rattle.git_objects.proofs.Maps.{same_flat}
 use Rattle.git_objects.proofs.Under.{at-under, at-under_nil, under-tree}
-use Rattle.object_store.specs.Objects.{Object, IsStore, has, has_child}
-use Rattle.object_store.specs.Puts.{of_body}
+use Rattle.object_store.specs.Objects.{Object, IsStore}
 use Rattle.object_store.specs.Unfolding.{flat, StandsFor}
 use Rattle.object_store.proofs.Unfolding.{IsFlat}
 use Rattle.path_trees.specs.Listed.{changed, dropped, inserted, is_before, named}
 use Rattle.path_trees.specs.Levels.{IsRefused, IsTaken}
 use Rattle.path_trees.specs.Made.{AreMade, IsTreeFault}
-use Rattle.path_trees.specs.declared.found.Found.{Found}
 use Rattle.path_trees.specs.declared.found.TreeFault.{TreeFault}
 use Rattle.path_trees.specs.declared.found.TreeFault.TheVariants.{Collision, OutOfMemory}
 use Rattle.path_trees.proofs.Climbs.{made_append}
 use Rattle.path_trees.proofs.Grown.{joined_in}
 use Rattle.path_trees.proofs.Levels.{at-joined_nil}
 use Rattle.path_trees.proofs.Taken.{IsIn, taken}
-use Rattle.path_trees.proofs.Trees.{AreGood, good_fits, good_flat}
+use Rattle.path_trees.proofs.Trees.{AreGood, good_flat}
 use Rattle.stage_tree.specs.declared.nodes.Nodes.{Nodes}
-use Rattle.stage_tree.specs.declared.nodes.Content.{Content}
 use Rattle.stage_tree.specs.declared.nodes.Content.TheVariants.{Held, Open}
 use Rattle.stage_tree.specs.declared.nodes.Link.{Link}
 use Rattle.stage_tree.specs.declared.nodes.Link.TheVariants.{First}
-use Rattle.stage_tree.specs.Forests.{Forest, Nil, Bin, Reads, Sound, is_link, target}
-use Rattle.stage_tree.specs.Frames.{Frame, Below, Behind, plug, link_of, path_of, ReadsUp, Fits, SoundUp}
+use Rattle.stage_tree.specs.Forests.{Forest, Nil, Bin, Sound, is_link, target}
+use Rattle.stage_tree.specs.Frames.{Frame, plug, link_of, path_of, Fits}
 use Rattle.stage_tree.specs.Pools.{Walks, hanging}
 use Rattle.stage_tree.specs.Leaves.{leaf_in, is_held}
 use Rattle.stage_tree.specs.Ways.{IsHere, IsOpen, kids_of}
 use Rattle.stage_tree.specs.Branches.{Stands}
 use Rattle.stage_tree.specs.Finished.{HasDirectory}
-use Rattle.stage_tree.specs.Closing.{AreTips, gathered, children_body, HasTips, CanClose, IsClosedAt, IsDeepest, IsStoring, IsStoringFault, IsStoredAt}
+use Rattle.stage_tree.specs.Closing.{AreTips, gathered, children_body, HasTips, IsStoring, IsStoringFault}
 use Rattle.stage_tree.proofs.Closing.{gathered_good, gathered_leaf, sound-above, leaf-above}
 use Rattle.stage_tree.proofs.Leaves.{leaf_plug}
-use Rattle.stage_tree.proofs.OnWay.{place_hangs, place_link, place_walk}
+use Rattle.stage_tree.proofs.OnWay.{place_link, place_walk}
 use Rattle.stage_tree.proofs.Turning.{here_in}
 
 -- ---- the nodes over a store that has grown

@@ -1,5 +1,5 @@
 -- The places where directories are entered, and those where all is stored.
-use Rattle.std.proofs.Common.{◌≡◌, ℕ, ◌+◌, ◌<◌, ◌≤◌, Bool, true, List, [], ◌∷◌, ◌++◌, get_or, Option, Some, None, refl, sym, ap, subst, ◌∙◌, arith}
+use Rattle.std.proofs.Common.{◌≡◌, ℕ, ◌<◌, true, List, [], ◌∷◌, ◌++◌, get_or, Option, Some, None, refl, sym, ap, subst, ◌∙◌, arith}
 use Rattle.git_objects.specs.Paths.{Bytes}
 use Rattle.object_store.specs.Objects.{Object}
 use Rattle.path_trees.specs.declared.found.Found.{Found}
@@ -9,13 +9,13 @@ use Rattle.stage_tree.specs.declared.nodes.Content.{Content}
 use Rattle.stage_tree.specs.declared.nodes.Content.TheVariants.{Held, Open}
 use Rattle.stage_tree.specs.declared.nodes.Link.{Link}
 use Rattle.stage_tree.specs.declared.nodes.Link.TheVariants.{First, Next}
-use Rattle.stage_tree.specs.Forests.{Forest, Nil, Bin, size, Reads, Sound, forest, is_link, node_component, target}
-use Rattle.stage_tree.specs.Frames.{Frame, Below, Behind, plug, link_of}
+use Rattle.stage_tree.specs.Forests.{Forest, Nil, Bin, size, Sound, forest, is_link, node_component, target}
+use Rattle.stage_tree.specs.Frames.{Frame, Below, Behind, plug}
 use Rattle.stage_tree.specs.Pools.{Walks, hanging}
 use Rattle.stage_tree.specs.Leaves.{is_held}
 use Rattle.stage_tree.specs.Ways.{IsHere, IsOpen, kids_of}
-use Rattle.stage_tree.specs.Closing.{AreTips, IsTurn, IsTurned, numbers_of}
-use Rattle.stage_tree.proofs.Framing.{ReadsAll, target_up}
+use Rattle.stage_tree.specs.Closing.{IsTurn}
+use Rattle.stage_tree.proofs.Framing.{ReadsAll}
 use Rattle.stage_tree.proofs.OnWay.{place_hangs, place_link, place_walk}
 use Rattle.stage_tree.proofs.Seeking.{IsPassed, passed}
 use Rattle.stage_tree.proofs.Unplugging.{here_at}

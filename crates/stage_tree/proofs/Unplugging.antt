@@ -1,11 +1,11 @@
 -- A forest that is read, seen from a place in it.
-use Rattle.std.proofs.Common.{◌≡◌, ℕ, Bool, true, List, [], ◌∷◌, Option, Some, None, refl, sym, ap, subst, ◌∙◌}
+use Rattle.std.proofs.Common.{ℕ, Bool, List, [], ◌∷◌, Option, refl, subst}
 use Rattle.git_objects.specs.Paths.{Bytes}
 use Rattle.stage_tree.specs.declared.nodes.Node.{Node}
 use Rattle.stage_tree.specs.declared.nodes.Content.{Content}
 use Rattle.stage_tree.specs.declared.nodes.Content.TheVariants.{Open}
 use Rattle.stage_tree.specs.Forests.{Forest, Nil, Bin, Reads, Beyond, Sound}
-use Rattle.stage_tree.specs.Frames.{Frame, Below, Behind, plug, ReadsUp, Fits, FitsTop, SoundUp}
+use Rattle.stage_tree.specs.Frames.{Frame, Below, Behind, plug, ReadsUp, FitsTop, SoundUp}
 use Rattle.stage_tree.specs.Ways.{IsHere}
 use Rattle.stage_tree.proofs.Framing.{ReadsAll}
 

@@ -6,13 +6,14 @@ ghost use Rattle.object_store.specs.Objects.{IsStore, Object, has, has_child};
 ghost use Rattle.object_store.specs.Unfolding.{flat};
 ghost use Rattle.path_trees.specs.Standing.{node};
 ghost use Rattle.path_trees.specs.declared.found.Found.{Found};
+ghost use Rattle.stage_tree.specs.Finished.{IsFinished};
 ghost use Rattle.stage_tree.specs.Stages.{Shows};
 
 use crate::nodes::{Content, Node, Nodes};
 use git_objects::{Mode, Name};
 use object_store::Store;
 use path_names::Path;
-use path_trees::{Found, Leaf};
+use path_trees::{Found, Leaf, TreeFault};
 use std::alloc::{AllocError, Global};
 use std::marker::Model;
 
@@ -78,9 +79,8 @@ impl Stage {
             → Shows store.now self.new (put t path.now (node store.now (record { mode = leaf.mode; name = leaf.name })))) }
         ensures err { OnErr result ((t : Flat) → Shows store.now self.old t → Shows store.now self.new t) }
     {
-        // A name has 20 bytes, and every answer rests on what the store keeps.
+        // The name is looked at so that the proof has that it has 20 bytes.
         let _ = leaf.name.bytes();
-        let _ = store.get(&leaf.name);
         let _ = path.components();
         self.nodes.open_root(self.alloc, store)?;
         let found = Found {
@@ -105,10 +105,23 @@ impl Stage {
 
     /// Removes all paths. Needs no memory.
     pub fn clear(&mut self)
-        ensures { (S : List Object) → Shows S self.new [] }
+        ensures { (S : List Object) → IsStore S → Shows S self.new [] }
     {
         self.nodes.clear();
         self.most = 0;
+    }
+
+    /// Stores the tree that is shown, and gives its name. A directory that no path has gone through keeps its name
+    /// and isn't read. At an error some directories may have been stored.
+    pub fn finish(&mut self, store: &mut Store) -> Result<Name, TreeFault>
+        requires { (t : Flat) × Shows store.old self.old t }
+        ensures { (t : Flat) → Shows store.old self.old t
+            → IsFinished store.old store.new self.new t result }
+    {
+        match self.nodes.cells[0].content {
+            Content::Held(found) => Ok(found.name),
+            Content::Open => self.nodes.finish(self.alloc, store),
+        }
     }
 
     /// How many nodes there are. Needs no memory.

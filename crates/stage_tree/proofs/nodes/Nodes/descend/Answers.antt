@@ -1,8 +1,8 @@
-use Rattle.std.proofs.Common.{List, ℕ, ◌≡◌, ◌++◌, ◌∷◌, [], sym, subst, arith}
+use Rattle.std.proofs.Common.{List, ℕ, sym, subst, arith}
 use Rattle.stage_tree.specs.declared.nodes.Link.TheVariants.{First}
 use Rattle.stage_tree.specs.Closing.{IsTurn}
 use Rattle.stage_tree.proofs.Seeking.{passed_at}
-use Rattle.stage_tree.proofs.Turning.{turn_link, turn_walk, turn_end, turn_passed, turn_next, turn_below, next_smaller, below_smaller}
+use Rattle.stage_tree.proofs.Turning.{turn_link, turn_walk, turn_end, turn_next, turn_below, next_smaller, below_smaller}
 use Rattle.stage_tree.proofs.nodes.Nodes.descend.Goals as goal
 
 pub target-requires : goal.target-requires

@@ -1,4 +1,4 @@
-use Rattle.std.proofs.Common.{◌≡◌, List, map, sym, ap, subst, ◌∙◌, arith}
+use Rattle.std.proofs.Common.{List, map, sym, ap, subst, ◌∙◌, arith}
 use Rattle.git_objects.specs.Views.{entry_value}
 use Rattle.git_objects.specs.declared.entry.Entry.{Entry}
 use Rattle.path_trees.specs.Listed.{inserted, named}

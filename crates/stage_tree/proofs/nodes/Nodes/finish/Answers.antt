@@ -1,11 +1,10 @@
-use Rattle.std.proofs.Common.{◌≡◌, List, ℕ, [], ◌∷◌, ◌++◌, sym, ap, subst, ◌∙◌, arith}
+use Rattle.std.proofs.Common.{List, ℕ, sym, subst, arith}
 use Rattle.stage_tree.specs.declared.nodes.Link.TheVariants.{First}
 use Rattle.std.specs.Vec.{vec_len}
 use Rattle.object_store.specs.Objects.{Object}
 use Rattle.stage_tree.specs.Closing.{IsStoring, IsTurn}
-use Rattle.stage_tree.specs.Ways.{kids_of}
 use Rattle.stage_tree.proofs.Storing.{storing_none, storing_on}
-use Rattle.stage_tree.proofs.Finishing.{IsLast, turn_closed, turned_last, turned_root, fewer_open, root_has_tips, root_fault, root_storing, root_stands, none_popped, on_ok, on_err, either}
+use Rattle.stage_tree.proofs.Finishing.{turn_closed, turned_last, turned_root, fewer_open, root_has_tips, root_fault, root_storing, root_stands, none_popped, on_ok, on_err, either}
 use Rattle.stage_tree.proofs.nodes.Nodes.finish.Goals as goal
 
 pub directories-init : goal.directories-init

@@ -1,4 +1,4 @@
-use Rattle.std.proofs.Common.{◌≡◌, [], ap, ◌∙◌, None}
+use Rattle.std.proofs.Common.{[], ap, ◌∙◌, None}
 use Rattle.git_objects.specs.declared.kind.Kind.TheVariants.{Tree}
 use Rattle.object_store.specs.Puts.{of_body}
 use Rattle.path_trees.proofs.Trees.{good_fits}
