@@ -1,8 +1,10 @@
 //! A tree that is edited: its directories and leaves are nodes of one vector, linked by their numbers.
 #![tactic(auto)]
 
+mod count;
 mod edits;
 mod fault;
+mod finish;
 mod gather;
 mod listing;
 mod nodes;

@@ -6,13 +6,14 @@ ghost use Rattle.object_store.specs.Objects.{IsStore, Object, has, has_child};
 ghost use Rattle.object_store.specs.Unfolding.{flat};
 ghost use Rattle.path_trees.specs.Standing.{node};
 ghost use Rattle.path_trees.specs.declared.found.Found.{Found};
+ghost use Rattle.stage_tree.specs.Finished.{IsFinished};
 ghost use Rattle.stage_tree.specs.Stages.{Shows};
 
 use crate::nodes::{Content, Node, Nodes};
 use git_objects::{Mode, Name};
 use object_store::Store;
 use path_names::Path;
-use path_trees::{Found, Leaf};
+use path_trees::{Found, Leaf, TreeFault};
 use std::alloc::{AllocError, Global};
 use std::marker::Model;
 
@@ -22,6 +23,8 @@ use std::marker::Model;
 pub struct Stage {
     alloc: Global,
     nodes: Nodes,
+    // No more files than these are shown; 4,294,967,295 stands for any number.
+    most: u32,
 }
 
 impl Model for Stage {
@@ -29,7 +32,7 @@ impl Model for Stage {
 
     ghost Value = { Staged };
 
-    ghost view = { λ s. staged s.nodes };
+    ghost view = { λ s. staged s.nodes s.most };
 
     ghost invariant = { λ s. IsStage s.nodes };
 }
@@ -41,6 +44,10 @@ impl Stage {
         ensures shows { IfOk result (λ s. Shows store.now s (flat store.now root.0)) }
         ensures nodes { IfOk result (λ s. s.nodes ≡ 1) }
     {
+        let most = match store.stats(&root) {
+            None => unreachable!(),
+            Some(stats) => stats.files,
+        };
         // Every answer rests on what the store keeps.
         let _ = store.get(&root);
         let mut cells = Vec::new(alloc);
@@ -60,7 +67,7 @@ impl Stage {
             names: Vec::new(alloc),
             free: None,
         };
-        Ok(Stage { alloc, nodes })
+        Ok(Stage { alloc, nodes, most })
     }
 
     /// Puts a leaf at a path, where every path that is comparable with it goes. After a refusal the stage stands for what
@@ -72,16 +79,17 @@ impl Stage {
             → Shows store.now self.new (put t path.now (node store.now (record { mode = leaf.mode; name = leaf.name })))) }
         ensures err { OnErr result ((t : Flat) → Shows store.now self.old t → Shows store.now self.new t) }
     {
-        // A name has 20 bytes, and every answer rests on what the store keeps.
+        // The name is looked at so that the proof has that it has 20 bytes.
         let _ = leaf.name.bytes();
-        let _ = store.get(&leaf.name);
         let _ = path.components();
         self.nodes.open_root(self.alloc, store)?;
         let found = Found {
             mode: leaf.mode,
             name: leaf.name,
         };
-        self.nodes.put(self.alloc, store, path, found)
+        self.nodes.put(self.alloc, store, path, found)?;
+        self.most = self.most.saturating_add(1);
+        Ok(())
     }
 
     /// Removes a path and all below it. Nothing there is no fault.
@@ -97,9 +105,23 @@ impl Stage {
 
     /// Removes all paths. Needs no memory.
     pub fn clear(&mut self)
-        ensures { (S : List Object) → Shows S self.new [] }
+        ensures { (S : List Object) → IsStore S → Shows S self.new [] }
     {
         self.nodes.clear();
+        self.most = 0;
+    }
+
+    /// Stores the tree that is shown, and gives its name. A directory that no path has gone through keeps its name
+    /// and isn't read. At an error some directories may have been stored.
+    pub fn finish(&mut self, store: &mut Store) -> Result<Name, TreeFault>
+        requires { (t : Flat) × Shows store.old self.old t }
+        ensures { (t : Flat) → Shows store.old self.old t
+            → IsFinished store.old store.new self.new t result }
+    {
+        match self.nodes.cells[0].content {
+            Content::Held(found) => Ok(found.name),
+            Content::Open => self.nodes.finish(self.alloc, store),
+        }
     }
 
     /// How many nodes there are. Needs no memory.

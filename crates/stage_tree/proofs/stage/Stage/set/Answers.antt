@@ -1,24 +1,20 @@
-use Rattle.git_objects.specs.Trees.{Flat, put}
+use Rattle.std.proofs.lemmas.Result.{err_from_is_err_and}
+use Rattle.std.proofs.Common.{ap, arith}
 use Rattle.path_trees.specs.declared.found.Found.{Found}
-use Rattle.path_trees.specs.Standing.{node}
-use Rattle.stage_tree.specs.Branches.{IsPut}
-use Rattle.stage_tree.specs.Ways.{IsStill}
-use Rattle.stage_tree.specs.Stages.{Shows, staged}
-use Rattle.stage_tree.proofs.Rooting.{of_ok, of_err}
+use Rattle.stage_tree.specs.Stages.{Staged}
+use Rattle.stage_tree.proofs.Fewer.{leaf_most}
 use Rattle.stage_tree.proofs.Staging.{shows_put, shows_still}
 use Rattle.stage_tree.proofs.stage.Stage.set.Goals as goal
 
 pub returns-clause-ok : goal.returns-clause-ok
-returns-clause-ok c =
+returns-clause-ok c = λ t h.
     let S = c.args.store.now in
     let f : Found = record { mode = c.args.leaf.mode; name = c.args.leaf.name } in
-    of_ok c.put.result (IsPut S c.open_root.new.self c.put.new.self c.args.path.now (node S f)) ((t : Flat) → Shows S c.args.self.now t → Shows S (staged c.put.new.self) (put t c.args.path.now (node S f)))
-    (λ i t h. shows_put S c.self.inside.nodes c.open_root.new.self c.put.new.self c.args.self.now c.args.path.now f t c.get.ensures.store c.components.ensures.path c.requires.leaf c.bytes.ensures.name c.self.view_is c.in_ok-open_root.ensures.ok i h)
-    c.put.ensures.ok
+    shows_put S c.self.inside.nodes c.open_root.new.self c.put.new.self c.self.inside.most c.saturating_add-self-inside.result c.args.self.now c.args.path.now f t h.store c.components.ensures.path c.requires.leaf c.bytes.ensures.name c.self.view_is c.in_ok-open_root.ensures.ok c.in_ok-put.ensures.ok h
+    (omega (arith, leaf_most S t c.args.path.now f c.self.inside.most c.args.leaf.is_leaf (omega (arith, h.few, ap (λ (x : Staged). x.most) c.self.view_is)), c.saturating_add-self-inside.ensures))
 
-pub returns-clause-err : goal.returns-clause-err
-returns-clause-err c =
+pub returns-in_err-put-clause-err : goal.returns-in_err-put-clause-err
+returns-in_err-put-clause-err c =
     let S = c.args.store.now in
-    of_err c.put.result (IsStill S c.open_root.new.self c.put.new.self) ((t : Flat) → Shows S c.args.self.now t → Shows S (staged c.put.new.self) t)
-    (λ i t h. shows_still S c.self.inside.nodes c.open_root.new.self c.put.new.self c.args.self.now t c.self.view_is c.in_ok-open_root.ensures.ok i h)
-    c.put.ensures.err
+    let p = err_from_is_err_and c.from_residual-in_err-put.result c.from_residual-in_err-put.ensures.1 in
+    rw (p.1) (λ t h. shows_still S c.self.inside.nodes c.open_root.new.self c.put.new.self c.self.inside.most c.args.self.now t c.self.view_is c.in_ok-open_root.ensures.ok c.in_err-put.ensures.err h)
