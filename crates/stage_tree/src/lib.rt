@@ -6,6 +6,7 @@ mod edits;
 mod fault;
 mod finish;
 mod gather;
+mod limits;
 mod listing;
 mod nodes;
 mod renames;
