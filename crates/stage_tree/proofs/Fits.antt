@@ -1,10 +1,11 @@
 -- How much of a limit paths take.
-use Rattle.std.proofs.Common.{◌≡◌, ℕ, ◌+◌, ◌-◌, ◌<◌, ◌≤◌, Bool, true, false, cond, List, [], ◌∷◌, ◌++◌, length, drop, get_or, Option, Some, None, refl, sym, ap, ◌∙◌, arith}
+use Rattle.std.proofs.Common.{◌≡◌, ℕ, ◌+◌, ◌-◌, ◌<◌, ◌≤◌, Bool, true, false, cond, ◌^◌, List, [], ◌∷◌, ◌++◌, length, drop, get_or, Option, Some, None, refl, sym, ap, ◌∙◌, arith}
 use Rattle.std.specs.Prelude.{nat_le}
 use Rattle.std.proofs.lemmas.Bool.Decides.{nat_tests}
 use Rattle.std.proofs.lemmas.List.{drop_all, drop_more}
 use Rattle.git_objects.specs.Paths.{Bytes, Path}
 use Rattle.stage_tree.specs.declared.limits.Measure.{Measure}
+use Rattle.stage_tree.specs.declared.limits.Measure.TheVariants.{Components, Bytes as ByBytes}
 use Rattle.stage_tree.specs.Limits.{cost, room_left, weight}
 
 pub le_more : (left w n : ℕ) → w ≤ left → nat_le n (left - w) ≡ nat_le (w + n) left
@@ -38,3 +39,13 @@ pub left_all : (left : ℕ) (n : ℕ) → n ≡ 0 → Some left ≡ room_left le
 left_all left n e =
     let same : left - 0 ≡ left = omega arith in
     sym (ap (room_left left) e ∙ ap (λ b. cond b (Some (left - 0)) None) (le_true 0 left (omega arith)) ∙ ap Some same)
+
+pub weight_small : (m : Measure) (n : ℕ) → n < 2 ^ 63 → weight m n < 2 ^ 64
+weight_small Components n h = omega arith
+weight_small ByBytes n h = omega arith
+
+pub room_less : (limit n room : ℕ) → Some room ≡ room_left limit n → room ≤ limit
+room_less limit n room = elim (nat_le n limit) as (λ b. Some room ≡ cond b (Some (limit - n)) None → room ≤ limit) [
+  | true ↦ λ h. let is : room ≡ limit - n = cc in omega arith
+  | false ↦ λ h. absurd cc
+]

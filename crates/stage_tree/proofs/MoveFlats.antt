@@ -174,9 +174,9 @@ module _ (t : Flat) (s : Path) (tree : IsTree t) where
     pub moved_apart : comparable p s ≡ false → (y : Path) → at (remove (put left p n) s) y ≡ at (put (remove t s) p n) y
     moved_apart h y = at-remove (put left p n) s y ∙ by (is_prefix s y) refl ∙ sym (at-put (remove t s) p n y)
       where
-        none_twice : (b : Bool) → None ≡ cond b None (None {Leaf})
-        none_twice true = refl
-        none_twice false = refl
+        none_twice : (b : Bool) (o : Option Leaf) → o ≡ None → None ≡ cond b None o
+        none_twice true o w = refl
+        none_twice false o w = sym w
 
         not_below : is_prefix s y ≡ true → (b : Bool) → is_prefix p y ≡ b → is_prefix p y ≡ false
         not_below e true k = absurd (true≢false (sym (two_prefixes p s y k e) ∙ h))
@@ -184,7 +184,6 @@ module _ (t : Flat) (s : Path) (tree : IsTree t) where
 
         by : (b : Bool) → is_prefix s y ≡ b → cond b None (at (put left p n) y) ≡ first_some (at_rest (rests n) (after p y)) (cond (comparable p y) None (at (remove t s) y))
         by true e =
-            none_twice (comparable p y)
-            ∙ sym (ap (λ o. cond (comparable p y) None o) (at-remove t s y ∙ ap (λ b. cond b None (at t y)) e))
+            none_twice (comparable p y) (at (remove t s) y) (at-remove t s y ∙ ap (λ b. cond b None (at t y)) e)
             ∙ sym (ap (λ o. first_some (at_rest (rests n) o) (cond (comparable p y) None (at (remove t s) y))) (after_none p y (not_below e (is_prefix p y) refl)))
         by false e = at-put left p n y ∙ ap (λ o. first_some (at_rest (rests n) (after p y)) (cond (comparable p y) None o)) (beside y e)

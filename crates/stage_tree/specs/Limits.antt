@@ -1,14 +1,17 @@
 -- How long the paths are that come of putting at a path what stands at a node.
-use Rattle.std.specs.Prelude.{◌≡◌, ℕ, ◌+◌, ◌-◌, Bool, true, nat_le, cond, ◌&&◌, List, [], ◌∷◌, length, Option, Some, None}
+use Rattle.std.specs.Prelude.{◌≡◌, ◌⊎◌, OnOk, IfErr, Result, Ok, Err, ℕ, ◌+◌, ◌-◌, Bool, true, nat_le, cond, ◌&&◌, List, [], ◌∷◌, length, Option, Some, None}
 use Rattle.std.specs.List.{list_all}
 use Rattle.git_objects.specs.Paths.{Path}
-use Rattle.git_objects.specs.Trees.{rests}
+use Rattle.git_objects.specs.Trees.{Node, rests}
 use Rattle.object_store.specs.Objects.{Object}
 use Rattle.path_trees.specs.Standing.{node}
 use Rattle.stage_tree.specs.declared.nodes.Content.{Content}
 use Rattle.stage_tree.specs.declared.nodes.Content.TheVariants.{Held, Open}
 use Rattle.stage_tree.specs.declared.limits.Measure.{Measure}
 use Rattle.stage_tree.specs.declared.limits.Measure.TheVariants.{Components, Bytes}
+use Rattle.stage_tree.specs.declared.fault.StageFault.{StageFault}
+use Rattle.stage_tree.specs.declared.fault.StageFault.TheVariants.{OutOfMemory}
+use Rattle.stage_tree.specs.Edits.{paths_put}
 use Rattle.stage_tree.specs.Forests.{Forest, Nil, Bin}
 
 -- what a component of so many bytes takes of a limit, with the slash behind it
@@ -35,3 +38,12 @@ fits_in m S room (Bin k c x l r) =
     nat_le (weight m (length c)) room
     && content_fits m S (room - weight m (length c)) x (fits_in m S (room - weight m (length c)) l)
     && fits_in m S room r
+
+-- whether all paths that come of putting a leaf or a tree at a path take no more than a limit
+abbrev pub put_fits : Measure → ℕ → Path → Node → Bool
+put_fits m limit p x = list_all (λ q. nat_le (cost m q) limit) (paths_put p x)
+
+-- a result is what a test says, or there was no memory
+pub record IsJudged (test : Result (Unit {0}) StageFault) (result : Result (Unit {0}) StageFault) : Type 0 where
+  pub passed : OnOk result (test ≡ Ok tt)
+  pub refused : IfErr result (λ e. (e ≡ OutOfMemory) ⊎ (test ≡ Err e))

@@ -1,13 +1,20 @@
 // How long the paths are that a move or a copy puts.
-ghost use Rattle.std.specs.Prelude.{◌≡◌, ◌≤◌, ◌<◌, ◌^◌, true, length, IfOk};
+ghost use Rattle.std.specs.Prelude.{◌≡◌, ◌≤◌, ◌<◌, ◌^◌, true, length, IfOk, Some};
+ghost use Rattle.git_objects.specs.Paths.{is_path};
+ghost use Rattle.git_objects.specs.Trees.{Flat, Node as FlatNode};
 ghost use Rattle.object_store.specs.Objects.{IsStore};
 ghost use Rattle.stage_tree.specs.Counts.{IsCountable};
 ghost use Rattle.stage_tree.specs.Leaves.{is_held};
-ghost use Rattle.stage_tree.specs.Limits.{content_fits, cost, fits_in, room_left, weight};
+ghost use Rattle.stage_tree.specs.Limits.{IsJudged, content_fits, cost, fits_in, put_fits, room_left, weight};
+ghost use Rattle.stage_tree.specs.Edits.{within_paths};
+ghost use Rattle.stage_tree.specs.Standings.{Holds};
+ghost use Rattle.stage_tree.specs.Ways.{HasPlace, IsOpen};
 ghost use Rattle.stage_tree.specs.Pools.{hanging};
 
+use crate::fault::StageFault;
 use crate::nodes::{Content, Link, Nodes};
 use git_objects::Component;
+use git_objects::limits::{PATH_BYTES, PATH_COMPONENTS};
 use object_store::Store;
 use path_trees::Found;
 use std::alloc::{AllocError, Global};
@@ -21,7 +28,7 @@ pub enum Measure {
 
 // What a component of so many bytes takes of a limit.
 fn weight(measure: Measure, len: usize) -> usize
-    requires { len < 2 ^ 63 }
+    requires { weight measure len < 2 ^ 64 }
     ensures { result ≡ weight measure len }
 {
     match measure {
@@ -110,5 +117,55 @@ impl Nodes {
                 }
             }
         }
+    }
+
+    // Whether the paths that come of putting at a path what stands at a node take no more than a limit.
+    fn put_fits(
+        &self,
+        alloc: Global,
+        store: &Store,
+        measure: Measure,
+        number: usize,
+        to: &[Component],
+        limit: usize,
+    ) -> Result<bool, AllocError>
+        requires store { IsStore store.now }
+        requires opened { IsOpen store.now self.now }
+        requires place { HasPlace store.now self.now (Some number) }
+        requires limit { limit ≤ 4097 }
+        ensures { IfOk result (λ fits. (h : HasPlace store.now self.now (Some number)) (t : Flat) (n : FlatNode)
+            → Holds store.now self.now h t n → fits ≡ put_fits measure limit to.now n) }
+    {
+        let Some(room) = room_left(measure, to, limit) else {
+            return Ok(false);
+        };
+        match self.cells[number].content {
+            Content::Held(found) => Ok(found_fits(store, measure, found, room)),
+            Content::Open => self.siblings_fit(alloc, store, measure, Link::First(number), room),
+        }
+    }
+
+    // Refuses to put at a path what stands at a node where a path that comes of it is too deep or too long.
+    pub fn within(
+        &self,
+        alloc: Global,
+        store: &Store,
+        number: usize,
+        to: &[Component],
+    ) -> Result<(), StageFault>
+        requires store { IsStore store.now }
+        requires opened { IsOpen store.now self.now }
+        requires place { HasPlace store.now self.now (Some number) }
+        requires path { is_path to.now ≡ true }
+        ensures { (h : HasPlace store.now self.now (Some number)) (t : Flat) (n : FlatNode)
+            → Holds store.now self.now h t n → IsJudged (within_paths to.now n) result }
+    {
+        if !self.put_fits(alloc, store, Measure::Components, number, to, PATH_COMPONENTS)? {
+            return Err(StageFault::TooDeep);
+        }
+        if !self.put_fits(alloc, store, Measure::Bytes, number, to, PATH_BYTES + 1)? {
+            return Err(StageFault::TooLong);
+        }
+        Ok(())
     }
 }
