@@ -30,7 +30,10 @@ use Rattle.stage_tree.specs.Forests.{Forest, Nil, Bin, Sound, count, forest}
 use Rattle.stage_tree.specs.Frames.{Frame}
 use Rattle.stage_tree.specs.Leaves.{leaf_below, leaf_in, is_held}
 use Rattle.stage_tree.specs.Branches.{Stands}
-use Rattle.stage_tree.specs.Edits.{paths_put}
+use Rattle.git_objects.specs.Results.{◌>>=◌, must}
+use Rattle.stage_tree.specs.declared.fault.StageFault.{StageFault}
+use Rattle.stage_tree.specs.declared.fault.StageFault.TheVariants.{TooDeep, TooLong}
+use Rattle.stage_tree.specs.Edits.{paths_put, within_paths}
 use Rattle.stage_tree.specs.Limits.{content_fits, cost, fits_in, put_fits, room_left, weight}
 use Rattle.stage_tree.specs.Standings.{Holds}
 use Rattle.stage_tree.specs.Counts.{IsCountable}
@@ -223,3 +226,32 @@ module _ (S : List Object) (store : IsStore S) (s : Nodes) (k : ℕ) (h : HasPla
 
   pub node_put_fits : (m : Measure) (limit room : ℕ) (to : Path) → Some room ≡ room_left limit (cost m to) → content_fits m S room w.content (fits_in m S room w.children) ≡ put_fits m limit to n
   node_put_fits m limit room to e = node_fits m S store room w.content w.children n w.sound.0.content w.sound.2 is_node holds_leaf ∙ sym (put_room m limit room to n e)
+
+-- ---- the limits of paths
+
+le_byte : (n : ℕ) → nat_le (n + 1) 4097 ≡ nat_le n 4096
+le_byte n = grind (arith, nat_tests)
+
+some_paths : (f g : Path → Bool) (qs : List Path) → ((q : Path) → f q ≡ g q) → list_all f qs ≡ list_all g qs
+some_paths f g [] h = refl
+some_paths f g (q ∷ qs) h = λ i. h q i && some_paths f g qs h i
+
+pub deep_test : (to : Path) (n : FlatNode) → put_fits Components PATH_COMPONENTS to n ≡ list_all (λ q. nat_le (length q) PATH_COMPONENTS) (paths_put to n)
+deep_test to n = some_paths (λ q. nat_le (cost Components q) PATH_COMPONENTS) (λ q. nat_le (length q) PATH_COMPONENTS) (paths_put to n) (λ q. ap (λ v. nat_le v PATH_COMPONENTS) (cost_length q))
+
+pub long_test : (to : Path) (n : FlatNode) → is_path to ≡ true → put_fits ByBytes 4097 to n ≡ list_all (λ q. nat_le (length (text q)) PATH_BYTES) (paths_put to n)
+long_test [] n h = absurd (true≢false (sym h))
+long_test (c ∷ p) n h =
+    put_all ByBytes 4097 (c ∷ p) n
+    ∙ all_same (λ r. nat_le (cost ByBytes (c ∷ p ++ r)) 4097) (λ r. nat_le (length (text (c ∷ p ++ r))) PATH_BYTES) (rests n) (λ r. ap (λ v. nat_le v 4097) (cost_text c (p ++ r)) ∙ le_byte (length (text (c ∷ p ++ r))))
+    ∙ sym (list_all-map (λ q. nat_le (length (text q)) PATH_BYTES) (λ e. c ∷ p ++ e.0) (rests n))
+
+module _ (to : Path) (n : FlatNode) where
+  pub too_deep : list_all (λ q. nat_le (length q) PATH_COMPONENTS) (paths_put to n) ≡ false → within_paths to n ≡ Err TooDeep
+  too_deep h = ap (λ b. must {E = StageFault} TooDeep b >>= λ _. must TooLong (list_all (λ q. nat_le (length (text q)) PATH_BYTES) (paths_put to n))) h
+
+  pub too_long : list_all (λ q. nat_le (length q) PATH_COMPONENTS) (paths_put to n) ≡ true → list_all (λ q. nat_le (length (text q)) PATH_BYTES) (paths_put to n) ≡ false → within_paths to n ≡ Err TooLong
+  too_long h g = λ i. must {E = StageFault} TooDeep (h i) >>= λ _. must TooLong (g i)
+
+  pub in_limits : list_all (λ q. nat_le (length q) PATH_COMPONENTS) (paths_put to n) ≡ true → list_all (λ q. nat_le (length (text q)) PATH_BYTES) (paths_put to n) ≡ true → within_paths to n ≡ Ok tt
+  in_limits h g = λ i. must {E = StageFault} TooDeep (h i) >>= λ _. must TooLong (g i)
