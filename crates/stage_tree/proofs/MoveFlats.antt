@@ -123,14 +123,14 @@ module _ (t : Flat) (s : Path) (tree : IsTree t) where
 
   -- ---- a leaf in its place, and then the move
 
-  module _ (r : Path) (x : Leaf) (leaf : at t (s ++ r) ≡ Some x) (p : Path) (n : FlatNode) (l : Bytes) where
+  module _ (r : Path) (x : Leaf) (leaf : at t (s ++ r) ≡ Some x) (p : Path) (n : FlatNode) (l : Leaf) where
     abbrev left : Flat
-    left = put t s (LeafNode (ModuleLeaf l))
+    left = put t s (LeafNode l)
 
     beside : (y : Path) → is_prefix s y ≡ false → at left y ≡ at (remove t s) y
     beside y g =
-        at-put t s (LeafNode (ModuleLeaf l)) y
-        ∙ ap (λ o. first_some (at_rest (([], ModuleLeaf l) ∷ []) o) (cond (comparable s y) None (at t y))) (after_none s y g)
+        at-put t s (LeafNode l) y
+        ∙ ap (λ o. first_some (at_rest (([], l) ∷ []) o) (cond (comparable s y) None (at t y))) (after_none s y g)
         ∙ ap (λ b. cond (b || is_prefix y s) None (at t y)) g
         ∙ by (is_prefix y s) refl
         ∙ sym (ap (λ b. cond b None (at t y)) g)
@@ -142,8 +142,8 @@ module _ (t : Flat) (s : Path) (tree : IsTree t) where
 
     nothing_below : (y : Path) (d : Bytes) (q : Path) → after s y ≡ Some (d ∷ q) → is_prefix s y ≡ true → at left y ≡ at (remove t s) y
     nothing_below y d q e g =
-        at-put t s (LeafNode (ModuleLeaf l)) y
-        ∙ ap (λ o. first_some (at_rest (([], ModuleLeaf l) ∷ []) o) (cond (comparable s y) None (at t y))) e
+        at-put t s (LeafNode l) y
+        ∙ ap (λ o. first_some (at_rest (([], l) ∷ []) o) (cond (comparable s y) None (at t y))) e
         ∙ ap (λ b. cond (b || is_prefix y s) None (at t y)) g
         ∙ sym (ap (λ b. cond b None (at t y)) g)
         ∙ sym (at-remove t s y)

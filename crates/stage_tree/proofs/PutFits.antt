@@ -183,6 +183,14 @@ module _ (S : List Object) (s : Nodes) (k : ℕ) (h : HasPlace S s (Some k)) whe
   pub read_held : (x : Node) → x ≡ get_or s.cells.items k x → (f : Found) → x.content ≡ Held f → is_held S (Held f) ≡ true
   read_held x read f e = ap (is_held S) (sym (read_content x read (Held f) e)) ∙ v.sound.0.content
 
+  -- what stands at the node
+  pub place_leaf : (t : Flat) → Stands S s t → (r : Path) → leaf_below S v.content (leaf_in S v.children) r ≡ at t (h.path ++ h.component ∷ r)
+  place_leaf t st r =
+      sym (ap (λ b. cond b (leaf_below S v.content (leaf_in S v.children) r) (leaf_in S v.siblings (h.component ∷ r))) (same_bytes-self h.component))
+      ∙ sym (leaf_plug S (is_held S) h.place.frames (Bin k h.component v.content v.children v.siblings) h.component r v.sound_up v.fits)
+      ∙ (λ i. leaf_in S (v.whole i) (v.path i ++ h.component ∷ r))
+      ∙ st (h.path ++ h.component ∷ r)
+
   module _ (o : IsOpen S s) where
     few : (m : ℕ) → count m v.children ≤ inside s m
     few m = omega (arith, o.covers m, ap (count m) v.whole, count_plug m h.place.frames (Bin k h.component v.content v.children v.siblings))
@@ -204,16 +212,9 @@ module _ (S : List Object) (store : IsStore S) (s : Nodes) (k : ℕ) (h : HasPla
   abbrev w : IsNamed S s h.path h.component up k
   w = v S s k h
 
-  own_leaf : (r : Path) → leaf_below S w.content (leaf_in S w.children) r ≡ at t (h.path ++ h.component ∷ r)
-  own_leaf r =
-      sym (ap (λ b. cond b (leaf_below S w.content (leaf_in S w.children) r) (leaf_in S w.siblings (h.component ∷ r))) (same_bytes-self h.component))
-      ∙ sym (leaf_plug S (is_held S) up (Bin k h.component w.content w.children w.siblings) h.component r w.sound_up w.fits)
-      ∙ (λ i. leaf_in S (w.whole i) (w.path i ++ h.component ∷ r))
-      ∙ g.stands (h.path ++ h.component ∷ r)
-
   pub holds_leaf : (r : Path) → leaf_below S w.content (leaf_in S w.children) r ≡ at (rests n) r
   holds_leaf r =
-      own_leaf r ∙ ap (at t) (sym (Rattle.std.proofs.Common.append_assoc h.path (h.component ∷ []) r))
+      place_leaf S s k h t g.stands r ∙ ap (at t) (sym (Rattle.std.proofs.Common.append_assoc h.path (h.component ∷ []) r))
       ∙ sym (standing_rests t (h.path ++ h.component ∷ []) g.tree n g.there r)
 
   is_node : IsNode n

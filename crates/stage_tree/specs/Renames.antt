@@ -1,5 +1,5 @@
 -- Nodes moved from one path to another.
-use Rattle.std.specs.Prelude.{◌≡◌, ℕ, ◌+◌, ◌<◌, ◌≤◌, ◌⊎◌, Bool, true, false, not, cond, ◌==◌, List, [], ◌∷◌, ◌++◌, length, slice_get, Option, Some, None, replicate}
+use Rattle.std.specs.Prelude.{◌≡◌, ℕ, ◌+◌, ◌<◌, ◌≤◌, ◌⊎◌, Bool, true, false, not, cond, ◌==◌, List, [], ◌∷◌, ◌++◌, length, slice_get, Option, Some, None, replicate, OnOk, IfErr, IsOkAnd, Result, Err}
 use Rattle.std.specs.Option.{option_and_then}
 use Rattle.git_objects.specs.Paths.{Bytes, Path, comparable, same_bytes}
 use Rattle.git_objects.specs.Trees.{Flat, Node as FlatNode, at, put, remove, rests}
@@ -9,6 +9,8 @@ use Rattle.git_objects.specs.declared.name.Name.{Name}
 use Rattle.object_store.specs.Objects.{Object}
 use Rattle.path_trees.specs.Standing.{node}
 use Rattle.path_trees.specs.declared.found.Found.{Found}
+use Rattle.stage_tree.specs.declared.fault.StageFault.{StageFault}
+use Rattle.stage_tree.specs.declared.fault.StageFault.TheVariants.{OutOfMemory}
 use Rattle.stage_tree.specs.declared.nodes.Node.{Node}
 use Rattle.stage_tree.specs.declared.nodes.Nodes.{Nodes}
 use Rattle.stage_tree.specs.declared.nodes.Content.{Content}
@@ -141,3 +143,11 @@ pub record IsMoved (s s' : Nodes) (k : ℕ) (p : Path) (h : CanMove s k p) : Typ
   pub opened : IsOpen h.objects s'
   pub puts : (t : Flat) → Stands h.objects s t → (n : FlatNode) → ((r : Path) → at (rests n) r ≡ at t (h.path ++ h.component ∷ r)) → Stands h.objects s' (put (put t (h.path ++ h.component ∷ []) (node h.objects stand_in)) p n)
   pub clear : (q : Path) → comparable p q ≡ false → is_clear (kids_of s) q ≡ true → is_clear (kids_of s') q ≡ true
+
+-- ---- an edit of the nodes
+
+-- It was made: it isn't refused, and the nodes stand for the tree that is left. Or it wasn't: it is refused so, or there
+-- was no memory, and the nodes stand for what they stood for.
+pub record IsEditedTo (S : List Object) (s s' : Nodes) (left : Result Flat StageFault) (result : Result (Unit {0}) StageFault) : Type 0 where
+  pub done : OnOk result (IsOkAnd left (λ t. IsOpen S s' × Stands S s' t))
+  pub refused : IfErr result (λ e. IsStill S s s' × ((e ≡ OutOfMemory) ⊎ (left ≡ Err e)))

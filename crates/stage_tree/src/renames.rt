@@ -1,16 +1,22 @@
 // Nodes moved from one path to another.
 ghost use Rattle.std.specs.Prelude.{◌≡◌, ◌+◌, ◌<◌, ◌≤◌, true, drop, length, IfOk, OnErr, OnOk};
-ghost use Rattle.git_objects.specs.Paths.{is_path};
-ghost use Rattle.stage_tree.specs.Branches.{IsRemoved};
+ghost use Rattle.git_objects.specs.Paths.{comparable, is_path};
+ghost use Rattle.git_objects.specs.Trees.{Flat, IsTree};
+ghost use Rattle.object_store.specs.Objects.{IsStore};
+ghost use Rattle.stage_tree.specs.Branches.{IsRemoved, Stands};
+ghost use Rattle.stage_tree.specs.Edits.{renamed};
 ghost use Rattle.stage_tree.specs.Expanding.{IsWaste};
 ghost use Rattle.stage_tree.specs.Pools.{IsPool};
-ghost use Rattle.stage_tree.specs.Ways.{IsStill};
-ghost use Rattle.stage_tree.specs.Renames.{CanMove, CanPrune, IsGraft, IsMoved, stand_in};
+ghost use Rattle.stage_tree.specs.Ways.{IsOpen, IsStill};
+ghost use Rattle.stage_tree.specs.Renames.{CanMove, CanPrune, IsEditedTo, IsGraft, IsMoved, stand_in};
 
+use crate::fault::StageFault;
 use crate::nodes::{Content, Link, Node, Nodes};
 use git_objects::{Component, Mode, Name, Steps};
+use object_store::Store;
+use path_names::Path;
 use path_trees::Found;
-use std::alloc::AllocError;
+use std::alloc::{AllocError, Global};
 use std::sync::ledger::Ledger;
 
 // What stands at a node while its own content is on its way: a module, which every store holds.
@@ -21,6 +27,18 @@ fn stand_in() -> Found
         mode: Mode::Module,
         name: Name([0; 20]),
     }
+}
+
+// Whether one of two paths begins with the other.
+fn comparable(a: &[Component], b: &[Component]) -> bool
+    ensures { result ≡ comparable a.now b.now }
+{
+    for i in 0..a.len().min(b.len()) {
+        if a[i].bytes() != b[i].bytes() {
+            return false;
+        }
+    }
+    true
 }
 
 impl Nodes {
@@ -115,5 +133,36 @@ impl Nodes {
                 Err(AllocError)
             }
         }
+    }
+
+    // Takes out what stands at a path, with the directories that would be left empty, and then puts it at another. Nothing
+    // of it is made anew.
+    pub fn rename<L: Ledger>(
+        &mut self,
+        alloc: Global,
+        store: &Store,
+        from: &Path,
+        to: &Path,
+        steps: &mut Steps<L>,
+    ) -> Result<(), StageFault>
+        requires store { IsStore store.now }
+        requires opened { IsOpen store.now self.old }
+        ensures { (t : Flat) → IsTree t → Stands store.now self.old t
+            → IsEditedTo store.now self.old self.new (renamed t from.now to.now) result }
+    {
+        let source = from.components();
+        let target = to.components();
+        self.open_way(alloc, store, source, steps)?;
+        self.open_way(alloc, store, target, steps)?;
+        let way = self.walk(source);
+        let Some(number) = self.reached(way, source.len()) else {
+            return Err(StageFault::NoSource);
+        };
+        self.within(alloc, store, number, target)?;
+        self.relocate(number, target, steps)?;
+        if !comparable(target, source) {
+            self.prune(source);
+        }
+        Ok(())
     }
 }
