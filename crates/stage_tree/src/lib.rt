@@ -6,9 +6,11 @@ mod edits;
 mod fault;
 mod finish;
 mod gather;
+mod last;
 mod listing;
 mod nodes;
 mod root;
+mod sets;
 mod stage;
 mod ways;
 
