@@ -89,18 +89,22 @@ module _ (S : List Object) (st : IsStore S) where
   length_behind : (c : Bytes) (xs ys : Items) → AreApart xs → AreHeld S xs → ((q : Path) → at (tree_of S ys) (c ∷ q) ≡ None) → length (tree_of S (items_behind c xs ++ ys)) ≡ length (tree_of S xs) + length (tree_of S ys)
   length_behind c [] ys h a n = omega arith
   length_behind c (x ∷ xs) ys h a n =
-      omega (arith,
-      put_length (c ∷ x.0) (rests (node S x.1)) (tree_of S (items_behind c xs ++ ys)) (rests_sorted x.1 a.0) (tree_sorted S (items_behind c xs ++ ys)) (λ q. none_cons c xs ys (x.0 ++ q) (h.0 q) (n (x.0 ++ q))),
-      put_length x.0 (rests (node S x.1)) (tree_of S xs) (rests_sorted x.1 a.0) (tree_sorted S xs) h.0,
-      length_behind c xs ys h.1 a.1 n)
+      omega (
+        arith,
+        put_length (c ∷ x.0) (rests (node S x.1)) (tree_of S (items_behind c xs ++ ys)) (rests_sorted x.1 a.0) (tree_sorted S (items_behind c xs ++ ys)) (λ q. none_cons c xs ys (x.0 ++ q) (h.0 q) (n (x.0 ++ q))),
+        put_length x.0 (rests (node S x.1)) (tree_of S xs) (rests_sorted x.1 a.0) (tree_sorted S xs) h.0,
+        length_behind c xs ys h.1 a.1 n,
+      )
 
   items_length : (F : Forest) → Sound (is_held S) F → length (tree_of S (items F)) ≡ files S F
   items_length Nil s = refl
   items_length (Bin k c x l r) s =
-      omega (arith,
-      length_behind c (items_at x (items l)) (items r) (apart x (apart_items l s.2)) (held x s.0.content (sound_held S l s.2)) (none_beyond c r s.1 s.3),
-      here x s.0.content (items_length l s.2),
-      items_length r s.3)
+      omega (
+        arith,
+        length_behind c (items_at x (items l)) (items r) (apart x (apart_items l s.2)) (held x s.0.content (sound_held S l s.2)) (none_beyond c r s.1 s.3),
+        here x s.0.content (items_length l s.2),
+        items_length r s.3,
+      )
     where
       apart : (x : Content) → AreApart (items l) → AreApart (items_at x (items l))
       apart (Held f) h = (λ q. refl, tt)

@@ -96,7 +96,7 @@ rename_few t s p x h = omega (arith, standing_few t s (at t s) (under t s) x ref
 
 -- ---- a leaf put
 
-one_leaf : (S : List Object) (f : Found) → is_dir f.mode ≡ false → length (rests (node S f)) ≡ 1
+pub one_leaf : (S : List Object) (f : Found) → is_dir f.mode ≡ false → length (rests (node S f)) ≡ 1
 one_leaf S f h = by f.mode h
   where
     by : (m : Mode) → is_dir m ≡ false → length (rests (node S (record { mode = m; name = f.name }))) ≡ 1

@@ -18,7 +18,7 @@ use std::alloc::{AllocError, Global};
 
 impl Nodes {
     // Makes a node for each component from a level on, each but the last a directory with the next as its only child.
-    fn branch(
+    pub fn branch(
         &mut self,
         components: &[Component],
         level: usize,

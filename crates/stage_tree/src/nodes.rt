@@ -67,7 +67,7 @@ impl Nodes {
     }
 
     // Whether a node stands before a component.
-    fn is_before(&self, node: Node, component: &[u8]) -> bool
+    pub fn is_before(&self, node: Node, component: &[u8]) -> bool
         requires { node.at + node.len ≤ length self.now.names.items }
         ensures { result ≡ is_lt (bytes_cmp (node_component self.now.names.items node) component.now) }
     {

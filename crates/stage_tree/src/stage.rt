@@ -1,14 +1,17 @@
 // The tree that one commit's changes edit.
 ghost use Rattle.std.specs.Prelude.{◌≡◌, true, [], List, IfOk, OnErr, OnOk};
-ghost use Rattle.git_objects.specs.Trees.{Flat, put, remove};
+ghost use Rattle.git_objects.specs.Trees.{Flat, remove};
 ghost use Rattle.git_objects.specs.declared.kind.Kind.TheVariants.{Tree};
 ghost use Rattle.object_store.specs.Objects.{IsStore, Object, has, has_child};
 ghost use Rattle.object_store.specs.Unfolding.{flat};
 ghost use Rattle.path_trees.specs.Standing.{node};
 ghost use Rattle.path_trees.specs.declared.found.Found.{Found};
+ghost use Rattle.stage_tree.specs.Edits.{IsEdited, set_in};
 ghost use Rattle.stage_tree.specs.Finished.{IsFinished};
 ghost use Rattle.stage_tree.specs.Stages.{Shows};
 
+use crate::StageFault;
+use crate::last::Last;
 use crate::nodes::{Content, Node, Nodes};
 use git_objects::{Mode, Name};
 use object_store::Store;
@@ -25,16 +28,18 @@ pub struct Stage {
     nodes: Nodes,
     // No more files than these are shown; 4,294,967,295 stands for any number.
     most: u32,
+    last: Last,
 }
 
 impl Model for Stage {
-    ghost use Rattle.stage_tree.specs.Stages.{Staged, IsStage, staged};
+    ghost use Rattle.stage_tree.specs.Sets.{IsMarked};
+    ghost use Rattle.stage_tree.specs.Stages.{Staged, staged};
 
     ghost Value = { Staged };
 
     ghost view = { λ s. staged s.nodes s.most };
 
-    ghost invariant = { λ s. IsStage s.nodes };
+    ghost invariant = { λ s. IsMarked s.nodes s.last };
 }
 
 impl Stage {
@@ -67,28 +72,44 @@ impl Stage {
             names: Vec::new(alloc),
             free: None,
         };
-        Ok(Stage { alloc, nodes, most })
+        Ok(Stage {
+            alloc,
+            nodes,
+            most,
+            last: Last {
+                directory: Vec::new(alloc),
+                child: None,
+            },
+        })
     }
 
-    /// Puts a leaf at a path, where every path that is comparable with it goes. After a refusal the stage stands for what
-    /// it stood for.
-    pub fn set(&mut self, store: &Store, path: &Path, leaf: Leaf) -> Result<(), AllocError>
+    /// Puts a leaf at a path, where every path that is comparable with it goes. Paths of one directory that come in the
+    /// order of their bytes cost little each.
+    pub fn set(&mut self, store: &Store, path: &Path, leaf: Leaf) -> Result<(), StageFault>
         requires leaf { has_child store.now leaf.mode leaf.name.0 ≡ true }
         requires shows { (t : Flat) × Shows store.now self.old t }
-        ensures ok { OnOk result ((t : Flat) → Shows store.now self.old t
-            → Shows store.now self.new (put t path.now (node store.now (record { mode = leaf.mode; name = leaf.name })))) }
-        ensures err { OnErr result ((t : Flat) → Shows store.now self.old t → Shows store.now self.new t) }
+        ensures { (t : Flat) → Shows store.now self.old t → IsEdited store.now self.new t
+            (set_in t path.now (node store.now (record { mode = leaf.mode; name = leaf.name }))) result }
     {
         // The name is looked at so that the proof has that it has 20 bytes.
         let _ = leaf.name.bytes();
-        let _ = path.components();
-        self.nodes.open_root(self.alloc, store)?;
         let found = Found {
             mode: leaf.mode,
             name: leaf.name,
         };
-        self.nodes.put(self.alloc, store, path, found)?;
-        self.most = self.most.saturating_add(1);
+        let components = path.components();
+        let beside = self.last.taken(components);
+        let way = self.nodes.way_to(self.alloc, store, beside, components)?;
+        let child = way.spot.child;
+        let most = self
+            .nodes
+            .most_with_leaf(self.alloc, store, child, self.most)?;
+        let number = self.nodes.put_on(way, components, found)?;
+        self.most = most;
+        if way.level + 1 == components.len() {
+            self.last
+                .remember(self.alloc, &components[..way.level], number);
+        }
         Ok(())
     }
 
@@ -99,6 +120,7 @@ impl Stage {
             → Shows store.now self.new (remove t path.now)) }
         ensures err { OnErr result ((t : Flat) → Shows store.now self.old t → Shows store.now self.new t) }
     {
+        self.last.child = None;
         self.nodes.open_root(self.alloc, store)?;
         self.nodes.remove(self.alloc, store, path)
     }
@@ -109,6 +131,7 @@ impl Stage {
     {
         self.nodes.clear();
         self.most = 0;
+        self.last.child = None;
     }
 
     /// Stores the tree that is shown, and gives its name. A directory that no path has gone through keeps its name
@@ -118,6 +141,7 @@ impl Stage {
         ensures { (t : Flat) → Shows store.old self.old t
             → IsFinished store.old store.new self.new t result }
     {
+        self.last.child = None;
         match self.nodes.cells[0].content {
             Content::Held(found) => Ok(found.name),
             Content::Open => self.nodes.finish(self.alloc, store),

@@ -55,7 +55,17 @@ impl Nodes {
         ensures link { result.link ≡ sought component.now (Link.First directory) (hanging self.now (Link.First directory)) }
         ensures child { result.child ≡ named_first component.now (hanging self.now result.link) }
     {
-        let link = self.seek(Link::First(directory), component);
+        self.spot_from(Link::First(directory), component)
+    }
+
+    // The place of a component among the siblings from a link on.
+    pub fn spot_from(&self, start: Link, component: &[u8]) -> Spot
+        requires link { is_link self.now.cells.items start ≡ true }
+        requires walk { Walks self.now (target self.now.cells.items start) }
+        ensures link { result.link ≡ sought component.now start (hanging self.now start) }
+        ensures child { result.child ≡ named_first component.now (hanging self.now result.link) }
+    {
+        let link = self.seek(start, component);
         let child = self.named(link, component);
         Spot { link, child }
     }

@@ -34,7 +34,7 @@ nodes-preserved-in_default c =
       here = r.1;
       behind = r.0;
       small = omega (arith, c.nodes.invariant.small);
-  sum = omega (arith, c.nodes.invariant.small, c.nodes.invariant.sum, files_end c.args.store.now c.args.self.now c.args.but c.nodes.link (sym c.in_default.ensures), ap (due c.args.store.now c.args.self.now c.args.but) c.in-Some-pop.ensures.items, due_more c.args.store.now c.args.self.now c.args.but c.pop.new.self.items c.in-Some-pop.directory);
+      sum = omega (arith, c.nodes.invariant.small, c.nodes.invariant.sum, files_end c.args.store.now c.args.self.now c.args.but c.nodes.link (sym c.in_default.ensures), ap (due c.args.store.now c.args.self.now c.args.but) c.in-Some-pop.ensures.items, due_more c.args.store.now c.args.self.now c.args.but c.pop.new.self.items c.in-Some-pop.directory);
     }
 
 pub index-requires : goal.index-requires

@@ -11,7 +11,7 @@ pub invariant_of-result : goal.invariant_of-result
 invariant_of-result c =
     let f : Found = record { mode = Dir; name = c.args.root } in
     let n : Node = record { at = 0; len = 0; content = Held f; first = None; next = None } in
-    begun (record { cells = c.push.new.self; names = c.new.result; free = None }) n f (c.in_ok-push.ensures.items ∙ ap (λ (v : List Node). v ++ n ∷ []) c.new-cells.ensures.items) refl refl refl refl
+    record { stage = begun (record { cells = c.push.new.self; names = c.new.result; free = None }) n f (c.in_ok-push.ensures.items ∙ ap (λ (v : List Node). v ++ n ∷ []) c.new-cells.ensures.items) refl refl refl refl; last_there = tt }
 
 pub returns-clause-nodes : goal.returns-clause-nodes
 returns-clause-nodes c =
