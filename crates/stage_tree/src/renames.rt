@@ -4,14 +4,16 @@ ghost use Rattle.git_objects.specs.Paths.{comparable, is_path};
 ghost use Rattle.git_objects.specs.Trees.{Flat, IsTree};
 ghost use Rattle.object_store.specs.Objects.{IsStore};
 ghost use Rattle.stage_tree.specs.Branches.{IsRemoved, Stands};
-ghost use Rattle.stage_tree.specs.Edits.{renamed};
+ghost use Rattle.stage_tree.specs.Edits.{IsEdited, renamed};
 ghost use Rattle.stage_tree.specs.Expanding.{IsWaste};
 ghost use Rattle.stage_tree.specs.Pools.{IsPool};
+ghost use Rattle.stage_tree.specs.Stages.{Shows};
 ghost use Rattle.stage_tree.specs.Ways.{IsOpen, IsStill};
 ghost use Rattle.stage_tree.specs.Renames.{CanMove, CanPrune, IsEditedTo, IsGraft, IsMoved, stand_in};
 
 use crate::fault::StageFault;
 use crate::nodes::{Content, Link, Node, Nodes};
+use crate::stage::Stage;
 use git_objects::{Component, Mode, Name, Steps};
 use object_store::Store;
 use path_names::Path;
@@ -147,8 +149,9 @@ impl Nodes {
     ) -> Result<(), StageFault>
         requires store { IsStore store.now }
         requires opened { IsOpen store.now self.old }
-        ensures { (t : Flat) → IsTree t → Stands store.now self.old t
+        ensures edit { (t : Flat) → IsTree t → Stands store.now self.old t
             → IsEditedTo store.now self.old self.new (renamed t from.now to.now) result }
+        ensures path { is_path to.now ≡ true }
     {
         let source = from.components();
         let target = to.components();
@@ -164,5 +167,25 @@ impl Nodes {
             self.prune(source);
         }
         Ok(())
+    }
+}
+
+impl Stage {
+    /// Takes what stands at a path out, and then puts it at another: where every path that is comparable with that goes,
+    /// and with it what the first path leaves empty. Needs no memory for what lies below the first path.
+    pub fn rename<L: Ledger>(
+        &mut self,
+        store: &Store,
+        from: &Path,
+        to: &Path,
+        steps: &mut Steps<L>,
+    ) -> Result<(), StageFault>
+        requires { (t : Flat) × Shows store.now self.old t }
+        ensures { (t : Flat) → Shows store.now self.old t
+            → IsEdited store.now self.new t (renamed t from.now to.now) result }
+    {
+        self.last.child = None;
+        self.nodes.open_root(self.alloc, store)?;
+        self.nodes.rename(self.alloc, store, from, to, steps)
     }
 }

@@ -26,8 +26,8 @@ reached-requires g c =
     let stop = c.walk-way.ensures (both_walk S s0 s1 s2 src tgt a b) (first_clear S s0 s1 s2 src tgt a b) in
     stop_within S s2 src w.level w.spot.link w.spot.child stop
 
-pub returns-in_default : goal.returns-in_default
-returns-in_default g c = λ t tree st.
+pub returns-in_default-clause-edit : goal.returns-in_default-clause-edit
+returns-in_default-clause-edit g c = λ t tree st.
     let S = c.args.store.now in let s0 = c.args.self.now in let s1 = c.open_way.new.self in let s2 = c.open_way-2.new.self in
     let src = c.components-source.result.now in let tgt = c.components-target.result.now in let w = c.walk-way.result in
     let a = c.in_ok-open_way.ensures.ok in let b = c.in_ok-open_way-2.ensures.ok in
@@ -49,8 +49,8 @@ within-requires-clause-place g c =
     let at = node_at S s2 src w stop c.in-Some.number c.in-Some.ensures in
     at.place
 
-pub returns-in_err-within : goal.returns-in_err-within
-returns-in_err-within g c = λ t tree st.
+pub returns-in_err-within-clause-edit : goal.returns-in_err-within-clause-edit
+returns-in_err-within-clause-edit g c = λ t tree st.
     let S = c.args.store.now in let s0 = c.args.self.now in let s1 = c.open_way.new.self in let s2 = c.open_way-2.new.self in
     let src = c.components-source.result.now in let tgt = c.components-target.result.now in let w = c.walk-way.result in
     let a = c.in_ok-open_way.ensures.ok in let b = c.in_ok-open_way-2.ensures.ok in
@@ -78,8 +78,8 @@ relocate-requires-clause-node g c =
     let at = node_at S s2 src w stop c.in-Some.number c.in-Some.ensures in
     (record { objects = S; opened = still.opened; path = at.place.path; component = at.place.component; link = at.place.link; place = at.place.place; clear = b.clear })
 
-pub returns-in_err-relocate : goal.returns-in_err-relocate
-returns-in_err-relocate g c = λ t tree st.
+pub returns-in_err-relocate-clause-edit : goal.returns-in_err-relocate-clause-edit
+returns-in_err-relocate-clause-edit g c = λ t tree st.
     let S = c.args.store.now in let s0 = c.args.self.now in let s1 = c.open_way.new.self in let s2 = c.open_way-2.new.self in
     let src = c.components-source.result.now in let tgt = c.components-target.result.now in let w = c.walk-way.result in
     let a = c.in_ok-open_way.ensures.ok in let b = c.in_ok-open_way-2.ensures.ok in
@@ -100,8 +100,8 @@ prune-requires-clause-clear g c =
     let moved = c.in_ok-relocate.ensures.ok (record { objects = S; opened = still.opened; path = at.place.path; component = at.place.component; link = at.place.link; place = at.place.place; clear = b.clear }) in
     record { objects = S; opened = moved.opened; clear = moved.clear src (cc) (first_clear S s0 s1 s2 src tgt a b) }
 
-pub returns-then-not-comparable : goal.returns-then-not-comparable
-returns-then-not-comparable g c = λ t tree st.
+pub returns-then-not-comparable-clause-edit : goal.returns-then-not-comparable-clause-edit
+returns-then-not-comparable-clause-edit g c = λ t tree st.
     let S = c.args.store.now in let s0 = c.args.self.now in let s1 = c.open_way.new.self in let s2 = c.open_way-2.new.self in
     let src = c.components-source.result.now in let tgt = c.components-target.result.now in let w = c.walk-way.result in
     let a = c.in_ok-open_way.ensures.ok in let b = c.in_ok-open_way-2.ensures.ok in
@@ -120,8 +120,8 @@ returns-then-not-comparable g c = λ t tree st.
     same_left S s0 c.prune.new.self (renamed t src tgt) (renamed t c.args.from.now c.args.to.now) (Ok tt) (λ i. renamed t (from_is i) (to_is i))
     (done_so S s0 c.prune.new.self (renamed t src tgt) (put (remove t src) tgt n.0) (left_so t src tgt n.0 n.1 (c.in_ok-within.ensures at.place t n.0 holds).passed) r.opened (stands_apart S c.requires.store s2 src c.in-Some.number at t tree here n.0 n.1 still.opened tgt b.clear c.relocate.new.self moved apart way c.prune.new.self r))
 
-pub returns-else-not-comparable : goal.returns-else-not-comparable
-returns-else-not-comparable g c = λ t tree st.
+pub returns-else-not-comparable-clause-edit : goal.returns-else-not-comparable-clause-edit
+returns-else-not-comparable-clause-edit g c = λ t tree st.
     let S = c.args.store.now in let s0 = c.args.self.now in let s1 = c.open_way.new.self in let s2 = c.open_way-2.new.self in
     let src = c.components-source.result.now in let tgt = c.components-target.result.now in let w = c.walk-way.result in
     let a = c.in_ok-open_way.ensures.ok in let b = c.in_ok-open_way-2.ensures.ok in
