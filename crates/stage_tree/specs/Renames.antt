@@ -1,8 +1,9 @@
 -- Nodes moved from one path to another.
-use Rattle.std.specs.Prelude.{◌≡◌, ℕ, ◌+◌, ◌<◌, ◌≤◌, ◌⊎◌, Bool, true, false, not, cond, ◌==◌, List, [], ◌∷◌, ◌++◌, length, slice_get, Option, Some, None, replicate, OnOk, IfErr, IsOkAnd, Result, Err}
+use Rattle.std.specs.Prelude.{◌≡◌, ℕ, zero, suc, nat_lt, filter, take, ◌&&◌, ◌+◌, ◌<◌, ◌≤◌, ◌⊎◌, Bool, true, false, not, cond, ◌==◌, List, [], ◌∷◌, ◌++◌, length, slice_get, Option, Some, None, replicate, OnOk, IfErr, IsOkAnd, Result, Err}
 use Rattle.std.specs.Option.{option_and_then}
-use Rattle.git_objects.specs.Paths.{Bytes, Path, comparable, same_bytes}
-use Rattle.git_objects.specs.Trees.{Flat, Node as FlatNode, at, put, remove, rests}
+use Rattle.git_objects.specs.Paths.{Bytes, Path, comparable, is_prefix, same_bytes}
+use Rattle.git_objects.specs.Trees.{Flat, Node as FlatNode, at, put, remove, rests, under}
+use Rattle.git_objects.specs.Names.{tops}
 use Rattle.git_objects.specs.Entries.{is_dir}
 use Rattle.git_objects.specs.declared.mode.Mode.TheVariants.{Module}
 use Rattle.git_objects.specs.declared.name.Name.{Name}
@@ -151,3 +152,40 @@ pub record IsMoved (s s' : Nodes) (k : ℕ) (p : Path) (h : CanMove s k p) : Typ
 pub record IsEditedTo (S : List Object) (s s' : Nodes) (left : Result Flat StageFault) (result : Result (Unit {0}) StageFault) : Type 0 where
   pub done : OnOk result (IsOkAnd left (λ t. IsOpen S s' × Stands S s' t))
   pub refused : IfErr result (λ e. IsStill S s s' × ((e ≡ OutOfMemory) ⊎ (left ≡ Err e)))
+
+-- ---- steps
+
+-- the first beginnings of a path, the longest first
+abbrev pub beginnings : Path → ℕ → List Path
+beginnings p zero = []
+beginnings p (suc n) = take n p ∷ beginnings p n
+
+-- the directories above a path, of which the root's path is empty
+abbrev pub above : Path → List Path
+above p = beginnings p (length p)
+
+abbrev pub is_above : Path → Path → Bool
+is_above d p = is_prefix d p && nat_lt (length d) (length p)
+
+abbrev pub beside : Path → List Path → List Path
+beside p ds = filter (λ d. not (is_above d p)) ds
+
+-- the directories above the one or the other path, each once
+abbrev pub above_both : Path → Path → List Path
+above_both p q = above p ++ beside p (above q)
+
+-- how many entries a tree has in directories
+abbrev pub entries_of : Flat → List Path → ℕ
+entries_of t [] = 0
+entries_of t (d ∷ ds) = length (tops (under t d)) + entries_of t ds
+
+abbrev pub cost_at : Flat → Path → Path → ℕ
+cost_at t z d = cond (is_above d z) 0 (length (tops (under t d)))
+
+-- a node was entered with so many steps: none, where its path is above one that is clear
+abbrev pub IsPaid : List Object → Nodes → Option ℕ → ℕ → ℕ → Type 0
+IsPaid S s child before now = (q : Path) (c : Bytes) (link : Link) → IsPlaceOf S s q c link child → (t : Flat) → Stands S s t → (z : Path) → is_clear (kids_of s) z ≡ true → now ≤ before + cost_at t z (q ++ c ∷ [])
+
+-- the way to a path was made clear with so many steps, one for each entry below the root's that became a node
+abbrev pub IsWayPaid : List Object → Nodes → Path → ℕ → ℕ → Type 0
+IsWayPaid S s p before now = (t : Flat) → Stands S s t → (z : Path) → is_clear (kids_of s) z ≡ true → now + entries_of t (beside z (beginnings p 1)) ≤ before + entries_of t (beside z (above p))

@@ -1,9 +1,13 @@
 // Walks to a path, from the root down.
-ghost use Rattle.std.specs.Prelude.{◌≡◌, ◌+◌, ◌<◌, true, length, IfOk, IfSome, OnErr, OnOk};
+ghost use Rattle.std.specs.Prelude.{◌≡◌, ◌+◌, ◌<◌, ◌≤◌, [], true, length, IfOk, IfSome, OnErr, OnOk};
 ghost use Rattle.stage_tree.specs.Forests.{is_link, target};
 ghost use Rattle.stage_tree.specs.Pools.{Walks, hanging};
+ghost use Rattle.git_objects.specs.Names.{tops};
 ghost use Rattle.git_objects.specs.Paths.{is_path};
-ghost use Rattle.stage_tree.specs.Renames.{IsCleared, IsStop, IsWalkable, StaysClear, breadth, is_clear, open_number};
+ghost use Rattle.git_objects.specs.Trees.{Flat, under};
+ghost use Rattle.stage_tree.specs.Branches.{Stands};
+ghost use Rattle.stage_tree.specs.Renames.{IsCleared, IsPaid, IsStop, IsWalkable, IsWayPaid, StaysClear, breadth, is_clear, open_number};
+ghost use Rattle.stage_tree.specs.Stages.{IsOpened, IsRooted, IsStage, IsUnopened, items_of};
 ghost use Rattle.stage_tree.specs.Ways.{HasPlace, IsEntered, IsOpen, IsStill, kids_of};
 
 use crate::nodes::{Content, Link, Nodes};
@@ -73,6 +77,7 @@ impl Nodes {
         ensures ok { IfOk result (IsEntered store.now self.old self.new child) }
         ensures clear { OnOk result (StaysClear self.old self.new) }
         ensures err { OnErr result (IsStill store.now self.old self.new) }
+        ensures paid { IsPaid store.now self.old child steps.old steps.new }
     {
         let Some(number) = child else {
             return Ok(None);
@@ -102,6 +107,7 @@ impl Nodes {
         requires path { is_path components.now ≡ true }
         ensures ok { OnOk result (IsCleared store.now self.old self.new components.now) }
         ensures err { OnErr result (IsStill store.now self.old self.new) }
+        ensures paid { IsWayPaid store.now self.old components.now steps.old steps.new }
     {
         let last = components.len() - 1;
         let mut directory = 0;
@@ -111,6 +117,29 @@ impl Nodes {
                 Some(number) => directory = number,
                 None => return Ok(()),
             }
+        }
+        Ok(())
+    }
+
+    // Makes nodes of the root's entries, where they aren't yet, with a step for each.
+    pub fn enter_root<L: Ledger>(
+        &mut self,
+        alloc: Global,
+        store: &Store,
+        steps: &mut Steps<L>,
+    ) -> Result<(), AllocError>
+        requires stage { IsStage self.old }
+        requires held { IsRooted store.now (items_of self.old) }
+        ensures ok { OnOk result (IsOpened store.now self.old self.new) }
+        ensures err { OnErr result (IsUnopened self.old self.new) }
+        ensures paid { OnOk result ((t : Flat) → Stands store.now self.new t
+            → steps.new ≤ steps.old + length (tops (under t []))) }
+        ensures none { OnErr result (steps.new ≡ steps.old) }
+    {
+        let root = self.cells[0];
+        self.open_root(alloc, store)?;
+        if let Content::Held(_) = root.content {
+            self.tick_siblings(Link::First(0), steps);
         }
         Ok(())
     }

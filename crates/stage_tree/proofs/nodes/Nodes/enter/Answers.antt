@@ -2,6 +2,7 @@ use Rattle.std.proofs.Common.{refl}
 use Rattle.std.proofs.lemmas.Result.{err_from_is_err_and}
 use Rattle.stage_tree.proofs.OnWay.{still_same, waste_still, open_dir, leaf_blocks, child_closed, child_stored, child_still, child_dir}
 use Rattle.stage_tree.proofs.Clearing.{child_clear}
+use Rattle.stage_tree.proofs.Paying.{paid_expanded}
 use Rattle.stage_tree.proofs.Ticking.{directory_walk}
 use Rattle.stage_tree.proofs.nodes.Nodes.enter.Goals as goal
 
@@ -47,3 +48,7 @@ pub returns-in_ok-expand-in-Held-clause-clear : goal.returns-in_ok-expand-in-Hel
 returns-in_ok-expand-in-Held-clause-clear g c =
     let p = c.requires.place in
     child_clear c.args.store.now c.args.self.now p.path p.component p.link c.args.child c.in-Some.number p.place c.in-Some.is c.index.result.now c.index.ensures c.requires.opened c.in-Held.found c.in-Held.is (cc) c.expand.new.self c.in_ok-expand-in-Held.ensures.ok c.expand.ensures.store
+
+pub returns-in_ok-expand-in-Held-clause-paid : goal.returns-in_ok-expand-in-Held-clause-paid
+returns-in_ok-expand-in-Held-clause-paid g c =
+    paid_expanded c.args.store.now c.expand.ensures.store c.args.self.now c.expand.new.self c.in-Some.number c.in-Held.found (cc) c.in_ok-expand-in-Held.ensures.ok c.index.result.now c.index.ensures c.in-Held.is c.args.child c.in-Some.is c.args.steps.now c.tick_siblings.new.steps c.tick_siblings.ensures
