@@ -32,7 +32,7 @@ use Rattle.stage_tree.specs.Expanding.{IsExpanded}
 use Rattle.stage_tree.specs.Ways.{HasPlace, IsDirOf, IsOpen, IsPlaceOf, IsStill, kids_of, named_first}
 use Rattle.stage_tree.specs.Forests.{sought}
 use Rattle.stage_tree.proofs.OnWay.{here_now, one_longer}
-use Rattle.stage_tree.specs.Renames.{IsPaid, IsWayPaid, StaysClear, above, beginnings, beside, breadth, clear_below, cost_at, entries_of, is_above, is_clear}
+use Rattle.stage_tree.specs.Renames.{IsCleared, IsPaid, IsWayPaid, StaysClear, above, above_both, beginnings, beside, breadth, clear_below, cost_at, entries_of, is_above, is_clear}
 use Rattle.stage_tree.proofs.Order.{less_apart}
 use Rattle.stage_tree.proofs.Expanding.{children_hang}
 use Rattle.stage_tree.proofs.OnWay.{IsNamed, content_is, named_of}
@@ -204,3 +204,48 @@ module _ (S : List Object) (s0 s : Nodes) (p : Path) (k d : ℕ) (dir : IsDirOf 
 
   pub paid_way : k + 1 + 1 ≤ length p → IsWayPaid S s0 p before then
   paid_way h t st z clear = omega (arith, paid_further t st z clear, entries_more t z p (k + 1 + 1) (length p) h)
+
+-- ---- both ways
+
+entries_append : (t : Flat) (a b : List Path) → entries_of t (a ++ b) ≡ entries_of t a + entries_of t b
+entries_append t [] b = omega arith
+entries_append t (d ∷ a) b = omega (arith, entries_append t a b)
+
+beside_nil : (t : Flat) (ds : List Path) → entries_of t (beside [] ds) ≡ entries_of t ds
+beside_nil t [] = refl
+beside_nil t (d ∷ ds) = omega (arith, entries_step t [] d ds, beside_nil t ds, ap (λ b. cond b 0 (length (tops (under t d)))) (nothing (is_prefix d []) (length d)))
+  where
+    nothing : (b : Bool) (n : ℕ) → (b && nat_lt n 0) ≡ false
+    nothing false n = refl
+    nothing true n = grind (arith, nat_tests)
+
+module _ (S : List Object) (s0 s1 : Nodes) (p q : Path) (n0 n1 : ℕ) (first_paid : IsWayPaid S s0 p n0 n1) (t : Flat) (st : Stands S s0 t) where
+  any_clear : (F : Forest) → is_clear F [] ≡ true
+  any_clear Nil = refl
+  any_clear (Bin k c x l r) = refl
+
+  pub paid_first : n1 + length (tops (under t [])) ≤ n0 + entries_of t (above_both p q)
+  paid_first =
+      omega (
+        arith,
+        first_paid t st [] (any_clear (kids_of s0)),
+        beside_nil t (beginnings p 1),
+        beside_nil t (above p),
+        entries_append t (above p) (beside p (above q)),
+      )
+
+  pub paid_second : (n2 : ℕ) → IsCleared S s0 s1 p → IsWayPaid S s1 q n1 n2 → n2 + length (tops (under t [])) ≤ n0 + entries_of t (above_both p q)
+  paid_second n2 a second_paid =
+      omega (
+        arith,
+        first_paid t st [] (any_clear (kids_of s0)),
+        beside_nil t (beginnings p 1),
+        beside_nil t (above p),
+        second_paid t (λ y. a.still.leaves y ∙ st y) p a.clear,
+        entries_append t (above p) (beside p (above q)),
+      )
+
+-- ---- the root
+
+pub paid_root : (S : List Object) → IsStore S → (s : Nodes) → IsOpen S s → (t : Flat) → Stands S s t → breadth (kids_of s) ≤ length (tops (under t []))
+paid_root S store s o t st = breadth_tops S store (kids_of s) o.sound (under t []) (λ q p. st (q ∷ p) ∙ sym (at-under t [] q p))

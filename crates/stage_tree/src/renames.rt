@@ -1,7 +1,8 @@
 // Nodes moved from one path to another.
-ghost use Rattle.std.specs.Prelude.{◌≡◌, ◌+◌, ◌<◌, ◌≤◌, true, drop, length, IfOk, OnErr, OnOk};
+ghost use Rattle.std.specs.Prelude.{◌≡◌, ◌+◌, ◌<◌, ◌≤◌, [], true, drop, length, IfOk, OnErr, OnOk};
 ghost use Rattle.git_objects.specs.Paths.{comparable, is_path};
-ghost use Rattle.git_objects.specs.Trees.{Flat, IsTree};
+ghost use Rattle.git_objects.specs.Trees.{Flat, IsTree, under};
+ghost use Rattle.git_objects.specs.Names.{tops};
 ghost use Rattle.object_store.specs.Objects.{IsStore};
 ghost use Rattle.stage_tree.specs.Branches.{IsRemoved, Stands};
 ghost use Rattle.stage_tree.specs.Edits.{IsEdited, renamed};
@@ -9,7 +10,7 @@ ghost use Rattle.stage_tree.specs.Expanding.{IsWaste};
 ghost use Rattle.stage_tree.specs.Pools.{IsPool};
 ghost use Rattle.stage_tree.specs.Stages.{Shows};
 ghost use Rattle.stage_tree.specs.Ways.{IsOpen, IsStill};
-ghost use Rattle.stage_tree.specs.Renames.{CanMove, CanPrune, IsEditedTo, IsGraft, IsMoved, stand_in};
+ghost use Rattle.stage_tree.specs.Renames.{CanMove, CanPrune, IsEditedTo, IsGraft, IsMoved, above_both, entries_of, stand_in};
 
 use crate::fault::StageFault;
 use crate::nodes::{Content, Link, Node, Nodes};
@@ -152,6 +153,8 @@ impl Nodes {
         ensures edit { (t : Flat) → IsTree t → Stands store.now self.old t
             → IsEditedTo store.now self.old self.new (renamed t from.now to.now) result }
         ensures path { is_path to.now ≡ true }
+        ensures paid { (t : Flat) → Stands store.now self.old t → steps.new + length (tops (under t []))
+            ≤ steps.old + entries_of t (above_both from.now to.now) + length to.now }
     {
         let source = from.components();
         let target = to.components();
@@ -172,7 +175,8 @@ impl Nodes {
 
 impl Stage {
     /// Takes what stands at a path out, and then puts it at another: where every path that is comparable with that goes,
-    /// and with it what the first path leaves empty. Needs no memory for what lies below the first path.
+    /// and with it what the first path leaves empty. What lies below the first path is neither read nor made anew: there
+    /// is a step for each node that is made, of the entries of the directories above the paths and of the second path.
     pub fn rename<L: Ledger>(
         &mut self,
         store: &Store,
@@ -181,11 +185,13 @@ impl Stage {
         steps: &mut Steps<L>,
     ) -> Result<(), StageFault>
         requires { (t : Flat) × Shows store.now self.old t }
-        ensures { (t : Flat) → Shows store.now self.old t
+        ensures edit { (t : Flat) → Shows store.now self.old t
             → IsEdited store.now self.new t (renamed t from.now to.now) result }
+        ensures steps { (t : Flat) → Shows store.now self.old t
+            → steps.new ≤ steps.old + entries_of t (above_both from.now to.now) + length to.now }
     {
         self.last.child = None;
-        self.nodes.open_root(self.alloc, store)?;
+        self.nodes.enter_root(self.alloc, store, steps)?;
         self.nodes.rename(self.alloc, store, from, to, steps)
     }
 }

@@ -5,6 +5,7 @@ ghost use Rattle.stage_tree.specs.Pools.{Walks, hanging};
 ghost use Rattle.git_objects.specs.Names.{tops};
 ghost use Rattle.git_objects.specs.Paths.{is_path};
 ghost use Rattle.git_objects.specs.Trees.{Flat, under};
+ghost use Rattle.object_store.specs.Objects.{IsStore};
 ghost use Rattle.stage_tree.specs.Branches.{Stands};
 ghost use Rattle.stage_tree.specs.Renames.{IsCleared, IsPaid, IsStop, IsWalkable, IsWayPaid, StaysClear, breadth, is_clear, open_number};
 ghost use Rattle.stage_tree.specs.Stages.{IsOpened, IsRooted, IsStage, IsUnopened, items_of};
@@ -128,6 +129,7 @@ impl Nodes {
         store: &Store,
         steps: &mut Steps<L>,
     ) -> Result<(), AllocError>
+        requires store { IsStore store.now }
         requires stage { IsStage self.old }
         requires held { IsRooted store.now (items_of self.old) }
         ensures ok { OnOk result (IsOpened store.now self.old self.new) }

@@ -1,9 +1,10 @@
-use Rattle.std.proofs.Common.{◌≡◌, false, Ok, Err, ◌⊎◌, inl, inr, IfOk, refl, sym, ap, subst, ◌∙◌}
+use Rattle.std.proofs.Common.{◌≡◌, false, Ok, Err, ◌⊎◌, inl, inr, IfOk, length, refl, sym, ap, subst, ◌∙◌, arith}
 use Rattle.std.proofs.lemmas.Result.{err_from_is_err_and}
 use Rattle.git_objects.specs.Paths.{Path, comparable}
 use Rattle.git_objects.specs.Trees.{Flat, put, remove}
 use Rattle.stage_tree.specs.Edits.{renamed}
-use Rattle.stage_tree.specs.Renames.{IsEditedTo}
+use Rattle.stage_tree.specs.Renames.{IsEditedTo, above_both, entries_of}
+use Rattle.stage_tree.proofs.Paying.{paid_first, paid_second}
 use Rattle.stage_tree.proofs.Walking.{stop_within}
 use Rattle.stage_tree.proofs.OnWay.{still_on}
 use Rattle.stage_tree.proofs.Moving.{both_still, both_stand, both_walk, can_move, can_prune, first_clear, holds_there, left_so, done_so, judged_so, no_source, node_at, same_left, nothing_there, stands_apart, stands_over, stands_there}
@@ -136,3 +137,73 @@ returns-else-not-comparable-clause-edit g c = λ t tree st.
     let moved = c.in_ok-relocate.ensures.ok (can_move S c.requires.store s2 src c.in-Some.number at t tree here n.0 n.1 still.opened tgt b.clear) in
     same_left S s0 c.relocate.new.self (renamed t src tgt) (renamed t c.args.from.now c.args.to.now) (Ok tt) (λ i. renamed t (from_is i) (to_is i))
     (done_so S s0 c.relocate.new.self (renamed t src tgt) (put (remove t src) tgt n.0) (left_so t src tgt n.0 n.1 (c.in_ok-within.ensures at.place t n.0 holds).passed) moved.opened (stands_over S c.requires.store s2 src c.in-Some.number at t tree here n.0 n.1 still.opened tgt b.clear c.relocate.new.self moved (cc)))
+
+pub returns-in_err-open_way-clause-paid : goal.returns-in_err-open_way-clause-paid
+returns-in_err-open_way-clause-paid g c = λ t st.
+    let S = c.args.store.now in let s0 = c.args.self.now in let s1 = c.open_way.new.self in
+    let src = c.components-source.result.now in let tgt = c.components-target.result.now in
+    let from_is : src ≡ c.args.from.now = c.components-source.ensures.components in
+    let to_is : tgt ≡ c.args.to.now = c.components-target.ensures.components in
+    let same : entries_of t (above_both src tgt) ≡ entries_of t (above_both c.args.from.now c.args.to.now) = λ i. entries_of t (above_both (from_is i) (to_is i)) in
+    let long : length tgt ≡ length c.args.to.now = ap length to_is in
+    omega (arith, paid_first S s0 s1 src tgt c.args.steps.now c.open_way.new.steps c.open_way.ensures.paid t st, same, long)
+
+pub returns-in_err-open_way-2-clause-paid : goal.returns-in_err-open_way-2-clause-paid
+returns-in_err-open_way-2-clause-paid g c = λ t st.
+    let S = c.args.store.now in let s0 = c.args.self.now in let s1 = c.open_way.new.self in
+    let src = c.components-source.result.now in let tgt = c.components-target.result.now in
+    let from_is : src ≡ c.args.from.now = c.components-source.ensures.components in
+    let to_is : tgt ≡ c.args.to.now = c.components-target.ensures.components in
+    let same : entries_of t (above_both src tgt) ≡ entries_of t (above_both c.args.from.now c.args.to.now) = λ i. entries_of t (above_both (from_is i) (to_is i)) in
+    let long : length tgt ≡ length c.args.to.now = ap length to_is in
+    omega (arith, paid_second S s0 s1 src tgt c.args.steps.now c.open_way.new.steps c.open_way.ensures.paid t st c.open_way-2.new.steps c.in_ok-open_way.ensures.ok c.open_way-2.ensures.paid, same, long)
+
+pub returns-in_default-clause-paid : goal.returns-in_default-clause-paid
+returns-in_default-clause-paid g c = λ t st.
+    let S = c.args.store.now in let s0 = c.args.self.now in let s1 = c.open_way.new.self in
+    let src = c.components-source.result.now in let tgt = c.components-target.result.now in
+    let from_is : src ≡ c.args.from.now = c.components-source.ensures.components in
+    let to_is : tgt ≡ c.args.to.now = c.components-target.ensures.components in
+    let same : entries_of t (above_both src tgt) ≡ entries_of t (above_both c.args.from.now c.args.to.now) = λ i. entries_of t (above_both (from_is i) (to_is i)) in
+    let long : length tgt ≡ length c.args.to.now = ap length to_is in
+    omega (arith, paid_second S s0 s1 src tgt c.args.steps.now c.open_way.new.steps c.open_way.ensures.paid t st c.open_way-2.new.steps c.in_ok-open_way.ensures.ok c.open_way-2.ensures.paid, same, long)
+
+pub returns-in_err-within-clause-paid : goal.returns-in_err-within-clause-paid
+returns-in_err-within-clause-paid g c = λ t st.
+    let S = c.args.store.now in let s0 = c.args.self.now in let s1 = c.open_way.new.self in
+    let src = c.components-source.result.now in let tgt = c.components-target.result.now in
+    let from_is : src ≡ c.args.from.now = c.components-source.ensures.components in
+    let to_is : tgt ≡ c.args.to.now = c.components-target.ensures.components in
+    let same : entries_of t (above_both src tgt) ≡ entries_of t (above_both c.args.from.now c.args.to.now) = λ i. entries_of t (above_both (from_is i) (to_is i)) in
+    let long : length tgt ≡ length c.args.to.now = ap length to_is in
+    omega (arith, paid_second S s0 s1 src tgt c.args.steps.now c.open_way.new.steps c.open_way.ensures.paid t st c.open_way-2.new.steps c.in_ok-open_way.ensures.ok c.open_way-2.ensures.paid, same, long)
+
+pub returns-in_err-relocate-clause-paid : goal.returns-in_err-relocate-clause-paid
+returns-in_err-relocate-clause-paid g c = λ t st.
+    let S = c.args.store.now in let s0 = c.args.self.now in let s1 = c.open_way.new.self in
+    let src = c.components-source.result.now in let tgt = c.components-target.result.now in
+    let from_is : src ≡ c.args.from.now = c.components-source.ensures.components in
+    let to_is : tgt ≡ c.args.to.now = c.components-target.ensures.components in
+    let same : entries_of t (above_both src tgt) ≡ entries_of t (above_both c.args.from.now c.args.to.now) = λ i. entries_of t (above_both (from_is i) (to_is i)) in
+    let long : length tgt ≡ length c.args.to.now = ap length to_is in
+    omega (arith, paid_second S s0 s1 src tgt c.args.steps.now c.open_way.new.steps c.open_way.ensures.paid t st c.open_way-2.new.steps c.in_ok-open_way.ensures.ok c.open_way-2.ensures.paid, c.relocate.ensures.few, same, long)
+
+pub returns-then-not-comparable-clause-paid : goal.returns-then-not-comparable-clause-paid
+returns-then-not-comparable-clause-paid g c = λ t st.
+    let S = c.args.store.now in let s0 = c.args.self.now in let s1 = c.open_way.new.self in
+    let src = c.components-source.result.now in let tgt = c.components-target.result.now in
+    let from_is : src ≡ c.args.from.now = c.components-source.ensures.components in
+    let to_is : tgt ≡ c.args.to.now = c.components-target.ensures.components in
+    let same : entries_of t (above_both src tgt) ≡ entries_of t (above_both c.args.from.now c.args.to.now) = λ i. entries_of t (above_both (from_is i) (to_is i)) in
+    let long : length tgt ≡ length c.args.to.now = ap length to_is in
+    omega (arith, paid_second S s0 s1 src tgt c.args.steps.now c.open_way.new.steps c.open_way.ensures.paid t st c.open_way-2.new.steps c.in_ok-open_way.ensures.ok c.open_way-2.ensures.paid, c.relocate.ensures.few, same, long)
+
+pub returns-else-not-comparable-clause-paid : goal.returns-else-not-comparable-clause-paid
+returns-else-not-comparable-clause-paid g c = λ t st.
+    let S = c.args.store.now in let s0 = c.args.self.now in let s1 = c.open_way.new.self in
+    let src = c.components-source.result.now in let tgt = c.components-target.result.now in
+    let from_is : src ≡ c.args.from.now = c.components-source.ensures.components in
+    let to_is : tgt ≡ c.args.to.now = c.components-target.ensures.components in
+    let same : entries_of t (above_both src tgt) ≡ entries_of t (above_both c.args.from.now c.args.to.now) = λ i. entries_of t (above_both (from_is i) (to_is i)) in
+    let long : length tgt ≡ length c.args.to.now = ap length to_is in
+    omega (arith, paid_second S s0 s1 src tgt c.args.steps.now c.open_way.new.steps c.open_way.ensures.paid t st c.open_way-2.new.steps c.in_ok-open_way.ensures.ok c.open_way-2.ensures.paid, c.relocate.ensures.few, same, long)
