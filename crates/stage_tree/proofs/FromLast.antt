@@ -84,7 +84,7 @@ module _ (S : List Object) (s : Nodes) (o : IsOpen S s) (q : Path) (k : ℕ) (h 
       link_is = at_link;
       fits = found.fits;
       next = found.next;
-      child_is = f ∙ ap (named_first c) (ap (hanging s) at_link ∙ place_hangs S s o found.frames found.number found.rest found.here.reads_up found.here.reads (found.whole ∙ h.whole));
+      child_is = f ∙ ap (named_first c) (ap (hanging s) at_link ∙ place_hangs S s o.directory found.frames found.number found.rest found.here.reads_up found.here.reads (found.whole ∙ h.whole));
     }
 
 -- ---- a stage with such a node is open

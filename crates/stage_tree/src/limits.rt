@@ -160,7 +160,14 @@ impl Nodes {
         ensures { (h : HasPlace store.now self.now (Some number)) (t : Flat) (n : FlatNode)
             → Holds store.now self.now h t n → IsJudged (within_paths to.now n) result }
     {
-        if !self.put_fits(alloc, store, Measure::Components, number, to, PATH_COMPONENTS)? {
+        if !self.put_fits(
+            alloc,
+            store,
+            Measure::Components,
+            number,
+            to,
+            PATH_COMPONENTS,
+        )? {
             return Err(StageFault::TooDeep);
         }
         if !self.put_fits(alloc, store, Measure::Bytes, number, to, PATH_BYTES + 1)? {

@@ -70,8 +70,8 @@ levels-preserved c = record {
   stays = c.levels.invariant.stays;
   same = λ h.
       let s0 = c.args.self.now in let s = c.levels.self in let p = c.args.components.now in let i = c.levels.invariant in
-    let w = c.walk-way.result in
-    let way = way_now s0 s p i.stays h c.levels.level w.level w.spot.link w.spot.child c.walk-way.ensures in
+      let w = c.walk-way.result in
+      let way = way_now s0 s p i.stays h c.levels.level w.level w.spot.link w.spot.child c.walk-way.ensures in
       directory_goes h.objects s0 s s p c.levels.level i.within (still_now s0 s p i.stays h) (i.same h) w way c.in-Some.child c.in-Some.ensures (cc) (c.levels.level - 1) (omega arith);
 }
 
