@@ -98,12 +98,12 @@ pub record IsOneCopied (s s' : Nodes) (i j : Option ℕ) (k : ℕ) (c : Bytes) (
 -- ---- turns
 
 abbrev pub turns_of : Nodes → Turn → ℕ
-turns_of s (Copy i) = 3 * size (forest s.names.items s.cells.items i) + 1
+turns_of s (Copy i) = 4 * size (forest s.names.items s.cells.items i) + 1
 turns_of s (Copied a) = 0
 
 abbrev pub works_of : Nodes → List Work → ℕ
 works_of s [] = 0
-works_of s (Siblings k ∷ ws) = 3 * size (hanging s (First k)) + 2 + works_of s ws
+works_of s (Siblings k ∷ ws) = 4 * size (hanging s (First k)) + 3 + works_of s ws
 works_of s (Children k a ∷ ws) = 1 + works_of s ws
 
 -- there is a node that waits, or nodes are to be copied

@@ -62,8 +62,10 @@ impl Nodes {
         ensures works { OnErr result (works.new.items ≡ works.old.items) }
     {
         match turn {
-            Turn::Copy(None) => Ok(Turn::Copied(None)),
-            Turn::Copy(Some(number)) => {
+            Turn::Copy(nodes) => {
+                let Some(number) = nodes else {
+                    return Ok(Turn::Copied(None));
+                };
                 works.push(Work::Siblings(number))?;
                 Ok(Turn::Copy(self.target(Link::Next(number))))
             }
@@ -76,9 +78,63 @@ impl Nodes {
                     }
                     Work::Children(number, next) => {
                         let copy = self.copy_one(number, copy, next)?;
-                        let _ = works.pop();
+                        works.truncate(last);
                         Ok(Turn::Copied(Some(copy)))
                     }
+                }
+            }
+        }
+    }
+
+    // Gives back the copies that nodes wait with.
+    fn drop_waiting(&mut self, works: Vec<Work>)
+        requires { (s0 : TheNodes) × (source : Forest) × IsDropping s0 self.old source works.items }
+        ensures { (s0 : TheNodes) (source : Forest) → IsDropping s0 self.old source works.items
+            → IsWaste s0 self.new }
+    {
+        let mut works = works;
+        'works: while let Some(work) = works.pop() {
+            if let Work::Children(_, copies) = work {
+                self.free_all(copies);
+            }
+        }
+    }
+
+    // Gives back all copies.
+    fn drop_copies(&mut self, works: Vec<Work>, turn: Turn)
+        requires { (s0 : TheNodes) × (source : Forest) × IsCopying s0 self.old source works.items turn }
+        ensures { (s0 : TheNodes) (source : Forest) → IsCopying s0 self.old source works.items turn
+            → IsWaste s0 self.new }
+    {
+        if let Turn::Copied(copies) = turn {
+            self.free_all(copies);
+        }
+        self.drop_waiting(works);
+    }
+
+    // Copies the nodes from a number on: each, what is below it, and the siblings behind it. Nothing reaches the copies.
+    pub fn copies(
+        &mut self,
+        alloc: Global,
+        first: Option<usize>,
+    ) -> Result<Option<usize>, AllocError>
+        requires { CanCopy self.old first }
+        ensures ok { IfOk result (λ copy. (h : CanCopy self.old first) → IsCopied self.old self.new first copy h) }
+        ensures err { OnErr result (IsWaste self.old self.new) }
+    {
+        let mut works = Vec::new(alloc);
+        let mut turn = Turn::Copy(first);
+        'turns: loop {
+            if works.is_empty() {
+                if let Turn::Copied(copy) = turn {
+                    return Ok(copy);
+                }
+            }
+            match self.copy_turn(&mut works, turn) {
+                Ok(next) => turn = next,
+                Err(_) => {
+                    self.drop_copies(works, turn);
+                    return Err(AllocError);
                 }
             }
         }
