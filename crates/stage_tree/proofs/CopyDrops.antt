@@ -1,6 +1,7 @@
 -- Copies given back.
 use Rattle.std.proofs.Common.{◌≡◌, ℕ, ◌+◌, ◌<◌, ◌≤◌, ◌==◌, List, [], ◌∷◌, ◌++◌, length, Option, Some, None, refl, sym, ap, subst, ◌∙◌, arith, true, false, true≢false}
 use Rattle.std.specs.Prelude.{slice_get, nat_lt}
+use Rattle.std.proofs.lemmas.Bool.Decides.{nat_tests}
 use Rattle.std.proofs.lemmas.Option.{slice_get_within}
 use Rattle.git_objects.specs.Paths.{Bytes}
 use Rattle.stage_tree.specs.declared.nodes.Node.{Node}
@@ -10,10 +11,12 @@ use Rattle.stage_tree.specs.declared.copies.Work.TheVariants.{Siblings, Children
 use Rattle.stage_tree.specs.declared.copies.Turn.{Turn}
 use Rattle.stage_tree.specs.declared.copies.Turn.TheVariants.{Copy, Copied}
 use Rattle.stage_tree.specs.Forests.{Forest, Nil, Bin, one, count, forest, Reads}
-use Rattle.stage_tree.specs.Pools.{CanFree, IsFreed, IsKept, inside, spare}
+use Rattle.stage_tree.specs.Pools.{CanFree, IsFreed, IsKept, IsSame, inside, spare}
+use Rattle.stage_tree.proofs.Branching.{kept_on}
+use Rattle.stage_tree.proofs.Expanding.{same_inside, same_pool, same_spare}
 use Rattle.stage_tree.specs.Expanding.{IsWaste}
-use Rattle.stage_tree.specs.Copies.{ArePending, CanCopy, IsAlike, IsCopied, IsCopying, IsDropping, IsGrowing, IsStep}
-use Rattle.stage_tree.proofs.Framing.{same_names}
+use Rattle.stage_tree.specs.Copies.{ArePending, CanCopy, IsAlike, IsCopied, IsCopying, IsDropping, IsGrowing, IsNext, IsStep}
+use Rattle.stage_tree.proofs.Framing.{reads_kept, same_names}
 use Rattle.stage_tree.proofs.Pools.{forest_is, inside_one, one_most, walk_is}
 use Rattle.stage_tree.proofs.CopyTurns.{IsLast, pending_last, pending_stays}
 
@@ -52,11 +55,11 @@ grow_as s0 s D E e g = record { pool = g.pool; old_pool = g.old_pool; names = g.
 pub drop_siblings : (s0 s : Nodes) (source : Forest) (ws : List Work) (k : ℕ) → IsDropping s0 s source (ws ++ Siblings k ∷ []) → IsDropping s0 s source ws
 drop_siblings s0 s source ws k h =
     let l = pending_last s ws (Siblings k) source h.now h.waiting h.pending in
-    record { now = l.top; waiting = l.others; pending = l.pending; growing = grow_as s0 s h.waiting l.others (λ m. omega (arith, l.both m, own l.top l.step m)) h.growing }
+    record { now = l.top; waiting = l.others; pending = l.pending; growing = grow_as s0 s h.waiting l.others (λ m. omega (arith, l.both m, own l.top h.now l.own l.step m)) h.growing }
   where
-    own : (F : Forest) {G : Forest} {D : ℕ → ℕ} → IsStep s (Siblings k) F G D → (m : ℕ) → D m ≡ 0
-    own Nil st m = absurd st
-    own (Bin j c x l r) st m = st.2 m
+    own : (F G : Forest) (D : ℕ → ℕ) → IsStep s (Siblings k) F G D → (m : ℕ) → D m ≡ 0
+    own Nil G D st m = absurd st
+    own (Bin j c x l r) G D st m = st.2 m
 
 -- one that isn't Children is Siblings
 pub drop_other : (s0 s : Nodes) (source : Forest) (ws : List Work) (w : Work) → ((k : ℕ) (a : Option ℕ) → w ≡ Children k a → ⊥) → IsDropping s0 s source (ws ++ w ∷ []) → IsDropping s0 s source ws
@@ -141,3 +144,42 @@ copy_ended s t i j h c = record {
   counts = λ m. omega (arith, c.growing.counts m, c.pending.1 m, c.next.3 m);
   stay = c.growing.stay;
 }
+
+-- ---- nothing has changed
+
+pub empty_works : (xs : List Work) (n : ℕ) → n ≡ length xs → true ≡ (n == 0) → xs ≡ []
+empty_works [] n e h = refl
+empty_works (x ∷ xs) n e h = absurd (omega (arith, e, zero_test n h))
+  where
+    zero_test : (n : ℕ) → true ≡ (n == 0) → n ≡ 0
+    zero_test n h = grind (arith, nat_tests)
+
+module _ (s0 s t : Nodes) (source : Forest) (ws : List Work) (turn : Turn) (same : IsSame s t) (h : IsCopying s0 s source ws turn) where
+  kept_cell : (m : ℕ) (v : Node) → slice_get s.cells.items m ≡ Some v → slice_get t.cells.items m ≡ Some v
+  kept_cell m v e = ap (λ (c : List Node). slice_get c m) same.cells ∙ e
+
+  next_same : (turn : Turn) → IsNext s0 s turn h.now h.coming → IsNext s0 t turn h.now h.coming
+  next_same (Copy i) n = n
+  next_same (Copied a) n = (n.0, reads_kept s.names.items t.names.items same.names s.cells.items t.cells.items n.0 a (λ m v g e. kept_cell m v e) n.1, n.2, n.3)
+
+  all_same : IsCopying s0 t source ws turn
+  all_same = record {
+    from = h.from;
+    now = h.now;
+    waiting = h.waiting;
+    coming = h.coming;
+    pending = pending_stays s t same.names ws source h.now h.waiting (λ m v g e. kept_cell m v e) h.pending;
+    next = next_same turn h.next;
+    reads = h.reads;
+    apart = h.apart;
+    growing = record {
+      pool = same_pool s t same h.growing.pool;
+      old_pool = h.growing.old_pool;
+      names = kept_on s0.names.items s.names.items t.names.items h.growing.names same.names;
+      counts = λ m. omega (arith, h.growing.counts m, ap (count m) (same_spare s t same h.growing.pool), same_inside s t same m);
+      stay = λ m v z e. kept_cell m v (h.growing.stay m v z e);
+    };
+  }
+
+pub same_copying : (s0 s t : Nodes) (source : Forest) (ws vs : List Work) (turn : Turn) → IsSame s t → vs ≡ ws → IsCopying s0 s source ws turn → IsCopying s0 t source vs turn
+same_copying s0 s t source ws vs turn same e h = subst (λ (v : List Work). IsCopying s0 t source v turn) (sym e) (all_same s0 s t source ws turn same h)

@@ -106,10 +106,13 @@ impl Nodes {
         ensures { (s0 : TheNodes) (source : Forest) → IsCopying s0 self.old source works.items turn
             → IsWaste s0 self.new }
     {
-        if let Turn::Copied(copies) = turn {
-            self.free_all(copies);
+        match turn {
+            Turn::Copy(_) => self.drop_waiting(works),
+            Turn::Copied(copies) => {
+                self.free_all(copies);
+                self.drop_waiting(works);
+            }
         }
-        self.drop_waiting(works);
     }
 
     // Copies the nodes from a number on: each, what is below it, and the siblings behind it. Nothing reaches the copies.
