@@ -104,7 +104,8 @@ impl Nodes {
         requires held { IsRooted store.now (items_of self.old) }
         requires path { is_path components.now ≡ true }
         requires beside { IfSome beside (IsChildOf self.old (take (length components.now - 1) components.now)) }
-        ensures ok { IfOk result (λ w. IsArrived store.now self.old self.new components.now w.level w.spot.link w.spot.child) }
+        ensures ok { IfOk result (λ w. IsArrived store.now self.old self.new components.now
+            w.level w.spot.link w.spot.child) }
         ensures err { OnErr result (IsUnmoved store.now self.old self.new) }
     {
         if let Some(number) = beside {

@@ -7,6 +7,7 @@ mod fault;
 mod finish;
 mod gather;
 mod last;
+mod laws;
 mod listing;
 mod nodes;
 mod root;
@@ -15,4 +16,5 @@ mod stage;
 mod ways;
 
 pub use fault::StageFault;
+pub use laws::{grown_store_law, one_tree_law};
 pub use stage::Stage;
