@@ -108,7 +108,7 @@ impl Nodes {
     }
 
     // Takes a node out, with all below it.
-    fn cut(&mut self, link: Link, child: usize)
+    pub fn cut(&mut self, link: Link, child: usize)
         requires { CanCut self.old link child }
         ensures { (h : CanCut self.old link child) → IsCut self.old self.new link child h }
     {
