@@ -1,13 +1,10 @@
 -- The way to a path from a node of its directory.
 use Rattle.std.proofs.Common.{◌≡◌, ℕ, ◌+◌, ◌<◌, ◌≤◌, ◌⊎◌, inl, Bool, true, false, cond, ◌==◌, List, [], ◌∷◌, ◌++◌, length, take, get_or, Option, Some, None, refl, sym, ap, subst, ◌∙◌, arith}
 use Rattle.std.specs.Prelude.{slice_get}
-use Rattle.std.specs.Ordering.{is_lt}
 use Rattle.std.specs.declared.cmp.Ordering.TheVariants.{Less}
-use Rattle.std.proofs.lemmas.Option.{slice_get_within}
 use Rattle.git_objects.specs.Paths.{Bytes, Path}
 use Rattle.git_objects.specs.Trees.{Flat, at, remove}
 use Rattle.object_store.specs.Objects.{Object}
-use Rattle.path_trees.specs.declared.found.Found.{Found}
 use Rattle.stage_tree.specs.declared.nodes.Node.{Node}
 use Rattle.stage_tree.specs.declared.nodes.Nodes.{Nodes}
 use Rattle.stage_tree.specs.declared.nodes.Content.{Content}
@@ -19,17 +16,16 @@ use Rattle.stage_tree.specs.Frames.{Frame, Below, Behind, plug, link_of}
 use Rattle.stage_tree.specs.Pools.{Walks, hanging}
 use Rattle.stage_tree.specs.Leaves.{leaf_in, is_held}
 use Rattle.stage_tree.specs.Ways.{IsHere, IsOpen, IsPlaceOf, IsStill, IsWay, kids_of, named_first}
-use Rattle.stage_tree.specs.Items.{Items, items, tree_of}
+use Rattle.stage_tree.specs.Items.{Items, tree_of}
 use Rattle.stage_tree.specs.Stages.{IsStage, IsRooted, IsRootOf, IsOpened, IsUnopened, items_of}
 use Rattle.stage_tree.specs.Sets.{AreSiblings, IsArrived, IsChildOf, IsPlaceBehind, IsUnmoved}
 use Rattle.stage_tree.specs.Branches.{CanCut, IsCut, IsRemoved, Stands, after_named, is_alone, reached}
 use Rattle.stage_tree.specs.declared.ways.Way.{Way}
 use Rattle.stage_tree.proofs.Removing.{nothing_removed, can_cut, cut_removed, cut_whole}
 use Rattle.stage_tree.proofs.ItemTrees.{sound_held, tree_leaf}
-use Rattle.stage_tree.proofs.OnWay.{place_hangs, place_link, place_walk, still_same}
-use Rattle.stage_tree.proofs.Order.{is_less}
+use Rattle.stage_tree.proofs.OnWay.{place_found, place_hangs, place_link, place_walk, still_same}
 use Rattle.stage_tree.proofs.Places.{IsFound, found_here}
-use Rattle.stage_tree.proofs.Rooting.{already_open, held_rooted, open_stage}
+use Rattle.stage_tree.proofs.Rooting.{already_open, held_rooted}
 use Rattle.stage_tree.proofs.Staging.{items_open, stage_of}
 use Rattle.stage_tree.proofs.Turning.{here_in}
 
@@ -76,23 +72,9 @@ module _ (S : List Object) (s : Nodes) (o : IsOpen S s) (q : Path) (k : ℕ) (h 
     at_link : link ≡ link_of 0 found.frames
     at_link = e ∙ ap (sought c (Next k)) behind_hangs ∙ sym found.link
 
-    here_behind : IsPlaceOf S s q c link child
-    here_behind = record {
-      frames = found.frames;
-      number = found.number;
-      rest = found.rest;
-      here = found.here;
-      whole = found.whole ∙ h.whole;
-      path = found.path ∙ h.path;
-      link_is = at_link;
-      fits = found.fits;
-      next = found.next;
-      child_is = f ∙ ap (named_first c) (ap (hanging s) at_link ∙ place_hangs S s o found.frames found.number found.rest found.here.reads_up found.here.reads (found.whole ∙ h.whole));
-    }
-
     pub place_behind : IsPlaceBehind S s q c link child k h
-    unfolding here_behind
-    place_behind = record { place = here_behind; passed = found.passed; siblings = found.siblings; frames_are = found.frames_are }
+    unfolding place_found
+    place_behind = record { place = place_found S s q c link child behind h.siblings o found h.whole h.path at_link f; passed = found.passed; siblings = found.siblings; frames_are = found.frames_are }
 
 -- ---- a stage with such a node is open
 

@@ -8,7 +8,6 @@ use Rattle.git_objects.specs.declared.kind.Kind.TheVariants.{Tree}
 use Rattle.git_objects.specs.declared.mode.Mode.TheVariants.{Dir}
 use Rattle.git_objects.proofs.Maps.{same_flat}
 use Rattle.object_store.specs.Objects.{Object, IsStore, has, has_child}
-use Rattle.object_store.specs.Unfolding.{flat}
 use Rattle.object_store.proofs.Held.{has-above}
 use Rattle.object_store.proofs.Unfolding.{growing_law}
 use Rattle.path_trees.specs.Standing.{node}
@@ -16,7 +15,7 @@ use Rattle.path_trees.specs.declared.found.Found.{Found}
 use Rattle.path_trees.proofs.Grown.{node-above}
 use Rattle.stage_tree.specs.declared.nodes.Content.TheVariants.{Held}
 use Rattle.stage_tree.specs.Items.{Items, tree_of, AreHeld}
-use Rattle.stage_tree.specs.Stages.{Staged, IsRooted, Shows}
+use Rattle.stage_tree.specs.Stages.{Staged, IsRooted}
 use Rattle.stage_tree.specs.Laws.{GrownStoreLaw, OneTreeLaw}
 use Rattle.stage_tree.proofs.Closing.{held-above}
 

@@ -1,4 +1,4 @@
-use Rattle.std.proofs.Common.{◌≡◌, ◌+◌, ◌-◌, ◌<◌, length, take, get_or, sym, ap, arith, ◌∙◌}
+use Rattle.std.proofs.Common.{◌-◌, length, take, get_or, sym, ap, arith, ◌∙◌}
 use Rattle.path_trees.proofs.Lookups.{path_long}
 use Rattle.stage_tree.proofs.FromLast.{absent_removed, can_cut_behind, cut_behind, child_kept}
 use Rattle.stage_tree.proofs.nodes.Nodes.remove_behind.Goals as goal

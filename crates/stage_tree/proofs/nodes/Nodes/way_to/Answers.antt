@@ -1,12 +1,10 @@
-use Rattle.std.proofs.Common.{◌≡◌, ◌+◌, ◌-◌, ◌<◌, length, take, get_or, List, ℕ, Option, Some, IfSome, IfOk, sym, ap, subst, arith, ◌∙◌}
-use Rattle.git_objects.specs.Paths.{Path}
+use Rattle.std.proofs.Common.{◌≡◌, ◌+◌, ◌-◌, length, take, get_or, ℕ, Option, IfSome, sym, ap, subst, arith, ◌∙◌}
 use Rattle.path_trees.proofs.Lookups.{path_long}
 use Rattle.stage_tree.specs.Sets.{IsChildOf, IsUnmoved}
-use Rattle.stage_tree.specs.Stages.{IsOpened}
 use Rattle.stage_tree.specs.Ways.{IsStill}
 use Rattle.stage_tree.proofs.Finishing.{on_ok}
 use Rattle.stage_tree.proofs.Rooting.{already_open, of_err}
-use Rattle.stage_tree.proofs.FromLast.{root_is_open, arrived_beside, arrived_down, unmoved_still, unmoved_unopened}
+use Rattle.stage_tree.proofs.FromLast.{root_is_open, arrived_beside, arrived_down, unmoved_still}
 use Rattle.stage_tree.proofs.nodes.Nodes.way_to.Goals as goal
 
 pub spot_behind-requires-clause-opened : goal.spot_behind-requires-clause-opened

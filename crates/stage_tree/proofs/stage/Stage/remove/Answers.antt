@@ -1,11 +1,11 @@
-use Rattle.std.proofs.Common.{◌≡◌, ◌-◌, ℕ, length, take, Option, Some, None, IfSome, List, refl, sym, ap, subst, ◌∙◌}
+use Rattle.std.proofs.Common.{◌≡◌, ◌-◌, ℕ, length, take, Option, None, IfSome, refl, sym, ap, subst, ◌∙◌}
 use Rattle.git_objects.specs.Paths.{Path}
 use Rattle.git_objects.specs.Trees.{Flat, remove}
 use Rattle.stage_tree.specs.declared.nodes.Nodes.{Nodes}
 use Rattle.stage_tree.specs.Branches.{IsRemoved}
 use Rattle.stage_tree.specs.Sets.{IsChildOf}
 use Rattle.stage_tree.specs.Stages.{IsOpened, Shows, staged}
-use Rattle.stage_tree.specs.Ways.{IsOpen, IsStill}
+use Rattle.stage_tree.specs.Ways.{IsStill}
 use Rattle.stage_tree.proofs.Rooting.{of_ok, of_err}
 use Rattle.stage_tree.proofs.Staging.{shows_removed, shows_still, stage_of}
 use Rattle.stage_tree.proofs.Finishing.{either}
