@@ -1,14 +1,14 @@
 -- As many files as the nodes have leaves.
-use Rattle.std.proofs.Common.{◌≡◌, ℕ, ◌+◌, ◌≤◌, ◌⊎◌, Bool, true, false, cond, not, ◌&&◌, ◌==◌, T, List, [], ◌∷◌, ◌++◌, length, Option, Some, None, refl, sym, ap, subst, ◌∙◌, arith, append-nil}
+use Rattle.std.proofs.Common.{◌≡◌, ℕ, ◌+◌, ◌≤◌, Bool, true, false, cond, ◌==◌, T, List, [], ◌∷◌, ◌++◌, length, Option, Some, None, refl, sym, ap, ◌∙◌, arith, append-nil}
 use Rattle.std.specs.Option.{is_some}
 use Rattle.std.specs.Ordering.{is_lt, is_eq}
 use Rattle.std.specs.declared.cmp.Ordering.{Ordering}
 use Rattle.std.specs.declared.cmp.Ordering.TheVariants.{Less, Equal, Greater}
-use Rattle.std.specs.FinMap.{find, put as put_entry, is_sorted}
+use Rattle.std.specs.FinMap.{find, is_sorted}
 use Rattle.std.specs.FinMap.Entries.{below_all, length-put}
 use Rattle.std.proofs.lemmas.Bool.Decides.{nat_tests}
-use Rattle.git_objects.specs.Paths.{Bytes, Path, same_bytes, same_path, path_cmp}
-use Rattle.git_objects.specs.Trees.{Flat, IsTree, Leaf, Node as FlatNode, LeafNode, TreeNode, at, rests, put_all, put}
+use Rattle.git_objects.specs.Paths.{Bytes, Path, path_cmp}
+use Rattle.git_objects.specs.Trees.{Flat, IsTree, Node as FlatNode, LeafNode, TreeNode, at, rests, put_all}
 use Rattle.git_objects.specs.Bodies.{is_name}
 use Rattle.git_objects.proofs.Basics.{first, second, same_bytes-self}
 use Rattle.git_objects.proofs.Maps.{after, at_rest, first_some, at-put_all, find-at, same_flat, sorted-put_all}
@@ -21,7 +21,6 @@ use Rattle.path_trees.specs.declared.found.Found.{Found}
 use Rattle.stage_tree.specs.declared.nodes.Content.{Content}
 use Rattle.stage_tree.specs.declared.nodes.Content.TheVariants.{Held, Open}
 use Rattle.stage_tree.specs.Forests.{Forest, Nil, Bin, one, count, Sound}
-use Rattle.stage_tree.specs.Directories.{any}
 use Rattle.stage_tree.specs.Frames.{Frame, Below, Behind, plug, count_up}
 use Rattle.stage_tree.specs.Leaves.{leaf_in, is_held}
 use Rattle.stage_tree.specs.Items.{Items, items, items_at, items_behind, tree_of, AreHeld}

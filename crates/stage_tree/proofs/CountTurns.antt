@@ -1,23 +1,18 @@
 -- Files counted node by node.
-use Rattle.std.proofs.Common.{◌≡◌, ℕ, ◌+◌, ◌*◌, ◌<◌, ◌≤◌, Bool, true, false, cond, not, ◌==◌, List, [], ◌∷◌, ◌++◌, length, min, get_or, Option, Some, None, refl, sym, ap, subst, ◌∙◌, arith}
+use Rattle.std.proofs.Common.{◌≡◌, ℕ, ◌+◌, ◌*◌, Bool, true, false, cond, not, ◌==◌, List, [], ◌∷◌, ◌++◌, get_or, Option, Some, None, refl, sym, ap, subst, ◌∙◌, arith}
 use Rattle.std.specs.Prelude.{slice_get, nat_eq}
 use Rattle.std.specs.Option.{option_eq}
 use Rattle.std.proofs.lemmas.Option.{get_or_from_slice_get}
 use Rattle.git_objects.specs.Lists.{Each}
 use Rattle.git_objects.specs.Paths.{Bytes}
-use Rattle.git_objects.specs.Trees.{rests}
 use Rattle.object_store.specs.Objects.{Object}
-use Rattle.object_store.specs.Sizes.{held_number}
-use Rattle.path_trees.specs.Standing.{node}
-use Rattle.path_trees.specs.declared.found.Found.{Found}
 use Rattle.stage_tree.specs.declared.nodes.Node.{Node}
 use Rattle.stage_tree.specs.declared.nodes.Nodes.{Nodes}
 use Rattle.stage_tree.specs.declared.nodes.Content.{Content}
-use Rattle.stage_tree.specs.declared.nodes.Content.TheVariants.{Held, Open}
 use Rattle.stage_tree.specs.declared.nodes.Link.{Link}
 use Rattle.stage_tree.specs.declared.nodes.Link.TheVariants.{First, Next}
-use Rattle.stage_tree.specs.Forests.{Forest, Nil, Bin, size, forest, is_link, node_component, target, Sound}
-use Rattle.stage_tree.specs.Pools.{Walks, hanging}
+use Rattle.stage_tree.specs.Forests.{Forest, Bin, size, forest, node_component, target, Sound}
+use Rattle.stage_tree.specs.Pools.{hanging}
 use Rattle.stage_tree.specs.Leaves.{is_held}
 use Rattle.stage_tree.specs.Counts.{IsCountable, content_files, files_but, is_number}
 use Rattle.stage_tree.proofs.Seeking.{IsPassed, passed, passed_at, inside_link, ended}

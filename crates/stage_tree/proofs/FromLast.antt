@@ -1,13 +1,10 @@
 -- The way to a path from a node of its directory.
-use Rattle.std.proofs.Common.{◌≡◌, ℕ, ◌+◌, ◌<◌, ◌≤◌, ◌⊎◌, inl, Bool, true, List, [], ◌∷◌, ◌++◌, length, take, get_or, Option, Some, None, refl, sym, ap, subst, ◌∙◌, arith}
+use Rattle.std.proofs.Common.{◌≡◌, ℕ, ◌+◌, ◌<◌, ◌≤◌, ◌⊎◌, inl, Bool, true, false, cond, ◌==◌, List, [], ◌∷◌, ◌++◌, length, take, get_or, Option, Some, None, refl, sym, ap, subst, ◌∙◌, arith}
 use Rattle.std.specs.Prelude.{slice_get}
-use Rattle.std.specs.Ordering.{is_lt}
 use Rattle.std.specs.declared.cmp.Ordering.TheVariants.{Less}
-use Rattle.std.proofs.lemmas.Option.{slice_get_within}
 use Rattle.git_objects.specs.Paths.{Bytes, Path}
-use Rattle.git_objects.specs.Trees.{at}
+use Rattle.git_objects.specs.Trees.{Flat, at, remove}
 use Rattle.object_store.specs.Objects.{Object}
-use Rattle.path_trees.specs.declared.found.Found.{Found}
 use Rattle.stage_tree.specs.declared.nodes.Node.{Node}
 use Rattle.stage_tree.specs.declared.nodes.Nodes.{Nodes}
 use Rattle.stage_tree.specs.declared.nodes.Content.{Content}
@@ -19,14 +16,16 @@ use Rattle.stage_tree.specs.Frames.{Frame, Below, Behind, plug, link_of}
 use Rattle.stage_tree.specs.Pools.{Walks, hanging}
 use Rattle.stage_tree.specs.Leaves.{leaf_in, is_held}
 use Rattle.stage_tree.specs.Ways.{IsHere, IsOpen, IsPlaceOf, IsStill, IsWay, kids_of, named_first}
-use Rattle.stage_tree.specs.Items.{Items, items, tree_of}
+use Rattle.stage_tree.specs.Items.{Items, tree_of}
 use Rattle.stage_tree.specs.Stages.{IsStage, IsRooted, IsRootOf, IsOpened, IsUnopened, items_of}
-use Rattle.stage_tree.specs.Sets.{IsArrived, IsChildOf, IsUnmoved}
+use Rattle.stage_tree.specs.Sets.{AreSiblings, IsArrived, IsChildOf, IsPlaceBehind, IsUnmoved}
+use Rattle.stage_tree.specs.Branches.{CanCut, IsCut, IsRemoved, Stands, after_named, is_alone, reached}
+use Rattle.stage_tree.specs.declared.ways.Way.{Way}
+use Rattle.stage_tree.proofs.Removing.{nothing_removed, can_cut, cut_removed, cut_whole}
 use Rattle.stage_tree.proofs.ItemTrees.{sound_held, tree_leaf}
-use Rattle.stage_tree.proofs.OnWay.{place_hangs, place_link, place_walk, still_same}
-use Rattle.stage_tree.proofs.Order.{is_less}
+use Rattle.stage_tree.proofs.OnWay.{place_found, place_hangs, place_link, place_walk, still_same}
 use Rattle.stage_tree.proofs.Places.{IsFound, found_here}
-use Rattle.stage_tree.proofs.Rooting.{already_open, held_rooted, open_stage}
+use Rattle.stage_tree.proofs.Rooting.{already_open, held_rooted}
 use Rattle.stage_tree.proofs.Staging.{items_open, stage_of}
 use Rattle.stage_tree.proofs.Turning.{here_in}
 
@@ -73,19 +72,9 @@ module _ (S : List Object) (s : Nodes) (o : IsOpen S s) (q : Path) (k : ℕ) (h 
     at_link : link ≡ link_of 0 found.frames
     at_link = e ∙ ap (sought c (Next k)) behind_hangs ∙ sym found.link
 
-    pub place_behind : IsPlaceOf S s q c link child
-    place_behind = record {
-      frames = found.frames;
-      number = found.number;
-      rest = found.rest;
-      here = found.here;
-      whole = found.whole ∙ h.whole;
-      path = found.path ∙ h.path;
-      link_is = at_link;
-      fits = found.fits;
-      next = found.next;
-      child_is = f ∙ ap (named_first c) (ap (hanging s) at_link ∙ place_hangs S s o.directory found.frames found.number found.rest found.here.reads_up found.here.reads (found.whole ∙ h.whole));
-    }
+    pub place_behind : IsPlaceBehind S s q c link child k h
+    unfolding place_found
+    place_behind = record { place = place_found S s q c link child behind h.siblings o.directory found h.whole h.path at_link f; passed = found.passed; siblings = found.siblings; frames_are = found.frames_are }
 
 -- ---- a stage with such a node is open
 
@@ -161,3 +150,73 @@ unmoved_unopened S s t h o = record {
   held = subst (IsRooted S) (sym o.items) h;
   leaves = λ y. ap (λ (v : Items). at (tree_of S v) y) o.items;
 }
+
+-- ---- removed from there
+
+one_list : (fs : List Frame) (up : List Frame) (X : Forest) → AreSiblings fs → plug (fs ++ up) X ≡ plug up (plug fs X)
+one_list [] up X h = refl
+one_list (Below k c r ∷ fs) up X h = absurd h
+one_list (Behind k c x l ∷ fs) up X h = one_list fs up (Bin k c x l X) h
+
+next_link : (fs : List Frame) (k : ℕ) (c : Bytes) (x : Content) (l : Forest) (up : List Frame) → AreSiblings fs → (j : ℕ) × (link_of 0 (fs ++ Behind k c x l ∷ up) ≡ Next j)
+next_link [] k c x l up h = (k, refl)
+next_link (Below i d r ∷ fs) k c x l up h = absurd h
+next_link (Behind i d y m ∷ fs) k c x l up h = (i, refl)
+
+module _ (S : List Object) (s : Nodes) (o : IsOpen S s) (p : Path) (n : ℕ) (c : Bytes) (link : Link) (child : Option ℕ) (k : ℕ) (long : n + 1 ≡ length p) (own : c ≡ get_or p n c) (h : IsChildOf s (take n p) k) (g : IsPlaceBehind S s (take n p) c link child k h) where
+  abbrev spot_way : Way
+  spot_way = record { level = n; spot = record { link = link; child = child } }
+
+  pub way_there : IsWay S s s (take (length p) p) n link child
+  way_there = record {
+    still = still_same S s o;
+    component = c;
+    before = take n p;
+    behind = [];
+    path = last_split p n c long own ∙ sym (Rattle.std.proofs.Math.Seq.take-length p);
+    level_is = Rattle.std.proofs.Common.length-take n p ∙ omega (arith, long);
+    place = g.place;
+    ended = inl refl;
+  }
+
+  same_path : (f : Flat) → Stands S s f → (y : Path) → at (remove f (take (length p) p)) y ≡ at (remove f p) y
+  same_path f st y = ap (λ (q : Path). at (remove f q) y) (Rattle.std.proofs.Math.Seq.take-length p)
+
+  reached_is : (o : Option ℕ) → reached (length p) (record { level = n; spot = record { link = link; child = o } }) ≡ o
+  reached_is o = ap (λ b. cond b o None) (self_is (n + 1) (length p) long)
+    where
+      self_is : (a b : ℕ) → a ≡ b → (a == b) ≡ true
+      self_is a b e = grind (arith, Rattle.std.proofs.lemmas.Bool.Decides.nat_tests)
+
+  pub absent_removed : child ≡ None → IsRemoved S s s p
+  absent_removed e = nothing_removed S s s s p (length p) (omega arith) (still_same S s o) same_path spot_way way_there (sym (reached_is child ∙ e))
+
+  module _ (i : ℕ) (e : child ≡ Some i) where
+    found_child : Some i ≡ reached (length p) spot_way
+    found_child = sym (reached_is child ∙ e)
+
+    not_alone : is_alone s.cells.items link i ≡ false
+    not_alone =
+        let r = next_link g.passed k h.component h.content h.children h.frames g.siblings in
+        ap (λ (l : Link). is_alone s.cells.items l i) (g.place.link_is ∙ ap (link_of 0) g.frames_are ∙ r.1)
+
+    pub can_cut_behind : CanCut s link i
+    can_cut_behind = can_cut S s s s p (length p) (omega arith) (still_same S s o) same_path spot_way way_there i found_child not_alone
+
+    pub cut_behind : (v : Nodes) → ((h : CanCut s link i) → IsCut s v link i h) → IsRemoved S s v p
+    cut_behind v made = cut_removed S s s s p (length p) (omega arith) (still_same S s o) same_path spot_way way_there i found_child v not_alone made
+
+    pub child_kept : (v : Nodes) → ((h : CanCut s link i) → IsCut s v link i h) → IsChildOf v (take n p) k
+    unfolding way_there
+    child_kept v made =
+        let Y = after_named c g.place.rest in
+        let w : kids_of v ≡ plug g.place.frames Y = cut_whole S s s s p (length p) (omega arith) (still_same S s o) same_path spot_way way_there i found_child v not_alone made in
+        record {
+          frames = h.frames;
+          component = h.component;
+          content = h.content;
+          children = h.children;
+          siblings = plug g.passed Y;
+          whole = sym (w ∙ ap (λ (f : List Frame). plug f Y) g.frames_are ∙ one_list g.passed (Behind k h.component h.content h.children ∷ h.frames) Y g.siblings);
+          path = h.path;
+        }

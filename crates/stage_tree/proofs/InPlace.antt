@@ -1,7 +1,7 @@
 -- What a leaf or a stored directory is set to another one, under its number.
 use Rattle.std.proofs.Common.{◌≡◌, ℕ, ◌+◌, ◌<◌, ◌≤◌, ◌≢◌, Bool, true, false, cond, ◌==◌, List, [], ◌∷◌, ◌++◌, length, Option, Some, None, refl, sym, ap, subst, ◌∙◌, arith}
 use Rattle.std.specs.Prelude.{slice_get, slice_set, nat_lt}
-use Rattle.git_objects.specs.Paths.{Bytes, Path, same_bytes}
+use Rattle.git_objects.specs.Paths.{Bytes, Path}
 use Rattle.git_objects.proofs.Basics.{same_bytes-self}
 use Rattle.object_store.specs.Objects.{Object}
 use Rattle.path_trees.specs.declared.found.Found.{Found}
@@ -9,7 +9,6 @@ use Rattle.stage_tree.specs.declared.nodes.Node.{Node}
 use Rattle.stage_tree.specs.declared.nodes.Nodes.{Nodes}
 use Rattle.stage_tree.specs.declared.nodes.Content.{Content}
 use Rattle.stage_tree.specs.declared.nodes.Content.TheVariants.{Held}
-use Rattle.stage_tree.specs.declared.nodes.Link.{Link}
 use Rattle.stage_tree.specs.declared.ways.Way.{Way}
 use Rattle.stage_tree.specs.Forests.{Forest, Nil, Bin, one, count, IsCell, IsFilled, Reads, Sound}
 use Rattle.stage_tree.specs.Frames.{Frame, plug, count_up, ReadsUp}

@@ -1,20 +1,16 @@
 -- How many files there are without the node at a place.
-use Rattle.std.proofs.Common.{◌≡◌, ℕ, ◌+◌, ◌≤◌, Bool, true, false, cond, not, ◌==◌, List, [], ◌∷◌, ◌++◌, length, Option, Some, None, refl, sym, ap, subst, ◌∙◌, arith}
-use Rattle.std.specs.Prelude.{slice_get, nat_lt}
+use Rattle.std.proofs.Common.{◌≡◌, ℕ, ◌+◌, Bool, true, false, cond, not, ◌==◌, List, length, Option, Some, None, refl, sym, ap, ◌∙◌, arith}
+use Rattle.std.specs.Prelude.{nat_lt}
 use Rattle.git_objects.specs.Paths.{Bytes, Path, same_bytes}
-use Rattle.git_objects.specs.Trees.{rests}
 use Rattle.git_objects.specs.Entries.{is_dir}
 use Rattle.git_objects.proofs.Basics.{same_bytes-self}
 use Rattle.object_store.specs.Objects.{Object}
-use Rattle.path_trees.specs.Standing.{node}
-use Rattle.stage_tree.specs.declared.nodes.Node.{Node}
 use Rattle.stage_tree.specs.declared.nodes.Nodes.{Nodes}
 use Rattle.stage_tree.specs.declared.nodes.Content.{Content}
 use Rattle.stage_tree.specs.declared.nodes.Content.TheVariants.{Held, Open}
 use Rattle.stage_tree.specs.declared.nodes.Link.{Link}
-use Rattle.stage_tree.specs.Forests.{Forest, Nil, Bin, one, count}
-use Rattle.stage_tree.specs.Frames.{Frame, plug, count_up}
-use Rattle.stage_tree.specs.Pools.{inside, spare}
+use Rattle.stage_tree.specs.Forests.{Forest, Nil, Bin, count}
+use Rattle.stage_tree.specs.Frames.{count_up}
 use Rattle.stage_tree.specs.Ways.{HasPlace, IsOpen, IsPlaceOf, kids_of, named_first}
 use Rattle.stage_tree.specs.Branches.{after_named}
 use Rattle.stage_tree.specs.Counts.{content_files, files, files_but}

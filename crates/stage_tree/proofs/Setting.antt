@@ -2,7 +2,7 @@
 use Rattle.std.proofs.Common.{◌≡◌, ℕ, suc, ◌+◌, ◌<◌, ◌≤◌, ◌⊎◌, inl, inr, Bool, true, false, cond, not, T, List, [], ◌∷◌, ◌++◌, length, Result, Ok, Err, Option, Some, None, IfSome, refl, sym, ap, subst, ◌∙◌, arith}
 use Rattle.std.specs.Prelude.{nat_le, IsOkAnd, if◌then◌else◌}
 use Rattle.std.specs.List.{list_all}
-use Rattle.std.specs.Cmp.{first_so, second_so}
+use Rattle.std.specs.Cmp.{second_so}
 use Rattle.git_objects.specs.declared.limits.TheConstants.{TREE_FILES}
 use Rattle.git_objects.specs.Paths.{Bytes, Path, is_component, is_nil, is_path}
 use Rattle.git_objects.specs.Trees.{Flat, IsTree, at, put, rests}
@@ -22,14 +22,14 @@ use Rattle.stage_tree.specs.Forests.{Forest, Bin, Sound}
 use Rattle.stage_tree.specs.Frames.{plug, path_of}
 use Rattle.stage_tree.specs.Leaves.{leaf_in, is_held}
 use Rattle.stage_tree.specs.Expanding.{IsWaste}
-use Rattle.stage_tree.specs.Ways.{HasPlace, IsOpen, IsWay, kids_of}
+use Rattle.stage_tree.specs.Ways.{IsOpen, IsWay, kids_of}
 use Rattle.stage_tree.specs.Branches.{Stands, after_named, stem, stem_content}
 use Rattle.stage_tree.specs.Counts.{IsRoom, content_files, files, files_but}
-use Rattle.stage_tree.specs.Edits.{IsEdited, few_files, set_in}
-use Rattle.stage_tree.specs.Items.{Items, tree_of}
+use Rattle.stage_tree.specs.Edits.{IsEdited, set_in}
+use Rattle.stage_tree.specs.Items.{tree_of}
 use Rattle.stage_tree.specs.Sets.{IsArrived, IsChildOf, IsPutAt, IsUnmoved}
-use Rattle.stage_tree.specs.Stages.{Staged, IsRooted, Shows, items_of, staged}
-use Rattle.stage_tree.proofs.CountLeaves.{length_files, files_up, files_plug}
+use Rattle.stage_tree.specs.Stages.{Staged, Shows, staged}
+use Rattle.stage_tree.proofs.CountLeaves.{length_files, files_plug}
 use Rattle.stage_tree.proofs.Fewer.{one_leaf}
 use Rattle.stage_tree.proofs.FromLast.{unmoved_open}
 use Rattle.stage_tree.proofs.OnWay.{waste_still}

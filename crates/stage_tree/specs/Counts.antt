@@ -1,5 +1,5 @@
 -- How many files nodes stand for.
-use Rattle.std.specs.Prelude.{◌≡◌, ℕ, ◌+◌, ◌≤◌, ◌<◌, Bool, true, false, cond, ◌==◌, length, List, Option, Some, None}
+use Rattle.std.specs.Prelude.{◌≡◌, ℕ, ◌+◌, ◌≤◌, Bool, true, false, cond, ◌==◌, length, List, Option, Some, None}
 use Rattle.git_objects.specs.declared.limits.TheConstants.{TREE_FILES}
 use Rattle.git_objects.specs.Trees.{rests}
 use Rattle.object_store.specs.Objects.{Object}

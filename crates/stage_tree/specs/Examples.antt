@@ -50,9 +50,9 @@ unfolding put
 file_set = refl
 
 -- a directory is moved below itself
-pub moved_below : renamed two (a ∷ []) (a ∷ b ∷ []) ≡ Ok ((a ∷ b ∷ b ∷ [], leaf) ∷ (c ∷ [], other) ∷ [])
+pub moved_into_itself : renamed two (a ∷ []) (a ∷ b ∷ []) ≡ Ok ((a ∷ b ∷ b ∷ [], leaf) ∷ (c ∷ [], other) ∷ [])
 unfolding put remove
-moved_below = refl
+moved_into_itself = refl
 
 -- a file is moved into the place of what stood above it
 pub moved_above : renamed two (a ∷ b ∷ []) (a ∷ []) ≡ Ok ((a ∷ [], leaf) ∷ (c ∷ [], other) ∷ [])

@@ -1,5 +1,5 @@
 -- A leaf put at a path, seen node by node.
-use Rattle.std.specs.Prelude.{◌≡◌, ℕ, Bool, false, not, List, ◌∷◌, ◌++◌, length, slice_get, Option, Some, None, IfSome}
+use Rattle.std.specs.Prelude.{◌≡◌, ℕ, Bool, false, not, List, [], ◌∷◌, ◌++◌, length, slice_get, Option, Some, None, IfSome}
 use Rattle.git_objects.specs.Paths.{Bytes, Path}
 use Rattle.git_objects.specs.Trees.{at}
 use Rattle.git_objects.specs.Entries.{is_dir}
@@ -12,9 +12,9 @@ use Rattle.stage_tree.specs.declared.nodes.Content.TheVariants.{Held, Open}
 use Rattle.stage_tree.specs.declared.nodes.Link.{Link}
 use Rattle.stage_tree.specs.declared.last.Last.{Last}
 use Rattle.stage_tree.specs.Forests.{Forest, Bin}
-use Rattle.stage_tree.specs.Frames.{Frame, plug, path_of}
+use Rattle.stage_tree.specs.Frames.{Frame, Below, Behind, plug, path_of}
 use Rattle.stage_tree.specs.Leaves.{leaf_in}
-use Rattle.stage_tree.specs.Ways.{IsOpen, IsWay, kids_of}
+use Rattle.stage_tree.specs.Ways.{IsOpen, IsPlaceOf, IsWay, kids_of}
 use Rattle.stage_tree.specs.Branches.{stem, stem_content, after_named}
 use Rattle.stage_tree.specs.Items.{tree_of}
 use Rattle.stage_tree.specs.Stages.{IsStage, IsRooted, items_of}
@@ -48,6 +48,19 @@ pub record IsChildOf (s : Nodes) (q : Path) (k : ℕ) : Type 0 where
   pub siblings : Forest
   pub whole : plug frames (Bin k component content children siblings) ≡ kids_of s
   pub path : path_of frames ≡ q
+
+-- no directory was entered
+abbrev pub AreSiblings : List Frame → Type 0
+AreSiblings [] = Unit
+AreSiblings (Below k c r ∷ fs) = ⊥
+AreSiblings (Behind k c x l ∷ fs) = AreSiblings fs
+
+-- a place behind a node of its directory
+pub record IsPlaceBehind (S : List Object) (s : Nodes) (q : Path) (c : Bytes) (link : Link) (child : Option ℕ) (k : ℕ) (h : IsChildOf s q k) : Type 0 where
+  pub place : IsPlaceOf S s q c link child
+  pub passed : List Frame
+  pub siblings : AreSiblings passed
+  pub frames_are : place.frames ≡ passed ++ Behind k h.component h.content h.children ∷ h.frames
 
 -- the nodes stand for what the stage stood for, and this is the way to the path
 pub record IsArrived (S : List Object) (s s' : Nodes) (p : Path) (level : ℕ) (link : Link) (child : Option ℕ) : Type 0 where

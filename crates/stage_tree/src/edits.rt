@@ -1,6 +1,7 @@
 // Edits at a path.
 ghost use Rattle.std.specs.Prelude.{◌≡◌, ◌<◌, true, drop, length, IfOk, OnErr, OnOk};
-ghost use Rattle.stage_tree.specs.Branches.{CanCut, HasSpot, IsBranch, IsCut, IsPut, IsRemoved, IsReplaced, is_alone, reached};
+ghost use Rattle.stage_tree.specs.Branches.{CanCut, HasSpot, IsBranch, IsCut, IsPut, IsRemoved, IsReplaced};
+ghost use Rattle.stage_tree.specs.Branches.{is_alone, reached};
 ghost use Rattle.stage_tree.specs.Expanding.{IsWaste};
 ghost use Rattle.stage_tree.specs.Leaves.{is_held};
 ghost use Rattle.stage_tree.specs.Pools.{IsPool};

@@ -9,7 +9,8 @@ ghost use Rattle.object_store.specs.Unfolding.{StandsFor};
 ghost use Rattle.stage_tree.specs.Branches.{Stands};
 ghost use Rattle.path_trees.specs.Levels.{IsRefused, IsTaken};
 ghost use Rattle.path_trees.specs.declared.found.TreeFault.TheVariants.{OutOfMemory};
-ghost use Rattle.stage_tree.specs.Closing.{HasTips, IsDeepest, IsStoredAt, IsStoring, IsStoringFault, IsTurn, IsTurned, children_body, gathered};
+ghost use Rattle.stage_tree.specs.Closing.{HasTips, IsDeepest, IsStoredAt, IsStoring, IsStoringFault, IsTurn};
+ghost use Rattle.stage_tree.specs.Closing.{IsTurned, children_body, gathered};
 ghost use Rattle.stage_tree.specs.Directories.{any};
 ghost use Rattle.stage_tree.specs.Forests.{node_component};
 ghost use Rattle.stage_tree.specs.Leaves.{is_held};
@@ -131,7 +132,8 @@ impl Nodes {
     pub fn finish(&mut self, alloc: Global, store: &mut Store) -> Result<Name, TreeFault>
         requires store { IsStore store.old }
         requires opened { IsOpen store.old self.old }
-        ensures ok { IfOk result (λ n. (t : Flat) → IsTree t → Stands store.old self.old t → StandsFor store.new n.0 t) }
+        ensures ok { IfOk result (λ n. (t : Flat) → IsTree t → Stands store.old self.old t
+            → StandsFor store.new n.0 t) }
         ensures err { IfErr result (IsStoringFault store.old store.new self.old) }
         ensures storing { IsStoring store.old store.new self.old self.new }
     {

@@ -8,6 +8,7 @@ mod fault;
 mod finish;
 mod gather;
 mod last;
+mod laws;
 mod limits;
 mod listing;
 mod nodes;
@@ -19,4 +20,5 @@ mod walks;
 mod ways;
 
 pub use fault::StageFault;
+pub use laws::{grown_store_law, one_tree_law};
 pub use stage::Stage;

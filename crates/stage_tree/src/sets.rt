@@ -65,7 +65,8 @@ impl Nodes {
         components: &[Component],
         found: Found,
     ) -> Result<usize, AllocError>
-        requires way { (S : List Object) × IsWay S self.old self.old components.now way.level way.spot.link way.spot.child
+        requires way { (S : List Object)
+            × IsWay S self.old self.old components.now way.level way.spot.link way.spot.child
             × (is_held S (Content.Held found) ≡ true) }
         requires components { list_all is_component components.now ≡ true }
         ensures ok { IfOk result (λ k. (S : List Object)

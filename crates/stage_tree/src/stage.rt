@@ -120,7 +120,13 @@ impl Stage {
             → Shows store.now self.new (remove t path.now)) }
         ensures err { OnErr result ((t : Flat) → Shows store.now self.old t → Shows store.now self.new t) }
     {
-        self.last.child = None;
+        let components = path.components();
+        if let Some(number) = self.last.taken(components) {
+            if self.nodes.remove_behind(number, components) {
+                self.last.child = Some(number);
+                return Ok(());
+            }
+        }
         self.nodes.open_root(self.alloc, store)?;
         self.nodes.remove(self.alloc, store, path)
     }

@@ -1,14 +1,10 @@
-use Rattle.std.proofs.Common.{List, ℕ, ◌≡◌, ◌+◌, ◌++◌, ◌∷◌, [], true, false, sym, ap, subst, ◌∙◌, arith}
+use Rattle.std.proofs.Common.{true, false, sym, ap, subst, ◌∙◌, arith}
 use Rattle.std.specs.Vec.{vec_len}
-use Rattle.stage_tree.specs.declared.nodes.Node.{Node}
 use Rattle.stage_tree.specs.declared.nodes.Content.TheVariants.{Held, Open}
-use Rattle.stage_tree.specs.declared.nodes.Link.TheVariants.{First, Next}
-use Rattle.stage_tree.specs.Forests.{size}
 use Rattle.stage_tree.specs.Leaves.{is_held}
-use Rattle.stage_tree.specs.Counts.{is_number}
 use Rattle.stage_tree.proofs.Seeking.{passed_at}
 use Rattle.stage_tree.proofs.Finishing.{none_popped}
-use Rattle.stage_tree.proofs.CountTurns.{AreCountable, due, turns, due_more, turns_more, all_more, all_less, count_held, count_next, count_below, files_skipped, files_taken, size_here, next_at, skipped_at, size_at, files_end, number_eq}
+use Rattle.stage_tree.proofs.CountTurns.{AreCountable, due, turns, due_more, turns_more, all_more, all_less, count_held, count_next, count_below, files_taken, size_here, next_at, skipped_at, size_at, files_end, number_eq}
 use Rattle.stage_tree.proofs.nodes.Nodes.files.Goals as goal
 
 pub nodes-init : goal.nodes-init

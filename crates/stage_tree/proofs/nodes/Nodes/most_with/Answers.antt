@@ -1,4 +1,4 @@
-use Rattle.std.proofs.Common.{◌≤◌, arith}
+use Rattle.std.proofs.Common.{arith}
 use Rattle.stage_tree.specs.Ways.{kids_of}
 use Rattle.stage_tree.proofs.CountLeaves.{but_few}
 use Rattle.stage_tree.proofs.nodes.Nodes.most_with.Goals as goal

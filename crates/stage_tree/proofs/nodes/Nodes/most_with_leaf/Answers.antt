@@ -1,7 +1,4 @@
-use Rattle.std.proofs.Common.{◌≡◌, ◌⊎◌, inl, inr, ℕ, ◌+◌, ◌<◌, ◌≤◌, None, sym, refl, subst, arith, ◌∙◌}
-use Rattle.git_objects.specs.declared.limits.TheConstants.{TREE_FILES}
-use Rattle.stage_tree.specs.Ways.{kids_of}
-use Rattle.stage_tree.specs.Counts.{IsRoom, files, files_but}
+use Rattle.std.proofs.Common.{inl, inr, sym, refl, arith}
 use Rattle.stage_tree.proofs.Finishing.{on_ok, on_err}
 use Rattle.stage_tree.proofs.Room.{leaf_child}
 use Rattle.stage_tree.proofs.nodes.Nodes.most_with_leaf.Goals as goal

@@ -1,13 +1,10 @@
-use Rattle.std.proofs.Common.{◌≡◌, ◌+◌, ◌-◌, ◌⊎◌, inl, ℕ, length, take, IfSome, Some, None, Option, List, Result, Ok, Err, refl, sym, ap, subst, ◌∙◌, arith}
+use Rattle.std.proofs.Common.{◌≡◌, ℕ, IfSome, Option, Ok, Err, sym, ap, subst, ◌∙◌, arith}
 use Rattle.std.proofs.lemmas.Result.{err_from_is_err_and}
 use Rattle.git_objects.specs.Paths.{Path, is_path}
-use Rattle.git_objects.specs.Trees.{Flat}
-use Rattle.path_trees.specs.declared.found.Found.{Found}
 use Rattle.path_trees.specs.Standing.{node}
-use Rattle.stage_tree.specs.declared.fault.StageFault.{StageFault}
 use Rattle.stage_tree.specs.Edits.{IsEdited, set_in}
 use Rattle.stage_tree.specs.Sets.{IsChildOf}
-use Rattle.stage_tree.specs.Stages.{Staged, staged}
+use Rattle.stage_tree.specs.Stages.{staged}
 use Rattle.stage_tree.proofs.Setting.{arrived_unmoved, wasted_unmoved, arrived_most, set_done, set_refused, memory_refused, child_set, remembered}
 use Rattle.stage_tree.proofs.stage.Stage.set.Goals as goal
 
