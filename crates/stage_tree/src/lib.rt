@@ -1,0 +1,24 @@
+//! A tree that is edited: its directories and leaves are nodes of one vector, linked by their numbers.
+#![tactic(auto)]
+
+mod count;
+mod copies;
+mod edits;
+mod fault;
+mod finish;
+mod gather;
+mod last;
+mod laws;
+mod limits;
+mod listing;
+mod nodes;
+mod renames;
+mod root;
+mod sets;
+mod stage;
+mod walks;
+mod ways;
+
+pub use fault::StageFault;
+pub use laws::{grown_store_law, one_tree_law};
+pub use stage::Stage;

@@ -1,0 +1,163 @@
+// The tree that one commit's changes edit.
+ghost use Rattle.std.specs.Prelude.{◌≡◌, true, [], List, IfOk, OnErr, OnOk};
+ghost use Rattle.git_objects.specs.Trees.{Flat, remove};
+ghost use Rattle.git_objects.specs.declared.kind.Kind.TheVariants.{Tree};
+ghost use Rattle.object_store.specs.Objects.{IsStore, Object, has, has_child};
+ghost use Rattle.object_store.specs.Unfolding.{flat};
+ghost use Rattle.path_trees.specs.Standing.{node};
+ghost use Rattle.path_trees.specs.declared.found.Found.{Found};
+ghost use Rattle.stage_tree.specs.Edits.{IsEdited, set_in};
+ghost use Rattle.stage_tree.specs.Finished.{IsFinished};
+ghost use Rattle.stage_tree.specs.Stages.{Shows};
+
+use crate::StageFault;
+use crate::last::Last;
+use crate::nodes::{Content, Node, Nodes};
+use git_objects::{Mode, Name};
+use object_store::Store;
+use path_names::Path;
+use path_trees::{Found, Leaf, TreeFault};
+use std::alloc::{AllocError, Global};
+use std::marker::Model;
+
+/// A tree being edited. Its directories are nodes of one vector once a path has gone through them, and names of stored
+/// trees until then.
+#[derive(Drop)]
+pub struct Stage {
+    pub(crate) alloc: Global,
+    pub(crate) nodes: Nodes,
+    // No more files than these are shown; 4,294,967,295 stands for any number.
+    most: u32,
+    pub(crate) last: Last,
+}
+
+impl Model for Stage {
+    ghost use Rattle.stage_tree.specs.Sets.{IsMarked};
+    ghost use Rattle.stage_tree.specs.Stages.{Staged, staged};
+
+    ghost Value = { Staged };
+
+    ghost view = { λ s. staged s.nodes s.most };
+
+    ghost invariant = { λ s. IsMarked s.nodes s.last };
+}
+
+impl Stage {
+    /// A stage that stands for a stored tree, which isn't read.
+    pub fn begin(alloc: Global, store: &Store, root: Name) -> Result<Stage, AllocError>
+        requires { has Tree store.now root.0 ≡ true }
+        ensures shows { IfOk result (λ s. Shows store.now s (flat store.now root.0)) }
+        ensures nodes { IfOk result (λ s. s.nodes ≡ 1) }
+    {
+        let most = match store.stats(&root) {
+            None => unreachable!(),
+            Some(stats) => stats.files,
+        };
+        // Every answer rests on what the store keeps.
+        let _ = store.get(&root);
+        let mut cells = Vec::new(alloc);
+        let found = Found {
+            mode: Mode::Dir,
+            name: root,
+        };
+        cells.push(Node {
+            at: 0,
+            len: 0,
+            content: Content::Held(found),
+            first: None,
+            next: None,
+        })?;
+        let nodes = Nodes {
+            cells,
+            names: Vec::new(alloc),
+            free: None,
+        };
+        Ok(Stage {
+            alloc,
+            nodes,
+            most,
+            last: Last {
+                directory: Vec::new(alloc),
+                child: None,
+            },
+        })
+    }
+
+    /// Puts a leaf at a path, where every path that is comparable with it goes. Paths of one directory that come in the
+    /// order of their bytes cost little each.
+    pub fn set(&mut self, store: &Store, path: &Path, leaf: Leaf) -> Result<(), StageFault>
+        requires leaf { has_child store.now leaf.mode leaf.name.0 ≡ true }
+        requires shows { (t : Flat) × Shows store.now self.old t }
+        ensures { (t : Flat) → Shows store.now self.old t → IsEdited store.now self.new t
+            (set_in t path.now (node store.now (record { mode = leaf.mode; name = leaf.name }))) result }
+    {
+        // The name is looked at so that the proof has that it has 20 bytes.
+        let _ = leaf.name.bytes();
+        let found = Found {
+            mode: leaf.mode,
+            name: leaf.name,
+        };
+        let components = path.components();
+        let beside = self.last.taken(components);
+        let way = self.nodes.way_to(self.alloc, store, beside, components)?;
+        let child = way.spot.child;
+        let most = self
+            .nodes
+            .most_with_leaf(self.alloc, store, child, self.most)?;
+        let number = self.nodes.put_on(way, components, found)?;
+        self.most = most;
+        if way.level + 1 == components.len() {
+            self.last
+                .remember(self.alloc, &components[..way.level], number);
+        }
+        Ok(())
+    }
+
+    /// Removes a path and all below it. Nothing there is no fault.
+    pub fn remove(&mut self, store: &Store, path: &Path) -> Result<(), AllocError>
+        requires { (t : Flat) × Shows store.now self.old t }
+        ensures ok { OnOk result ((t : Flat) → Shows store.now self.old t
+            → Shows store.now self.new (remove t path.now)) }
+        ensures err { OnErr result ((t : Flat) → Shows store.now self.old t → Shows store.now self.new t) }
+    {
+        let components = path.components();
+        if let Some(number) = self.last.taken(components) {
+            if self.nodes.remove_behind(number, components) {
+                self.last.child = Some(number);
+                return Ok(());
+            }
+        }
+        self.nodes.open_root(self.alloc, store)?;
+        self.nodes.remove(self.alloc, store, path)
+    }
+
+    /// Removes all paths. Needs no memory.
+    pub fn clear(&mut self)
+        ensures { (S : List Object) → IsStore S → Shows S self.new [] }
+    {
+        self.nodes.clear();
+        self.most = 0;
+        self.last.child = None;
+    }
+
+    /// Stores the tree that is shown, and gives its name. A directory that no path has gone through keeps its name
+    /// and isn't read. At an error some directories may have been stored.
+    pub fn finish(&mut self, store: &mut Store) -> Result<Name, TreeFault>
+        requires { (t : Flat) × Shows store.old self.old t }
+        ensures { (t : Flat) → Shows store.old self.old t
+            → IsFinished store.old store.new self.new t result }
+    {
+        self.last.child = None;
+        match self.nodes.cells[0].content {
+            Content::Held(found) => Ok(found.name),
+            Content::Open => self.nodes.finish(self.alloc, store),
+        }
+    }
+
+    /// How many nodes there are. Needs no memory.
+    pub fn nodes(&self) -> usize
+        ensures { result ≡ self.now.nodes }
+    {
+        self.nodes.reachable()
+    }
+}
