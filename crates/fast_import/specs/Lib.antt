@@ -12,3 +12,5 @@ pub mod Readers
 pub mod Spelling
 pub mod Laws
 pub mod Rows
+pub mod Replays
+pub mod Examples
