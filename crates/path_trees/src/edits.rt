@@ -170,7 +170,7 @@ fn body_at(
     }
 }
 
-// Takes in the tree of a body whose children are there.
+/// Takes in the tree of a body whose children are there, and gives its name. One that is held already changes nothing.
 pub fn taken_in(store: &mut Store, body: &[u8]) -> Result<Name, TreeFault>
     requires { of_body store.old Tree body.now None ≡ None }
     ensures ok { IfOk result (λ n. (n.0 ≡ name Tree body.now) × IsTaken store.old body.now store.new) }

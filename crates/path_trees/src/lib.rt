@@ -12,7 +12,7 @@ mod pairs;
 mod rebuild;
 mod walk;
 
-pub use edits::{put_at, remove_at};
+pub use edits::{put_at, remove_at, taken_in};
 pub use found::{Found, Leaf, TreeFault};
 pub use join::{JoinFault, join_disjoint};
 pub use laws::together_law;

@@ -1,0 +1,54 @@
+// The root of a stage.
+ghost use Rattle.std.specs.Prelude.{◌≡◌, ◌+◌, [], OnErr, OnOk};
+ghost use Rattle.stage_tree.specs.Forests.{size};
+ghost use Rattle.stage_tree.specs.Ways.{kids_of};
+ghost use Rattle.stage_tree.specs.Stages.{IsOpened, IsRooted, IsStage, IsUnopened, items_of};
+
+use crate::nodes::{Content, Link, Node, Nodes};
+use object_store::Store;
+use std::alloc::{AllocError, Global};
+
+impl Nodes {
+    // Makes nodes of the root's entries, where they aren't yet.
+    pub fn open_root(&mut self, alloc: Global, store: &Store) -> Result<(), AllocError>
+        requires stage { IsStage self.old }
+        requires held { IsRooted store.now (items_of self.old) }
+        ensures ok { OnOk result (IsOpened store.now self.old self.new) }
+        ensures err { OnErr result (IsUnopened self.old self.new) }
+    {
+        match self.cells[0].content {
+            Content::Open => Ok(()),
+            Content::Held(found) => self.expand(alloc, store, 0, &found.name),
+        }
+    }
+
+    // How many nodes the walk from the root reaches: all but the free ones.
+    pub fn reachable(&self) -> usize
+        requires { IsStage self.now }
+        ensures { result ≡ size (kids_of self.now) + 1 }
+    {
+        let mut count = self.cells.len();
+        let mut top = self.free;
+        'free: while let Some(number) = top {
+            count -= 1;
+            top = self.target(Link::Next(number));
+        }
+        count
+    }
+
+    // Leaves nothing but an empty root.
+    pub fn clear(&mut self)
+        requires { IsStage self.old }
+        ensures stage { IsStage self.new }
+        ensures items { items_of self.new ≡ [] }
+    {
+        let root = self.cells[0];
+        let empty = Node {
+            content: Content::Open,
+            first: None,
+            ..root
+        };
+        self.set(0, empty);
+        self.free_all(root.first);
+    }
+}
