@@ -1,15 +1,18 @@
 // Ref names.
-ghost use Rattle.std.specs.Prelude.{◌≡◌, ◌∷◌, [], ℕ, List, nat_eq, true, false, IfOk, IsErrOf};
+ghost use Rattle.std.specs.Prelude.{◌≡◌, ◌∷◌, [], ℕ, List, Some, nat_eq, refl, true, false, IfOk, IsErrOf};
 ghost use Rattle.std.proofs.Common.{rules};
 ghost use Rattle.std.specs.Cmp.{partial_equiv_from_equiv};
-ghost use Rattle.std.specs.Cmp.Lexicographic.{pointwise, nat_list_eq_equiv};
+ghost use Rattle.std.specs.Cmp.Lexicographic.{pointwise, slice_cmp, nat_list_eq_equiv, nat_list_cmp_total};
+ghost use Rattle.std.specs.Cmp.Lexicographic.{texts_po, texts_ties};
 ghost use Rattle.std.specs.Cmp.Rules.{hashing};
 ghost use Rattle.std.specs.List.{list_all};
+ghost use Rattle.std.specs.Ordering.{nat_cmp};
 ghost use Rattle.path_names.specs.PathTexts.{parts};
 ghost use Rattle.path_names.specs.RefNames.{is_ref_name, is_ref_byte, has_pair, is_ref_part};
 
 use git_objects::limits::REF_BYTES;
 use std::alloc::{AllocError, Global};
+use std::cmp::Ordering;
 use std::hash::{Hash, Hasher};
 use std::marker::Model;
 
@@ -81,6 +84,31 @@ impl PartialEq for RefName {
 
 impl Eq for RefName {
     ghost laws = { nat_list_eq_equiv };
+}
+
+// Ref names stand in byte order.
+impl PartialOrd for RefName {
+    ghost partial_cmp = { λ a b. Some (slice_cmp nat_cmp a b) };
+
+    ghost laws = { texts_po };
+
+    fn partial_cmp(&self, other: &RefName) -> Option<Ordering> {
+        Some(self.cmp(other))
+    }
+}
+
+impl Ord for RefName {
+    ghost cmp = { slice_cmp nat_cmp };
+
+    ghost total = { nat_list_cmp_total };
+
+    ghost matches_partial_cmp = { λ a b. refl };
+
+    ghost matches_eq = { texts_ties };
+
+    fn cmp(&self, other: &RefName) -> Ordering {
+        self.text().cmp(other.text())
+    }
 }
 
 // One write of all bytes: a map keyed by ref names hashes each of them once.

@@ -1,20 +1,25 @@
 // The tree that one commit's changes edit.
-ghost use Rattle.std.specs.Prelude.{◌≡◌, true, [], List, IfOk, OnErr, OnOk};
-ghost use Rattle.git_objects.specs.Trees.{Flat, put, remove};
+ghost use Rattle.std.specs.Prelude.{◌≡◌, true, [], List, IfErr, IfOk, OnErr, OnOk};
+ghost use Rattle.git_objects.specs.Trees.{Flat, remove};
 ghost use Rattle.git_objects.specs.declared.kind.Kind.TheVariants.{Tree};
 ghost use Rattle.object_store.specs.Objects.{IsStore, Object, has, has_child};
 ghost use Rattle.object_store.specs.Unfolding.{flat};
 ghost use Rattle.path_trees.specs.Standing.{node};
 ghost use Rattle.path_trees.specs.declared.found.Found.{Found};
+ghost use Rattle.path_trees.specs.Made.{IsGrown, IsTreeFault};
+ghost use Rattle.object_store.specs.Unfolding.{StandsFor};
+ghost use Rattle.stage_tree.specs.Edits.{IsEdited, IsDirectoryBody, copied, renamed, set_in};
 ghost use Rattle.stage_tree.specs.Stages.{Shows};
 
 use crate::nodes::{Content, Node, Nodes};
-use git_objects::{Mode, Name};
+use crate::StageFault;
+use git_objects::{Mode, Name, Steps};
 use object_store::Store;
 use path_names::Path;
-use path_trees::{Found, Leaf};
+use path_trees::{Found, Leaf, TreeFault};
 use std::alloc::{AllocError, Global};
 use std::marker::Model;
+use std::sync::ledger::Ledger;
 
 /// A tree being edited. Its directories are nodes of one vector once a path has gone through them, and names of stored
 /// trees until then.
@@ -63,25 +68,78 @@ impl Stage {
         Ok(Stage { alloc, nodes })
     }
 
-    /// Puts a leaf at a path, where every path that is comparable with it goes. After a refusal the stage stands for what
-    /// it stood for.
-    pub fn set(&mut self, store: &Store, path: &Path, leaf: Leaf) -> Result<(), AllocError>
-        requires leaf { has_child store.now leaf.mode leaf.name.0 ≡ true }
-        requires shows { (t : Flat) × Shows store.now self.old t }
-        ensures ok { OnOk result ((t : Flat) → Shows store.now self.old t
-            → Shows store.now self.new (put t path.now (node store.now (record { mode = leaf.mode; name = leaf.name })))) }
-        ensures err { OnErr result ((t : Flat) → Shows store.now self.old t → Shows store.now self.new t) }
+    /// A stage that stands for the empty tree.
+    pub fn empty(alloc: Global) -> Result<Stage, AllocError>
+        ensures { IfOk result (λ s. (S : List Object) → Shows S s []) }
     {
-        // A name has 20 bytes, and every answer rests on what the store keeps.
-        let _ = leaf.name.bytes();
-        let _ = store.get(&leaf.name);
-        let _ = path.components();
-        self.nodes.open_root(self.alloc, store)?;
+        let mut cells = Vec::new(alloc);
+        // The root is a name until it is cleared.
         let found = Found {
-            mode: leaf.mode,
-            name: leaf.name,
+            mode: Mode::Dir,
+            name: Name([0; 20]),
         };
-        self.nodes.put(self.alloc, store, path, found)
+        cells.push(Node {
+            at: 0,
+            len: 0,
+            content: Content::Held(found),
+            first: None,
+            next: None,
+        })?;
+        let nodes = Nodes {
+            cells,
+            names: Vec::new(alloc),
+            free: None,
+        };
+        let mut stage = Stage { alloc, nodes };
+        stage.clear();
+        Ok(stage)
+    }
+
+    /// Puts a leaf at a path, where every path that is comparable with it goes. STUB
+    pub fn set(&mut self, _store: &Store, _path: &Path, _leaf: Leaf) -> Result<(), StageFault>
+        requires leaf { has_child _store.now _leaf.mode _leaf.name.0 ≡ true }
+        requires shows { (t : Flat) × Shows _store.now self.old t }
+        ensures { (t : Flat) → Shows _store.now self.old t → IsEdited _store.now self.new t
+            (set_in t _path.now (node _store.now (record { mode = _leaf.mode; name = _leaf.name }))) result }
+    {
+        Err(StageFault::OutOfMemory)
+    }
+
+    /// Moves what stands at a path. STUB
+    pub fn rename<L: Ledger>(
+        &mut self,
+        _store: &Store,
+        _from: &Path,
+        _to: &Path,
+        _steps: &mut Steps<L>,
+    ) -> Result<(), StageFault>
+        requires { (t : Flat) × Shows _store.now self.old t }
+        ensures { (t : Flat) → Shows _store.now self.old t → IsEdited _store.now self.new t
+            (renamed t _from.now _to.now) result }
+    {
+        Err(StageFault::OutOfMemory)
+    }
+
+    /// Puts at a path what stands at another one. STUB
+    pub fn copy(&mut self, _store: &Store, _from: &Path, _to: &Path) -> Result<(), StageFault>
+        requires { (t : Flat) × Shows _store.now self.old t }
+        ensures { (t : Flat) → Shows _store.now self.old t → IsEdited _store.now self.new t
+            (copied t _from.now _to.now) result }
+    {
+        Err(StageFault::OutOfMemory)
+    }
+
+    /// Brings the tree into the store. STUB
+    pub fn finish(&mut self, store: &mut Store) -> Result<Name, TreeFault>
+        requires { (t : Flat) × Shows store.old self.old t }
+        ensures ok { IfOk result (λ n. (t : Flat) → Shows store.old self.old t → StandsFor store.new n.0 t) }
+        ensures err { IfErr result (λ e. (t : Flat) → Shows store.old self.old t →
+            IsTreeFault (IsDirectoryBody t) store.new e) }
+        ensures store { (t : Flat) → Shows store.old self.old t → IsGrown (IsDirectoryBody t) store.old store.new }
+    {
+        // Every answer rests on what the store keeps.
+        let _ = store.get(&Name([0; 20]));
+        Err(TreeFault::OutOfMemory)
     }
 
     /// Removes a path and all below it. Nothing there is no fault.
