@@ -14,3 +14,5 @@ pub mod SpelledHeads
 pub mod SpelledChanges
 pub mod SpelledTurns
 pub mod SpelledWhole
+pub mod Keeping
+pub mod Heading

@@ -14,3 +14,5 @@ pub mod Laws
 pub mod Rows
 pub mod Replays
 pub mod Examples
+pub mod Bases
+pub mod Replaying

@@ -1,0 +1,41 @@
+-- How the code keeps a replay: by names of objects that a store has.
+use Rattle.std.specs.Prelude.{◌≡◌, ◌≤◌, ℕ, Bool, cond, nat_eq, List, [], ◌∷◌, map, length, vec_capacity, Option, Some, None}
+use Rattle.std.specs.List.{list_any}
+use Rattle.std.specs.Map.{lookup, remove_entry}
+use Rattle.std.specs.Ordering.{is_eq}
+use Rattle.std.specs.Global.{Vec}
+use Rattle.git_objects.specs.Paths.{Bytes, same_bytes}
+use Rattle.git_objects.specs.Refs.{Refs, bytes_cmp}
+use Rattle.git_objects.specs.declared.name.Name.{Name}
+use Rattle.fast_import.specs.declared.replayed.Made.{Made}
+use Rattle.fast_import.specs.declared.replayed.Setting.{Setting}
+
+abbrev pub is_named : Name → Name → Bool
+is_named n m = same_bytes n.0 m.0
+
+-- the tree of the first commit of that name
+abbrev pub tree_made : Name → List Made → Option Name
+tree_made n [] = None
+tree_made n (m ∷ ms) = cond (is_named n m.name) (Some m.tree) (tree_made n ms)
+
+-- a set has the names of a list
+abbrev pub HasSame : List Name → List Name → Type 0
+HasSame read names = (n : Name) → list_any (is_named n) read ≡ list_any (is_named n) names
+
+-- a map has the trees of commits
+abbrev pub HasTrees : List (Name × Name) → List Made → Type 0
+HasTrees trees made = (n : Name) → lookup (is_named n) trees ≡ tree_made n made
+
+abbrev pub setting_value : Setting → Bytes × Bytes
+setting_value s = (s.refname, s.head.0)
+
+abbrev pub head_values : List (Bytes × Name) → Refs
+head_values es = map (λ e. (e.0, e.1.0)) es
+
+-- refs without one of them
+abbrev pub without_ref : Bytes → Refs → Refs
+without_ref n refs = remove_entry (λ k. is_eq (bytes_cmp n k)) refs
+
+-- no setting, and room for as many as there are branches
+abbrev pub HasRoom : List (Bytes × Name) → Vec Setting → Type 0
+HasRoom heads room = (room.items ≡ []) × (length heads ≤ vec_capacity room)
