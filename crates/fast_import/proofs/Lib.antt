@@ -16,3 +16,4 @@ pub mod SpelledTurns
 pub mod SpelledWhole
 pub mod Keeping
 pub mod Heading
+pub mod Resolving

@@ -16,3 +16,5 @@ pub mod Replays
 pub mod Examples
 pub mod Bases
 pub mod Replaying
+pub mod Made
+pub mod Standing

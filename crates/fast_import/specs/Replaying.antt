@@ -1,5 +1,5 @@
 -- How the code keeps a replay: by names of objects that a store has.
-use Rattle.std.specs.Prelude.{◌≡◌, ◌≤◌, ℕ, Bool, cond, nat_eq, List, [], ◌∷◌, map, length, vec_capacity, Option, Some, None}
+use Rattle.std.specs.Prelude.{◌≡◌, ◌⊎◌, ◌≤◌, ℕ, Bool, cond, List, [], ◌∷◌, map, length, vec_capacity, Option, Some, None, Result, Ok, Err}
 use Rattle.std.specs.List.{list_any}
 use Rattle.std.specs.Map.{lookup, remove_entry}
 use Rattle.std.specs.Ordering.{is_eq}
@@ -7,6 +7,10 @@ use Rattle.std.specs.Global.{Vec}
 use Rattle.git_objects.specs.Paths.{Bytes, same_bytes}
 use Rattle.git_objects.specs.Refs.{Refs, bytes_cmp}
 use Rattle.git_objects.specs.declared.name.Name.{Name}
+use Rattle.fast_import.specs.declared.draft.Draft.{Draft}
+use Rattle.fast_import.specs.declared.fault.StreamFault.{StreamFault}
+use Rattle.fast_import.specs.declared.fault.StreamFault.TheVariants.{OutOfMemory}
+use Rattle.fast_import.specs.declared.marks.Marked.{Marked}
 use Rattle.fast_import.specs.declared.replayed.Made.{Made}
 use Rattle.fast_import.specs.declared.replayed.Setting.{Setting}
 
@@ -39,3 +43,21 @@ without_ref n refs = remove_entry (λ k. is_eq (bytes_cmp n k)) refs
 -- no setting, and room for as many as there are branches
 abbrev pub HasRoom : List (Bytes × Name) → Vec Setting → Type 0
 HasRoom heads room = (room.items ≡ []) × (length heads ≤ vec_capacity room)
+
+-- a replay by names
+pub record Replaying : Type 0 where
+  pub blobs : List Name
+  pub commits : List Made
+  pub branches : Refs
+  pub marks : List (ℕ × Marked)
+  pub draft : Option Draft
+
+-- an answer by names tells what the definition gives
+abbrev pub Answers : {A B : Type 0} → (A → B) → Result A StreamFault → Result B StreamFault → Type 0
+Answers value (Ok x) left = left ≡ Ok (value x)
+Answers value (Err f) left = left ≡ Err f
+
+-- the same, where there is memory
+abbrev pub AnswersIfRoom : {A B : Type 0} → (A → B) → Result A StreamFault → Result B StreamFault → Type 0
+AnswersIfRoom value (Ok x) left = left ≡ Ok (value x)
+AnswersIfRoom value (Err f) left = (left ≡ Err f) ⊎ (f ≡ OutOfMemory)

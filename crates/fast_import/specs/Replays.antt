@@ -101,6 +101,14 @@ target_name base r (targets.Mark n) = option_and_then marked_commit (marked n r.
 target_name base r (targets.Digits n) = Some n.0
 target_name base r (targets.Ref refname) = option_or (branch r refname) (find_entry bytes_cmp refname base.refs)
 
+-- the commit that a line `from` names, there or not; and without this line the branch's, where the stream has set it
+abbrev pub named_parent : Base → Replay → CommitHead → Result (Option Bytes) StreamFault
+named_parent base r h = named_by h.from
+  where
+    named_by : Option CommitRef → Result (Option Bytes) StreamFault
+    named_by None = Ok (branch r h.refname)
+    named_by (Some c) = or_refuse (Unresolved c.at) (target_name base r c.target) >>= λ n. Ok (Some n)
+
 -- the commit that a line names, which must be there
 abbrev pub known : Base → Replay → CommitRef → Result Bytes StreamFault
 known base r c = do

@@ -1,0 +1,93 @@
+-- What the code's names stand for over the objects of a store.
+use Rattle.std.specs.Prelude.{◌≡◌, ◌≤◌, ⊤, ℕ, true, T, nat_eq, List, [], ◌∷◌, length, map, OnOk, IfErr, IsOkAnd, Option, Some, None, Result}
+use Rattle.std.specs.FinMap.{is_sorted}
+use Rattle.std.specs.Map.{lookup}
+use Rattle.git_objects.specs.Lists.{Each}
+use Rattle.git_objects.specs.Parts.{name_bytes}
+use Rattle.git_objects.specs.Paths.{Bytes}
+use Rattle.git_objects.specs.Refs.{Refs, bytes_cmp}
+use Rattle.git_objects.specs.Snapshots.{Snapshot, snapshot_name}
+use Rattle.git_objects.specs.Trees.{Flat}
+use Rattle.git_objects.specs.declared.limits.TheConstants.{PARENTS}
+use Rattle.git_objects.specs.declared.kind.Kind.TheVariants.{Commit as CommitKind}
+use Rattle.git_objects.specs.declared.name.Name.{Name}
+use Rattle.object_store.specs.Growth.{IsGrownBy}
+use Rattle.object_store.specs.Objects.{Object, find_named, has}
+use Rattle.object_store.specs.StoredSnapshots.{snapshot_object}
+use Rattle.object_store.specs.Unfolding.{StandsFor}
+use Rattle.stage_tree.specs.Stages.{Shows}
+use Rattle.fast_import.specs.Made.{IsMadeAt, IsRefusal, blob_object}
+use Rattle.fast_import.specs.Replays.{Base, Marked, BlobMark, CommitMark, Draft, Replay, Replayed, heads_of, step}
+use Rattle.fast_import.specs.Replaying.{Replaying, setting_value}
+use Rattle.fast_import.specs.declared.command.Placed.{Placed}
+use Rattle.fast_import.specs.declared.draft.Draft.{Draft as DraftNames}
+use Rattle.fast_import.specs.declared.fault.StreamFault.{StreamFault}
+use Rattle.fast_import.specs.declared.marks.Marked.{Marked as MarkedName}
+use Rattle.fast_import.specs.declared.marks.Marked.TheVariants as marked
+use Rattle.fast_import.specs.declared.replayed.Made.{Made}
+use Rattle.fast_import.specs.declared.replayed.Replayed.{Replayed as ReplayedNames}
+
+-- a blob of these bytes has the name
+abbrev pub IsBlobIn : List Object → Name → Bytes → Type 0
+IsBlobIn S n b = find_named S n.0 ≡ Some (blob_object b)
+
+abbrev pub AreBlobsIn : List Object → List Name → List Bytes → Type 0
+AreBlobsIn S [] [] = ⊤
+AreBlobsIn S [] (b ∷ bs) = ⊥
+AreBlobsIn S (n ∷ ns) [] = ⊥
+AreBlobsIn S (n ∷ ns) (b ∷ bs) = IsBlobIn S n b × AreBlobsIn S ns bs
+
+-- the commit has the name, and its tree stands for its flat tree
+pub record IsCommitIn (S : List Object) (m : Made) (c : Snapshot) : Type 0 where
+  pub named : snapshot_name c ≡ m.name.0
+  pub held : find_named S m.name.0 ≡ Some (snapshot_object c)
+  pub stands : StandsFor S m.tree.0 c.tree
+
+abbrev pub AreCommitsIn : List Object → List Made → List Snapshot → Type 0
+AreCommitsIn S [] [] = ⊤
+AreCommitsIn S [] (c ∷ cs) = ⊥
+AreCommitsIn S (m ∷ ms) [] = ⊥
+AreCommitsIn S (m ∷ ms) (c ∷ cs) = IsCommitIn S m c × AreCommitsIn S ms cs
+
+-- what a mark names
+abbrev pub IsMarkIn : List Object → Option MarkedName → Option Marked → Type 0
+IsMarkIn S None None = ⊤
+IsMarkIn S (Some (marked.Blob n)) (Some (BlobMark b)) = IsBlobIn S n b
+IsMarkIn S (Some (marked.Commit n)) (Some (CommitMark c)) = n.0 ≡ c
+IsMarkIn S _ _ = ⊥
+
+-- the commit that is being made
+pub record IsDraftOf (S : List Object) (v : DraftNames) (d : Draft) : Type 0 where
+  pub head : v.head ≡ d.head
+  pub parents : map name_bytes v.parents.items ≡ d.parents
+  pub held : Each (λ n. has CommitKind S n ≡ true) d.parents
+  pub few : length d.parents ≤ PARENTS
+  pub stage : Shows S v.stage d.tree
+
+abbrev pub IsDraftIn : List Object → Option DraftNames → Option Draft → Type 0
+IsDraftIn S None None = ⊤
+IsDraftIn S None (Some d) = ⊥
+IsDraftIn S (Some v) None = ⊥
+IsDraftIn S (Some v) (Some d) = IsDraftOf S v d
+
+-- Over a store, the code's names stand for a replay; and the store has the commit of each branch that is set.
+pub record IsReplayOf (S : List Object) (v : Replaying) (r : Replay) : Type 0 where
+  pub blobs : AreBlobsIn S v.blobs r.blobs
+  pub commits : AreCommitsIn S v.commits r.commits
+  pub branches : v.branches ≡ heads_of r
+  pub sorted : T (is_sorted bytes_cmp r.branches)
+  pub held : Each (λ e. has CommitKind S e.1 ≡ true) v.branches
+  pub marks : (n : ℕ) → IsMarkIn S (lookup (nat_eq n) v.marks) (Rattle.fast_import.specs.Replays.marked n r.marks)
+  pub draft : IsDraftIn S v.draft r.draft
+
+-- a command was tried: the names then stand for the replay behind it, or the command is refused
+pub record IsStepped (base : Base) (S S' : List Object) (after : Replaying) (r : Replay) (p : Placed) (result : Result Unit StreamFault) : Type 0 where
+  pub done : OnOk result (IsOkAnd (step base r p) (IsReplayOf S' after))
+  pub refused : IfErr result (IsRefusal (IsMadeAt r p.command) S' (step base r p))
+  pub grown : IsGrownBy (IsMadeAt r p.command) S S'
+
+-- what a stream gives
+pub record IsReplayedOf (S : List Object) (v : ReplayedNames) (g : Replayed) : Type 0 where
+  pub made_blobs : AreBlobsIn S v.blobs.items g.blobs
+  pub made_commits : AreCommitsIn S v.commits.items g.commits
+  pub settings : map setting_value v.heads.items ≡ g.heads
