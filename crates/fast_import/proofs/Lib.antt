@@ -17,3 +17,4 @@ pub mod SpelledWhole
 pub mod Keeping
 pub mod Heading
 pub mod Resolving
+pub mod Putting

@@ -50,6 +50,10 @@ abbrev pub IsMadeBy : Base → Replay → List Placed → Object → Type 0
 IsMadeBy base r [] o = ⊥
 IsMadeBy base r (p ∷ ps) o = IsMadeAt r p.command o ⊎ IsMadeOn (λ s. IsMadeBy base s ps o) (step base r p)
 
--- A refusal: by the replay itself; or another object has the name of one that came up; or there is no memory.
+-- why no more is made: another object has the name of one that came up, or there is no memory
+abbrev pub IsPutFault : (Object → Type 0) → List Object → StreamFault → Type 0
+IsPutFault made S f = (f ≡ OutOfMemory) ⊎ ((n : Name) × (f ≡ Collision n) × IsClash made S n.0)
+
+-- a refusal, by the replay itself or because no more is made
 abbrev pub IsRefusal : {A : Type 0} → (Object → Type 0) → List Object → Result A StreamFault → StreamFault → Type 0
-IsRefusal made S left f = (left ≡ Err f) ⊎ ((f ≡ OutOfMemory) ⊎ ((n : Name) × (f ≡ Collision n) × IsClash made S n.0))
+IsRefusal made S left f = (left ≡ Err f) ⊎ IsPutFault made S f

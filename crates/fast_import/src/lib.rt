@@ -22,6 +22,7 @@ mod names;
 mod parents;
 mod path_words;
 mod progress;
+mod puts;
 mod reader;
 mod replay;
 mod replayed;
