@@ -18,3 +18,6 @@ pub mod Keeping
 pub mod Heading
 pub mod Resolving
 pub mod Putting
+pub mod Growing
+pub mod Knowing
+pub mod Stepping

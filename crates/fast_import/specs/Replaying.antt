@@ -1,5 +1,6 @@
 -- How the code keeps a replay: by names of objects that a store has.
 use Rattle.std.specs.Prelude.{◌≡◌, ◌⊎◌, ◌≤◌, ℕ, Bool, cond, List, [], ◌∷◌, map, length, vec_capacity, Option, Some, None, Result, Ok, Err}
+use Rattle.std.specs.FinMap.{put}
 use Rattle.std.specs.List.{list_any}
 use Rattle.std.specs.Map.{lookup, remove_entry}
 use Rattle.std.specs.Ordering.{is_eq}
@@ -39,6 +40,11 @@ head_values es = map (λ e. (e.0, e.1.0)) es
 -- refs without one of them
 abbrev pub without_ref : Bytes → Refs → Refs
 without_ref n refs = remove_entry (λ k. is_eq (bytes_cmp n k)) refs
+
+-- refs in which one names this commit, or is unset
+abbrev pub with_head : Bytes → Option Name → Refs → Refs
+with_head n None refs = without_ref n refs
+with_head n (Some c) refs = put bytes_cmp n c.0 refs
 
 -- no setting, and room for as many as there are branches
 abbrev pub HasRoom : List (Bytes × Name) → Vec Setting → Type 0

@@ -1,5 +1,5 @@
 -- What the code's names stand for over the objects of a store.
-use Rattle.std.specs.Prelude.{◌≡◌, ◌≤◌, ⊤, ℕ, true, T, nat_eq, List, [], ◌∷◌, length, map, OnOk, IfErr, IsOkAnd, Option, Some, None, Result}
+use Rattle.std.specs.Prelude.{◌≡◌, ◌⊎◌, ◌≤◌, ⊤, ℕ, true, T, cond, nat_eq, List, [], ◌∷◌, ◌++◌, length, map, OnOk, IfOk, IfErr, IsOkAnd, Option, Some, None, Result, Err}
 use Rattle.std.specs.FinMap.{is_sorted}
 use Rattle.std.specs.Map.{lookup}
 use Rattle.git_objects.specs.Lists.{Each}
@@ -9,19 +9,20 @@ use Rattle.git_objects.specs.Refs.{Refs, bytes_cmp}
 use Rattle.git_objects.specs.Snapshots.{Snapshot, snapshot_name}
 use Rattle.git_objects.specs.Trees.{Flat}
 use Rattle.git_objects.specs.declared.limits.TheConstants.{PARENTS}
-use Rattle.git_objects.specs.declared.kind.Kind.TheVariants.{Commit as CommitKind}
+use Rattle.git_objects.specs.declared.kind.Kind.TheVariants.{Blob, Commit as CommitKind}
 use Rattle.git_objects.specs.declared.name.Name.{Name}
-use Rattle.object_store.specs.Growth.{IsGrownBy}
+use Rattle.object_store.specs.Growth.{IsGrownBy, IsOnly}
 use Rattle.object_store.specs.Objects.{Object, find_named, has}
 use Rattle.object_store.specs.StoredSnapshots.{snapshot_object}
 use Rattle.object_store.specs.Unfolding.{StandsFor}
 use Rattle.stage_tree.specs.Stages.{Shows}
-use Rattle.fast_import.specs.Made.{IsMadeAt, IsRefusal, blob_object}
+use Rattle.fast_import.specs.Made.{IsMadeAt, IsPutFault, IsRefusal, blob_object}
 use Rattle.fast_import.specs.Replays.{Base, Marked, BlobMark, CommitMark, Draft, Replay, Replayed, heads_of, step}
 use Rattle.fast_import.specs.Replaying.{Replaying, setting_value}
 use Rattle.fast_import.specs.declared.command.Placed.{Placed}
 use Rattle.fast_import.specs.declared.draft.Draft.{Draft as DraftNames}
 use Rattle.fast_import.specs.declared.fault.StreamFault.{StreamFault}
+use Rattle.fast_import.specs.declared.fault.StreamFault.TheVariants.{OutOfMemory}
 use Rattle.fast_import.specs.declared.marks.Marked.{Marked as MarkedName}
 use Rattle.fast_import.specs.declared.marks.Marked.TheVariants as marked
 use Rattle.fast_import.specs.declared.replayed.Made.{Made}
@@ -91,3 +92,24 @@ pub record IsReplayedOf (S : List Object) (v : ReplayedNames) (g : Replayed) : T
   pub made_blobs : AreBlobsIn S v.blobs.items g.blobs
   pub made_commits : AreCommitsIn S v.commits.items g.commits
   pub settings : map setting_value v.heads.items ≡ g.heads
+
+-- a command was tried that brings no object: the names then stand for the replay behind it, or it is refused
+pub record IsTried (S : List Object) (after : Replaying) (left : Result Replay StreamFault) (result : Result Unit StreamFault) : Type 0 where
+  pub done : OnOk result (IsOkAnd left (IsReplayOf S after))
+  pub refused : IfErr result (λ f. (left ≡ Err f) ⊎ (f ≡ OutOfMemory))
+
+-- a blob was brought
+pub record IsBrought (S S' : List Object) (before after : Replaying) (b : Bytes) (result : Result Name StreamFault) : Type 0 where
+  pub named : IfOk result (λ n. IsBlobIn S' n b)
+  pub behind : IfOk result (λ n. after ≡ record before { blobs = before.blobs ++ n ∷ [] })
+  pub refused : IfErr result (IsPutFault (IsOnly Blob b) S')
+  pub grown : IsGrownBy (IsOnly Blob b) S S'
+
+-- a mark names this, where there is one
+abbrev pub mark_at : Option ℕ → MarkedName → ℕ → Option MarkedName → Option MarkedName
+mark_at None x q old = old
+mark_at (Some n) x q old = cond (nat_eq n q) (Some x) old
+
+pub record IsGivenMark (before after : Replaying) (mark : Option ℕ) (x : MarkedName) : Type 0 where
+  pub others : after ≡ record before { marks = after.marks }
+  pub named : (q : ℕ) → lookup (nat_eq q) after.marks ≡ mark_at mark x q (lookup (nat_eq q) before.marks)

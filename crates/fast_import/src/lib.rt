@@ -26,6 +26,7 @@ mod puts;
 mod reader;
 mod replay;
 mod replayed;
+mod steps;
 mod turns;
 mod words;
 
