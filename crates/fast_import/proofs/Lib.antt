@@ -21,3 +21,5 @@ pub mod Putting
 pub mod Growing
 pub mod Knowing
 pub mod Stepping
+pub mod Ending
+pub mod Committing

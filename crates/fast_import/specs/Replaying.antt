@@ -8,9 +8,11 @@ use Rattle.std.specs.Global.{Vec}
 use Rattle.git_objects.specs.Paths.{Bytes, same_bytes}
 use Rattle.git_objects.specs.Refs.{Refs, bytes_cmp}
 use Rattle.git_objects.specs.declared.name.Name.{Name}
+use Rattle.path_trees.specs.declared.found.TreeFault.{TreeFault}
+use Rattle.path_trees.specs.declared.found.TreeFault.TheVariants as trees
 use Rattle.fast_import.specs.declared.draft.Draft.{Draft}
 use Rattle.fast_import.specs.declared.fault.StreamFault.{StreamFault}
-use Rattle.fast_import.specs.declared.fault.StreamFault.TheVariants.{OutOfMemory}
+use Rattle.fast_import.specs.declared.fault.StreamFault.TheVariants.{Collision, OutOfMemory}
 use Rattle.fast_import.specs.declared.marks.Marked.{Marked}
 use Rattle.fast_import.specs.declared.replayed.Made.{Made}
 use Rattle.fast_import.specs.declared.replayed.Setting.{Setting}
@@ -67,3 +69,8 @@ Answers value (Err f) left = left ≡ Err f
 abbrev pub AnswersIfRoom : {A B : Type 0} → (A → B) → Result A StreamFault → Result B StreamFault → Type 0
 AnswersIfRoom value (Ok x) left = left ≡ Ok (value x)
 AnswersIfRoom value (Err f) left = (left ≡ Err f) ⊎ (f ≡ OutOfMemory)
+
+-- a fault of a tree, as one of the stream
+abbrev pub tree_fault : TreeFault → StreamFault
+tree_fault (trees.Collision n) = Collision n
+tree_fault trees.OutOfMemory = OutOfMemory

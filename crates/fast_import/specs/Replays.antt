@@ -208,11 +208,12 @@ letter_of h = record { author = h.author; committer = h.committer; message = h.m
 abbrev pub commit_of : Draft → Snapshot
 commit_of d = record { tree = d.tree; parents = d.parents; letter = letter_of d.head }
 
--- the commit is made: its branch is at it, and its mark names it
+-- a commit is made: its branch is at it, and its mark names it
+abbrev pub entered : Bytes → Option ℕ → Snapshot → Replay → Replay
+entered refname mark c r = with_mark mark (CommitMark (snapshot_name c)) (with_branch refname (Some (snapshot_name c)) (record r { commits = r.commits ++ c ∷ [] }))
+
 abbrev pub committed : Replay → Draft → Replay
-committed r d =
-    with_mark d.head.mark (CommitMark (snapshot_name (commit_of d)))
-    (with_branch d.head.refname (Some (snapshot_name (commit_of d))) (record r { commits = r.commits ++ commit_of d ∷ []; draft = None }))
+committed r d = entered d.head.refname d.head.mark (commit_of d) (record r { draft = None })
 
 -- One command at a place, its faults in the order of its lines. Changes and the end of a commit come in a commit alone.
 abbrev pub command_step : Base → Replay → ℕ → Command → Result Replay StreamFault

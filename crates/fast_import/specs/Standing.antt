@@ -17,10 +17,11 @@ use Rattle.object_store.specs.StoredSnapshots.{snapshot_object}
 use Rattle.object_store.specs.Unfolding.{StandsFor}
 use Rattle.stage_tree.specs.Stages.{Shows}
 use Rattle.fast_import.specs.Made.{IsMadeAt, IsPutFault, IsRefusal, blob_object}
-use Rattle.fast_import.specs.Replays.{Base, Marked, BlobMark, CommitMark, Draft, Replay, Replayed, heads_of, step}
+use Rattle.fast_import.specs.Replays.{Base, Marked, BlobMark, CommitMark, Draft, Replay, Replayed, commit_of, heads_of, step}
 use Rattle.fast_import.specs.Replaying.{Replaying, setting_value}
 use Rattle.fast_import.specs.declared.command.Placed.{Placed}
 use Rattle.fast_import.specs.declared.draft.Draft.{Draft as DraftNames}
+use Rattle.fast_import.specs.declared.draft.Ended.{Ended}
 use Rattle.fast_import.specs.declared.fault.StreamFault.{StreamFault}
 use Rattle.fast_import.specs.declared.fault.StreamFault.TheVariants.{OutOfMemory}
 use Rattle.fast_import.specs.declared.marks.Marked.{Marked as MarkedName}
@@ -113,3 +114,9 @@ mark_at (Some n) x q old = cond (nat_eq n q) (Some x) old
 pub record IsGivenMark (before after : Replaying) (mark : Option ℕ) (x : MarkedName) : Type 0 where
   pub others : after ≡ record before { marks = after.marks }
   pub named : (q : ℕ) → lookup (nat_eq q) after.marks ≡ mark_at mark x q (lookup (nat_eq q) before.marks)
+
+-- the draft's commit has been made, its branch and its mark are known
+pub record IsEnded (S : List Object) (e : Ended) (d : Draft) : Type 0 where
+  pub made_commit : IsCommitIn S e.made (commit_of d)
+  pub on_branch : e.refname ≡ d.head.refname
+  pub at_mark : e.mark ≡ d.head.mark

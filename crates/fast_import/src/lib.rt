@@ -8,6 +8,7 @@ mod branches;
 mod changes;
 mod command;
 mod commit_ref;
+mod commit_step;
 mod commits;
 mod draft;
 mod fault;
