@@ -23,3 +23,5 @@ pub mod Knowing
 pub mod Stepping
 pub mod Ending
 pub mod Committing
+pub mod KnownBlobs
+pub mod Changing

@@ -10,9 +10,12 @@ use Rattle.git_objects.specs.Refs.{Refs, bytes_cmp}
 use Rattle.git_objects.specs.declared.name.Name.{Name}
 use Rattle.path_trees.specs.declared.found.TreeFault.{TreeFault}
 use Rattle.path_trees.specs.declared.found.TreeFault.TheVariants as trees
+use Rattle.git_objects.specs.declared.quantity.Quantity.TheVariants.{Files, PathBytes, PathDepth}
+use Rattle.stage_tree.specs.declared.fault.StageFault.{StageFault}
+use Rattle.stage_tree.specs.declared.fault.StageFault.TheVariants as edits
 use Rattle.fast_import.specs.declared.draft.Draft.{Draft}
 use Rattle.fast_import.specs.declared.fault.StreamFault.{StreamFault}
-use Rattle.fast_import.specs.declared.fault.StreamFault.TheVariants.{Collision, OutOfMemory}
+use Rattle.fast_import.specs.declared.fault.StreamFault.TheVariants.{Collision, Limit, NoSource, OutOfMemory}
 use Rattle.fast_import.specs.declared.marks.Marked.{Marked}
 use Rattle.fast_import.specs.declared.replayed.Made.{Made}
 use Rattle.fast_import.specs.declared.replayed.Setting.{Setting}
@@ -74,3 +77,11 @@ AnswersIfRoom value (Err f) left = (left ≡ Err f) ⊎ (f ≡ OutOfMemory)
 abbrev pub tree_fault : TreeFault → StreamFault
 tree_fault (trees.Collision n) = Collision n
 tree_fault trees.OutOfMemory = OutOfMemory
+
+-- a fault of an edit, as one of the line that stands there
+abbrev pub fault_at : ℕ → StageFault → StreamFault
+fault_at at edits.NoSource = NoSource at
+fault_at at edits.TooDeep = Limit at PathDepth
+fault_at at edits.TooLong = Limit at PathBytes
+fault_at at edits.TooMany = Limit at Files
+fault_at at edits.OutOfMemory = OutOfMemory

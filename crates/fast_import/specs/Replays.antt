@@ -1,5 +1,5 @@
 -- Replaying a stream upon what is there: the blobs, commits and heads that it gives, or its first fault.
-use Rattle.std.specs.Prelude.{ℕ, ◌==◌, nat_le, nat_lt, if◌then◌else◌, List, [], ◌∷◌, ◌++◌, length, map, filter_map, find, Option, Some, None, Result, Ok, Err}
+use Rattle.std.specs.Prelude.{ℕ, Bool, true, false, ◌==◌, nat_le, nat_lt, if◌then◌else◌, List, [], ◌∷◌, ◌++◌, length, map, filter_map, find, Option, Some, None, Result, Ok, Err}
 use Rattle.std.specs.Option.{is_some, option_and_then, option_map, option_or, option_to_list, unwrap_or}
 use Rattle.std.specs.List.{list_all}
 use Rattle.std.specs.FinMap.{find as find_entry, put as put_entry}
@@ -189,9 +189,24 @@ edited base r at t (changes.Copy s p) = do
 edited base r at t changes.DeleteAll = Ok []
 
 -- the blob that stands in the line's data
+abbrev pub blob_inline : BlobRef → List Bytes
+blob_inline (blobs.Inline b) = b ∷ []
+blob_inline x = []
+
 abbrev pub inline_blob : Change → List Bytes
-inline_blob (changes.Modify m (blobs.Inline b) p) = b ∷ []
+inline_blob (changes.Modify m x p) = blob_inline x
 inline_blob c = []
+
+-- what a reader tells: no change has a directory's mode, and a module is put by its digits alone
+abbrev pub is_fit : Mode → BlobRef → Bool
+is_fit Dir x = false
+is_fit Module (blobs.Digits n) = true
+is_fit Module x = false
+is_fit m x = true
+
+abbrev pub is_replayable : Command → Bool
+is_replayable (commands.Change (changes.Modify m x p)) = is_fit m x
+is_replayable c = true
 
 -- ---- one command
 

@@ -1,5 +1,5 @@
 -- What the code's names stand for over the objects of a store.
-use Rattle.std.specs.Prelude.{◌≡◌, ◌⊎◌, ◌≤◌, ⊤, ℕ, true, T, cond, nat_eq, List, [], ◌∷◌, ◌++◌, length, map, OnOk, IfOk, IfErr, IsOkAnd, Option, Some, None, Result, Err}
+use Rattle.std.specs.Prelude.{◌≡◌, ◌⊎◌, ◌≤◌, ⊤, ℕ, true, T, cond, nat_eq, List, [], ◌∷◌, ◌++◌, length, map, OnOk, IfOk, IfErr, IsOkAnd, Option, Some, None, Result, Ok, Err}
 use Rattle.std.specs.FinMap.{is_sorted}
 use Rattle.std.specs.Map.{lookup}
 use Rattle.git_objects.specs.Lists.{Each}
@@ -16,9 +16,13 @@ use Rattle.object_store.specs.Objects.{Object, find_named, has}
 use Rattle.object_store.specs.StoredSnapshots.{snapshot_object}
 use Rattle.object_store.specs.Unfolding.{StandsFor}
 use Rattle.stage_tree.specs.Stages.{Shows}
-use Rattle.fast_import.specs.Made.{IsMadeAt, IsPutFault, IsRefusal, blob_object}
-use Rattle.fast_import.specs.Replays.{Base, Marked, BlobMark, CommitMark, Draft, Replay, Replayed, commit_of, heads_of, step}
+use Rattle.fast_import.specs.Made.{IsBlobAmong, IsMadeAt, IsPutFault, IsRefusal, blob_object}
+use Rattle.fast_import.specs.Replays.{Base, Marked, BlobMark, CommitMark, Draft, Replay, Replayed, blob_inline, commit_of, heads_of, inline_blob, step}
 use Rattle.fast_import.specs.Replaying.{Replaying, setting_value}
+use Rattle.git_objects.specs.declared.mode.Mode.{Mode}
+use Rattle.git_objects.specs.declared.mode.Mode.TheVariants.{File, Exec, Link, Module, Dir}
+use Rattle.fast_import.specs.declared.command.BlobRef.{BlobRef}
+use Rattle.fast_import.specs.declared.command.Change.{Change}
 use Rattle.fast_import.specs.declared.command.Placed.{Placed}
 use Rattle.fast_import.specs.declared.draft.Draft.{Draft as DraftNames}
 use Rattle.fast_import.specs.declared.draft.Ended.{Ended}
@@ -120,3 +124,32 @@ pub record IsEnded (S : List Object) (e : Ended) (d : Draft) : Type 0 where
   pub made_commit : IsCommitIn S e.made (commit_of d)
   pub on_branch : e.refname ≡ d.head.refname
   pub at_mark : e.mark ≡ d.head.mark
+
+-- what a change puts: a blob of these bytes, or a module of this name
+abbrev pub IsLeafIn : List Object → Mode → Name → Bytes → Type 0
+IsLeafIn S Module n b = n.0 ≡ b
+IsLeafIn S m n b = IsBlobIn S n b
+
+-- a name that stands for what is left, or why there is none
+abbrev pub Gives : {A : Type 0} → (Name → A → Type 0) → Result A StreamFault → Result Name StreamFault → Type 0
+Gives stands left (Ok n) = IsOkAnd left (stands n)
+Gives stands left (Err f) = left ≡ Err f
+
+-- what a change puts was looked up, or brought
+pub record IsGiven (S S' : List Object) (after : Replaying) (r : Replay) (mode : Mode) (blob : BlobRef) (left : Result Bytes StreamFault) (result : Result Name StreamFault) : Type 0 where
+  pub leaf : IfOk result (λ n. IsOkAnd left (IsLeafIn S' mode n))
+  pub read : OnOk result (IsReplayOf S' after (record r { blobs = r.blobs ++ blob_inline blob }))
+  pub refused : IfErr result (IsRefusal (IsBlobAmong (blob_inline blob)) S' left)
+  pub grown : IsGrownBy (IsBlobAmong (blob_inline blob)) S S'
+
+-- the tree of a draft was changed, or it wasn't
+pub record IsChanged (S S' : List Object) (after : Replaying) (r : Replay) (d : Draft) (change : Change) (left : Result Flat StreamFault) (result : Result DraftNames StreamFault) : Type 0 where
+  pub changed : IfOk result (λ v. IsOkAnd left (λ t. IsDraftOf S' v (record d { tree = t })))
+  pub blobs_read : OnOk result (IsReplayOf S' after (record r { blobs = r.blobs ++ inline_blob change }))
+  pub why : IfErr result (IsRefusal (IsBlobAmong (inline_blob change)) S' left)
+  pub brought : IsGrownBy (IsBlobAmong (inline_blob change)) S S'
+
+-- the tree of a draft was changed by an edit that reads no blob, or it wasn't
+pub record IsRedrawn (S : List Object) (d : Draft) (left : Result Flat StreamFault) (result : Result DraftNames StreamFault) : Type 0 where
+  pub drawn : IfOk result (λ v. IsOkAnd left (λ t. IsDraftOf S v (record d { tree = t })))
+  pub not_drawn : IfErr result (λ f. (left ≡ Err f) ⊎ (f ≡ OutOfMemory))
