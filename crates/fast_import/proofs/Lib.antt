@@ -25,3 +25,4 @@ pub mod Ending
 pub mod Committing
 pub mod KnownBlobs
 pub mod Changing
+pub mod Replayable
