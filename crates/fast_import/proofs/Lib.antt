@@ -26,3 +26,5 @@ pub mod Committing
 pub mod KnownBlobs
 pub mod Changing
 pub mod Replayable
+pub mod Running
+pub mod Stopping

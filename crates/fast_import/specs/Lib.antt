@@ -18,3 +18,4 @@ pub mod Bases
 pub mod Replaying
 pub mod Made
 pub mod Standing
+pub mod Whole

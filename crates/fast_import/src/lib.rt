@@ -31,6 +31,7 @@ mod replay;
 mod replayed;
 mod steps;
 mod turns;
+mod whole;
 mod words;
 
 pub use base::Base;
@@ -41,3 +42,4 @@ pub use laws::{fault_law, spelling_law, verdict_law};
 pub use reader::{Next, Reader};
 pub use replay::Replay;
 pub use replayed::{Made, Replayed, Setting};
+pub use whole::{ReplayError, replay_all};
