@@ -2,10 +2,9 @@
 use Rattle.std.specs.Prelude.{◌≡◌, ◌⊎◌, nat_le, if◌then◌else◌, List, ◌++◌, length, map, OnOk, IfErr, IsOkAnd, Result, Ok, Err}
 use Rattle.std.specs.List.{list_all}
 use Rattle.git_objects.specs.declared.limits.TheConstants.{PATH_BYTES, PATH_COMPONENTS, TREE_FILES}
-use Rattle.git_objects.specs.Names.{body}
-use Rattle.git_objects.specs.Paths.{Bytes, Path, text}
+use Rattle.git_objects.specs.Paths.{Path, text}
 use Rattle.git_objects.specs.Results.{◌>>=◌, must, or_refuse}
-use Rattle.git_objects.specs.Trees.{Flat, Node, put, remove, rests, standing, under}
+use Rattle.git_objects.specs.Trees.{Flat, Node, put, remove, rests, standing}
 use Rattle.object_store.specs.Objects.{Object}
 use Rattle.stage_tree.specs.declared.fault.StageFault.{StageFault}
 use Rattle.stage_tree.specs.declared.fault.StageFault.TheVariants.{NoSource, TooDeep, TooLong, TooMany, OutOfMemory}
@@ -46,7 +45,3 @@ copied t s p = or_refuse NoSource (standing t s) >>= λ x. within_paths p x >>= 
 pub record IsEdited {A : Type 0} (S : List Object) (after : Staged) (t : Flat) (left : Result Flat StageFault) (result : Result A StageFault) : Type 0 where
   pub done : OnOk result (IsOkAnd left (Shows S after))
   pub refused : IfErr result (λ e. Shows S after t × ((e ≡ OutOfMemory) ⊎ (left ≡ Err e)))
-
--- the body of a directory of a tree, or of the tree itself
-abbrev pub IsDirectoryBody : Flat → Bytes → Type 0
-IsDirectoryBody t b = (p : Path) × (b ≡ body (under t p))

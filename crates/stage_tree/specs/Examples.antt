@@ -1,9 +1,9 @@
 -- Worked examples.
-use Rattle.std.specs.Prelude.{◌≡◌, refl, ℕ, zero, suc, List, [], ◌∷◌, ◌++◌, codes, replicate, Ok, Err}
+use Rattle.std.specs.Prelude.{◌≡◌, refl, ℕ, [], ◌∷◌, codes, replicate, Ok, Err}
 use Rattle.git_objects.specs.Paths.{Bytes, Path}
 use Rattle.git_objects.specs.Trees.{Leaf, FileLeaf, Flat, LeafNode, TreeNode, put, remove}
-use Rattle.stage_tree.specs.declared.fault.StageFault.TheVariants.{NoSource, TooDeep, TooLong, TooMany}
-use Rattle.stage_tree.specs.Edits.{copied, few_files, paths_put, renamed, set_in, within_paths}
+use Rattle.stage_tree.specs.declared.fault.StageFault.TheVariants.{NoSource, TooDeep}
+use Rattle.stage_tree.specs.Edits.{copied, paths_put, renamed, set_in, within_paths}
 
 abbrev a : Bytes
 a = codes "a"

@@ -1,6 +1,7 @@
 // Edits at a path.
 ghost use Rattle.std.specs.Prelude.{◌≡◌, ◌<◌, true, drop, length, IfOk, OnErr, OnOk};
-ghost use Rattle.stage_tree.specs.Branches.{CanCut, HasSpot, IsBranch, IsCut, IsPut, IsRemoved, IsReplaced, is_alone, reached};
+ghost use Rattle.stage_tree.specs.Branches.{CanCut, HasSpot, IsBranch, IsCut, IsPut, IsRemoved, IsReplaced};
+ghost use Rattle.stage_tree.specs.Branches.{is_alone, reached};
 ghost use Rattle.stage_tree.specs.Expanding.{IsWaste};
 ghost use Rattle.stage_tree.specs.Leaves.{is_held};
 ghost use Rattle.stage_tree.specs.Pools.{IsPool};
@@ -18,7 +19,7 @@ use std::alloc::{AllocError, Global};
 
 impl Nodes {
     // Makes a node for each component from a level on, each but the last a directory with the next as its only child.
-    fn branch(
+    pub fn branch(
         &mut self,
         components: &[Component],
         level: usize,
@@ -45,7 +46,7 @@ impl Nodes {
     }
 
     // Puts a node at a link, in the place of the node that has its component there.
-    fn replace(&mut self, link: Link, child: Option<usize>, number: usize)
+    pub fn replace(&mut self, link: Link, child: Option<usize>, number: usize)
         requires { HasSpot self.old link child number }
         ensures { (h : HasSpot self.old link child number) → IsReplaced self.old self.new link child number h }
     {
@@ -84,7 +85,7 @@ impl Nodes {
     }
 
     // The node at the end of a way through so many components.
-    fn reached(&self, way: Way, level: usize) -> Option<usize>
+    pub fn reached(&self, way: Way, level: usize) -> Option<usize>
         requires { way.level < level }
         ensures { result ≡ reached level way }
     {

@@ -1,14 +1,20 @@
 //! A tree that is edited: its directories and leaves are nodes of one vector, linked by their numbers.
 #![tactic(auto)]
 
+mod count;
 mod edits;
 mod fault;
+mod finish;
 mod gather;
+mod last;
+mod laws;
 mod listing;
 mod nodes;
 mod root;
+mod sets;
 mod stage;
 mod ways;
 
 pub use fault::StageFault;
+pub use laws::{grown_store_law, one_tree_law};
 pub use stage::Stage;

@@ -1,5 +1,6 @@
 // Nodes in one vector, linked by their numbers.
-ghost use Rattle.std.specs.Prelude.{◌≡◌, ◌+◌, ◌<◌, ◌≤◌, true, false, length, map, slice_set, Some, IfOk, IfSome, OnErr, OnOk};
+ghost use Rattle.std.specs.Prelude.{◌≡◌, ◌+◌, ◌<◌, ◌≤◌, true, false, length, map, slice_set, Some};
+ghost use Rattle.std.specs.Prelude.{IfOk, IfSome, OnErr, OnOk};
 ghost use Rattle.std.specs.Ordering.{is_lt};
 ghost use Rattle.stage_tree.specs.Forests.{IsWalk, bytes_cmp, forest, is_link, node_component, sought, target, weight};
 ghost use Rattle.git_objects.specs.Paths.{is_component, same_bytes};
@@ -12,7 +13,8 @@ ghost use Rattle.stage_tree.specs.Forests.{Nil};
 ghost use Rattle.git_objects.specs.Entries.{AreEntries};
 ghost use Rattle.git_objects.specs.Views.{entry_value};
 ghost use Rattle.stage_tree.specs.Frames.{pointed};
-ghost use Rattle.stage_tree.specs.Pools.{CanFree, IsAdded, IsFreed, IsFreeing, IsPool, IsPutBefore, IsSame, free_after, hanging, place_number, placed};
+ghost use Rattle.stage_tree.specs.Pools.{CanFree, IsAdded, IsFreed, IsFreeing, IsPool, IsPutBefore, IsSame};
+ghost use Rattle.stage_tree.specs.Pools.{free_after, hanging, place_number, placed};
 
 use crate::listing::listing;
 use git_objects::{EntryView, Mode, Name};
@@ -67,7 +69,7 @@ impl Nodes {
     }
 
     // Whether a node stands before a component.
-    fn is_before(&self, node: Node, component: &[u8]) -> bool
+    pub fn is_before(&self, node: Node, component: &[u8]) -> bool
         requires { node.at + node.len ≤ length self.now.names.items }
         ensures { result ≡ is_lt (bytes_cmp (node_component self.now.names.items node) component.now) }
     {

@@ -1,18 +1,18 @@
 // The tree that one commit's changes edit.
-ghost use Rattle.std.specs.Prelude.{◌≡◌, true, [], List, IfErr, IfOk, OnErr, OnOk};
+ghost use Rattle.std.specs.Prelude.{◌≡◌, true, [], List, IfOk, OnErr, OnOk};
 ghost use Rattle.git_objects.specs.Trees.{Flat, remove};
 ghost use Rattle.git_objects.specs.declared.kind.Kind.TheVariants.{Tree};
 ghost use Rattle.object_store.specs.Objects.{IsStore, Object, has, has_child};
 ghost use Rattle.object_store.specs.Unfolding.{flat};
 ghost use Rattle.path_trees.specs.Standing.{node};
 ghost use Rattle.path_trees.specs.declared.found.Found.{Found};
-ghost use Rattle.path_trees.specs.Made.{IsGrown, IsTreeFault};
-ghost use Rattle.object_store.specs.Unfolding.{StandsFor};
-ghost use Rattle.stage_tree.specs.Edits.{IsEdited, IsDirectoryBody, copied, renamed, set_in};
+ghost use Rattle.stage_tree.specs.Edits.{IsEdited, copied, renamed, set_in};
+ghost use Rattle.stage_tree.specs.Finished.{IsFinished};
 ghost use Rattle.stage_tree.specs.Stages.{Shows};
 
-use crate::nodes::{Content, Node, Nodes};
 use crate::StageFault;
+use crate::last::Last;
+use crate::nodes::{Content, Node, Nodes};
 use git_objects::{Mode, Name, Steps};
 use object_store::Store;
 use path_names::Path;
@@ -27,16 +27,20 @@ use std::sync::ledger::Ledger;
 pub struct Stage {
     alloc: Global,
     nodes: Nodes,
+    // No more files than these are shown; 4,294,967,295 stands for any number.
+    most: u32,
+    last: Last,
 }
 
 impl Model for Stage {
-    ghost use Rattle.stage_tree.specs.Stages.{Staged, IsStage, staged};
+    ghost use Rattle.stage_tree.specs.Sets.{IsMarked};
+    ghost use Rattle.stage_tree.specs.Stages.{Staged, staged};
 
     ghost Value = { Staged };
 
-    ghost view = { λ s. staged s.nodes };
+    ghost view = { λ s. staged s.nodes s.most };
 
-    ghost invariant = { λ s. IsStage s.nodes };
+    ghost invariant = { λ s. IsMarked s.nodes s.last };
 }
 
 impl Stage {
@@ -46,6 +50,10 @@ impl Stage {
         ensures shows { IfOk result (λ s. Shows store.now s (flat store.now root.0)) }
         ensures nodes { IfOk result (λ s. s.nodes ≡ 1) }
     {
+        let most = match store.stats(&root) {
+            None => unreachable!(),
+            Some(stats) => stats.files,
+        };
         // Every answer rests on what the store keeps.
         let _ = store.get(&root);
         let mut cells = Vec::new(alloc);
@@ -65,12 +73,20 @@ impl Stage {
             names: Vec::new(alloc),
             free: None,
         };
-        Ok(Stage { alloc, nodes })
+        Ok(Stage {
+            alloc,
+            nodes,
+            most,
+            last: Last {
+                directory: Vec::new(alloc),
+                child: None,
+            },
+        })
     }
 
     /// A stage that stands for the empty tree.
     pub fn empty(alloc: Global) -> Result<Stage, AllocError>
-        ensures { IfOk result (λ s. (S : List Object) → Shows S s []) }
+        ensures { IfOk result (λ s. (S : List Object) → IsStore S → Shows S s []) }
     {
         let mut cells = Vec::new(alloc);
         // The root is a name until it is cleared.
@@ -90,19 +106,47 @@ impl Stage {
             names: Vec::new(alloc),
             free: None,
         };
-        let mut stage = Stage { alloc, nodes };
+        let mut stage = Stage {
+            alloc,
+            nodes,
+            most: 0,
+            last: Last {
+                directory: Vec::new(alloc),
+                child: None,
+            },
+        };
         stage.clear();
         Ok(stage)
     }
 
-    /// Puts a leaf at a path, where every path that is comparable with it goes. STUB
-    pub fn set(&mut self, _store: &Store, _path: &Path, _leaf: Leaf) -> Result<(), StageFault>
-        requires leaf { has_child _store.now _leaf.mode _leaf.name.0 ≡ true }
-        requires shows { (t : Flat) × Shows _store.now self.old t }
-        ensures { (t : Flat) → Shows _store.now self.old t → IsEdited _store.now self.new t
-            (set_in t _path.now (node _store.now (record { mode = _leaf.mode; name = _leaf.name }))) result }
+    /// Puts a leaf at a path, where every path that is comparable with it goes. Paths of one directory that come in the
+    /// order of their bytes cost little each.
+    pub fn set(&mut self, store: &Store, path: &Path, leaf: Leaf) -> Result<(), StageFault>
+        requires leaf { has_child store.now leaf.mode leaf.name.0 ≡ true }
+        requires shows { (t : Flat) × Shows store.now self.old t }
+        ensures { (t : Flat) → Shows store.now self.old t → IsEdited store.now self.new t
+            (set_in t path.now (node store.now (record { mode = leaf.mode; name = leaf.name }))) result }
     {
-        Err(StageFault::OutOfMemory)
+        // The name is looked at so that the proof has that it has 20 bytes.
+        let _ = leaf.name.bytes();
+        let found = Found {
+            mode: leaf.mode,
+            name: leaf.name,
+        };
+        let components = path.components();
+        let beside = self.last.taken(components);
+        let way = self.nodes.way_to(self.alloc, store, beside, components)?;
+        let child = way.spot.child;
+        let most = self
+            .nodes
+            .most_with_leaf(self.alloc, store, child, self.most)?;
+        let number = self.nodes.put_on(way, components, found)?;
+        self.most = most;
+        if way.level + 1 == components.len() {
+            self.last
+                .remember(self.alloc, &components[..way.level], number);
+        }
+        Ok(())
     }
 
     /// Moves what stands at a path. STUB
@@ -129,19 +173,6 @@ impl Stage {
         Err(StageFault::OutOfMemory)
     }
 
-    /// Brings the tree into the store. STUB
-    pub fn finish(&mut self, store: &mut Store) -> Result<Name, TreeFault>
-        requires { (t : Flat) × Shows store.old self.old t }
-        ensures ok { IfOk result (λ n. (t : Flat) → Shows store.old self.old t → StandsFor store.new n.0 t) }
-        ensures err { IfErr result (λ e. (t : Flat) → Shows store.old self.old t →
-            IsTreeFault (IsDirectoryBody t) store.new e) }
-        ensures store { (t : Flat) → Shows store.old self.old t → IsGrown (IsDirectoryBody t) store.old store.new }
-    {
-        // Every answer rests on what the store keeps.
-        let _ = store.get(&Name([0; 20]));
-        Err(TreeFault::OutOfMemory)
-    }
-
     /// Removes a path and all below it. Nothing there is no fault.
     pub fn remove(&mut self, store: &Store, path: &Path) -> Result<(), AllocError>
         requires { (t : Flat) × Shows store.now self.old t }
@@ -149,15 +180,32 @@ impl Stage {
             → Shows store.now self.new (remove t path.now)) }
         ensures err { OnErr result ((t : Flat) → Shows store.now self.old t → Shows store.now self.new t) }
     {
+        self.last.child = None;
         self.nodes.open_root(self.alloc, store)?;
         self.nodes.remove(self.alloc, store, path)
     }
 
     /// Removes all paths. Needs no memory.
     pub fn clear(&mut self)
-        ensures { (S : List Object) → Shows S self.new [] }
+        ensures { (S : List Object) → IsStore S → Shows S self.new [] }
     {
         self.nodes.clear();
+        self.most = 0;
+        self.last.child = None;
+    }
+
+    /// Stores the tree that is shown, and gives its name. A directory that no path has gone through keeps its name
+    /// and isn't read. At an error some directories may have been stored.
+    pub fn finish(&mut self, store: &mut Store) -> Result<Name, TreeFault>
+        requires { (t : Flat) × Shows store.old self.old t }
+        ensures { (t : Flat) → Shows store.old self.old t
+            → IsFinished store.old store.new self.new t result }
+    {
+        self.last.child = None;
+        match self.nodes.cells[0].content {
+            Content::Held(found) => Ok(found.name),
+            Content::Open => self.nodes.finish(self.alloc, store),
+        }
     }
 
     /// How many nodes there are. Needs no memory.

@@ -52,15 +52,27 @@ impl Nodes {
     fn spot(&self, directory: usize, component: &[u8]) -> Spot
         requires link { is_link self.now.cells.items (Link.First directory) ≡ true }
         requires walk { Walks self.now (target self.now.cells.items (Link.First directory)) }
-        ensures link { result.link ≡ sought component.now (Link.First directory) (hanging self.now (Link.First directory)) }
+        ensures link { result.link
+            ≡ sought component.now (Link.First directory) (hanging self.now (Link.First directory)) }
         ensures child { result.child ≡ named_first component.now (hanging self.now result.link) }
     {
-        let link = self.seek(Link::First(directory), component);
+        self.spot_from(Link::First(directory), component)
+    }
+
+    // The place of a component among the siblings from a link on.
+    pub fn spot_from(&self, start: Link, component: &[u8]) -> Spot
+        requires link { is_link self.now.cells.items start ≡ true }
+        requires walk { Walks self.now (target self.now.cells.items start) }
+        ensures link { result.link ≡ sought component.now start (hanging self.now start) }
+        ensures child { result.child ≡ named_first component.now (hanging self.now result.link) }
+    {
+        let link = self.seek(start, component);
         let child = self.named(link, component);
         Spot { link, child }
     }
 
-    // Enters the directory of that number, whose entries are made nodes where they aren't yet. None: it is no directory.
+    // Enters the directory of that number, whose entries are made nodes where they aren't yet. None: it is no
+    // directory.
     fn entered(
         &mut self,
         alloc: Global,
@@ -96,7 +108,8 @@ impl Nodes {
     ) -> Result<Way, AllocError>
         requires opened { IsOpen store.now self.old }
         requires path { is_path components.now ≡ true }
-        ensures ok { IfOk result (λ w. IsWay store.now self.old self.new components.now w.level w.spot.link w.spot.child) }
+        ensures ok { IfOk result (λ w. IsWay store.now self.old self.new components.now
+            w.level w.spot.link w.spot.child) }
         ensures err { OnErr result (IsStill store.now self.old self.new) }
     {
         let last = components.len() - 1;

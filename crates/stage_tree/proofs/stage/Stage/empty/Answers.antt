@@ -1,4 +1,4 @@
-use Rattle.std.proofs.Common.{[], ◌∷◌, ◌++◌, List, None, refl, replicate, ap, ◌∙◌}
+use Rattle.std.proofs.Common.{[], ◌∷◌, ◌++◌, List, None, replicate, refl, sym, ap, ◌∙◌}
 use Rattle.git_objects.specs.declared.mode.Mode.TheVariants.{Dir}
 use Rattle.path_trees.specs.declared.found.Found.{Found}
 use Rattle.stage_tree.specs.declared.nodes.Node.{Node}
@@ -10,4 +10,4 @@ pub invariant_of-stage : goal.invariant_of-stage
 invariant_of-stage c =
     let f : Found = record { mode = Dir; name = record { 0 = replicate 20 0 } } in
     let n : Node = record { at = 0; len = 0; content = Held f; first = None; next = None } in
-    begun (record { cells = c.push.new.self; names = c.new.result; free = None }) n f (c.in_ok-push.ensures.items ∙ ap (λ (v : List Node). v ++ n ∷ []) c.new-cells.ensures.items) refl refl refl refl
+    record { stage = begun (record { cells = c.push.new.self; names = c.new.result; free = None }) n f (c.in_ok-push.ensures.items ∙ ap (λ (v : List Node). v ++ n ∷ []) c.new-cells.ensures.items) refl refl refl refl; last_there = tt }

@@ -1,0 +1,120 @@
+// What was set last: a path that comes behind it in its directory needs no way from the root.
+ghost use Rattle.std.specs.Prelude.{◌≡◌, ◌-◌, ◌<◌, true, length, take, List, Some, None, IfOk, IfSome, OnErr};
+ghost use Rattle.git_objects.specs.Paths.{Path, is_path};
+ghost use Rattle.object_store.specs.Objects.{Object};
+ghost use Rattle.stage_tree.specs.Forests.{is_link, sought, target};
+ghost use Rattle.stage_tree.specs.Pools.{Walks, hanging};
+ghost use Rattle.stage_tree.specs.Sets.{IsArrived, IsChildOf, IsUnmoved};
+ghost use Rattle.stage_tree.specs.Stages.{IsRooted, IsStage, items_of};
+ghost use Rattle.stage_tree.specs.Ways.{IsOpen, IsPlaceOf, named_first};
+
+use crate::nodes::{Link, Nodes};
+use crate::ways::{Spot, Way};
+use git_objects::Component;
+use object_store::Store;
+use std::alloc::{AllocError, Global};
+
+// The node that was set last, if it may still be there, and the path of its directory.
+#[derive(Drop)]
+pub struct Last {
+    pub directory: Vec<Component>,
+    pub child: Option<usize>,
+}
+
+// Whether two paths have the same components.
+fn are_same(a: &[Component], b: &[Component]) -> bool
+    ensures { result ≡ true → a.now ≡ b.now }
+{
+    if a.len() != b.len() {
+        return false;
+    }
+    for level in 0..a.len() {
+        if a[level].bytes() != b[level].bytes() {
+            return false;
+        }
+    }
+    true
+}
+
+// The same components.
+fn copies(alloc: Global, components: &[Component]) -> Result<Vec<Component>, AllocError>
+    ensures { IfOk result (λ copies. copies.items ≡ components.now) }
+{
+    let mut copies = Vec::new(alloc);
+    for component in components {
+        copies.push(component.copy(alloc)?)?;
+    }
+    Ok(copies)
+}
+
+impl Last {
+    // Forgets the node, and gives it where it stands in the directory of a path.
+    pub fn taken(&mut self, components: &[Component]) -> Option<usize>
+        requires { 0 < length components.now }
+        ensures node { IfSome result (λ k. (self.old.child ≡ Some k)
+            × (self.old.directory.items ≡ take (length components.now - 1) components.now)) }
+        ensures forgotten { self.new.child ≡ None }
+    {
+        let child = self.child.take();
+        if are_same(&self.directory, &components[..components.len() - 1]) {
+            child
+        } else {
+            None
+        }
+    }
+
+    // A node of a directory was set. Without memory nothing is known.
+    pub fn remember(&mut self, alloc: Global, directory: &[Component], child: usize)
+        ensures { IfSome self.new.child (λ k. (k ≡ child) × (self.new.directory.items ≡ directory.now)) }
+    {
+        self.child = None;
+        if are_same(&self.directory, directory) {
+            self.child = Some(child);
+        } else if let Ok(directory) = copies(alloc, directory) {
+            self.directory = directory;
+            self.child = Some(child);
+        }
+    }
+}
+
+impl Nodes {
+    // The place of a component in the directory of a node that stands before it. None: the node doesn't.
+    fn spot_behind(&self, number: usize, component: &[u8]) -> Option<Spot>
+        requires opened { (S : List Object) × IsOpen S self.now }
+        requires child { (q : Path) × IsChildOf self.now q number }
+        ensures { IfSome result (λ spot. (S : List Object) (q : Path) → IsOpen S self.now → IsChildOf self.now q number
+            → IsPlaceOf S self.now q component.now spot.link spot.child) }
+    {
+        if self.is_before(self.cells[number], component) {
+            Some(self.spot_from(Link::Next(number), component))
+        } else {
+            None
+        }
+    }
+
+    // The way to a path, from a node of its directory where that stands before it.
+    pub fn way_to(
+        &mut self,
+        alloc: Global,
+        store: &Store,
+        beside: Option<usize>,
+        components: &[Component],
+    ) -> Result<Way, AllocError>
+        requires stage { IsStage self.old }
+        requires held { IsRooted store.now (items_of self.old) }
+        requires path { is_path components.now ≡ true }
+        requires beside { IfSome beside (IsChildOf self.old (take (length components.now - 1) components.now)) }
+        ensures ok { IfOk result (λ w. IsArrived store.now self.old self.new components.now
+            w.level w.spot.link w.spot.child) }
+        ensures err { OnErr result (IsUnmoved store.now self.old self.new) }
+    {
+        if let Some(number) = beside {
+            let level = components.len() - 1;
+            if let Some(spot) = self.spot_behind(number, components[level].bytes()) {
+                return Ok(Way { level, spot });
+            }
+        }
+        self.open_root(alloc, store)?;
+        self.way(alloc, store, components)
+    }
+}
