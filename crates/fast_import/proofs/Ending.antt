@@ -18,7 +18,7 @@ use Rattle.object_store.proofs.Unfolding.{unfolding_law}
 use Rattle.path_trees.specs.Made.{AreMade, IsGrown, IsTreeFault}
 use Rattle.path_trees.specs.declared.found.TreeFault.{TreeFault}
 use Rattle.path_trees.specs.declared.found.TreeFault.TheVariants as trees
-use Rattle.stage_tree.specs.Edits.{IsDirectoryBody}
+use Rattle.stage_tree.specs.Finished.{HasDirectory}
 use Rattle.fast_import.specs.Made.{IsDirectoryOf, IsMadeOf, IsPutFault}
 use Rattle.fast_import.specs.Replays.{Draft, commit_of, letter_of}
 use Rattle.fast_import.specs.Replaying.{tree_fault}
@@ -49,18 +49,18 @@ collides_at b n (Some x) e =
 clash_name : (R : List Object) (n b : Bytes) → collision Tree b (find_named R (name Tree b)) ≡ Some (Collides n) → collision Tree b (find_named R n) ≡ Some (Collides n)
 clash_name R n b e = subst (λ (m : Bytes). collision Tree b (find_named R m) ≡ Some (Collides n)) (collides_at b n (find_named R (name Tree b)) e) e
 
-pub directories_grown : (S T : List Object) (t : Flat) → IsGrown (IsDirectoryBody t) S T → IsGrownBy (IsDirectoryOf t) S T
+pub directories_grown : (S T : List Object) (t : Flat) → IsGrown (HasDirectory t) S T → IsGrownBy (IsDirectoryOf t) S T
 directories_grown S T t g = record {
   store = g.store;
   newer = g.newer;
   above = g.above;
-  all = λ o m. let h = all_made (IsDirectoryBody t) g.newer o g.trees m in (h.1.0, λ i. record { kind = h.0 i; body = h.1.1 i });
+  all = λ o m. let h = all_made (HasDirectory t) g.newer o g.trees m in (h.1.path, λ i. record { kind = h.0 i; body = sym h.1.body i });
 }
 
-pub directories_fault : (T : List Object) (t : Flat) (f : TreeFault) → IsTreeFault (IsDirectoryBody t) T f → IsPutFault (IsDirectoryOf t) T (tree_fault f)
+pub directories_fault : (T : List Object) (t : Flat) (f : TreeFault) → IsTreeFault (HasDirectory t) T f → IsPutFault (IsDirectoryOf t) T (tree_fault f)
 directories_fault T t (trees.Collision n) h = inr (n, refl, record {
   object = record { kind = Tree; body = h.body };
-  is_made = (h.is_made.0, λ i. record { kind = Tree; body = h.is_made.1 i });
+  is_made = (h.is_made.path, λ i. record { kind = Tree; body = sym h.is_made.body i });
   held = clash_name T n.0 h.body h.held;
 })
 directories_fault T t trees.OutOfMemory h = inl refl

@@ -21,6 +21,7 @@ pub mod Putting
 pub mod Growing
 pub mod Knowing
 pub mod Stepping
+pub mod Editing
 pub mod Ending
 pub mod Committing
 pub mod KnownBlobs

@@ -40,6 +40,8 @@ impl Replay {
             (base_in store.now (B.commits base.now) (B.refs base.now) (B.blobs base.now)) r
             (option_map name_bytes first))) }
     {
+        // Every answer rests on what the store keeps.
+        let _ = store.get(&Name([0; 20]));
         let Some(name) = first else {
             return Stage::empty(self.alloc);
         };
