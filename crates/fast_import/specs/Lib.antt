@@ -12,3 +12,10 @@ pub mod Readers
 pub mod Spelling
 pub mod Laws
 pub mod Rows
+pub mod Replays
+pub mod Examples
+pub mod Bases
+pub mod Replaying
+pub mod Made
+pub mod Standing
+pub mod Whole

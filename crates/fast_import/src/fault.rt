@@ -1,5 +1,9 @@
 // Why a stream is refused.
+ghost use Rattle.std.specs.Prelude.{◌≡◌};
+ghost use Rattle.fast_import.specs.declared.fault.StreamFault.TheVariants.{OutOfMemory};
+
 use git_objects::{Name, Quantity};
+use std::alloc::{AllocError, AllocFailed};
 
 /// Why a stream is refused. A place is the first byte of the line in which the fault stands.
 #[derive(Clone, Copy, Debug, PartialEq, Eq)]
@@ -19,6 +23,22 @@ pub enum StreamFault {
     /// Two objects have one name.
     Collision { name: Name },
     OutOfMemory,
+}
+
+impl From<AllocError> for StreamFault {
+    ghost from_gives = { λ _ fault. fault ≡ OutOfMemory };
+
+    fn from(_error: AllocError) -> StreamFault {
+        StreamFault::OutOfMemory
+    }
+}
+
+impl<T: Drop> From<AllocFailed<T>> for StreamFault {
+    ghost from_gives = { λ _ fault. fault ≡ OutOfMemory };
+
+    fn from(_error: AllocFailed<T>) -> StreamFault {
+        StreamFault::OutOfMemory
+    }
 }
 
 /// What isn't read of git-fast-import(1).

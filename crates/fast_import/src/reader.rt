@@ -4,6 +4,7 @@ ghost use Rattle.git_objects.specs.declared.limits.TheConstants.{STREAM_BYTES};
 ghost use Rattle.stream_lex.specs.Cutting.{grown, place};
 ghost use Rattle.fast_import.specs.Readers.{IsPlace, TellsTurn, TellsNext, reading, fed, wanted_now};
 ghost use Rattle.fast_import.specs.Readers.{Follows, OnCommand, OnMore, came, left};
+ghost use Rattle.fast_import.specs.Standing.{IfTold};
 ghost use Rattle.fast_import.specs.Verdicts.{start};
 
 use crate::halt::Halt;
@@ -94,6 +95,7 @@ impl Reader {
         ensures lowers { OnCommand result (left self.new < left self.old) }
         ensures more { OnMore result (came self.old ≤ STREAM_BYTES) }
         ensures came { OnOk result (came self.new ≡ came self.old) }
+        ensures replayable { IfTold result }
     {
         self.read()
     }

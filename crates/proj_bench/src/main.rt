@@ -1,20 +1,23 @@
 //! Work to be timed: `BENCH MODE NUMBER` does it once, with a second number for `trees put`, and `all` does a small
-//! one of each.
+//! one of each. `replay` replays the stream of the standard input, and lists its commits and refs.
 #![tactic(auto)]
 
 mod filter_texts;
 mod filters;
 mod graph;
 mod objects;
+mod replays;
 mod routes;
 mod streams;
 mod trees;
 
+use proj_io::StdSource;
 use std::alloc::{AllocError, Global};
+use std::io::Write;
 use std::rt::Clock;
 use std::{env, io};
 
-const USAGE: &str = "all, or objects, graph, trees, streams or routes, a mode, and a number";
+const USAGE: &str = "all, replay, or objects, graph, trees, streams or routes, a mode, and a number";
 
 // A small run of each kind of work, for `all`: the bench, the mode, and two numbers.
 const SMALL: [(&str, &str, u32, u32); 8] = [
@@ -96,11 +99,20 @@ fn second(words: &[String]) -> u32 {
     }
 }
 
+// Replays the stream of the standard input, and lists its commits and refs.
+fn replay(rt: &HostRuntime, alloc: Global) -> io::Result<()> {
+    match replays::answer(alloc, &mut StdSource::new(rt.stdin()))? {
+        None => println!(rt; "refused"),
+        Some(lines) => rt.stdout().write_all(&lines),
+    }
+}
+
 fn main(rt: HostRuntime) -> io::Result<()> {
     let alloc = rt.alloc();
     let words: Vec<String> = env::args(&rt)?.collect(alloc)?;
     match words.as_slice() {
         [_, word, ..] if word.as_str() == "all" => do_all(&rt, alloc),
+        [_, word, ..] if word.as_str() == "replay" => replay(&rt, alloc),
         [_, bench, rest @ ..] => do_one(&rt, alloc, bench.as_str(), rest),
         _ => println!(rt; "{USAGE}"),
     }

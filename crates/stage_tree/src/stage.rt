@@ -6,7 +6,7 @@ ghost use Rattle.object_store.specs.Objects.{IsStore, Object, has, has_child};
 ghost use Rattle.object_store.specs.Unfolding.{flat};
 ghost use Rattle.path_trees.specs.Standing.{node};
 ghost use Rattle.path_trees.specs.declared.found.Found.{Found};
-ghost use Rattle.stage_tree.specs.Edits.{IsEdited, set_in};
+ghost use Rattle.stage_tree.specs.Edits.{IsEdited, copied, set_in};
 ghost use Rattle.stage_tree.specs.Finished.{IsFinished};
 ghost use Rattle.stage_tree.specs.Stages.{Shows};
 
@@ -83,6 +83,41 @@ impl Stage {
         })
     }
 
+    /// A stage that stands for the empty tree.
+    pub fn empty(alloc: Global) -> Result<Stage, AllocError>
+        ensures { IfOk result (λ s. (S : List Object) → IsStore S → Shows S s []) }
+    {
+        let mut cells = Vec::new(alloc);
+        // The root is a name until it is cleared.
+        let found = Found {
+            mode: Mode::Dir,
+            name: Name([0; 20]),
+        };
+        cells.push(Node {
+            at: 0,
+            len: 0,
+            content: Content::Held(found),
+            first: None,
+            next: None,
+        })?;
+        let nodes = Nodes {
+            cells,
+            names: Vec::new(alloc),
+            free: None,
+        };
+        let mut stage = Stage {
+            alloc,
+            nodes,
+            most: 0,
+            last: Last {
+                directory: Vec::new(alloc),
+                child: None,
+            },
+        };
+        stage.clear();
+        Ok(stage)
+    }
+
     /// Puts a leaf at a path, where every path that is comparable with it goes. Paths of one directory that come in the
     /// order of their bytes cost little each.
     pub fn set(&mut self, store: &Store, path: &Path, leaf: Leaf) -> Result<(), StageFault>
@@ -111,6 +146,15 @@ impl Stage {
                 .remember(self.alloc, &components[..way.level], number);
         }
         Ok(())
+    }
+
+    /// Puts at a path what stands at another one. STUB
+    pub fn copy(&mut self, _store: &Store, _from: &Path, _to: &Path) -> Result<(), StageFault>
+        requires { (t : Flat) × Shows _store.now self.old t }
+        ensures { (t : Flat) → Shows _store.now self.old t → IsEdited _store.now self.new t
+            (copied t _from.now _to.now) result }
+    {
+        Err(StageFault::OutOfMemory)
     }
 
     /// Removes a path and all below it. Nothing there is no fault.

@@ -1,4 +1,5 @@
 use Rattle.fast_import.proofs.Following.{follows, lowers, more_within, came_same}
+use Rattle.fast_import.proofs.Replayable.{replayable}
 use Rattle.fast_import.proofs.reader.Reader.next.Goals as goal
 
 pub returns-clause-follows : goal.returns-clause-follows
@@ -12,3 +13,6 @@ returns-clause-more c = more_within c.read.result c.args.self.now c.read.new.sel
 
 pub returns-clause-came : goal.returns-clause-came
 returns-clause-came c = came_same c.read.result c.args.self.now c.read.new.self c.read.ensures
+
+pub returns-clause-replayable : goal.returns-clause-replayable
+returns-clause-replayable c = replayable c.read.result c.args.self.now c.read.new.self c.read.ensures

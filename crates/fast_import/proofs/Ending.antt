@@ -1,0 +1,111 @@
+-- A commit with its tree put into a store.
+use Rattle.std.proofs.Common.{◌≡◌, ◌⊎◌, inl, inr, ℕ, zero, suc, Bool, true, false, cond, List, [], ◌∷◌, ◌++◌, map, Option, Some, None, Result, Ok, Err, Contains, refl, sym, ap, subst, ◌∙◌, arith}
+use Rattle.git_objects.specs.Commits.{Letter, commit_body, commit_name}
+use Rattle.git_objects.specs.Names.{body, name, tree_name}
+use Rattle.git_objects.specs.Parts.{commit_of as parts_commit, name_bytes}
+use Rattle.git_objects.specs.Paths.{Bytes, Path}
+use Rattle.git_objects.specs.Snapshots.{Snapshot, snapshot_commit, snapshot_name}
+use Rattle.git_objects.specs.Trees.{Flat, under}
+use Rattle.git_objects.specs.declared.kind.Kind.TheVariants.{Tree, Commit as CommitKind}
+use Rattle.git_objects.specs.declared.name.Name.{Name}
+use Rattle.object_store.specs.Growth.{IsGrownBy, IsClash, IsOnly}
+use Rattle.object_store.specs.Objects.{Object, IsStore, find_named, has}
+use Rattle.object_store.specs.Puts.{Collides, collision, same_object}
+use Rattle.object_store.specs.StoredSnapshots.{snapshot_object}
+use Rattle.object_store.specs.Unfolding.{StandsFor, flat}
+use Rattle.object_store.proofs.Growth.{clash_as, grown_as, grown_then, stands-grown}
+use Rattle.object_store.proofs.Unfolding.{unfolding_law}
+use Rattle.path_trees.specs.Made.{AreMade, IsGrown, IsTreeFault}
+use Rattle.path_trees.specs.declared.found.TreeFault.{TreeFault}
+use Rattle.path_trees.specs.declared.found.TreeFault.TheVariants as trees
+use Rattle.stage_tree.specs.Finished.{HasDirectory}
+use Rattle.fast_import.specs.Made.{IsDirectoryOf, IsMadeOf, IsPutFault}
+use Rattle.fast_import.specs.Replays.{Draft, commit_of, letter_of}
+use Rattle.fast_import.specs.Replaying.{tree_fault}
+use Rattle.fast_import.specs.Standing.{IsCommitIn, IsDraftOf, IsEnded}
+use Rattle.fast_import.specs.declared.draft.Ended.{Ended}
+use Rattle.fast_import.proofs.Growing.{all-grown}
+use Rattle.fast_import.proofs.Putting.{fault_as}
+use Rattle.git_objects.specs.Lists.{Each}
+use Rattle.stage_tree.specs.Stages.{Shows}
+use Rattle.fast_import.specs.declared.draft.Draft.{Draft as DraftNames}
+use Rattle.fast_import.specs.declared.command.CommitHead.{CommitHead}
+use Rattle.fast_import.specs.declared.fault.StreamFault.{StreamFault}
+use Rattle.fast_import.specs.declared.fault.StreamFault.TheVariants as faults
+use Rattle.fast_import.specs.declared.replayed.Made.{Made}
+
+-- ---- trees
+
+all_made : (made : Bytes → Type 0) (os : List Object) (o : Object) → AreMade made os → Contains os o → (o.kind ≡ Tree) × made o.body
+all_made made [] o h m = absurd (omega (arith, m.1))
+all_made made (x ∷ os) o h (zero, l, e) = subst (λ (y : Object). (y.kind ≡ Tree) × made y.body) e (h.0, h.1)
+all_made made (x ∷ os) o h (suc i, l, e) = all_made made os o h.2 (i, omega (arith, l), e)
+
+collides_at : (b n : Bytes) (o : Option Object) → collision Tree b o ≡ Some (Collides n) → name Tree b ≡ n
+collides_at b n None e = cc
+collides_at b n (Some x) e =
+    elim (same_object Tree b x) as (λ t. cond t None (Some (Collides (name Tree b))) ≡ Some (Collides n) → name Tree b ≡ n) [ true ↦ λ g. cc | false ↦ λ g. cc ] e
+
+clash_name : (R : List Object) (n b : Bytes) → collision Tree b (find_named R (name Tree b)) ≡ Some (Collides n) → collision Tree b (find_named R n) ≡ Some (Collides n)
+clash_name R n b e = subst (λ (m : Bytes). collision Tree b (find_named R m) ≡ Some (Collides n)) (collides_at b n (find_named R (name Tree b)) e) e
+
+pub directories_grown : (S T : List Object) (t : Flat) → IsGrown (HasDirectory t) S T → IsGrownBy (IsDirectoryOf t) S T
+directories_grown S T t g = record {
+  store = g.store;
+  newer = g.newer;
+  above = g.above;
+  all = λ o m. let h = all_made (HasDirectory t) g.newer o g.trees m in (h.1.path, λ i. record { kind = h.0 i; body = sym h.1.body i });
+}
+
+pub directories_fault : (T : List Object) (t : Flat) (f : TreeFault) → IsTreeFault (HasDirectory t) T f → IsPutFault (IsDirectoryOf t) T (tree_fault f)
+directories_fault T t (trees.Collision n) h = inr (n, refl, record {
+  object = record { kind = Tree; body = h.body };
+  is_made = (h.is_made.path, λ i. record { kind = Tree; body = sym h.is_made.body i });
+  held = clash_name T n.0 h.body h.held;
+})
+directories_fault T t trees.OutOfMemory h = inl refl
+
+-- ---- the commit
+
+module _ (S T : List Object) (v : DraftNames) (d : Draft) (h : IsDraftOf S v d) (tree : Name) (whole : IsStore T) (stands : StandsFor T tree.0 d.tree) where
+  letter_is : letter_of v.head ≡ letter_of d.head
+  letter_is = ap letter_of h.head
+
+  tree_is : tree_name d.tree ≡ tree.0
+  tree_is = ap tree_name (sym stands.map) ∙ (unfolding_law T tree.0 whole stands.held).named
+
+  -- the body that is put
+  pub body_is : commit_body (record { tree = tree.0; parents = map name_bytes v.parents.items; letter = letter_of v.head }) ≡ commit_body (snapshot_commit (commit_of d))
+  body_is = λ i. commit_body (record { tree = sym tree_is i; parents = h.parents i; letter = letter_is i })
+
+  abbrev put_body : Bytes
+  put_body = commit_body (record { tree = tree.0; parents = map name_bytes v.parents.items; letter = letter_of v.head })
+
+  object_is : record { kind = CommitKind; body = put_body } ≡ snapshot_object (commit_of d)
+  object_is = ap (λ (b : Bytes). record { kind = CommitKind; body = b }) body_is
+
+  pub commit_made : (o : Object) → IsOnly CommitKind put_body o → IsMadeOf (Some d) o
+  commit_made o e = inl (e ∙ object_is)
+
+  pub commit_in : (R : List Object) (n : Name) → IsGrownBy (IsOnly CommitKind put_body) T R → n.0 ≡ name CommitKind put_body → find_named R n.0 ≡ Some (record { kind = CommitKind; body = put_body }) → IsCommitIn R (record { name = n; tree = tree }) (commit_of d)
+  unfolding commit_name
+  commit_in R n g e f = record {
+    named = ap (name CommitKind) (sym body_is) ∙ sym e;
+    held = f ∙ ap Some object_is;
+    stands = stands-grown T R tree.0 d.tree g stands;
+  }
+
+  pub commit_grown : (R : List Object) → IsGrownBy (IsDirectoryOf d.tree) S T → IsGrownBy (IsOnly CommitKind put_body) T R → IsGrownBy (IsMadeOf (Some d)) S R
+  commit_grown R g k = grown_then (IsMadeOf (Some d)) S T R (grown_as (IsDirectoryOf d.tree) (IsMadeOf (Some d)) S T (λ o m. inr m) g) (grown_as (IsOnly CommitKind put_body) (IsMadeOf (Some d)) T R commit_made k)
+
+  pub commit_fault : (R : List Object) (f : StreamFault) → IsPutFault (IsOnly CommitKind put_body) R f → IsPutFault (IsMadeOf (Some d)) R f
+  commit_fault R f k = fault_as (IsOnly CommitKind put_body) (IsMadeOf (Some d)) R f commit_made k
+
+pub tree_grown : (S T : List Object) (d : Draft) → IsGrownBy (IsDirectoryOf d.tree) S T → IsGrownBy (IsMadeOf (Some d)) S T
+tree_grown S T d g = grown_as (IsDirectoryOf d.tree) (IsMadeOf (Some d)) S T (λ o m. inr m) g
+
+pub tree_clash : (T : List Object) (d : Draft) (f : StreamFault) → IsPutFault (IsDirectoryOf d.tree) T f → IsPutFault (IsMadeOf (Some d)) T f
+tree_clash T d f h = fault_as (IsDirectoryOf d.tree) (IsMadeOf (Some d)) T f (λ o m. inr m) h
+
+pub parents_there : (S T : List Object) (v : DraftNames) (d : Draft) → IsDraftOf S v d → {made : Object → Type 0} → IsGrownBy made S T → Each (λ n. has CommitKind T n ≡ true) (map name_bytes v.parents.items)
+parents_there S T v d h g = subst (λ (ps : List Bytes). Each (λ n. has CommitKind T n ≡ true) ps) (sym h.parents) (all-grown S T g CommitKind d.parents h.held)

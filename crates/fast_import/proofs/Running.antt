@@ -1,0 +1,194 @@
+-- A stream so far: what its reader has told, and what came of it.
+use Rattle.std.proofs.Common.{◌≡◌, ◌⊎◌, inl, inr, ◌+◌, ◌*◌, ◌-◌, ◌<◌, ◌≤◌, ℕ, zero, suc, Bool, true, false, cond, List, [], ◌∷◌, ◌++◌, length, Option, Some, None, Result, Ok, Err, IfSome, refl, sym, ap, subst, ◌∙◌, append_assoc, append-nil, arith, length-append}
+use Rattle.std.specs.Prelude.{IsOkAnd}
+use Rattle.std.specs.Option.{unwrap_or}
+use Rattle.std.specs.Io.KnownBytes.{Consumes, IsAtEnd}
+use Rattle.std.proofs.KnownBytes.{Consumes-nil, Consumes-trans}
+use Rattle.git_objects.specs.Paths.{Bytes}
+use Rattle.git_objects.specs.Refs.{Refs}
+use Rattle.git_objects.specs.Results.{◌>>=◌}
+use Rattle.object_store.specs.Growth.{IsGrownBy}
+use Rattle.object_store.specs.Objects.{Object, IsStore}
+use Rattle.object_store.proofs.Growth.{clash_as, grown_as, grown_self, grown_then}
+use Rattle.stream_lex.specs.Lines.{Input}
+use Rattle.stream_lex.specs.Cutting.{grown}
+use Rattle.stream_lex.proofs.Passing.{grown_twice}
+use Rattle.fast_import.specs.Made.{IsMadeAt, IsMadeBy, IsMadeOn, IsPutFault, IsRefusal}
+use Rattle.fast_import.specs.Readers.{Follows, MayFollow, Reading, TellsNext, came, fed, left, verdict_with}
+use Rattle.fast_import.specs.Replays.{Base, Ran, Replay, Replayed, also_tried, given_by, gone_on, nothing_yet, outcome_of, ran, ran_by, replay, step}
+use Rattle.fast_import.specs.Replaying.{Replaying}
+use Rattle.fast_import.specs.Standing.{IsReplayOf, IsStepped}
+use Rattle.fast_import.specs.Verdicts.{Verdict, start, stopped, verdict, weight, with_command}
+use Rattle.fast_import.specs.Whole.{IsEnd, IsFed, IsMadeOfStream, IsPiece}
+use Rattle.fast_import.specs.declared.command.Placed.{Placed}
+use Rattle.fast_import.specs.declared.fault.StreamFault.{StreamFault}
+use Rattle.fast_import.specs.declared.fault.StreamFault.TheVariants.{OutOfMemory}
+use Rattle.fast_import.specs.declared.progress.Phase.{Phase}
+use Rattle.fast_import.specs.declared.progress.Phase.TheVariants.{Between, InCommit, Finished}
+use Rattle.fast_import.proofs.Putting.{fault_as}
+
+-- ---- commands in a row
+
+-- behind these commands, where none is refused
+abbrev pub after_all : Base → Replay → List Placed → Result Replay StreamFault
+after_all base r [] = Ok r
+after_all base r (p ∷ ps) = step base r p >>= λ s. after_all base s ps
+
+abbrev pub with_all : List Placed → Verdict → Verdict
+with_all cs v = record { commands = cs ++ v.commands; fault = v.fault }
+
+after-push : (base : Base) (r s : Replay) (ps : List Placed) (p : Placed) → after_all base r ps ≡ Ok s → after_all base r (ps ++ p ∷ []) ≡ step base s p
+after-push base r s [] p e = let same : r ≡ s = cc in one (step base r p) ∙ ap (λ (x : Replay). step base x p) same
+  where
+    one : (x : Result Replay StreamFault) → (x >>= λ t. Ok t) ≡ x
+    one (Ok t) = refl
+    one (Err f) = refl
+after-push base r s (q ∷ ps) p e = by (step base r q) (λ t. after-push base t s ps p) e
+  where
+    by : (x : Result Replay StreamFault) → ((t : Replay) → after_all base t ps ≡ Ok s → after_all base t (ps ++ p ∷ []) ≡ step base s p)
+        → (x >>= λ t. after_all base t ps) ≡ Ok s → (x >>= λ t. after_all base t (ps ++ p ∷ [])) ≡ step base s p
+    by (Ok t) next g = next t g
+    by (Err f) next g = absurd cc
+
+-- a run that goes on behind these commands
+pub record IsRunTo (y : Ran StreamFault) (ps : List Placed) (z : Ran StreamFault) : Type 0 where
+  pub all_tried : y.tried ≡ ps ++ z.tried
+  pub same_state : y.state ≡ z.state
+  pub same_fault : y.fault ≡ z.fault
+
+run_same : (y z : Ran StreamFault) → y ≡ z → IsRunTo y [] z
+run_same y z e = record { all_tried = ap (λ (x : Ran StreamFault). x.tried) e; same_state = ap (λ (x : Ran StreamFault). x.state) e; same_fault = ap (λ (x : Ran StreamFault). x.fault) e }
+
+run_more : (p : Placed) (y : Ran StreamFault) (ps : List Placed) (z : Ran StreamFault) → IsRunTo y ps z → IsRunTo (also_tried p y) (p ∷ ps) z
+run_more p y ps z h = record { all_tried = ap (λ (xs : List Placed). p ∷ xs) h.all_tried; same_state = h.same_state; same_fault = h.same_fault }
+
+run_gone : (base : Base) (end : Option StreamFault) (r s : Replay) (p : Placed) (ps qs : List Placed) (x : Result Replay StreamFault) → ((t : Replay) → after_all base t ps ≡ Ok s → IsRunTo (ran_by (step base) end t (ps ++ qs)) ps (ran_by (step base) end s qs))
+    → (x >>= λ t. after_all base t ps) ≡ Ok s → IsRunTo (gone_on p r (λ t. ran_by (step base) end t (ps ++ qs)) x) (p ∷ ps) (ran_by (step base) end s qs)
+run_gone base end r s p ps qs (Ok t) next g = run_more p (ran_by (step base) end t (ps ++ qs)) ps (ran_by (step base) end s qs) (next t g)
+run_gone base end r s p ps qs (Err f) next g = absurd cc
+
+pub run-on : (base : Base) (end : Option StreamFault) (r s : Replay) (ps qs : List Placed) → after_all base r ps ≡ Ok s → IsRunTo (ran_by (step base) end r (ps ++ qs)) ps (ran_by (step base) end s qs)
+run-on base end r s [] qs e = let same : r ≡ s = cc in run_same (ran_by (step base) end r qs) (ran_by (step base) end s qs) (ap (λ (x : Replay). ran_by (step base) end x qs) same)
+run-on base end r s (p ∷ ps) qs e = run_gone base end r s p ps qs (step base r p) (λ t. run-on base end t s ps qs) e
+
+-- what commands bring, in front of others and behind others
+pub made-front : (base : Base) (r : Replay) (ps qs : List Placed) (o : Object) → IsMadeBy base r ps o → IsMadeBy base r (ps ++ qs) o
+made-front base r [] qs o h = absurd h
+made-front base r (p ∷ ps) qs o (inl h) = inl h
+made-front base r (p ∷ ps) qs o (inr h) = inr (by (step base r p) (λ s. made-front base s ps qs o) h)
+  where
+    by : (x : Result Replay StreamFault) → ((s : Replay) → IsMadeBy base s ps o → IsMadeBy base s (ps ++ qs) o) → IsMadeOn (λ s. IsMadeBy base s ps o) x → IsMadeOn (λ s. IsMadeBy base s (ps ++ qs) o) x
+    by (Ok s) next k = next s k
+    by (Err f) next k = absurd k
+
+pub made-behind : (base : Base) (r s : Replay) (ps : List Placed) (p : Placed) (qs : List Placed) (o : Object) → after_all base r ps ≡ Ok s → IsMadeAt s p.command o → IsMadeBy base r (ps ++ p ∷ qs) o
+made-behind base r s [] p qs o e h = let same : r ≡ s = cc in inl (subst (λ (x : Replay). IsMadeAt x p.command o) (sym same) h)
+made-behind base r s (q ∷ ps) p qs o e h = inr (by (step base r q) (λ t g. made-behind base t s ps p qs o g h) e)
+  where
+    by : (x : Result Replay StreamFault) → ((t : Replay) → after_all base t ps ≡ Ok s → IsMadeBy base t (ps ++ p ∷ qs) o) → (x >>= λ t. after_all base t ps) ≡ Ok s → IsMadeOn (λ t. IsMadeBy base t (ps ++ p ∷ qs) o) x
+    by (Ok t) next g = next t g
+    by (Err f) next g = absurd cc
+
+-- ---- a stream so far
+
+-- S and before are the store and what the source had at first; T, now, rd and v are the store, the source, the reader and the
+-- replay as they are.
+pub record IsSoFar (base : Base) (S T : List Object) (before now : Option Bytes) (rd : Reading) (v : Replaying) : Type 0 where
+  pub taken : Bytes
+  pub gone : Consumes before now taken
+  pub told : List Placed
+  pub state : Replay
+  pub run : after_all base nothing_yet told ≡ Ok state
+  pub stands : IsReplayOf T v state
+  pub same : (more : Bytes) → MayFollow rd more true → verdict start (taken ++ more) ≡ with_all told (verdict_with more rd)
+  pub grown : IsGrownBy (IsMadeBy base nothing_yet told) S T
+  pub at_end : rd.ended ≡ true → IsAtEnd now
+
+pub nothing_so_far : (base : Base) (S : List Object) (before : Option Bytes) (v : Replaying) → IsStore S → IsReplayOf S v nothing_yet → IsSoFar base S S before before (record { progress = start; input = record { at = 0; rest = [] }; ended = false }) v
+nothing_so_far base S before v s h = record {
+  taken = [];
+  gone = Consumes-nil before;
+  told = [];
+  state = nothing_yet;
+  run = refl;
+  stands = h;
+  same = λ more m. refl;
+  grown = grown_self (IsMadeBy base nothing_yet []) S s;
+  at_end = λ e. cc;
+}
+
+module _ (base : Base) (S T : List Object) (before now : Option Bytes) (old new : Reading) (v : Replaying) (h : IsSoFar base S T before now old v) where
+  -- what follows behind the reading may have followed before it
+  may_before : new.ended ≡ old.ended → (more : Bytes) → MayFollow new more true → MayFollow old more true
+  may_before e more m q = m (e ∙ q)
+
+  -- ---- a command that is carried out
+
+  module _ (p : Placed) (ended : new.ended ≡ old.ended) (follows : (more : Bytes) → MayFollow old more true → verdict_with more old ≡ with_command p (verdict_with more new)) where
+    split : (more : Bytes) → MayFollow new more true → verdict start (h.taken ++ more) ≡ with_all (h.told ++ p ∷ []) (verdict_with more new)
+    split more m =
+        h.same more (may_before ended more m)
+        ∙ ap (with_all h.told) (follows more (may_before ended more m))
+        ∙ ap (λ (cs : List Placed). record { commands = cs; fault = (verdict_with more new).fault }) (sym (append_assoc h.told (p ∷ []) (verdict_with more new).commands))
+
+    pub one_more : (R : List Object) (w : Replaying) → IsStepped base T R w h.state p (Ok tt) → IsSoFar base S R before now new w
+    one_more R w k = by (step base h.state p) refl k.done
+      where
+        by : (x : Result Replay StreamFault) → step base h.state p ≡ x → IsOkAnd (step base h.state p) (IsReplayOf R w) → IsSoFar base S R before now new w
+        by (Err f) q d = absurd (subst (λ (y : Result Replay StreamFault). IsOkAnd y (IsReplayOf R w)) q d)
+        by (Ok s) q d = record {
+          taken = h.taken;
+          gone = h.gone;
+          told = h.told ++ p ∷ [];
+          state = s;
+          run = after-push base nothing_yet h.state h.told p h.run ∙ q;
+          stands = subst (λ (y : Result Replay StreamFault). IsOkAnd y (IsReplayOf R w)) q d;
+          same = split;
+          grown = grown_then (IsMadeBy base nothing_yet (h.told ++ p ∷ [])) S T R
+              (grown_as (IsMadeBy base nothing_yet h.told) (IsMadeBy base nothing_yet (h.told ++ p ∷ [])) S T (made-front base nothing_yet h.told (p ∷ [])) h.grown)
+              (grown_as (IsMadeAt h.state p.command) (IsMadeBy base nothing_yet (h.told ++ p ∷ [])) T R (λ o m. made-behind base nothing_yet h.state h.told p [] o h.run m) k.grown);
+          at_end = λ e. h.at_end (sym ended ∙ e);
+        }
+
+  -- ---- more of the stream
+
+  pub waiting : new.ended ≡ old.ended → ((more : Bytes) → MayFollow old more true → verdict_with more old ≡ verdict_with more new) → IsSoFar base S T before now new v
+  waiting ended follows = record {
+    taken = h.taken;
+    gone = h.gone;
+    told = h.told;
+    state = h.state;
+    run = h.run;
+    stands = h.stands;
+    same = λ more m. h.same more (may_before ended more m) ∙ ap (with_all h.told) (follows more (may_before ended more m));
+    grown = h.grown;
+    at_end = λ e. h.at_end (sym ended ∙ e);
+  }
+
+pub fed_more : (base : Base) (S T : List Object) (before now later : Option Bytes) (rd new : Reading) (v : Replaying) (most : ℕ) → rd.ended ≡ false → IsSoFar base S T before now rd v → IsFed now later rd new most → IsSoFar base S T before later new v
+fed_more base S T before now later rd new v most un h (inl p) = record {
+  taken = h.taken ++ p.bytes;
+  gone = Consumes-trans before now later h.taken p.bytes h.gone p.taken;
+  told = h.told;
+  state = h.state;
+  run = h.run;
+  stands = h.stands;
+  same = λ more m.
+      ap (verdict start) (append_assoc h.taken p.bytes more)
+      ∙ h.same (p.bytes ++ more) (λ e. cc)
+      ∙ ap (λ (i : Input). with_all h.told (Rattle.fast_import.specs.Verdicts.verdict_from rd.progress i)) (sym (grown_twice p.bytes more rd.input))
+      ∙ ap (λ (r : Reading). with_all h.told (verdict_with more r)) (sym p.now);
+  grown = h.grown;
+  at_end = λ e. let no : false ≡ true = ap (λ (r : Reading). r.ended) (sym p.now) ∙ e in cc;
+}
+fed_more base S T before now later rd new v most un h (inr p) = record {
+  taken = h.taken;
+  gone = subst (Consumes before later) (append-nil h.taken) (Consumes-trans before now later h.taken [] h.gone p.none);
+  told = h.told;
+  state = h.state;
+  run = h.run;
+  stands = h.stands;
+  same = λ more m. h.same more (λ e. cc) ∙ ap (λ (r : Reading). with_all h.told (verdict_with more r)) (sym p.now);
+  grown = h.grown;
+  at_end = λ e. p.at_end;
+}

@@ -1,0 +1,170 @@
+-- How the replay of a whole stream ends.
+use Rattle.std.proofs.Common.{◌≡◌, ◌⊎◌, inl, inr, ◌+◌, ◌*◌, ◌-◌, ◌<◌, ◌≤◌, ℕ, zero, suc, Bool, true, false, cond, List, [], ◌∷◌, ◌++◌, length, Option, Some, None, Result, Ok, Err, IfSome, refl, sym, ap, subst, ◌∙◌, append-nil, arith, length-append}
+use Rattle.std.specs.Prelude.{IsOkAnd}
+use Rattle.std.specs.Option.{unwrap_or}
+use Rattle.std.specs.Io.KnownBytes.{Consumes, IsAtEnd}
+use Rattle.git_objects.specs.Paths.{Bytes}
+use Rattle.git_objects.specs.declared.limits.TheConstants.{STREAM_BYTES}
+use Rattle.object_store.specs.Growth.{IsGrownBy}
+use Rattle.object_store.specs.Objects.{Object}
+use Rattle.object_store.proofs.Growth.{grown_as, grown_then}
+use Rattle.stream_lex.specs.Cutting.{IsTold}
+use Rattle.stream_lex.specs.declared.stop.Wanted.{Wanted}
+use Rattle.stream_lex.specs.declared.stop.Stop.TheVariants.{More}
+use Rattle.fast_import.specs.Commands.{read_command}
+use Rattle.fast_import.specs.Made.{IsMadeAt, IsMadeBy, IsPutFault, IsRefusal}
+use Rattle.fast_import.specs.Readers.{MayFollow, Reading, TellsNext, came, fed, left, verdict_with}
+use Rattle.fast_import.specs.Replays.{Base, Ran, Replay, Replayed, given_by, gone_on, nothing_yet, outcome_of, ran, ran_by, replay, step}
+use Rattle.fast_import.specs.Replaying.{Replaying}
+use Rattle.fast_import.specs.Standing.{IsReplayOf, IsReplayedOf, IsStepped}
+use Rattle.fast_import.specs.Verdicts.{Verdict, start, stopped, verdict, weight, with_command}
+use Rattle.fast_import.specs.Whole.{IsEnd, IsFed, IsMadeOfStream, IsPiece, IsStreamError, IsWhole}
+use Rattle.fast_import.specs.declared.command.Placed.{Placed}
+use Rattle.fast_import.specs.declared.fault.StreamFault.{StreamFault}
+use Rattle.fast_import.specs.declared.fault.StreamFault.TheVariants.{OutOfMemory}
+use Rattle.fast_import.specs.declared.progress.Phase.{Phase}
+use Rattle.fast_import.specs.declared.progress.Phase.TheVariants.{Between, InCommit, Finished}
+use Rattle.fast_import.specs.declared.progress.Progress.{Progress}
+use Rattle.fast_import.specs.declared.reader.Next.TheVariants as nexts
+use Rattle.fast_import.specs.declared.replayed.Replayed.{Replayed as ReplayedNames}
+use Rattle.fast_import.specs.declared.whole.ReplayError.{ReplayError}
+use Rattle.fast_import.specs.declared.whole.ReplayError.TheVariants.{ReadFault, Stream}
+use Rattle.fast_import.proofs.Commanding.{command-reader}
+use Rattle.fast_import.proofs.Putting.{fault_as}
+use Rattle.fast_import.proofs.Running.{IsRunTo, IsSoFar, made-behind, made-front, run-on, with_all}
+
+rest_none : (now : Option Bytes) → IsAtEnd now → unwrap_or now [] ≡ []
+rest_none None h = refl
+rest_none (Some bs) h = h
+
+told_all : (before now : Option Bytes) (taken : Bytes) → Consumes before now taken → IfSome before (λ bytes. bytes ≡ taken ++ unwrap_or now [])
+told_all None now taken h = tt
+told_all (Some bs) None taken h = absurd h
+told_all (Some bs) (Some cs) taken h = h
+
+module _ (base : Base) (S T : List Object) (before now : Option Bytes) (rd : Reading) (v : Replaying) (h : IsSoFar base S T before now rd v) where
+  abbrev pub rest : Bytes
+  rest = unwrap_or now []
+
+  -- all that the source has
+  abbrev pub all : Bytes
+  all = h.taken ++ rest
+
+  pub all_told : IfSome before (λ bytes. bytes ≡ all)
+  all_told = told_all before now h.taken h.gone
+
+  may_rest : MayFollow rd rest true
+  may_rest e = (rest_none now (h.at_end e), refl)
+
+  abbrev later : Verdict
+  later = verdict_with rest rd
+
+  ran_all : IsRunTo (ran base all) h.told (ran_by (step base) later.fault h.state later.commands)
+  ran_all = subst (λ (x : Verdict). IsRunTo (ran_by (step base) x.fault nothing_yet x.commands) h.told (ran_by (step base) later.fault h.state later.commands)) (sym (h.same rest may_rest)) (run-on base later.fault nothing_yet h.state h.told later.commands h.run)
+
+  -- what came up so far comes up in the stream
+  made_so_far : (o : Object) → IsMadeBy base nothing_yet h.told o → IsMadeOfStream base all o
+  made_so_far o m = subst (λ (ps : List Placed). IsMadeBy base nothing_yet ps o) (sym ran_all.all_tried) (made-front base nothing_yet h.told (ran_by (step base) later.fault h.state later.commands).tried o m)
+
+  pub grown_so_far : IsGrownBy (IsMadeOfStream base all) S T
+  grown_so_far = grown_as (IsMadeBy base nothing_yet h.told) (IsMadeOfStream base all) S T made_so_far h.grown
+
+  -- ---- the reader stops
+
+  stopped_all : (f : Option StreamFault) → later ≡ stopped f → replay base all ≡ outcome_of h.state f
+  stopped_all f e =
+      (λ i. outcome_of (ran_all.same_state i) (ran_all.same_fault i))
+      ∙ ap (λ (x : Verdict). outcome_of (ran_by (step base) x.fault h.state x.commands).state (ran_by (step base) x.fault h.state x.commands).fault) e
+
+  pub all_given : ((more : Bytes) → MayFollow rd more true → verdict_with more rd ≡ stopped None) → (g : ReplayedNames) → IsReplayedOf T g (given_by h.state) → IsWhole base S T all (Ok g)
+  all_given e g k = record {
+    given = subst (λ (x : Result Replayed StreamFault). IsOkAnd x (IsReplayedOf T g)) (sym (stopped_all None (e rest may_rest))) k;
+    refused = tt;
+    grown = grown_so_far;
+  }
+
+  pub reading_refused : (f : StreamFault) → ((more : Bytes) → MayFollow rd more true → (f ≡ OutOfMemory) ⊎ (verdict_with more rd ≡ stopped (Some f))) → IsWhole base S T all (Err (Stream f))
+  reading_refused f e = record { given = tt; refused = by (e rest may_rest); grown = grown_so_far }
+    where
+      by : (f ≡ OutOfMemory) ⊎ (later ≡ stopped (Some f)) → IsRefusal (IsMadeOfStream base all) T (replay base all) f
+      by (inl q) = inr (inl q)
+      by (inr q) = inl (stopped_all (Some f) q)
+
+  -- ---- the source fails, or there is no memory
+
+  pub feeding_refused : (e : ReplayError) → (e ≡ ReadFault) ⊎ (e ≡ Stream OutOfMemory) → IsWhole base S T all (Err e)
+  feeding_refused e k = record { given = tt; refused = by k; grown = grown_so_far }
+    where
+      by : (e ≡ ReadFault) ⊎ (e ≡ Stream OutOfMemory) → IsStreamError base T all e
+      by (inl q) = subst (IsStreamError base T all) (sym q) tt
+      by (inr q) = subst (IsStreamError base T all) (sym q) (inr (inl refl))
+
+  -- ---- a command is refused
+
+  module _ (p : Placed) (new : Reading) (follows : (more : Bytes) → MayFollow rd more true → verdict_with more rd ≡ with_command p (verdict_with more new)) where
+    abbrev behind : Verdict
+    behind = verdict_with rest new
+
+    abbrev gone : Result Replay StreamFault → Ran StreamFault
+    gone x = gone_on p h.state (λ s. ran_by (step base) behind.fault s behind.commands) x
+
+    run_step : IsRunTo (ran base all) h.told (gone (step base h.state p))
+    run_step = subst (λ (x : Verdict). IsRunTo (ran base all) h.told (ran_by (step base) x.fault h.state x.commands)) (follows rest may_rest) ran_all
+
+    tried_here : (x : Result Replay StreamFault) → (qs : List Placed) × ((gone x).tried ≡ p ∷ qs)
+    tried_here (Ok s) = ((ran_by (step base) behind.fault s behind.commands).tried, refl)
+    tried_here (Err f) = ([], refl)
+
+    made_here : (o : Object) → IsMadeAt h.state p.command o → IsMadeOfStream base all o
+    made_here o m =
+        let t = tried_here (step base h.state p) in
+        subst (λ (ps : List Placed). IsMadeBy base nothing_yet ps o) (sym (run_step.all_tried ∙ ap (λ (qs : List Placed). h.told ++ qs) t.1)) (made-behind base nothing_yet h.state h.told p t.0 o h.run m)
+
+    pub step_refused : (R : List Object) (w : Replaying) (f : StreamFault) → IsStepped base T R w h.state p (Err f) → IsWhole base S R all (Err (Stream f))
+    step_refused R w f k = record {
+      given = tt;
+      refused = by k.refused;
+      grown = grown_then (IsMadeOfStream base all) S T R grown_so_far (grown_as (IsMadeAt h.state p.command) (IsMadeOfStream base all) T R made_here k.grown);
+    }
+      where
+        by : IsRefusal (IsMadeAt h.state p.command) R (step base h.state p) f → IsRefusal (IsMadeOfStream base all) R (replay base all) f
+        by (inl q) = inl ((λ i. outcome_of (run_step.same_state i) (run_step.same_fault i)) ∙ ap (λ (x : Result Replay StreamFault). outcome_of (gone x).state (gone x).fault) q)
+        by (inr q) = inr (fault_as (IsMadeAt h.state p.command) (IsMadeOfStream base all) R f made_here q)
+
+-- ---- the end of the reading
+
+-- more is waited for only before the end
+not_ended : (p : Progress) (ended : Bool) (i : Rattle.stream_lex.specs.Lines.Input) (w : Wanted) → read_command p ended i ≡ Err (More w) → ended ≡ false
+not_ended p false i w e = refl
+not_ended p true i w e = absurd (subst IsTold e ((command-reader p).told i))
+
+pub more_open : (old new : Reading) → TellsNext (Ok nexts.More) old new → new.ended ≡ false
+more_open old new h = h.1.ended ∙ not_ended old.progress old.ended old.input h.0.0 h.0.1
+
+phase_few : (p : Phase) → weight p ≤ 2
+phase_few Between = omega arith
+phase_few InCommit = omega arith
+phase_few Finished = omega arith
+
+pub left_few : (rd : Reading) → left rd ≤ 2 * came rd + 2
+left_few rd = omega (arith, phase_few rd.progress.phase)
+
+-- what is still to be done in a stream of bounded length
+abbrev pub ahead : Reading → ℕ
+ahead rd = 600000000 * ((STREAM_BYTES + 65536 - came rd) + cond rd.ended 0 1) + left rd
+
+pub ahead_command : (old new : Reading) → came new ≡ came old → new.ended ≡ old.ended → left new < left old → ahead new < ahead old
+ahead_command old new c e l = omega (arith, ap {B = ℕ} (λ (b : Bool). cond b 0 1) e)
+
+came_fed : (bytes : Bytes) (rd : Reading) → came (fed bytes false rd) ≡ came rd + length bytes
+came_fed bytes rd = omega (arith, length-append rd.input.rest bytes)
+
+pub within_fed : (before after : Option Bytes) (rd new : Reading) (most : ℕ) → came rd ≤ STREAM_BYTES → IsFed before after rd new most → most ≤ 65536 → came new ≤ STREAM_BYTES + 65536
+within_fed before after rd new most w (inl p) m = omega (arith, w, m, p.few, came_fed p.bytes rd, ap came p.now)
+within_fed before after rd new most w (inr p) m = omega (arith, w, ap came p.now)
+
+pub ahead_fed : (before after : Option Bytes) (old rd new : Reading) (most : ℕ) → came rd ≡ came old → rd.ended ≡ old.ended → rd.ended ≡ false → came old ≤ STREAM_BYTES → most ≤ 65536 → IsFed before after rd new most → ahead new < ahead old
+ahead_fed before after old rd new most c e un w m (inl p) =
+    omega (arith, c, w, m, p.few, p.some, came_fed p.bytes rd, ap came p.now, left_few new, ap {B = ℕ} (λ (b : Bool). cond b 0 1) (ap (λ (r : Reading). r.ended) p.now), ap {B = ℕ} (λ (b : Bool). cond b 0 1) (sym e ∙ un))
+ahead_fed before after old rd new most c e un w m (inr p) =
+    omega (arith, c, w, ap came p.now, left_few new, ap {B = ℕ} (λ (b : Bool). cond b 0 1) (ap (λ (r : Reading). r.ended) p.now), ap {B = ℕ} (λ (b : Bool). cond b 0 1) (sym e ∙ un))

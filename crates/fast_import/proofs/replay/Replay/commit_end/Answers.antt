@@ -1,0 +1,12 @@
+use Rattle.std.proofs.Common.{sym, ◌∙◌}
+use Rattle.fast_import.proofs.Committing.{end_done, end_refused}
+use Rattle.fast_import.proofs.replay.Replay.commit_end.Goals as goal
+
+pub returns-in-Err : goal.returns-in-Err
+returns-in-Err c = λ base r h.
+    end_refused base c.args.store.now c.end_of.new.store c.args.self.now c.take_draft.new.self r c.args.at c.in-Some.draft h (sym c.take_draft.ensures.value ∙ c.in-Some.is) c.end_of.ensures.store c.in-Err.fault c.in-Err.ensures.err
+
+pub returns-in-Ok : goal.returns-in-Ok
+returns-in-Ok c = λ base r h.
+    end_done base c.args.store.now c.end_of.new.store c.args.self.now c.enter.new.self r c.args.at c.in-Some.draft h (sym c.take_draft.ensures.value ∙ c.in-Some.is) c.end_of.ensures.store
+    c.in-Ok.ended c.take_draft.new.self c.in-Ok.ensures.ok c.take_draft.ensures.after c.enter.result c.enter.ensures.ok c.enter.ensures.err

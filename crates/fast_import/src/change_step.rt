@@ -1,0 +1,179 @@
+// Changes of the commit that is being made.
+ghost use Rattle.std.specs.Prelude.{◌≡◌, ◌||◌, true, List};
+ghost use Rattle.std.specs.List.{list_any};
+ghost use Rattle.git_objects.specs.Paths.{same_bytes};
+ghost use Rattle.git_objects.specs.declared.mode.Mode.{Mode};
+ghost use Rattle.object_store.specs.Objects.{IsStore, Object};
+ghost use Rattle.fast_import.specs.Bases.{IsBaseIn, base_in};
+ghost use Rattle.fast_import.specs.Replays.{Base as BaseOf, Draft as DraftOf, Replay as ReplayOf, edited};
+ghost use Rattle.fast_import.specs.Replays.{given_bytes, is_fit};
+ghost use Rattle.fast_import.specs.Replays.{is_replayable};
+ghost use Rattle.fast_import.specs.Replaying.{is_named};
+ghost use Rattle.fast_import.specs.Standing.{Gives, IsChanged, IsDraftOf, IsGiven, IsLeafIn};
+ghost use Rattle.fast_import.specs.Standing.{IsReplayOf, IsStepped};
+ghost use Rattle.fast_import.specs.declared.command.BlobRef.TheVariants.{Digits, Mark};
+ghost use Rattle.fast_import.specs.declared.command.Command.TheVariants.{Change as ChangeCommand};
+ghost use Rattle.fast_import.specs.declared.command.Change.TheVariants.{Modify};
+
+use crate::draft::Draft;
+use crate::edits::{doubled, emptied, moved, with_leaf, without};
+use crate::marks::Marked;
+use crate::{Base, BlobRef, Change, Replay, StreamFault};
+use git_objects::{Mode, Name};
+use object_store::Store;
+use path_names::Path;
+use path_trees::Leaf;
+
+impl Replay {
+    // Whether a blob of that name was read or known before.
+    fn is_blob<B: Base>(&self, base: &B, name: &Name) -> bool
+        ensures { result ≡ (list_any (is_named name.now) self.now.blobs
+            || list_any (same_bytes name.now.0) (B.blobs base.now)) }
+    {
+        self.blobs.has(name) || base.knows_blob(name)
+    }
+
+    // The blob or the module of that name.
+    fn named_blob<B: Base>(
+        &self,
+        base: &B,
+        at: u64,
+        mode: Mode,
+        name: &Name,
+    ) -> Result<Name, StreamFault>
+        ensures { (S : List Object) (r : ReplayOf) → IsStore S →
+            IsBaseIn S (B.commits base.now) (B.refs base.now) (B.blobs base.now) → IsReplayOf S self.now r →
+            Gives (IsLeafIn S mode) (given_bytes (base_in S (B.commits base.now) (B.refs base.now) (B.blobs base.now))
+            r at mode (Digits name.now)) result }
+    {
+        match mode {
+            Mode::Module => Ok(*name),
+            _ => {
+                if self.is_blob(base, name) {
+                    Ok(*name)
+                } else {
+                    Err(StreamFault::Unresolved { at })
+                }
+            }
+        }
+    }
+
+    // The blob of a mark.
+    fn marked_blob(&self, at: u64, mark: u64) -> Result<Name, StreamFault>
+        ensures { (S : List Object) (base : BaseOf) (r : ReplayOf) (mode : Mode) → is_fit mode (Mark mark) ≡ true →
+            IsReplayOf S self.now r → Gives (IsLeafIn S mode) (given_bytes base r at mode (Mark mark)) result }
+    {
+        match self.marks.get(mark) {
+            Some(Marked::Blob(name)) => Ok(name),
+            _ => Err(StreamFault::Unresolved { at }),
+        }
+    }
+
+    // What a change puts: a blob, or a module by its name.
+    fn given<B: Base>(
+        &mut self,
+        base: &B,
+        store: &mut Store,
+        at: u64,
+        mode: Mode,
+        blob: &BlobRef,
+    ) -> Result<Name, StreamFault>
+        requires store { IsStore store.old }
+        requires base { IsBaseIn store.old (B.commits base.now) (B.refs base.now) (B.blobs base.now) }
+        requires fit { is_fit mode blob.now ≡ true }
+        ensures { (r : ReplayOf) → IsReplayOf store.old self.old r → IsGiven store.old store.new self.new r mode blob.now
+            (given_bytes (base_in store.old (B.commits base.now) (B.refs base.now) (B.blobs base.now)) r at mode
+            blob.now) result }
+    {
+        match blob {
+            BlobRef::Inline(content) => self.bring(store, content.bytes()),
+            BlobRef::Mark(mark) => self.marked_blob(at, *mark),
+            BlobRef::Digits(name) => self.named_blob(base, at, mode, name),
+        }
+    }
+
+    // The draft in which a change puts a blob or a module at a path.
+    fn modified<B: Base>(
+        &mut self,
+        base: &B,
+        store: &mut Store,
+        at: u64,
+        draft: Draft,
+        mode: Mode,
+        blob: &BlobRef,
+        path: &Path,
+    ) -> Result<Draft, StreamFault>
+        requires store { IsStore store.old }
+        requires base { IsBaseIn store.old (B.commits base.now) (B.refs base.now) (B.blobs base.now) }
+        requires fit { is_fit mode blob.now ≡ true }
+        requires so_far { (r : ReplayOf) × IsReplayOf store.old self.old r }
+        requires draft { (d : DraftOf) × IsDraftOf store.old draft d }
+        ensures { (r : ReplayOf) (d : DraftOf) → IsReplayOf store.old self.old r → IsDraftOf store.old draft d →
+            IsChanged store.old store.new self.new r d (Modify mode blob.now path.now)
+            (edited (base_in store.old (B.commits base.now) (B.refs base.now) (B.blobs base.now)) r at d.tree
+            (Modify mode blob.now path.now)) result }
+    {
+        match self.given(base, store, at, mode, blob) {
+            Err(fault) => Err(fault),
+            Ok(name) => with_leaf(store, at, draft, path, Leaf { mode, name }),
+        }
+    }
+
+    // The draft with a change of its tree.
+    fn edited<B: Base>(
+        &mut self,
+        base: &B,
+        store: &mut Store,
+        at: u64,
+        draft: Draft,
+        change: &Change,
+    ) -> Result<Draft, StreamFault>
+        requires store { IsStore store.old }
+        requires base { IsBaseIn store.old (B.commits base.now) (B.refs base.now) (B.blobs base.now) }
+        requires fit { is_replayable (ChangeCommand change.now) ≡ true }
+        requires so_far { (r : ReplayOf) × IsReplayOf store.old self.old r }
+        requires draft { (d : DraftOf) × IsDraftOf store.old draft d }
+        ensures { (r : ReplayOf) (d : DraftOf) → IsReplayOf store.old self.old r → IsDraftOf store.old draft d →
+            IsChanged store.old store.new self.new r d change.now
+            (edited (base_in store.old (B.commits base.now) (B.refs base.now) (B.blobs base.now)) r at d.tree
+            change.now) result }
+    {
+        match change {
+            Change::Modify { mode, blob, path } => {
+                self.modified(base, store, at, draft, *mode, blob, path)
+            }
+            Change::Delete { path } => without(store, draft, path),
+            Change::Rename { from, to } => moved(store, at, draft, from, to),
+            Change::Copy { from, to } => doubled(store, at, draft, from, to),
+            Change::DeleteAll => Ok(emptied(draft)),
+        }
+    }
+
+    // A change of the commit that is being made.
+    pub(crate) fn change<B: Base>(
+        &mut self,
+        base: &B,
+        store: &mut Store,
+        at: u64,
+        change: &Change,
+    ) -> Result<(), StreamFault>
+        requires store { IsStore store.old }
+        requires base { IsBaseIn store.old (B.commits base.now) (B.refs base.now) (B.blobs base.now) }
+        requires fit { is_replayable (ChangeCommand change.now) ≡ true }
+        requires so_far { (r : ReplayOf) × IsReplayOf store.old self.old r }
+        ensures { (r : ReplayOf) → IsReplayOf store.old self.old r → IsStepped
+            (base_in store.old (B.commits base.now) (B.refs base.now) (B.blobs base.now))
+            store.old store.new self.new r (record { at = at; command = ChangeCommand change.now }) result }
+    {
+        let Some(draft) = self.take_draft() else {
+            return Err(StreamFault::Syntax { at });
+        };
+        match self.edited(base, store, at, draft, change) {
+            Err(fault) => Err(fault),
+            Ok(draft) => {
+                self.draft = Some(draft);
+                Ok(())
+            }
+        }
+    }
+}

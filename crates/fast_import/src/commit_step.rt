@@ -1,0 +1,208 @@
+// A commit that begins, and one that ends.
+ghost use Rattle.std.specs.Prelude.{◌≡◌, ◌++◌, ◌∷◌, [], ℕ, OnOk, IfErr, IfOk, List, None, Some};
+ghost use Rattle.std.specs.Option.{option_map};
+ghost use Rattle.git_objects.specs.Parts.{name_bytes};
+ghost use Rattle.git_objects.specs.Trees.{Flat};
+ghost use Rattle.object_store.specs.Growth.{IsGrownBy};
+ghost use Rattle.object_store.specs.Objects.{Object, IsStore};
+ghost use Rattle.object_store.specs.Unfolding.{StandsFor};
+ghost use Rattle.stage_tree.specs.Stages.{Shows};
+ghost use Rattle.fast_import.specs.Bases.{IsBaseIn, base_in};
+ghost use Rattle.fast_import.specs.Made.{IsDirectoryOf, IsMadeOf, IsPutFault};
+ghost use Rattle.fast_import.specs.Replays.{Base as BaseOf, Draft as DraftOf, Replay as ReplayOf};
+ghost use Rattle.fast_import.specs.Replays.{command_step, commit_of, entered, tree_upon};
+ghost use Rattle.fast_import.specs.Replaying.{tree_fault};
+ghost use Rattle.fast_import.specs.Standing.{IsDraftOf, IsEnded, IsReplayOf, IsStepped, IsTried};
+ghost use Rattle.fast_import.specs.declared.command.Command.TheVariants.{Commit, CommitEnd};
+ghost use Rattle.fast_import.specs.declared.fault.StreamFault.TheVariants.{OutOfMemory};
+
+use crate::draft::{Draft, Ended};
+use crate::marks::Marked;
+use crate::puts::put_commit;
+use crate::{Base, CommitHead, Made, Replay, StreamFault};
+use git_objects::{CommitParts, Name};
+use object_store::Store;
+use path_trees::TreeFault;
+use stage_tree::Stage;
+use std::alloc::{AllocError, Global};
+
+impl Replay {
+    // The tree of a commit's first parent, and the empty one without such a parent.
+    fn stage_upon<B: Base>(
+        &self,
+        base: &B,
+        store: &Store,
+        first: Option<Name>,
+    ) -> Result<Stage, AllocError>
+        requires base { IsBaseIn store.now (B.commits base.now) (B.refs base.now) (B.blobs base.now) }
+        requires so_far { (r : ReplayOf) × IsReplayOf store.now self.now r }
+        ensures { IfOk result (λ s. (r : ReplayOf) → IsReplayOf store.now self.now r → Shows store.now s (tree_upon
+            (base_in store.now (B.commits base.now) (B.refs base.now) (B.blobs base.now)) r
+            (option_map name_bytes first))) }
+    {
+        // Every answer rests on what the store keeps.
+        let _ = store.get(&Name([0; 20]));
+        let Some(name) = first else {
+            return Stage::empty(self.alloc);
+        };
+        match self.tree_of(base, &name) {
+            None => Stage::empty(self.alloc),
+            Some(tree) => Stage::begin(self.alloc, store, tree),
+        }
+    }
+
+    // A commit begins, upon its first parent.
+    pub(crate) fn commit<B: Base>(
+        &mut self,
+        base: &B,
+        store: &Store,
+        head: CommitHead,
+    ) -> Result<(), StreamFault>
+        requires base { IsBaseIn store.now (B.commits base.now) (B.refs base.now) (B.blobs base.now) }
+        requires so_far { (r : ReplayOf) × IsReplayOf store.now self.old r }
+        ensures { (at : ℕ) (r : ReplayOf) → IsReplayOf store.now self.old r → IsTried store.now self.new (command_step
+            (base_in store.now (B.commits base.now) (B.refs base.now) (B.blobs base.now)) r at (Commit head)) result }
+    {
+        let first = match self.first_parent(base, &head) {
+            Err(fault) => return Err(fault),
+            Ok(first) => first,
+        };
+        let parents = match self.with_merges(base, first, head.merges.refs()) {
+            Err(fault) => return Err(fault),
+            Ok(parents) => parents,
+        };
+        let stage = match self.stage_upon(base, store, first) {
+            Err(_) => return Err(StreamFault::OutOfMemory),
+            Ok(stage) => stage,
+        };
+        self.draft = Some(Draft {
+            head,
+            parents,
+            stage,
+        });
+        Ok(())
+    }
+
+    fn add_commit(&mut self, made: Made) -> Result<(), StreamFault>
+        ensures ok { OnOk result (self.new ≡ record self.old { commits = self.old.commits ++ made ∷ [] }) }
+        ensures err { IfErr result (λ f. f ≡ OutOfMemory) }
+    {
+        match self.commits.add(made) {
+            Err(_) => Err(StreamFault::OutOfMemory),
+            Ok(()) => Ok(()),
+        }
+    }
+
+    // The commit that was being made is there: its branch is at it, and its mark names it.
+    fn enter(&mut self, ended: Ended) -> Result<(), StreamFault>
+        ensures ok { OnOk result ((S : List Object) (r : ReplayOf) (d : DraftOf) → IsReplayOf S self.old r →
+            IsEnded S ended d → IsReplayOf S self.new (entered d.head.refname d.head.mark (commit_of d) r)) }
+        ensures err { IfErr result (λ f. f ≡ OutOfMemory) }
+    {
+        let Ended {
+            made,
+            refname,
+            mark,
+        } = ended;
+        match self.add_commit(made) {
+            Err(fault) => Err(fault),
+            Ok(()) => match self.set_branch(refname, Some(made.name)) {
+                Err(fault) => Err(fault),
+                Ok(()) => self.mark(mark, Marked::Commit(made.name)),
+            },
+        }
+    }
+
+    // The commit that is being made, which is given up.
+    pub(crate) fn take_draft(&mut self) -> Option<Draft>
+        ensures value { result ≡ self.old.draft }
+        ensures after { self.new ≡ record self.old { draft = None } }
+    {
+        self.draft.take()
+    }
+
+    // The end of a commit.
+    pub(crate) fn commit_end(&mut self, store: &mut Store, at: u64) -> Result<(), StreamFault>
+        requires store { IsStore store.old }
+        requires so_far { (r : ReplayOf) × IsReplayOf store.old self.old r }
+        ensures { (base : BaseOf) (r : ReplayOf) → IsReplayOf store.old self.old r →
+            IsStepped base store.old store.new self.new r (record { at = at; command = CommitEnd }) result }
+    {
+        let Some(draft) = self.take_draft() else {
+            return Err(StreamFault::Syntax { at });
+        };
+        match end_of(self.alloc, store, draft) {
+            Err(fault) => Err(fault),
+            Ok(ended) => self.enter(ended),
+        }
+    }
+}
+
+// A fault of a tree, as one of the stream.
+fn tree_fault(fault: TreeFault) -> StreamFault
+    ensures { result ≡ tree_fault fault }
+{
+    match fault {
+        TreeFault::Collision { name } => StreamFault::Collision { name },
+        TreeFault::OutOfMemory => StreamFault::OutOfMemory,
+    }
+}
+
+// Brings the tree of a stage into the store.
+fn finished(store: &mut Store, stage: &mut Stage) -> Result<Name, StreamFault>
+    requires { (t : Flat) × Shows store.old stage.old t }
+    ensures ok { IfOk result (λ n. (t : Flat) → Shows store.old stage.old t → StandsFor store.new n.0 t) }
+    ensures err { IfErr result (λ f. (t : Flat) → Shows store.old stage.old t →
+        IsPutFault (IsDirectoryOf t) store.new f) }
+    ensures store { (t : Flat) → Shows store.old stage.old t →
+        IsGrownBy (IsDirectoryOf t) store.old store.new }
+{
+    match stage.finish(store) {
+        Err(fault) => Err(tree_fault(fault)),
+        Ok(tree) => Ok(tree),
+    }
+}
+
+// Brings a commit and its tree into the store.
+fn end_of(alloc: Global, store: &mut Store, draft: Draft) -> Result<Ended, StreamFault>
+    requires { (d : DraftOf) × IsDraftOf store.old draft d }
+    ensures ok { IfOk result (λ e. (d : DraftOf) → IsDraftOf store.old draft d → IsEnded store.new e d) }
+    ensures err { IfErr result (λ f. (d : DraftOf) → IsDraftOf store.old draft d →
+        IsPutFault (IsMadeOf (Some d)) store.new f) }
+    ensures store { (d : DraftOf) → IsDraftOf store.old draft d →
+        IsGrownBy (IsMadeOf (Some d)) store.old store.new }
+{
+    let Draft {
+        head,
+        parents,
+        mut stage,
+    } = draft;
+    let tree = match finished(store, &mut stage) {
+        Err(fault) => return Err(fault),
+        Ok(tree) => tree,
+    };
+    let CommitHead {
+        refname,
+        mark,
+        author,
+        committer,
+        message,
+        from: _,
+        merges: _,
+    } = head;
+    let parts = CommitParts {
+        tree,
+        parents,
+        author,
+        committer,
+        message,
+    };
+    match put_commit(alloc, store, &parts) {
+        Err(fault) => Err(fault),
+        Ok(name) => Ok(Ended {
+            made: Made { name, tree },
+            refname,
+            mark,
+        }),
+    }
+}

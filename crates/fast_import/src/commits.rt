@@ -1,0 +1,80 @@
+// The commits that a stream has made.
+ghost use Rattle.std.specs.Prelude.{◌≡◌, ◌++◌, ◌∷◌, [], None, Some, cond, OnErr, OnOk};
+ghost use Rattle.std.specs.Map.{lookup};
+ghost use Rattle.std.specs.Option.{option_or};
+ghost use Rattle.git_objects.specs.declared.name.Name.{Name};
+ghost use Rattle.fast_import.specs.Replaying.{is_named, tree_made};
+
+use crate::Made;
+use git_objects::Name;
+use indexmap::IndexMap;
+use std::alloc::{AllocError, Global};
+use std::marker::Model;
+
+/// The commits that were made, in order, looked up by their names.
+#[derive(Drop)]
+pub(crate) struct Commits {
+    made: Vec<Made>,
+    trees: IndexMap<Name, Name>,
+}
+
+impl Model for Commits {
+    ghost use Rattle.std.specs.Prelude.{List};
+    ghost use Rattle.fast_import.specs.declared.replayed.Made.{Made};
+    ghost use Rattle.fast_import.specs.Replaying.{HasTrees};
+
+    ghost Value = { List Made };
+
+    ghost view = { λ c. c.made.items };
+
+    ghost invariant = { λ c. HasTrees c.trees.entries c.made.items };
+}
+
+impl Commits {
+    pub(crate) fn new(alloc: Global) -> Commits
+        ensures { result ≡ [] }
+    {
+        Commits {
+            made: Vec::new(alloc),
+            trees: IndexMap::new(alloc),
+        }
+    }
+
+    /// The tree of the first commit of that name.
+    pub(crate) fn tree_of(&self, name: &Name) -> Option<Name>
+        ensures { result ≡ tree_made name.now self.now }
+    {
+        self.trees.get(name).copied()
+    }
+
+    /// Adds a commit behind the others. At a refusal nothing is added.
+    pub(crate) fn add(&mut self, made: Made) -> Result<(), AllocError>
+        ensures ok { OnOk result (self.new ≡ self.old ++ made ∷ []) }
+        ensures err { OnErr result (self.new ≡ self.old) }
+    {
+        self.made.reserve(1)?;
+        hold_tree(&mut self.trees, made)?;
+        let pushed = self.made.push(made);
+        prove!(pushed.is_ok());
+        Ok(())
+    }
+
+    pub(crate) fn into_vec(self) -> Vec<Made>
+        ensures { result.items ≡ self }
+    {
+        self.made
+    }
+}
+
+// Adds a commit's tree, where its name has none.
+fn hold_tree(trees: &mut IndexMap<Name, Name>, made: Made) -> Result<(), AllocError>
+    ensures ok { OnOk result ((n : Name) → lookup (is_named n) trees.new.entries ≡ option_or
+        (lookup (is_named n) trees.old.entries) (cond (is_named n made.name) (Some made.tree) None)) }
+    ensures err { OnErr result (trees.new.entries ≡ trees.old.entries) }
+{
+    if trees.contains_key(&made.name) {
+        return Ok(());
+    }
+    trees.insert(made.name, made.tree)?;
+    Ok(())
+}

@@ -1,0 +1,96 @@
+// The replay of a stream's commands into a store.
+ghost use Rattle.std.specs.Prelude.{◌≡◌, List};
+ghost use Rattle.std.specs.Option.{option_map};
+ghost use Rattle.git_objects.specs.Parts.{name_bytes};
+ghost use Rattle.object_store.specs.Objects.{Object};
+ghost use Rattle.fast_import.specs.Bases.{base_in};
+ghost use Rattle.fast_import.specs.Replays.{Replay as ReplayOf, given_by, nothing_yet, target_name};
+ghost use Rattle.fast_import.specs.Standing.{IsReplayOf, IsReplayedOf};
+
+use crate::blobs::Blobs;
+use crate::branches::Branches;
+use crate::commits::Commits;
+use crate::draft::Draft;
+use crate::marks::{Marked, Marks};
+use crate::{Base, CommitRef, Replayed, Target};
+use git_objects::Name;
+use std::alloc::Global;
+use std::marker::Model;
+
+/// How far a replay has come: what the stream has brought, by the names of objects that a store has.
+#[derive(Drop)]
+pub struct Replay {
+    pub(crate) alloc: Global,
+    pub(crate) blobs: Blobs,
+    pub(crate) commits: Commits,
+    pub(crate) branches: Branches,
+    pub(crate) marks: Marks,
+    pub(crate) draft: Option<Draft>,
+}
+
+impl Model for Replay {
+    ghost use Rattle.fast_import.specs.Replaying.{Replaying};
+
+    ghost Value = { Replaying };
+
+    ghost view = { λ r. record {
+        blobs = r.blobs;
+        commits = r.commits;
+        branches = r.branches;
+        marks = r.marks;
+        draft = r.draft;
+    } };
+}
+
+impl Replay {
+    /// Nothing has been replayed.
+    pub fn new(alloc: Global) -> Replay
+        ensures { (S : List Object) → IsReplayOf S result nothing_yet }
+    {
+        Replay {
+            alloc,
+            blobs: Blobs::new(alloc),
+            commits: Commits::new(alloc),
+            branches: Branches::new(alloc),
+            marks: Marks::new(alloc),
+            draft: None,
+        }
+    }
+
+    /// What the commands have given. Takes no memory.
+    pub fn finish(self) -> Replayed
+        ensures { (S : List Object) (r : ReplayOf) → IsReplayOf S self r → IsReplayedOf S result (given_by r) }
+    {
+        let Replay {
+            alloc: _,
+            blobs,
+            commits,
+            branches,
+            marks: _,
+            draft: _,
+        } = self;
+        Replayed {
+            blobs: blobs.into_vec(),
+            commits: commits.into_vec(),
+            heads: branches.into_settings(),
+        }
+    }
+
+    /// The name that stands for a commit in the stream: digits give themselves. Takes no memory.
+    pub fn named<B: Base>(&self, base: &B, r: &CommitRef) -> Option<Name>
+        ensures { (S : List Object) (so_far : ReplayOf) → IsReplayOf S self.now so_far → option_map name_bytes result
+            ≡ target_name (base_in S (B.commits base.now) (B.refs base.now) (B.blobs base.now)) so_far r.now.target }
+    {
+        match &r.target {
+            Target::Mark(mark) => match self.marks.get(*mark) {
+                Some(Marked::Commit(name)) => Some(name),
+                _ => None,
+            },
+            Target::Digits(name) => Some(*name),
+            Target::Ref(refname) => match self.branches.get(refname) {
+                Some(head) => Some(head),
+                None => base.branch(refname),
+            },
+        }
+    }
+}

@@ -1,0 +1,103 @@
+// The replay of a whole stream.
+ghost use Rattle.std.specs.Prelude.{◌≡◌, ◌⊎◌, ◌<◌, ◌≤◌, ◌↔◌, ℕ, List, false, length, IfErr, IfSome, IsErrOf};
+ghost use Rattle.std.specs.Prelude.{OnOk};
+ghost use Rattle.proj_io.specs.Counts.{Counts};
+ghost use Rattle.fast_import.specs.Bases.{IsBaseIn, base_in};
+ghost use Rattle.fast_import.specs.Whole.{IsFed, IsWhole};
+ghost use Rattle.fast_import.specs.declared.fault.StreamFault.TheVariants.{OutOfMemory};
+
+use crate::{Base, Next, Reader, Replay, Replayed, StreamFault};
+use git_objects::Name;
+use object_store::Store;
+use proj_io::Source;
+use std::alloc::Global;
+
+// Bytes of the largest piece that is read at once.
+const PIECE: usize = 65_536;
+
+/// Why a stream is not replayed.
+#[derive(Clone, Copy, Debug, PartialEq, Eq)]
+pub enum ReplayError {
+    /// The source failed.
+    ReadFault,
+    Stream(StreamFault),
+}
+
+/// Replays a stream upon what is there. The stream is read in pieces, up to its end, its `done` line or its first fault.
+pub fn replay_all<S: Source, B: Base>(
+    alloc: Global,
+    input: &mut S,
+    base: &B,
+    store: &mut Store,
+) -> Result<Replayed, ReplayError>
+    requires { IsBaseIn store.old (B.commits base.now) (B.refs base.now) (B.blobs base.now) }
+    ensures stream { (all : List ℕ) × IfSome (S.left input.old) (λ bytes. bytes ≡ all) × IsWhole
+        (base_in store.old (B.commits base.now) (B.refs base.now) (B.blobs base.now)) store.old store.new all result }
+    ensures told { S.tells input.new ↔ S.tells input.old }
+    ensures cause { Counts (S.faults input.old) (S.faults input.new) (IsErrOf result ReplayError.ReadFault) }
+{
+    let mut piece = [0u8; PIECE];
+    replay_by(alloc, input, base, store, &mut piece)
+}
+
+// Replays a stream, read in pieces of at most the buffer's length.
+fn replay_by<S: Source, B: Base>(
+    alloc: Global,
+    input: &mut S,
+    base: &B,
+    store: &mut Store,
+    piece: &mut [u8],
+) -> Result<Replayed, ReplayError>
+    requires base { IsBaseIn store.old (B.commits base.now) (B.refs base.now) (B.blobs base.now) }
+    requires some { 0 < length piece.old }
+    requires few { length piece.old ≤ 65536 }
+    ensures stream { (all : List ℕ) × IfSome (S.left input.old) (λ bytes. bytes ≡ all) × IsWhole
+        (base_in store.old (B.commits base.now) (B.refs base.now) (B.blobs base.now)) store.old store.new all result }
+    ensures told { S.tells input.new ↔ S.tells input.old }
+    ensures cause { Counts (S.faults input.old) (S.faults input.new) (IsErrOf result ReplayError.ReadFault) }
+{
+    // The store is looked at so that the proof has what each store keeps.
+    let _ = store.get(&Name([0; 20]));
+    let mut reader = Reader::new(alloc);
+    let mut replay = Replay::new(alloc);
+    'stream: loop {
+        match reader.next() {
+            Err(fault) => return Err(ReplayError::Stream(fault)),
+            Ok(Next::Ended) => return Ok(replay.finish()),
+            Ok(Next::Command(placed)) => match replay.step(base, store, placed) {
+                Err(fault) => return Err(ReplayError::Stream(fault)),
+                Ok(()) => {}
+            },
+            Ok(Next::More) => match feed_on(input, &mut reader, piece) {
+                Err(error) => return Err(error),
+                Ok(()) => {}
+            },
+        }
+    }
+}
+
+// Feeds a reader with the next piece, or tells it that the stream ends.
+fn feed_on<S: Source>(
+    input: &mut S,
+    reader: &mut Reader,
+    piece: &mut [u8],
+) -> Result<(), ReplayError>
+    requires open { reader.old.ended ≡ false }
+    requires room { 0 < length piece.old }
+    ensures fed { OnOk result (IsFed (S.left input.old) (S.left input.new) reader.old reader.new (length piece.old)) }
+    ensures err { IfErr result (λ e. (e ≡ ReplayError.ReadFault) ⊎ (e ≡ ReplayError.Stream OutOfMemory)) }
+    ensures told { S.tells input.new ↔ S.tells input.old }
+    ensures cause { Counts (S.faults input.old) (S.faults input.new) (IsErrOf result ReplayError.ReadFault) }
+{
+    match input.read(piece) {
+        Err(_) => Err(ReplayError::ReadFault),
+        Ok(0) => {
+            reader.end();
+            Ok(())
+        }
+        Ok(count) => match reader.feed(&piece[..count]) {
+            Ok(()) => Ok(()),
+            Err(_) => Err(ReplayError::Stream(StreamFault::OutOfMemory)),
+        },
+    }
+}
