@@ -17,7 +17,8 @@ use std::io::Write;
 use std::rt::Clock;
 use std::{env, io};
 
-const USAGE: &str = "all, replay, or objects, graph, trees, streams or routes, a mode, and a number";
+const USAGE: &str =
+    "all, replay, or objects, graph, trees, streams or routes, a mode, and a number";
 
 // A small run of each kind of work, for `all`: the bench, the mode, and two numbers.
 const SMALL: [(&str, &str, u32, u32); 8] = [
