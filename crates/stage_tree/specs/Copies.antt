@@ -1,6 +1,10 @@
 -- Nodes copied with all below them.
-use Rattle.std.specs.Prelude.{◌≡◌, ℕ, ◌+◌, ◌*◌, ◌≤◌, ◌==◌, Bool, true, false, List, [], ◌∷◌, slice_get, Option, Some, None}
-use Rattle.git_objects.specs.Paths.{Bytes}
+use Rattle.std.specs.Prelude.{◌≡◌, ℕ, ◌+◌, ◌*◌, ◌≤◌, ◌==◌, Bool, true, false, List, [], ◌∷◌, ◌++◌, slice_get, Option, Some, None}
+use Rattle.git_objects.specs.Paths.{Bytes, Path}
+use Rattle.git_objects.specs.Trees.{Flat, Node as FlatNode, at, put, rests}
+use Rattle.stage_tree.specs.Branches.{Stands}
+use Rattle.stage_tree.specs.Renames.{CanMove}
+use Rattle.stage_tree.specs.Ways.{IsOpen}
 use Rattle.stage_tree.specs.declared.nodes.Node.{Node}
 use Rattle.stage_tree.specs.declared.nodes.Content.{Content}
 use Rattle.stage_tree.specs.declared.nodes.Link.TheVariants.{First}
@@ -111,3 +115,9 @@ abbrev pub is_turn : List Work → Turn → Bool
 is_turn [] (Copied a) = false
 is_turn (w ∷ ws) (Copied a) = true
 is_turn ws (Copy i) = true
+
+-- ---- a copy put at a path
+
+pub record IsDuplicated (s s' : Nodes) (k : ℕ) (p : Path) (h : CanMove s k p) : Type 0 where
+  pub opened : IsOpen h.objects s'
+  pub puts : (t : Flat) → Stands h.objects s t → (n : FlatNode) → ((r : Path) → at (rests n) r ≡ at t (h.path ++ h.component ∷ r)) → Stands h.objects s' (put t p n)

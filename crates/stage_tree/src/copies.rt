@@ -1,14 +1,20 @@
 // Nodes copied with all below them.
-ghost use Rattle.std.specs.Prelude.{◌≡◌, ◌+◌, ◌<◌, true, IfOk, OnErr};
+ghost use Rattle.std.specs.Prelude.{◌≡◌, ◌+◌, ◌<◌, true, IfOk, OnErr, OnOk};
 ghost use Rattle.stage_tree.specs.Copies.{CanCopy, CanCopyOne, IsCopied, IsCopying, IsDropping, IsGrowing, IsOneCopied, is_turn};
 ghost use Rattle.stage_tree.specs.Copies.{turns_of, works_of};
 ghost use Rattle.stage_tree.specs.Expanding.{IsWaste};
 ghost use Rattle.stage_tree.specs.Forests.{Forest};
+ghost use Rattle.git_objects.specs.Paths.{is_path};
+ghost use Rattle.stage_tree.specs.Copies.{IsDuplicated};
 ghost use Rattle.stage_tree.specs.Pools.{IsSame};
+ghost use Rattle.stage_tree.specs.Renames.{CanMove};
+ghost use Rattle.stage_tree.specs.Ways.{IsStill};
 ghost use Rattle.stage_tree.specs.declared.nodes.Nodes.{Nodes as TheNodes};
 
 use crate::nodes::{Link, Node, Nodes};
+use git_objects::{Component, Steps};
 use std::alloc::{AllocError, Global};
+use std::sync::ledger::Ledger;
 
 // What a node waits for.
 #[derive(Clone, Copy)]
@@ -139,6 +145,34 @@ impl Nodes {
                     self.drop_copies(works, turn);
                     return Err(AllocError);
                 }
+            }
+        }
+    }
+
+    // Puts a copy of what stands at a node at a path whose way is clear.
+    fn duplicate<L: Ledger>(
+        &mut self,
+        alloc: Global,
+        number: usize,
+        to: &[Component],
+        steps: &mut Steps<L>,
+    ) -> Result<(), AllocError>
+        requires node { CanMove self.old number to.now }
+        requires path { is_path to.now ≡ true }
+        ensures ok { OnOk result ((h : CanMove self.old number to.now) → IsDuplicated self.old self.new number to.now h) }
+        ensures err { OnErr result ((h : CanMove self.old number to.now) → IsStill h.objects self.old self.new) }
+    {
+        let way = self.walk(to);
+        let node = self.cells[number];
+        let first = self.copies(alloc, node.first)?;
+        match self.graft(to, way.level, node.content, first, steps) {
+            Ok(top) => {
+                self.replace(way.spot.link, way.spot.child, top);
+                Ok(())
+            }
+            Err(_) => {
+                self.free_all(first);
+                Err(AllocError)
             }
         }
     }
