@@ -215,8 +215,11 @@ impl Nodes {
         from: &Path,
         to: &Path,
         most: u32,
-        steps: &mut Steps<L>,
+        blank: Blank,
     ) -> Result<u32, StageFault>
+        requires name { blank.name ≡ L.name }
+        requires parts { blank.parts ≡ L.parts }
+        requires some { 0 < blank.parts }
         requires store { IsStore store.now }
         requires opened { IsOpen store.now self.old }
         requires most { (t : Flat) × IsTree t × Stands store.now self.old t × (held_number (length t) ≤ most) }
@@ -224,10 +227,11 @@ impl Nodes {
             → IsCopyTo store.now self.old self.new (copied t from.now to.now) result }
         ensures path { is_path to.now ≡ true }
     {
+        let mut steps = Steps::<L>::new(blank);
         let source = from.components();
         let target = to.components();
-        self.open_way(alloc, store, source, steps)?;
-        self.open_way(alloc, store, target, steps)?;
+        self.open_way(alloc, store, source, &mut steps)?;
+        self.open_way(alloc, store, target, &mut steps)?;
         let way = self.walk(source);
         let Some(number) = self.reached(way, source.len()) else {
             return Err(StageFault::NoSource);
@@ -236,7 +240,7 @@ impl Nodes {
         let child = self.walk(target).spot.child;
         let files = self.node_files(alloc, store, number)?;
         let most = self.most_with(alloc, store, child, most, files)?;
-        self.duplicate(alloc, number, target, steps)?;
+        self.duplicate(alloc, number, target, &mut steps)?;
         Ok(most)
     }
 }
@@ -250,10 +254,11 @@ impl Stage {
     {
         self.last.child = None;
         self.nodes.open_root(self.alloc, store)?;
-        let mut steps = Steps::<Brand>::new(Blank::new(1));
+        // Nobody asks for the steps of a copy.
+        let blank = Blank::new(1);
         self.most = self
             .nodes
-            .copy(self.alloc, store, from, to, self.most, &mut steps)?;
+            .copy::<Brand>(self.alloc, store, from, to, self.most, blank)?;
         Ok(())
     }
 }
