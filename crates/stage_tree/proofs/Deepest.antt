@@ -30,7 +30,7 @@ module _ (S : List Object) (s : Nodes) (o : IsOpen S s) (st : IsStore S) (k : �
   inside_here = here_in S s o inner h.children h.whole
 
   hangs : hanging s (First k) ≡ h.children
-  hangs = place_hangs S s o inner inside_here.0 h.children inside_here.1.reads_up inside_here.1.reads h.whole
+  hangs = place_hangs S s o.directory inner inside_here.0 h.children inside_here.1.reads_up inside_here.1.reads h.whole
 
   whole : plug inner (hanging s (First k)) ≡ kids_of s
   whole = ap (plug inner) hangs ∙ h.whole

@@ -57,13 +57,13 @@ module _ (S : List Object) (s : Nodes) (o : IsOpen S s) (q : Path) (k : ℕ) (h 
   here = here_in S s o behind h.siblings h.whole
 
   pub behind_link : is_link s.cells.items (Next k) ≡ true
-  behind_link = place_link S s o behind here.0 h.siblings here.1.reads_up here.1.reads h.whole
+  behind_link = place_link S s o.directory behind here.0 h.siblings here.1.reads_up here.1.reads h.whole
 
   pub behind_walk : Walks s (target s.cells.items (Next k))
-  behind_walk = place_walk S s o behind here.0 h.siblings here.1.reads_up here.1.reads h.whole
+  behind_walk = place_walk S s o.directory behind here.0 h.siblings here.1.reads_up here.1.reads h.whole
 
   behind_hangs : hanging s (Next k) ≡ h.siblings
-  behind_hangs = place_hangs S s o behind here.0 h.siblings here.1.reads_up here.1.reads h.whole
+  behind_hangs = place_hangs S s o.directory behind here.0 h.siblings here.1.reads_up here.1.reads h.whole
 
   module _ (c : Bytes) (less : bytes_cmp h.component c ≡ Less) (link : Link) (child : Option ℕ) (e : link ≡ sought c (Next k) (hanging s (Next k))) (f : child ≡ named_first c (hanging s link)) where
     found : IsFound (is_held S) s.names.items s.cells.items 0 c behind h.siblings
@@ -74,7 +74,7 @@ module _ (S : List Object) (s : Nodes) (o : IsOpen S s) (q : Path) (k : ℕ) (h 
 
     pub place_behind : IsPlaceBehind S s q c link child k h
     unfolding place_found
-    place_behind = record { place = place_found S s q c link child behind h.siblings o found h.whole h.path at_link f; passed = found.passed; siblings = found.siblings; frames_are = found.frames_are }
+    place_behind = record { place = place_found S s q c link child behind h.siblings o.directory found h.whole h.path at_link f; passed = found.passed; siblings = found.siblings; frames_are = found.frames_are }
 
 -- ---- a stage with such a node is open
 

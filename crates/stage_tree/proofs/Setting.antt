@@ -34,7 +34,7 @@ use Rattle.stage_tree.proofs.Fewer.{one_leaf}
 use Rattle.stage_tree.proofs.FromLast.{unmoved_open}
 use Rattle.stage_tree.proofs.OnWay.{waste_still}
 use Rattle.stage_tree.proofs.Places.{sound_plug}
-use Rattle.stage_tree.proofs.PutLeaves.{put_there}
+use Rattle.stage_tree.proofs.PutLeaves.{put_there, stem_new}
 use Rattle.stage_tree.proofs.Putting.{all_behind, sound_stem}
 use Rattle.stage_tree.proofs.Replacing.{sound_named}
 use Rattle.stage_tree.proofs.Room.{place_files}
@@ -70,7 +70,7 @@ module _ (S : List Object) (st : IsStore S) (s : Nodes) (p : Path) (level : ℕ)
   pub set_leaves : (k : ℕ) (ks : List ℕ) → length ks ≡ length b → (y : Path) →
       leaf_in S (plug w.place.frames (Bin k c (stem_content b f) (stem ks b f) (after_named c w.place.rest))) y ≡ at (put t p (node S f)) y
   set_leaves k ks long y =
-      put_there S (is_held S) w.place.frames w.place.rest c b k ks f long w.place.here.sound_up w.place.fits w.place.here.sound w.place.next w.ended t
+      put_there S (is_held S) w.place.frames w.place.rest c b k (stem_content b f) (stem ks b f) (node S f) (λ r. stem_new S ks b f r long) w.place.here.sound_up w.place.fits w.place.here.sound w.place.next w.ended t
       (λ z. ap (λ (F : Forest). leaf_in S F z) w.place.whole ∙ stands z) y
       ∙ ap (λ (q : Path). at (put t q (node S f)) y) path_is
 

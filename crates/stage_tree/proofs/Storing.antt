@@ -120,8 +120,8 @@ module _ (S : List Object) (s : Nodes) (o : IsOpen S s) (st : IsStore S) (d : �
 
   pub dir_tips : HasTips (is_held S) s d
   dir_tips = record {
-    link = ap (is_link s.cells.items) at_dir ∙ place_link S s o frames here.0 K here.1.reads_up here.1.reads whole;
-    walk = subst (λ (l : Link). Walks s (target s.cells.items l)) (sym at_dir) (place_walk S s o frames here.0 K here.1.reads_up here.1.reads whole);
+    link = ap (is_link s.cells.items) at_dir ∙ place_link S s o.directory frames here.0 K here.1.reads_up here.1.reads whole;
+    walk = subst (λ (l : Link). Walks s (target s.cells.items l)) (sym at_dir) (place_walk S s o.directory frames here.0 K here.1.reads_up here.1.reads whole);
     tips = tips;
     sound = here.1.sound;
   }

@@ -36,13 +36,13 @@ module _ (S : List Object) (s : Nodes) (o : IsOpen S s) (entered : List ℕ) (li
   here = here_in S s o t.frames t.rest t.whole
 
   pub turn_link : is_link s.cells.items link ≡ true
-  turn_link = ap (is_link s.cells.items) t.link_is ∙ place_link S s o t.frames here.0 t.rest here.1.reads_up here.1.reads t.whole
+  turn_link = ap (is_link s.cells.items) t.link_is ∙ place_link S s o.directory t.frames here.0 t.rest here.1.reads_up here.1.reads t.whole
 
   pub turn_walk : Walks s (target s.cells.items link)
-  turn_walk = subst (λ (l : Link). Walks s (target s.cells.items l)) (sym t.link_is) (place_walk S s o t.frames here.0 t.rest here.1.reads_up here.1.reads t.whole)
+  turn_walk = subst (λ (l : Link). Walks s (target s.cells.items l)) (sym t.link_is) (place_walk S s o.directory t.frames here.0 t.rest here.1.reads_up here.1.reads t.whole)
 
   turn_hangs : hanging s link ≡ t.rest
-  turn_hangs = ap (hanging s) t.link_is ∙ place_hangs S s o t.frames here.0 t.rest here.1.reads_up here.1.reads t.whole
+  turn_hangs = ap (hanging s) t.link_is ∙ place_hangs S s o.directory t.frames here.0 t.rest here.1.reads_up here.1.reads t.whole
 
   pub turn_end : target s.cells.items link ≡ None → t.rest ≡ Nil
   turn_end e = sym turn_hangs ∙ Rattle.stage_tree.proofs.Seeking.ended s.names.items s.cells.items link e

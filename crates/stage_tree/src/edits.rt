@@ -97,7 +97,7 @@ impl Nodes {
     }
 
     // Whether a node is its directory's only child.
-    fn is_alone(&self, link: Link, child: usize) -> bool
+    pub fn is_alone(&self, link: Link, child: usize) -> bool
         requires { is_link self.now.cells.items (Link.Next child) ≡ true }
         ensures { result ≡ is_alone self.now.cells.items link child }
     {

@@ -8,11 +8,14 @@ mod finish;
 mod gather;
 mod last;
 mod laws;
+mod limits;
 mod listing;
 mod nodes;
+mod renames;
 mod root;
 mod sets;
 mod stage;
+mod walks;
 mod ways;
 
 pub use fault::StageFault;

@@ -24,11 +24,11 @@ use std::marker::Model;
 /// trees until then.
 #[derive(Drop)]
 pub struct Stage {
-    alloc: Global,
-    nodes: Nodes,
+    pub(crate) alloc: Global,
+    pub(crate) nodes: Nodes,
     // No more files than these are shown; 4,294,967,295 stands for any number.
     most: u32,
-    last: Last,
+    pub(crate) last: Last,
 }
 
 impl Model for Stage {

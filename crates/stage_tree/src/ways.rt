@@ -26,7 +26,7 @@ pub struct Way {
     pub spot: Spot,
 }
 
-fn is_dir(mode: Mode) -> bool
+pub fn is_dir(mode: Mode) -> bool
     ensures { result ≡ is_dir mode }
 {
     mode == Mode::Dir
@@ -49,7 +49,7 @@ impl Nodes {
     }
 
     // The place of a component in a directory.
-    fn spot(&self, directory: usize, component: &[u8]) -> Spot
+    pub fn spot(&self, directory: usize, component: &[u8]) -> Spot
         requires link { is_link self.now.cells.items (Link.First directory) ≡ true }
         requires walk { Walks self.now (target self.now.cells.items (Link.First directory)) }
         ensures link { result.link

@@ -6,13 +6,13 @@ use Rattle.stage_tree.proofs.OnWay.{still_same, still_on, at_root, dir_link, dir
 use Rattle.stage_tree.proofs.nodes.Nodes.way.Goals as goal
 
 pub loop-level-init : goal.loop-level-init
-loop-level-init c = let S = c.args.store.now in record { still = still_same S c.args.self.now c.requires.opened; dir = at_root S c.args.self.now c.requires.opened }
+loop-level-init c = let S = c.args.store.now in record { still = still_same S c.args.self.now c.requires.opened; dir = at_root S c.args.self.now c.requires.opened.directory c.requires.opened.sound }
 
 pub spot-spot-requires-clause-link : goal.spot-spot-requires-clause-link
-spot-spot-requires-clause-link c = dir_link c.args.store.now c.loop-level.self (take c.loop-level.level c.args.components.now) c.loop-level.directory c.loop-level.invariant.still.opened c.loop-level.invariant.dir
+spot-spot-requires-clause-link c = dir_link c.args.store.now c.loop-level.self (take c.loop-level.level c.args.components.now) c.loop-level.directory c.loop-level.invariant.still.opened.directory c.loop-level.invariant.dir
 
 pub spot-spot-requires-clause-walk : goal.spot-spot-requires-clause-walk
-spot-spot-requires-clause-walk c = dir_walk c.args.store.now c.loop-level.self (take c.loop-level.level c.args.components.now) c.loop-level.directory c.loop-level.invariant.still.opened c.loop-level.invariant.dir
+spot-spot-requires-clause-walk c = dir_walk c.args.store.now c.loop-level.self (take c.loop-level.level c.args.components.now) c.loop-level.directory c.loop-level.invariant.still.opened.directory c.loop-level.invariant.dir
 
 pub entered-requires-clause-place : goal.entered-requires-clause-place
 entered-requires-clause-place c =
@@ -48,10 +48,10 @@ loop-level-preserved c =
     }
 
 pub spot-spot-requires-2-clause-link : goal.spot-spot-requires-2-clause-link
-spot-spot-requires-2-clause-link c = dir_link c.args.store.now c.loop-level.self (take c.loop-level.level c.args.components.now) c.loop-level.directory c.loop-level.invariant.still.opened c.loop-level.invariant.dir
+spot-spot-requires-2-clause-link c = dir_link c.args.store.now c.loop-level.self (take c.loop-level.level c.args.components.now) c.loop-level.directory c.loop-level.invariant.still.opened.directory c.loop-level.invariant.dir
 
 pub spot-spot-requires-2-clause-walk : goal.spot-spot-requires-2-clause-walk
-spot-spot-requires-2-clause-walk c = dir_walk c.args.store.now c.loop-level.self (take c.loop-level.level c.args.components.now) c.loop-level.directory c.loop-level.invariant.still.opened c.loop-level.invariant.dir
+spot-spot-requires-2-clause-walk c = dir_walk c.args.store.now c.loop-level.self (take c.loop-level.level c.args.components.now) c.loop-level.directory c.loop-level.invariant.still.opened.directory c.loop-level.invariant.dir
 
 pub returns-clause-ok : goal.returns-clause-ok
 returns-clause-ok c =
