@@ -3,6 +3,7 @@ use Rattle.std.specs.Prelude.{◌≡◌, refl, ℕ, [], ◌∷◌, codes, replic
 use Rattle.git_objects.specs.Paths.{Bytes, Path}
 use Rattle.git_objects.specs.Trees.{Leaf, FileLeaf, Flat, LeafNode, TreeNode, put, remove}
 use Rattle.stage_tree.specs.declared.fault.StageFault.TheVariants.{NoSource, TooDeep}
+use Rattle.stage_tree.specs.Renames.{above, above_both, entries_of}
 use Rattle.stage_tree.specs.Edits.{copied, paths_put, renamed, set_in, within_paths}
 
 abbrev a : Bytes
@@ -58,6 +59,26 @@ pub moved_above : renamed two (a ∷ b ∷ []) (a ∷ []) ≡ Ok ((a ∷ [], lea
 unfolding put remove
 moved_above = refl
 
+-- with what its directory leaves empty
+pub moved_apart : renamed two (a ∷ b ∷ []) (b ∷ c ∷ []) ≡ Ok ((b ∷ c ∷ [], leaf) ∷ (c ∷ [], other) ∷ [])
+unfolding put remove
+moved_apart = refl
+
+-- to where it stands
+pub moved_nowhere : renamed two (a ∷ []) (a ∷ []) ≡ Ok two
+unfolding put remove
+moved_nowhere = refl
+
+-- a file that stands on the way of the target goes
+pub moved_over : renamed two (a ∷ []) (c ∷ a ∷ []) ≡ Ok ((c ∷ a ∷ b ∷ [], leaf) ∷ [])
+unfolding put remove
+moved_over = refl
+
+-- a file moved below its own path
+pub file_moved_below : renamed two (c ∷ []) (c ∷ a ∷ []) ≡ Ok ((a ∷ b ∷ [], leaf) ∷ (c ∷ a ∷ [], other) ∷ [])
+unfolding put remove
+file_moved_below = refl
+
 pub nothing_moved : renamed two (b ∷ []) (a ∷ []) ≡ Err NoSource
 nothing_moved = refl
 
@@ -76,3 +97,15 @@ nothing_copied_deep = refl
 
 pub copied_too_deep : copied two (a ∷ []) (deep 128) ≡ Err TooDeep
 copied_too_deep = refl
+
+-- ---- the directories of a move
+
+pub directories_above : above (a ∷ b ∷ c ∷ []) ≡ (a ∷ b ∷ []) ∷ (a ∷ []) ∷ [] ∷ []
+directories_above = refl
+
+-- those of both paths, each once
+pub above_each : above_both (a ∷ b ∷ []) (a ∷ c ∷ a ∷ []) ≡ (a ∷ []) ∷ [] ∷ (a ∷ c ∷ []) ∷ []
+above_each = refl
+
+pub entries_of_root : entries_of two ([] ∷ (a ∷ []) ∷ []) ≡ 3
+entries_of_root = refl

@@ -2,6 +2,7 @@
 #![tactic(auto)]
 
 mod count;
+mod copies;
 mod edits;
 mod fault;
 mod finish;

@@ -119,7 +119,7 @@ impl Nodes {
     }
 
     // A free number, or a new one, for a node.
-    fn place(&mut self, node: Node) -> Result<usize, AllocError>
+    pub fn place(&mut self, node: Node) -> Result<usize, AllocError>
         requires { IfSome self.old.free (λ k. k < length self.old.cells.items) }
         ensures number { IfOk result (λ k. k ≡ place_number self.old.cells.items self.old.free) }
         ensures cells { OnOk result (self.new.cells.items ≡ placed self.old.cells.items self.old.free node) }

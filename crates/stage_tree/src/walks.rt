@@ -66,7 +66,7 @@ impl Nodes {
 
     // Enters the directory of that number, whose entries are made nodes where they aren't yet, with a step for each. None:
     // it is no directory.
-    fn enter<L: Ledger>(
+    pub fn enter<L: Ledger>(
         &mut self,
         alloc: Global,
         store: &Store,

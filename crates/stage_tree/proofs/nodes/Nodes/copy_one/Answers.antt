@@ -1,0 +1,22 @@
+use Rattle.std.proofs.Common.{ap}
+use Rattle.stage_tree.specs.Pools.{spare}
+use Rattle.stage_tree.proofs.Copying.{copy_link, one_copied}
+use Rattle.stage_tree.proofs.Opening.{read_node}
+use Rattle.stage_tree.proofs.Pools.{free_inside}
+use Rattle.stage_tree.proofs.nodes.Nodes.copy_one.Goals as goal
+
+pub place-requires : goal.place-requires
+place-requires c = free_inside c.args.self.now (spare c.args.self.now) c.requires.pool.walk
+
+pub point-requires : goal.point-requires
+point-requires c =
+    let s = c.args.self.now in let h = c.requires in
+    copy_link s c.place.new.self c.place.new.self c.args.number c.in_ok-number.number c.args.first c.args.next h c.index-node.result.now (read_node s.cells.items c.args.number c.index-node.result.now h.node c.index-node.ensures h.there)
+    c.in_ok-number.ensures.number c.in_ok-number.ensures.cells c.in_ok-number.ensures.free (ap (λ v. v.items) c.in_ok-number.ensures.names)
+
+pub returns-clause-ok : goal.returns-clause-ok
+returns-clause-ok c = λ h.
+    let s = c.args.self.now in
+    one_copied s c.place.new.self c.point.new.self c.args.number c.in_ok-number.number c.args.first c.args.next h c.index-node.result.now (read_node s.cells.items c.args.number c.index-node.result.now h.node c.index-node.ensures h.there)
+    c.in_ok-number.ensures.number c.in_ok-number.ensures.cells c.in_ok-number.ensures.free (ap (λ v. v.items) c.in_ok-number.ensures.names)
+    c.point.ensures.cells (ap (λ v. v.items) c.point.ensures.names) c.point.ensures.free

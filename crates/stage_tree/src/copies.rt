@@ -1,0 +1,179 @@
+// Nodes copied with all below them.
+ghost use Rattle.std.specs.Prelude.{◌≡◌, ◌+◌, ◌<◌, true, IfOk, OnErr, OnOk};
+ghost use Rattle.stage_tree.specs.Copies.{CanCopy, CanCopyOne, IsCopied, IsCopying, IsDropping, IsGrowing, IsOneCopied, is_turn};
+ghost use Rattle.stage_tree.specs.Copies.{turns_of, works_of};
+ghost use Rattle.stage_tree.specs.Expanding.{IsWaste};
+ghost use Rattle.stage_tree.specs.Forests.{Forest};
+ghost use Rattle.git_objects.specs.Paths.{is_path};
+ghost use Rattle.stage_tree.specs.Copies.{IsDuplicated};
+ghost use Rattle.stage_tree.specs.Pools.{IsSame};
+ghost use Rattle.stage_tree.specs.Renames.{CanMove};
+ghost use Rattle.stage_tree.specs.Ways.{IsStill};
+ghost use Rattle.stage_tree.specs.declared.nodes.Nodes.{Nodes as TheNodes};
+
+use crate::nodes::{Link, Node, Nodes};
+use git_objects::{Component, Steps};
+use std::alloc::{AllocError, Global};
+use std::sync::ledger::Ledger;
+
+// What a node waits for.
+#[derive(Clone, Copy)]
+pub enum Work {
+    // The copies of its later siblings.
+    Siblings(usize),
+    // Those of its children. The others are there.
+    Children(usize, Option<usize>),
+}
+
+// What comes next: nodes to be copied, or copies.
+#[derive(Clone, Copy)]
+pub enum Turn {
+    Copy(Option<usize>),
+    Copied(Option<usize>),
+}
+
+impl Nodes {
+    // A copy of a node, with these children and later siblings.
+    fn copy_one(
+        &mut self,
+        number: usize,
+        first: Option<usize>,
+        next: Option<usize>,
+    ) -> Result<usize, AllocError>
+        requires { CanCopyOne self.old number }
+        ensures ok { IfOk result (λ k. (h : CanCopyOne self.old number)
+            → IsOneCopied self.old self.new first next k h.component h.content) }
+        ensures err { OnErr result (IsSame self.old self.new) }
+    {
+        let node = self.cells[number];
+        let copy = Node {
+            first,
+            next: None,
+            ..node
+        };
+        let number = self.place(copy)?;
+        self.point(Link::Next(number), next);
+        Ok(number)
+    }
+
+    // One turn of a copy: a node waits with its siblings, or with its children, or is copied itself.
+    fn copy_turn(&mut self, works: &mut Vec<Work>, turn: Turn) -> Result<Turn, AllocError>
+        requires turn { is_turn works.old.items turn ≡ true }
+        requires copying { (s0 : TheNodes) × (source : Forest) × IsCopying s0 self.old source works.old.items turn }
+        ensures ok { IfOk result (λ next. (s0 : TheNodes) (source : Forest) → IsCopying s0 self.old source works.old.items turn
+            → IsCopying s0 self.new source works.new.items next) }
+        ensures less { IfOk result (λ next. (s0 : TheNodes) (source : Forest) → IsCopying s0 self.old source works.old.items turn
+            → turns_of s0 next + works_of s0 works.new.items < turns_of s0 turn + works_of s0 works.old.items) }
+        ensures err { OnErr result (IsSame self.old self.new) }
+        ensures works { OnErr result (works.new.items ≡ works.old.items) }
+    {
+        match turn {
+            Turn::Copy(nodes) => {
+                let Some(number) = nodes else {
+                    return Ok(Turn::Copied(None));
+                };
+                works.push(Work::Siblings(number))?;
+                Ok(Turn::Copy(self.target(Link::Next(number))))
+            }
+            Turn::Copied(copy) => {
+                let last = works.len() - 1;
+                match works[last] {
+                    Work::Siblings(number) => {
+                        works[last] = Work::Children(number, copy);
+                        Ok(Turn::Copy(self.target(Link::First(number))))
+                    }
+                    Work::Children(number, next) => {
+                        let copy = self.copy_one(number, copy, next)?;
+                        works.truncate(last);
+                        Ok(Turn::Copied(Some(copy)))
+                    }
+                }
+            }
+        }
+    }
+
+    // Gives back the copies that nodes wait with.
+    fn drop_waiting(&mut self, works: Vec<Work>)
+        requires { (s0 : TheNodes) × (source : Forest) × IsDropping s0 self.old source works.items }
+        ensures { (s0 : TheNodes) (source : Forest) → IsDropping s0 self.old source works.items
+            → IsWaste s0 self.new }
+    {
+        let mut works = works;
+        'works: while let Some(work) = works.pop() {
+            if let Work::Children(_, copies) = work {
+                self.free_all(copies);
+            }
+        }
+    }
+
+    // Gives back all copies.
+    fn drop_copies(&mut self, works: Vec<Work>, turn: Turn)
+        requires { (s0 : TheNodes) × (source : Forest) × IsCopying s0 self.old source works.items turn }
+        ensures { (s0 : TheNodes) (source : Forest) → IsCopying s0 self.old source works.items turn
+            → IsWaste s0 self.new }
+    {
+        match turn {
+            Turn::Copy(_) => self.drop_waiting(works),
+            Turn::Copied(copies) => {
+                self.free_all(copies);
+                self.drop_waiting(works);
+            }
+        }
+    }
+
+    // Copies the nodes from a number on: each, what is below it, and the siblings behind it. Nothing reaches the copies.
+    pub fn copies(
+        &mut self,
+        alloc: Global,
+        first: Option<usize>,
+    ) -> Result<Option<usize>, AllocError>
+        requires { CanCopy self.old first }
+        ensures ok { IfOk result (λ copy. (h : CanCopy self.old first) → IsCopied self.old self.new first copy h) }
+        ensures err { OnErr result (IsWaste self.old self.new) }
+    {
+        let mut works = Vec::new(alloc);
+        let mut turn = Turn::Copy(first);
+        'turns: loop {
+            if works.is_empty() {
+                if let Turn::Copied(copy) = turn {
+                    return Ok(copy);
+                }
+            }
+            match self.copy_turn(&mut works, turn) {
+                Ok(next) => turn = next,
+                Err(_) => {
+                    self.drop_copies(works, turn);
+                    return Err(AllocError);
+                }
+            }
+        }
+    }
+
+    // Puts a copy of what stands at a node at a path whose way is clear.
+    fn duplicate<L: Ledger>(
+        &mut self,
+        alloc: Global,
+        number: usize,
+        to: &[Component],
+        steps: &mut Steps<L>,
+    ) -> Result<(), AllocError>
+        requires node { CanMove self.old number to.now }
+        requires path { is_path to.now ≡ true }
+        ensures ok { OnOk result ((h : CanMove self.old number to.now) → IsDuplicated self.old self.new number to.now h) }
+        ensures err { OnErr result ((h : CanMove self.old number to.now) → IsStill h.objects self.old self.new) }
+    {
+        let way = self.walk(to);
+        let node = self.cells[number];
+        let first = self.copies(alloc, node.first)?;
+        match self.graft(to, way.level, node.content, first, steps) {
+            Ok(top) => {
+                self.replace(way.spot.link, way.spot.child, top);
+                Ok(())
+            }
+            Err(_) => {
+                self.free_all(first);
+                Err(AllocError)
+            }
+        }
+    }
+}
