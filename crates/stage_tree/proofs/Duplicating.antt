@@ -43,7 +43,6 @@ use Rattle.stage_tree.proofs.Clearing.{clear_more}
 use Rattle.stage_tree.proofs.Grafting.{count_trunk}
 use Rattle.stage_tree.proofs.TrunkLeaves.{put_clear, sound_trunk, trunk_new}
 
-
 -- ---- nodes that differ in their numbers
 
 alike_beyond : (c : Bytes) (F G : Forest) → IsAlike F G → Beyond c F → Beyond c G

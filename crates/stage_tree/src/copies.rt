@@ -190,12 +190,7 @@ impl Nodes {
     }
 
     // The files of what stands at a node. A number is held at 4,294,967,295 where it is greater.
-    fn node_files(
-        &self,
-        alloc: Global,
-        store: &Store,
-        number: usize,
-    ) -> Result<u32, AllocError>
+    fn node_files(&self, alloc: Global, store: &Store, number: usize) -> Result<u32, AllocError>
         requires opened { IsOpen store.now self.now }
         requires place { HasPlace store.now self.now (Some number) }
         ensures { IfOk result (λ n. n
