@@ -1,6 +1,14 @@
 -- Nodes copied with all below them.
-use Rattle.std.specs.Prelude.{◌≡◌, ℕ, ◌+◌, ◌*◌, ◌≤◌, ◌==◌, Bool, true, false, List, [], ◌∷◌, slice_get, Option, Some, None}
-use Rattle.git_objects.specs.Paths.{Bytes}
+use Rattle.std.specs.Prelude.{◌≡◌, ℕ, ◌+◌, ◌*◌, ◌≤◌, ◌==◌, Bool, true, false, List, [], ◌∷◌, ◌++◌, slice_get, length, Option, Some, None, ◌⊎◌, IfOk, IfErr, IsOkAnd, Result, Err}
+use Rattle.git_objects.specs.Paths.{Bytes, Path}
+use Rattle.git_objects.specs.Trees.{Flat, Node as FlatNode, at, put, rests}
+use Rattle.stage_tree.specs.Branches.{Stands}
+use Rattle.stage_tree.specs.Renames.{CanMove}
+use Rattle.stage_tree.specs.Ways.{IsOpen, IsStill}
+use Rattle.object_store.specs.Objects.{Object}
+use Rattle.stage_tree.specs.Counts.{content_files, files}
+use Rattle.stage_tree.specs.declared.fault.StageFault.{StageFault}
+use Rattle.stage_tree.specs.declared.fault.StageFault.TheVariants.{OutOfMemory}
 use Rattle.stage_tree.specs.declared.nodes.Node.{Node}
 use Rattle.stage_tree.specs.declared.nodes.Content.{Content}
 use Rattle.stage_tree.specs.declared.nodes.Link.TheVariants.{First}
@@ -111,3 +119,20 @@ abbrev pub is_turn : List Work → Turn → Bool
 is_turn [] (Copied a) = false
 is_turn (w ∷ ws) (Copied a) = true
 is_turn ws (Copy i) = true
+
+-- ---- a copy put at a path
+
+pub record IsDuplicated (s s' : Nodes) (k : ℕ) (p : Path) (h : CanMove s k p) : Type 0 where
+  pub opened : IsOpen h.objects s'
+  pub puts : (t : Flat) → Stands h.objects s t → (n : FlatNode) → ((r : Path) → at (rests n) r ≡ at t (h.path ++ h.component ∷ r)) → Stands h.objects s' (put t p n)
+
+-- the files of what stands at a node
+abbrev pub node_files : List Object → Nodes → ℕ → Option Node → ℕ
+node_files S s k None = 0
+node_files S s k (Some n) = content_files S n.content (files S (hanging s (First k)))
+
+-- A copy was made: it isn't refused, the nodes stand for the tree that is left, and it has no more files than that. Or it
+-- wasn't: it is refused so, or there was no memory, and the nodes stand for what they stood for.
+pub record IsCopyTo (S : List Object) (s s' : Nodes) (left : Result Flat StageFault) (result : Result ℕ StageFault) : Type 0 where
+  pub done : IfOk result (λ m. IsOkAnd left (λ t. IsOpen S s' × Stands S s' t × (length t ≤ m)))
+  pub refused : IfErr result (λ e. IsStill S s s' × ((e ≡ OutOfMemory) ⊎ (left ≡ Err e)))

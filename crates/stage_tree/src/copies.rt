@@ -1,14 +1,32 @@
 // Nodes copied with all below them.
-ghost use Rattle.std.specs.Prelude.{◌≡◌, ◌+◌, ◌<◌, true, IfOk, OnErr};
+ghost use Rattle.std.specs.Prelude.{◌≡◌, ◌+◌, ◌<◌, ◌≤◌, true, length, slice_get, Some, IfOk, OnErr, OnOk};
 ghost use Rattle.stage_tree.specs.Copies.{CanCopy, CanCopyOne, IsCopied, IsCopying, IsDropping, IsGrowing, IsOneCopied, is_turn};
 ghost use Rattle.stage_tree.specs.Copies.{turns_of, works_of};
 ghost use Rattle.stage_tree.specs.Expanding.{IsWaste};
 ghost use Rattle.stage_tree.specs.Forests.{Forest};
+ghost use Rattle.git_objects.specs.Paths.{is_path};
+ghost use Rattle.git_objects.specs.Trees.{Flat, IsTree};
+ghost use Rattle.object_store.specs.Objects.{IsStore};
+ghost use Rattle.object_store.specs.Sizes.{held_number};
+ghost use Rattle.stage_tree.specs.Branches.{Stands};
+ghost use Rattle.stage_tree.specs.Edits.{IsEdited, copied};
+ghost use Rattle.stage_tree.specs.Stages.{Shows};
+ghost use Rattle.stage_tree.specs.Copies.{IsCopyTo, IsDuplicated, node_files};
 ghost use Rattle.stage_tree.specs.Pools.{IsSame};
+ghost use Rattle.stage_tree.specs.Renames.{CanMove};
+ghost use Rattle.stage_tree.specs.Ways.{HasPlace, IsOpen, IsStill};
 ghost use Rattle.stage_tree.specs.declared.nodes.Nodes.{Nodes as TheNodes};
 
-use crate::nodes::{Link, Node, Nodes};
+use crate::count::found_files;
+use crate::fault::StageFault;
+use crate::nodes::{Content, Link, Node, Nodes};
+use crate::stage::Stage;
+use git_objects::{Component, Steps};
+use object_store::Store;
+use path_names::Path;
 use std::alloc::{AllocError, Global};
+use std::marker::Brand;
+use std::sync::ledger::{Blank, Ledger};
 
 // What a node waits for.
 #[derive(Clone, Copy)]
@@ -141,5 +159,101 @@ impl Nodes {
                 }
             }
         }
+    }
+
+    // Puts a copy of what stands at a node at a path whose way is clear.
+    fn duplicate<L: Ledger>(
+        &mut self,
+        alloc: Global,
+        number: usize,
+        to: &[Component],
+        steps: &mut Steps<L>,
+    ) -> Result<(), AllocError>
+        requires node { CanMove self.old number to.now }
+        requires path { is_path to.now ≡ true }
+        ensures ok { OnOk result ((h : CanMove self.old number to.now) → IsDuplicated self.old self.new number to.now h) }
+        ensures err { OnErr result ((h : CanMove self.old number to.now) → IsStill h.objects self.old self.new) }
+    {
+        let way = self.walk(to);
+        let node = self.cells[number];
+        let first = self.copies(alloc, node.first)?;
+        match self.graft(to, way.level, node.content, first, steps) {
+            Ok(top) => {
+                self.replace(way.spot.link, way.spot.child, top);
+                Ok(())
+            }
+            Err(_) => {
+                self.free_all(first);
+                Err(AllocError)
+            }
+        }
+    }
+
+    // The files of what stands at a node. A number is held at 4,294,967,295 where it is greater.
+    fn node_files(&self, alloc: Global, store: &Store, number: usize) -> Result<u32, AllocError>
+        requires opened { IsOpen store.now self.now }
+        requires place { HasPlace store.now self.now (Some number) }
+        ensures { IfOk result (λ n. n
+            ≡ held_number (node_files store.now self.now number (slice_get self.now.cells.items number))) }
+    {
+        match self.cells[number].content {
+            Content::Held(found) => Ok(found_files(store, found)),
+            Content::Open => self.files(alloc, store, Link::First(number), None),
+        }
+    }
+
+    // Puts a copy of what stands at a path at another. The number of files that isn't passed then.
+    pub fn copy<L: Ledger>(
+        &mut self,
+        alloc: Global,
+        store: &Store,
+        from: &Path,
+        to: &Path,
+        most: u32,
+        blank: Blank,
+    ) -> Result<u32, StageFault>
+        requires name { blank.name ≡ L.name }
+        requires parts { blank.parts ≡ L.parts }
+        requires some { 0 < blank.parts }
+        requires store { IsStore store.now }
+        requires opened { IsOpen store.now self.old }
+        requires most { (t : Flat) × IsTree t × Stands store.now self.old t × (held_number (length t) ≤ most) }
+        ensures edit { (t : Flat) → IsTree t → Stands store.now self.old t
+            → IsCopyTo store.now self.old self.new (copied t from.now to.now) result }
+        ensures path { is_path to.now ≡ true }
+    {
+        let mut steps = Steps::<L>::new(blank);
+        let source = from.components();
+        let target = to.components();
+        self.open_way(alloc, store, source, &mut steps)?;
+        self.open_way(alloc, store, target, &mut steps)?;
+        let way = self.walk(source);
+        let Some(number) = self.reached(way, source.len()) else {
+            return Err(StageFault::NoSource);
+        };
+        self.within(alloc, store, number, target)?;
+        let child = self.walk(target).spot.child;
+        let files = self.node_files(alloc, store, number)?;
+        let most = self.most_with(alloc, store, child, most, files)?;
+        self.duplicate(alloc, number, target, &mut steps)?;
+        Ok(most)
+    }
+}
+
+impl Stage {
+    /// Puts a copy of what stands at a path at another, where every path that is comparable with that goes.
+    pub fn copy(&mut self, store: &Store, from: &Path, to: &Path) -> Result<(), StageFault>
+        requires { (t : Flat) × Shows store.now self.old t }
+        ensures { (t : Flat) → Shows store.now self.old t
+            → IsEdited store.now self.new t (copied t from.now to.now) result }
+    {
+        self.last.child = None;
+        self.nodes.open_root(self.alloc, store)?;
+        // Nobody asks for the steps of a copy.
+        let blank = Blank::new(1);
+        self.most = self
+            .nodes
+            .copy::<Brand>(self.alloc, store, from, to, self.most, blank)?;
+        Ok(())
     }
 }

@@ -18,7 +18,7 @@ use path_trees::Found;
 use std::alloc::{AllocError, Global};
 
 // The files of a leaf or a stored directory. A number is held at 4,294,967,295 where it is greater.
-fn found_files(store: &Store, found: Found) -> u32
+pub fn found_files(store: &Store, found: Found) -> u32
     requires { is_held store.now (Content.Held found) ≡ true }
     ensures { result ≡ held_number (length (rests (node store.now found))) }
 {

@@ -27,7 +27,7 @@ pub struct Stage {
     pub(crate) alloc: Global,
     pub(crate) nodes: Nodes,
     // No more files than these are shown; 4,294,967,295 stands for any number.
-    most: u32,
+    pub(crate) most: u32,
     pub(crate) last: Last,
 }
 

@@ -1,0 +1,23 @@
+use Rattle.std.proofs.Common.{◌≡◌, ℕ, sym, ap, ◌∙◌, arith, length}
+use Rattle.object_store.specs.Sizes.{held_number}
+use Rattle.stage_tree.specs.declared.nodes.Content.TheVariants.{Held, Open}
+use Rattle.stage_tree.specs.Copies.{node_files}
+use Rattle.stage_tree.proofs.CopyEdits.{open_files, held_files}
+use Rattle.stage_tree.proofs.Finishing.{on_ok}
+use Rattle.stage_tree.proofs.PutFits.{children_countable, node_inside, read_held}
+use Rattle.stage_tree.proofs.nodes.Nodes.node_files.Goals as goal
+
+pub index-requires : goal.index-requires
+index-requires c = omega (arith, node_inside c.args.store.now c.args.self.now c.args.number c.requires.place)
+
+pub found_files-requires : goal.found_files-requires
+found_files-requires c = read_held c.args.store.now c.args.self.now c.args.number c.requires.place c.index.result.now c.index.ensures c.in-Held.found c.in-Held.is
+
+pub files-requires : goal.files-requires
+files-requires c = children_countable c.args.store.now c.args.self.now c.args.number c.requires.place c.requires.opened
+
+pub returns-in-Held : goal.returns-in-Held
+returns-in-Held c = c.found_files.ensures ∙ ap held_number (sym (held_files c.args.store.now c.args.self.now c.args.number c.requires.place c.index.result.now c.index.ensures c.in-Held.found c.in-Held.is))
+
+pub returns-in-Open : goal.returns-in-Open
+returns-in-Open c = on_ok c.files.result (λ n e. e ∙ ap held_number (sym (open_files c.args.store.now c.args.self.now c.args.number c.requires.place c.index.result.now c.index.ensures c.in-Open.is))) c.files.ensures
