@@ -6,7 +6,7 @@ ghost use Rattle.object_store.specs.Objects.{IsStore, Object, has, has_child};
 ghost use Rattle.object_store.specs.Unfolding.{flat};
 ghost use Rattle.path_trees.specs.Standing.{node};
 ghost use Rattle.path_trees.specs.declared.found.Found.{Found};
-ghost use Rattle.stage_tree.specs.Edits.{IsEdited, copied, set_in};
+ghost use Rattle.stage_tree.specs.Edits.{IsEdited, set_in};
 ghost use Rattle.stage_tree.specs.Finished.{IsFinished};
 ghost use Rattle.stage_tree.specs.Stages.{Shows};
 
@@ -146,15 +146,6 @@ impl Stage {
                 .remember(self.alloc, &components[..way.level], number);
         }
         Ok(())
-    }
-
-    /// Puts at a path what stands at another one. STUB
-    pub fn copy(&mut self, _store: &Store, _from: &Path, _to: &Path) -> Result<(), StageFault>
-        requires { (t : Flat) × Shows _store.now self.old t }
-        ensures { (t : Flat) → Shows _store.now self.old t → IsEdited _store.now self.new t
-            (copied t _from.now _to.now) result }
-    {
-        Err(StageFault::OutOfMemory)
     }
 
     /// Removes a path and all below it. Nothing there is no fault.
