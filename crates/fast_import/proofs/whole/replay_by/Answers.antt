@@ -35,7 +35,7 @@ returns-in-Ok-Ended-clause-stream g c =
     (
       all (base_in c.args.store.now (g.B.Base.commits c.args.base.now) (g.B.Base.refs c.args.base.now) (g.B.Base.blobs c.args.base.now)) c.args.store.now c.stream.store (g.S.Source.left c.args.input.now) (g.S.Source.left c.stream.input) c.stream.reader c.stream.replay h,
       all_told (base_in c.args.store.now (g.B.Base.commits c.args.base.now) (g.B.Base.refs c.args.base.now) (g.B.Base.blobs c.args.base.now)) c.args.store.now c.stream.store (g.S.Source.left c.args.input.now) (g.S.Source.left c.stream.input) c.stream.reader c.stream.replay h,
-      all_given (base_in c.args.store.now (g.B.Base.commits c.args.base.now) (g.B.Base.refs c.args.base.now) (g.B.Base.blobs c.args.base.now)) c.args.store.now c.stream.store (g.S.Source.left c.args.input.now) (g.S.Source.left c.stream.input) c.stream.reader c.stream.replay h (subst (λ (n : Next). Follows (Ok n) c.stream.reader c.next.new.self) c.in-Ok-Ended.field-0-is c.in-Ok-Ended.ensures.follows) c.finish.result (c.finish.ensures c.stream.store h.state h.stands),
+      all_given (base_in c.args.store.now (g.B.Base.commits c.args.base.now) (g.B.Base.refs c.args.base.now) (g.B.Base.blobs c.args.base.now)) c.args.store.now c.stream.store (g.S.Source.left c.args.input.now) (g.S.Source.left c.stream.input) c.stream.reader c.stream.replay h (subst (λ (n : Next). Follows (Ok n) c.stream.reader c.next.new.self) c.in-Ok-Ended.field-0-is c.in-Ok-Ended.ensures.follows) c.finish.result (c.finish.ensures.gives c.stream.store h.state h.stands),
     )
 
 pub step-requires-clause-base : goal.step-requires-clause-base
