@@ -35,11 +35,11 @@ impl Model for Replay {
     ghost Value = { Replaying };
 
     ghost view = { λ r. record {
-        blobs = r.blobs;
-        commits = r.commits;
-        branches = r.branches;
-        marks = r.marks;
-        draft = r.draft;
+      blobs = r.blobs;
+      commits = r.commits;
+      branches = r.branches;
+      marks = r.marks;
+      draft = r.draft;
     } };
 }
 

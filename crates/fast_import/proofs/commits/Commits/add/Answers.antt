@@ -1,6 +1,5 @@
-use Rattle.std.proofs.Common.{◌∷◌, [], ◌++◌, ◌≡◌, List, ap, arith, length, length-append}
+use Rattle.std.proofs.Common.{◌∷◌, [], ◌++◌, ◌≡◌, ap, arith, length, length-append}
 use Rattle.std.proofs.lemmas.Grind.{common_steps}
-use Rattle.fast_import.specs.declared.replayed.Made.{Made}
 use Rattle.fast_import.proofs.Keeping.{trees-push}
 use Rattle.fast_import.proofs.commits.Commits.add.Goals as goal
 
