@@ -1,25 +1,24 @@
 -- Changes, in the code and in the replay.
-use Rattle.std.proofs.Common.{◌≡◌, ◌⊎◌, inl, inr, ℕ, zero, suc, Bool, true, false, cond, List, [], ◌∷◌, ◌++◌, map, length, Option, Some, None, Result, Ok, Err, IfErr, IfOk, OnOk, Contains, refl, sym, ap, subst, ◌∙◌, append-nil, arith}
+use Rattle.std.proofs.Common.{◌≡◌, ◌⊎◌, inl, inr, ℕ, zero, true, false, cond, List, [], ◌∷◌, ◌++◌, length, Option, Some, None, Result, Ok, Err, IfErr, IfOk, OnOk, refl, sym, ap, subst, ◌∙◌, append-nil, arith}
 use Rattle.std.specs.Prelude.{IsOkAnd, nat_le}
 use Rattle.std.specs.List.{list_all}
 use Rattle.git_objects.specs.Paths.{Bytes, Path, text}
 use Rattle.git_objects.specs.Results.{◌>>=◌, must, or_refuse, refused_by}
-use Rattle.git_objects.specs.Trees.{Flat, Node, LeafNode, FileLeaf, ExecLeaf, LinkLeaf, put, remove, rests, standing}
+use Rattle.git_objects.specs.Trees.{Flat, Node, LeafNode, FileLeaf, ExecLeaf, LinkLeaf, put, remove, standing}
 use Rattle.git_objects.specs.declared.kind.Kind.TheVariants.{Blob}
 use Rattle.git_objects.specs.declared.limits.TheConstants.{PATH_BYTES, PATH_COMPONENTS, TREE_FILES}
 use Rattle.git_objects.specs.declared.mode.Mode.{Mode}
 use Rattle.git_objects.specs.declared.mode.Mode.TheVariants.{File, Exec, Link, Module, Dir}
 use Rattle.git_objects.specs.declared.name.Name.{Name}
-use Rattle.object_store.specs.Growth.{IsGrownBy, IsOnly}
+use Rattle.object_store.specs.Growth.{IsOnly}
 use Rattle.object_store.specs.Objects.{Object, IsStore, has_child}
 use Rattle.object_store.proofs.Growth.{grown_as, grown_self}
 use Rattle.object_store.proofs.Parts.{found-has}
 use Rattle.path_trees.specs.Standing.{node}
-use Rattle.path_trees.specs.declared.found.Found.{Found}
 use Rattle.stage_tree.specs.Edits as stage
 use Rattle.stage_tree.specs.declared.fault.StageFault.{StageFault}
 use Rattle.stage_tree.specs.declared.fault.StageFault.TheVariants as edits
-use Rattle.fast_import.specs.Made.{IsBlobAmong, IsMadeAt, IsPutFault, IsRefusal, blob_object}
+use Rattle.fast_import.specs.Made.{IsBlobAmong, IsRefusal, blob_object}
 use Rattle.fast_import.specs.Replays.{Base, Draft, Replay, blob_inline, blob_named, command_step, edited, few_files, given_bytes, inline_blob, is_fit, leaf_of, within_paths}
 use Rattle.fast_import.specs.Replaying.{Replaying, fault_at}
 use Rattle.fast_import.specs.Standing.{Gives, IsBlobIn, IsBrought, IsChanged, IsDraftOf, IsGiven, IsLeafIn, IsRedrawn, IsReplayOf, IsStepped}
@@ -32,7 +31,7 @@ use Rattle.fast_import.specs.declared.draft.Draft.{Draft as DraftNames}
 use Rattle.fast_import.specs.declared.fault.StreamFault.{StreamFault}
 use Rattle.fast_import.specs.declared.fault.StreamFault.TheVariants.{OutOfMemory, Syntax, Unresolved}
 use Rattle.fast_import.proofs.Committing.{draft_there, with_draft}
-use Rattle.fast_import.proofs.Growing.{draft-grown, replay-grown}
+use Rattle.fast_import.proofs.Growing.{replay-grown}
 use Rattle.fast_import.proofs.Putting.{fault_as}
 use Rattle.fast_import.proofs.Stepping.{with_blob}
 

@@ -1,7 +1,7 @@
 -- A commit that begins, and one that ends, in the replay.
-use Rattle.std.proofs.Common.{◌≡◌, ◌⊎◌, inl, inr, ℕ, Bool, true, false, cond, List, [], ◌∷◌, ◌++◌, map, Option, Some, None, Result, Ok, Err, IfSome, IfErr, IfOk, OnOk, refl, sym, ap, subst, ◌∙◌}
+use Rattle.std.proofs.Common.{◌≡◌, ◌⊎◌, inl, inr, ℕ, List, [], ◌∷◌, ◌++◌, map, Option, Some, None, Result, Ok, Err, IfErr, OnOk, refl, sym, ap, subst, ◌∙◌}
 use Rattle.std.specs.Prelude.{IsOkAnd}
-use Rattle.std.specs.Option.{option_and_then, option_map, option_to_list, unwrap_or}
+use Rattle.std.specs.Option.{option_map, option_to_list, unwrap_or}
 use Rattle.git_objects.specs.Parts.{name_bytes}
 use Rattle.git_objects.specs.Paths.{Bytes}
 use Rattle.git_objects.specs.Refs.{Refs}
@@ -11,13 +11,13 @@ use Rattle.git_objects.specs.Trees.{Flat}
 use Rattle.git_objects.specs.declared.kind.Kind.TheVariants.{Commit as CommitKind}
 use Rattle.git_objects.specs.declared.name.Name.{Name}
 use Rattle.object_store.specs.Growth.{IsGrownBy}
-use Rattle.object_store.specs.Objects.{Object, IsStore, has}
+use Rattle.object_store.specs.Objects.{Object}
 use Rattle.object_store.specs.StoredSnapshots.{snapshot_object}
 use Rattle.object_store.proofs.Parts.{found-has}
-use Rattle.stage_tree.specs.Stages.{Shows, Staged}
+use Rattle.stage_tree.specs.Stages.{Shows}
 use Rattle.fast_import.specs.Bases.{IsBaseIn, base_in}
-use Rattle.fast_import.specs.Made.{IsMadeAt, IsMadeOf, IsPutFault}
-use Rattle.fast_import.specs.Replays.{Base, Marked, BlobMark, CommitMark, Draft, Replay, begun, command_step, commit_of, committed, entered, first_parent, tree_of, tree_upon, with_branch, with_mark, with_merges}
+use Rattle.fast_import.specs.Made.{IsMadeOf, IsPutFault}
+use Rattle.fast_import.specs.Replays.{Base, CommitMark, Draft, Replay, begun, command_step, commit_of, committed, entered, first_parent, tree_of, tree_upon, with_branch, with_mark, with_merges}
 use Rattle.fast_import.specs.Replaying.{Replaying, with_head}
 use Rattle.fast_import.specs.Standing.{IsDraftIn, IsDraftOf, IsEnded, IsGivenMark, IsReplayOf, IsStepped, IsTried}
 use Rattle.fast_import.specs.declared.command.Command.TheVariants as commands

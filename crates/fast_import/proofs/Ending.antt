@@ -1,19 +1,19 @@
 -- A commit with its tree put into a store.
-use Rattle.std.proofs.Common.{◌≡◌, ◌⊎◌, inl, inr, ℕ, zero, suc, Bool, true, false, cond, List, [], ◌∷◌, ◌++◌, map, Option, Some, None, Result, Ok, Err, Contains, refl, sym, ap, subst, ◌∙◌, arith}
-use Rattle.git_objects.specs.Commits.{Letter, commit_body, commit_name}
-use Rattle.git_objects.specs.Names.{body, name, tree_name}
-use Rattle.git_objects.specs.Parts.{commit_of as parts_commit, name_bytes}
-use Rattle.git_objects.specs.Paths.{Bytes, Path}
-use Rattle.git_objects.specs.Snapshots.{Snapshot, snapshot_commit, snapshot_name}
-use Rattle.git_objects.specs.Trees.{Flat, under}
+use Rattle.std.proofs.Common.{◌≡◌, inl, inr, zero, suc, true, false, cond, List, [], ◌∷◌, map, Option, Some, None, Contains, refl, sym, ap, subst, ◌∙◌, arith}
+use Rattle.git_objects.specs.Commits.{commit_body, commit_name}
+use Rattle.git_objects.specs.Names.{name, tree_name}
+use Rattle.git_objects.specs.Parts.{name_bytes}
+use Rattle.git_objects.specs.Paths.{Bytes}
+use Rattle.git_objects.specs.Snapshots.{snapshot_commit}
+use Rattle.git_objects.specs.Trees.{Flat}
 use Rattle.git_objects.specs.declared.kind.Kind.TheVariants.{Tree, Commit as CommitKind}
 use Rattle.git_objects.specs.declared.name.Name.{Name}
-use Rattle.object_store.specs.Growth.{IsGrownBy, IsClash, IsOnly}
+use Rattle.object_store.specs.Growth.{IsGrownBy, IsOnly}
 use Rattle.object_store.specs.Objects.{Object, IsStore, find_named, has}
 use Rattle.object_store.specs.Puts.{Collides, collision, same_object}
 use Rattle.object_store.specs.StoredSnapshots.{snapshot_object}
-use Rattle.object_store.specs.Unfolding.{StandsFor, flat}
-use Rattle.object_store.proofs.Growth.{clash_as, grown_as, grown_then, stands-grown}
+use Rattle.object_store.specs.Unfolding.{StandsFor}
+use Rattle.object_store.proofs.Growth.{grown_as, grown_then, stands-grown}
 use Rattle.object_store.proofs.Unfolding.{unfolding_law}
 use Rattle.path_trees.specs.Made.{AreMade, IsGrown, IsTreeFault}
 use Rattle.path_trees.specs.declared.found.TreeFault.{TreeFault}
@@ -22,17 +22,12 @@ use Rattle.stage_tree.specs.Finished.{HasDirectory}
 use Rattle.fast_import.specs.Made.{IsDirectoryOf, IsMadeOf, IsPutFault}
 use Rattle.fast_import.specs.Replays.{Draft, commit_of, letter_of}
 use Rattle.fast_import.specs.Replaying.{tree_fault}
-use Rattle.fast_import.specs.Standing.{IsCommitIn, IsDraftOf, IsEnded}
-use Rattle.fast_import.specs.declared.draft.Ended.{Ended}
+use Rattle.fast_import.specs.Standing.{IsCommitIn, IsDraftOf}
 use Rattle.fast_import.proofs.Growing.{all-grown}
 use Rattle.fast_import.proofs.Putting.{fault_as}
 use Rattle.git_objects.specs.Lists.{Each}
-use Rattle.stage_tree.specs.Stages.{Shows}
 use Rattle.fast_import.specs.declared.draft.Draft.{Draft as DraftNames}
-use Rattle.fast_import.specs.declared.command.CommitHead.{CommitHead}
 use Rattle.fast_import.specs.declared.fault.StreamFault.{StreamFault}
-use Rattle.fast_import.specs.declared.fault.StreamFault.TheVariants as faults
-use Rattle.fast_import.specs.declared.replayed.Made.{Made}
 
 -- ---- trees
 
@@ -58,11 +53,15 @@ directories_grown S T t g = record {
 }
 
 pub directories_fault : (T : List Object) (t : Flat) (f : TreeFault) → IsTreeFault (HasDirectory t) T f → IsPutFault (IsDirectoryOf t) T (tree_fault f)
-directories_fault T t (trees.Collision n) h = inr (n, refl, record {
-  object = record { kind = Tree; body = h.body };
-  is_made = (h.is_made.path, λ i. record { kind = Tree; body = sym h.is_made.body i });
-  held = clash_name T n.0 h.body h.held;
-})
+directories_fault T t (trees.Collision n) h = inr (
+  n,
+  refl,
+  record {
+    object = record { kind = Tree; body = h.body };
+    is_made = (h.is_made.path, λ i. record { kind = Tree; body = sym h.is_made.body i });
+    held = clash_name T n.0 h.body h.held;
+  },
+)
 directories_fault T t trees.OutOfMemory h = inl refl
 
 -- ---- the commit

@@ -43,10 +43,10 @@ module _ (S : List Object) (n : Name) where
   read_there (m ∷ ns) (b ∷ bs) h e =
       elim (is_named n m) as (λ t. is_named n m ≡ t → (t || list_any (is_named n) ns) ≡ true → IsFound (b ∷ bs)) [
         | true ↦ λ q g. record {
-            blob = b;
-            found = ap (λ t. cond t (Some b) (find has_it bs)) (sym (test_is m b h.0) ∙ q);
-            held = subst (λ (x : Bytes). find_named S x ≡ Some (blob_object b)) (sym ((bytes_decides n.0 m.0).0 q)) h.0;
-          }
+          blob = b;
+          found = ap (λ t. cond t (Some b) (find has_it bs)) (sym (test_is m b h.0) ∙ q);
+          held = subst (λ (x : Bytes). find_named S x ≡ Some (blob_object b)) (sym ((bytes_decides n.0 m.0).0 q)) h.0;
+        }
         | false ↦ λ q g. let x = read_there ns bs h.1 g in record { blob = x.blob; found = ap (λ t. cond t (Some b) (find has_it bs)) (sym (test_is m b h.0) ∙ q) ∙ x.found; held = x.held }
       ] refl e
 
@@ -68,10 +68,10 @@ module _ (S : List Object) (n : Name) where
   base_there s (m ∷ ms) h e =
       elim (same_bytes n.0 m) as (λ t. same_bytes n.0 m ≡ t → (t || list_any (same_bytes n.0) ms) ≡ true → IsFound (map (body_of Blob S) (m ∷ ms))) [
         | true ↦ λ q g. record {
-            blob = body_of Blob S m;
-            found = ap (λ t. cond t (Some (body_of Blob S m)) (find has_it (map (body_of Blob S) ms))) (sym (held_test m h.0) ∙ q);
-            held = subst (λ (x : Bytes). find_named S x ≡ Some (blob_object (body_of Blob S m))) (sym ((bytes_decides n.0 m).0 q)) (find-has S Blob m s h.0);
-          }
+          blob = body_of Blob S m;
+          found = ap (λ t. cond t (Some (body_of Blob S m)) (find has_it (map (body_of Blob S) ms))) (sym (held_test m h.0) ∙ q);
+          held = subst (λ (x : Bytes). find_named S x ≡ Some (blob_object (body_of Blob S m))) (sym ((bytes_decides n.0 m).0 q)) (find-has S Blob m s h.0);
+        }
         | false ↦ λ q g. let x = base_there s ms h.1 g in record { blob = x.blob; found = ap (λ t. cond t (Some (body_of Blob S m)) (find has_it (map (body_of Blob S) ms))) (sym (held_test m h.0) ∙ q) ∙ x.found; held = x.held }
       ] refl e
 

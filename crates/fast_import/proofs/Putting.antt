@@ -1,10 +1,10 @@
 -- Objects put into a store.
-use Rattle.std.proofs.Common.{◌≡◌, ◌⊎◌, inl, inr, zero, suc, arith, true, false, cond, List, [], ◌∷◌, ◌++◌, map, Option, Some, None, Contains, refl, sym, ap, subst, ◌∙◌, true≢false}
+use Rattle.std.proofs.Common.{◌≡◌, ◌⊎◌, inl, inr, zero, suc, arith, true, false, cond, List, [], ◌∷◌, Option, Some, None, Contains, refl, sym, ap, ◌∙◌}
 use Rattle.std.specs.Option.{is_some}
 use Rattle.std.specs.Cmp.{first_so, second_so}
 use Rattle.std.specs.Cmp.Lexicographic.{bytes_decides}
 use Rattle.git_objects.specs.Lists.{Each}
-use Rattle.git_objects.specs.Paths.{Bytes, same_bytes}
+use Rattle.git_objects.specs.Paths.{Bytes}
 use Rattle.git_objects.specs.Names.{name}
 use Rattle.git_objects.specs.Bodies.{tree_entries}
 use Rattle.git_objects.specs.CommitBodies.{commit_from}
@@ -12,17 +12,15 @@ use Rattle.git_objects.specs.Commits.{Commit}
 use Rattle.git_objects.specs.declared.entry.Entry.{Entry}
 use Rattle.git_objects.specs.declared.kind.Kind.{Kind}
 use Rattle.git_objects.specs.declared.kind.Kind.TheVariants.{Blob, Tree, Commit as CommitKind}
-use Rattle.git_objects.specs.declared.name.Name.{Name}
 use Rattle.git_objects.proofs.Basics.{same_bytes-self}
-use Rattle.object_store.specs.Growth.{IsGrownBy, IsClash, IsOnly}
-use Rattle.object_store.specs.Objects.{Object, object_name, find_named, has, has_name, missing_entry, missing_of_commit, missing_parent, IsStore}
+use Rattle.object_store.specs.Growth.{IsGrownBy, IsOnly}
+use Rattle.object_store.specs.Objects.{Object, find_named, has, missing_entry, missing_of_commit, missing_parent, IsStore}
 use Rattle.object_store.specs.Puts.{Refusal, Collides, collision, same_object, if_missing, of_tree, of_commit, of_body, refusal, with_object}
 use Rattle.object_store.proofs.Finding.{found_name}
 use Rattle.object_store.proofs.Growth.{clash_as}
 use Rattle.object_store.proofs.Held.{kind_is}
 use Rattle.fast_import.specs.Made.{IsPutFault}
 use Rattle.fast_import.specs.declared.fault.StreamFault.{StreamFault}
-use Rattle.fast_import.specs.declared.fault.StreamFault.TheVariants.{Collision, OutOfMemory}
 
 pub fault_as : (made more : Object → Type 0) (S : List Object) (f : StreamFault) → ((o : Object) → made o → more o) → IsPutFault made S f → IsPutFault more S f
 fault_as made more S f g (inl h) = inl h

@@ -1,5 +1,5 @@
 -- What a reader tells is replayable.
-use Rattle.std.proofs.Common.{◌≡◌, ℕ, zero, suc, Bool, true, false, cond, ◌||◌, ◌+◌, length, Option, Some, None, Result, Ok, Err, refl, sym, ap, subst, ◌∙◌}
+use Rattle.std.proofs.Common.{◌≡◌, ℕ, zero, suc, Bool, true, false, cond, ◌||◌, ◌+◌, length, Option, Some, None, Result, Ok, Err, refl, subst}
 use Rattle.std.specs.Prelude.{codes}
 use Rattle.git_objects.specs.Paths.{Bytes, same_bytes}
 use Rattle.git_objects.specs.Results.{◌>>=◌}
@@ -7,21 +7,17 @@ use Rattle.git_objects.specs.declared.mode.Mode.{Mode}
 use Rattle.git_objects.specs.declared.mode.Mode.TheVariants.{File, Exec, Link, Module, Dir}
 use Rattle.stream_lex.specs.Cutting.{◌then◌, judged}
 use Rattle.stream_lex.specs.Lines.{Input, Line, line_at}
-use Rattle.stream_lex.specs.declared.stop.Stop.{Stop}
-use Rattle.stream_lex.specs.declared.stop.Stop.TheVariants as stops
-use Rattle.path_names.specs.declared.path.Path.{Path}
 use Rattle.fast_import.specs.Blocks.{blob_data, message_data}
-use Rattle.fast_import.specs.Changes.{ChangeLine, ModifyIs, DeleteIs, RenameIs, CopyIs, DeleteAllIs, NotesAre, EmptyIs, NoChange, blob_ref, change, change_line, data_part, dataref, fitting, mode, mode_part, modify, modify_line}
-use Rattle.fast_import.specs.Commands.{gives, CommandLine, EmptyLine, BlobLine, CommitLine, ResetLine, IdleLine, WantsDone, DoneLine, RefusedLine, OtherLine, Told, Turn, at_the_end, between, between_at, by_event, changed, command_line, command_within, in_commit_at, read_command, turn, turn_in, turn_on}
+use Rattle.fast_import.specs.Changes.{ChangeLine, ModifyIs, DeleteIs, RenameIs, CopyIs, DeleteAllIs, NotesAre, EmptyIs, NoChange, blob_ref, change, change_line, data_part, dataref, fitting, mode, modify, modify_line}
+use Rattle.fast_import.specs.Commands.{gives, CommandLine, EmptyLine, BlobLine, CommitLine, ResetLine, IdleLine, WantsDone, DoneLine, RefusedLine, OtherLine, Told, Turn, between, between_at, by_event, changed, command_line, command_within, in_commit_at, read_command, turn, turn_in, turn_on}
 use Rattle.fast_import.specs.Heads.{blob, head, head_of, mark_lines, parents, people, ref_line, reset}
 use Rattle.fast_import.specs.Names.{refname}
 use Rattle.fast_import.specs.PathWords.{last_path, two_paths}
 use Rattle.fast_import.specs.Reading.{Judged, Read, Reader, lifted, or_fault}
-use Rattle.fast_import.specs.Readers.{Reading, OnCommand, TellsNext, next_command}
+use Rattle.fast_import.specs.Readers.{Reading, TellsNext}
 use Rattle.fast_import.specs.Replays.{is_fit, is_replayable}
 use Rattle.fast_import.specs.Standing.{IfTold}
 use Rattle.fast_import.specs.Words.{first_word}
-use Rattle.fast_import.specs.declared.command.BlobRef.{BlobRef}
 use Rattle.fast_import.specs.declared.command.BlobRef.TheVariants as blobs
 use Rattle.fast_import.specs.declared.command.Change.{Change}
 use Rattle.fast_import.specs.declared.command.Change.TheVariants as changes

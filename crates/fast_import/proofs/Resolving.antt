@@ -1,12 +1,12 @@
 -- What names of commits stand for, in the code and in the replay.
-use Rattle.std.proofs.Common.{◌≡◌, Bool, true, false, cond, T, List, [], ◌∷◌, ◌++◌, map, Option, Some, None, Result, Ok, Err, IfSome, refl, sym, ap, subst, ◌∙◌}
+use Rattle.std.proofs.Common.{◌≡◌, true, false, cond, List, [], ◌∷◌, ◌++◌, map, Option, Some, None, Result, Ok, IfSome, refl, sym, ap, subst, ◌∙◌}
 use Rattle.std.specs.FinMap.{find}
 use Rattle.std.specs.Option.{option_map, option_or}
 use Rattle.git_objects.specs.Parts.{name_bytes}
 use Rattle.git_objects.specs.Lists.{Each}
 use Rattle.git_objects.specs.Paths.{Bytes, same_bytes}
 use Rattle.git_objects.specs.Trees.{Flat}
-use Rattle.git_objects.specs.Snapshots.{Snapshot, snapshot_name}
+use Rattle.git_objects.specs.Snapshots.{Snapshot}
 use Rattle.git_objects.specs.declared.kind.Kind.TheVariants.{Tree}
 use Rattle.git_objects.specs.Results.{◌>>=◌}
 use Rattle.git_objects.proofs.Basics.{same_bytes-back}

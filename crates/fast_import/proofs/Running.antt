@@ -1,31 +1,24 @@
 -- A stream so far: what its reader has told, and what came of it.
-use Rattle.std.proofs.Common.{◌≡◌, ◌⊎◌, inl, inr, ◌+◌, ◌*◌, ◌-◌, ◌<◌, ◌≤◌, ℕ, zero, suc, Bool, true, false, cond, List, [], ◌∷◌, ◌++◌, length, Option, Some, None, Result, Ok, Err, IfSome, refl, sym, ap, subst, ◌∙◌, append_assoc, append-nil, arith, length-append}
+use Rattle.std.proofs.Common.{◌≡◌, inl, inr, ℕ, true, false, List, [], ◌∷◌, ◌++◌, Option, Result, Ok, Err, refl, sym, ap, subst, ◌∙◌, append_assoc, append-nil}
 use Rattle.std.specs.Prelude.{IsOkAnd}
-use Rattle.std.specs.Option.{unwrap_or}
 use Rattle.std.specs.Io.KnownBytes.{Consumes, IsAtEnd}
 use Rattle.std.proofs.KnownBytes.{Consumes-nil, Consumes-trans}
 use Rattle.git_objects.specs.Paths.{Bytes}
-use Rattle.git_objects.specs.Refs.{Refs}
 use Rattle.git_objects.specs.Results.{◌>>=◌}
 use Rattle.object_store.specs.Growth.{IsGrownBy}
 use Rattle.object_store.specs.Objects.{Object, IsStore}
-use Rattle.object_store.proofs.Growth.{clash_as, grown_as, grown_self, grown_then}
+use Rattle.object_store.proofs.Growth.{grown_as, grown_self, grown_then}
 use Rattle.stream_lex.specs.Lines.{Input}
-use Rattle.stream_lex.specs.Cutting.{grown}
 use Rattle.stream_lex.proofs.Passing.{grown_twice}
-use Rattle.fast_import.specs.Made.{IsMadeAt, IsMadeBy, IsMadeOn, IsPutFault, IsRefusal}
-use Rattle.fast_import.specs.Readers.{Follows, MayFollow, Reading, TellsNext, came, fed, left, verdict_with}
-use Rattle.fast_import.specs.Replays.{Base, Ran, Replay, Replayed, also_tried, given_by, gone_on, nothing_yet, outcome_of, ran, ran_by, replay, step}
+use Rattle.fast_import.specs.Made.{IsMadeAt, IsMadeBy, IsMadeOn}
+use Rattle.fast_import.specs.Readers.{MayFollow, Reading, verdict_with}
+use Rattle.fast_import.specs.Replays.{Base, Ran, Replay, also_tried, gone_on, nothing_yet, ran_by, step}
 use Rattle.fast_import.specs.Replaying.{Replaying}
 use Rattle.fast_import.specs.Standing.{IsReplayOf, IsStepped}
 use Rattle.fast_import.specs.Verdicts.{Verdict, start, stopped, verdict, weight, with_command}
-use Rattle.fast_import.specs.Whole.{IsEnd, IsFed, IsMadeOfStream, IsPiece}
+use Rattle.fast_import.specs.Whole.{IsFed}
 use Rattle.fast_import.specs.declared.command.Placed.{Placed}
 use Rattle.fast_import.specs.declared.fault.StreamFault.{StreamFault}
-use Rattle.fast_import.specs.declared.fault.StreamFault.TheVariants.{OutOfMemory}
-use Rattle.fast_import.specs.declared.progress.Phase.{Phase}
-use Rattle.fast_import.specs.declared.progress.Phase.TheVariants.{Between, InCommit, Finished}
-use Rattle.fast_import.proofs.Putting.{fault_as}
 
 -- ---- commands in a row
 

@@ -1,10 +1,10 @@
 -- What a command leaves of a replay by names.
-use Rattle.std.proofs.Common.{◌≡◌, ◌⊎◌, inl, inr, ℕ, Bool, true, false, cond, T, List, [], ◌∷◌, ◌++◌, map, Option, Some, None, Result, Ok, Err, IfSome, IfErr, IfOk, OnOk, refl, sym, ap, subst, ◌∙◌}
+use Rattle.std.proofs.Common.{◌≡◌, ◌⊎◌, inl, inr, ℕ, Bool, true, false, cond, T, List, [], ◌∷◌, ◌++◌, Option, Some, None, Result, Ok, Err, IfSome, IfErr, OnOk, sym, ap, subst, ◌∙◌}
 use Rattle.std.specs.Prelude.{nat_eq, IsOkAnd}
 use Rattle.std.specs.FinMap.{put}
 use Rattle.std.specs.FinMap.Entries.{is_sorted-put}
 use Rattle.std.specs.Cmp.Lexicographic.{nat_list_cmp_total}
-use Rattle.std.specs.Map.{lookup, remove_entry}
+use Rattle.std.specs.Map.{lookup}
 use Rattle.std.specs.Option.{option_map}
 use Rattle.std.specs.Ordering.{is_eq}
 use Rattle.std.specs.declared.cmp.Ordering.{Ordering}
@@ -24,7 +24,7 @@ use Rattle.object_store.proofs.Growth.{grown_self}
 use Rattle.fast_import.specs.Made.{IsMadeAt, IsPutFault}
 use Rattle.fast_import.specs.Replays.{Base, Marked, BlobMark, CommitMark, Replay, command_step, said, step, with_branch, with_mark}
 use Rattle.fast_import.specs.Replaying.{Replaying, with_head, without_ref}
-use Rattle.fast_import.specs.Standing.{AreBlobsIn, AreCommitsIn, IsBlobIn, IsCommitIn, IsGivenMark, IsMarkIn, IsReplayOf, IsStepped, IsTried, mark_at}
+use Rattle.fast_import.specs.Standing.{AreBlobsIn, AreCommitsIn, IsBlobIn, IsCommitIn, IsGivenMark, IsMarkIn, IsReplayOf, IsStepped, IsTried}
 use Rattle.fast_import.specs.declared.command.Command.TheVariants as commands
 use Rattle.fast_import.specs.declared.command.Placed.{Placed}
 use Rattle.fast_import.specs.declared.commit_ref.CommitRef.{CommitRef}

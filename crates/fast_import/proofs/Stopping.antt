@@ -1,5 +1,5 @@
 -- How the replay of a whole stream ends.
-use Rattle.std.proofs.Common.{◌≡◌, ◌⊎◌, inl, inr, ◌+◌, ◌*◌, ◌-◌, ◌<◌, ◌≤◌, ℕ, zero, suc, Bool, true, false, cond, List, [], ◌∷◌, ◌++◌, length, Option, Some, None, Result, Ok, Err, IfSome, refl, sym, ap, subst, ◌∙◌, append-nil, arith, length-append}
+use Rattle.std.proofs.Common.{◌≡◌, ◌⊎◌, inl, inr, ◌+◌, ◌*◌, ◌-◌, ◌<◌, ◌≤◌, ℕ, Bool, true, false, cond, List, [], ◌∷◌, ◌++◌, length, Option, Some, None, Result, Ok, Err, IfSome, refl, sym, ap, subst, ◌∙◌, arith, length-append}
 use Rattle.std.specs.Prelude.{IsOkAnd}
 use Rattle.std.specs.Option.{unwrap_or}
 use Rattle.std.specs.Io.KnownBytes.{Consumes, IsAtEnd}
@@ -12,13 +12,13 @@ use Rattle.stream_lex.specs.Cutting.{IsTold}
 use Rattle.stream_lex.specs.declared.stop.Wanted.{Wanted}
 use Rattle.stream_lex.specs.declared.stop.Stop.TheVariants.{More}
 use Rattle.fast_import.specs.Commands.{read_command}
-use Rattle.fast_import.specs.Made.{IsMadeAt, IsMadeBy, IsPutFault, IsRefusal}
+use Rattle.fast_import.specs.Made.{IsMadeAt, IsMadeBy, IsRefusal}
 use Rattle.fast_import.specs.Readers.{MayFollow, Reading, TellsNext, came, fed, left, verdict_with}
 use Rattle.fast_import.specs.Replays.{Base, Ran, Replay, Replayed, given_by, gone_on, nothing_yet, outcome_of, ran, ran_by, replay, step}
 use Rattle.fast_import.specs.Replaying.{Replaying}
-use Rattle.fast_import.specs.Standing.{IsReplayOf, IsReplayedOf, IsStepped}
-use Rattle.fast_import.specs.Verdicts.{Verdict, start, stopped, verdict, weight, with_command}
-use Rattle.fast_import.specs.Whole.{IsEnd, IsFed, IsMadeOfStream, IsPiece, IsStreamError, IsWhole}
+use Rattle.fast_import.specs.Standing.{IsReplayedOf, IsStepped}
+use Rattle.fast_import.specs.Verdicts.{Verdict, stopped, weight, with_command}
+use Rattle.fast_import.specs.Whole.{IsFed, IsMadeOfStream, IsStreamError, IsWhole}
 use Rattle.fast_import.specs.declared.command.Placed.{Placed}
 use Rattle.fast_import.specs.declared.fault.StreamFault.{StreamFault}
 use Rattle.fast_import.specs.declared.fault.StreamFault.TheVariants.{OutOfMemory}
@@ -31,7 +31,7 @@ use Rattle.fast_import.specs.declared.whole.ReplayError.{ReplayError}
 use Rattle.fast_import.specs.declared.whole.ReplayError.TheVariants.{ReadFault, Stream}
 use Rattle.fast_import.proofs.Commanding.{command-reader}
 use Rattle.fast_import.proofs.Putting.{fault_as}
-use Rattle.fast_import.proofs.Running.{IsRunTo, IsSoFar, made-behind, made-front, run-on, with_all}
+use Rattle.fast_import.proofs.Running.{IsRunTo, IsSoFar, made-behind, made-front, run-on}
 
 rest_none : (now : Option Bytes) → IsAtEnd now → unwrap_or now [] ≡ []
 rest_none None h = refl

@@ -7,6 +7,7 @@ use Rattle.std.specs.Ordering.{is_eq}
 use Rattle.std.specs.Global.{Vec}
 use Rattle.git_objects.specs.Paths.{Bytes, same_bytes}
 use Rattle.git_objects.specs.Refs.{Refs, bytes_cmp}
+use Rattle.git_objects.specs.declared.limits.TheConstants.{STREAM_BYTES}
 use Rattle.git_objects.specs.declared.name.Name.{Name}
 use Rattle.path_trees.specs.declared.found.TreeFault.{TreeFault}
 use Rattle.path_trees.specs.declared.found.TreeFault.TheVariants as trees
@@ -35,6 +36,11 @@ HasSame read names = (n : Name) → list_any (is_named n) read ≡ list_any (is_
 -- a map has the trees of commits
 abbrev pub HasTrees : List (Name × Name) → List Made → Type 0
 HasTrees trees made = (n : Name) → lookup (is_named n) trees ≡ tree_made n made
+
+-- and there are not more of them than a stream may have bytes
+pub record AreKept (trees : List (Name × Name)) (made : List Made) : Type 0 where
+  pub found : HasTrees trees made
+  pub few : length made ≤ STREAM_BYTES
 
 abbrev pub setting_value : Setting → Bytes × Bytes
 setting_value s = (s.refname, s.head.0)

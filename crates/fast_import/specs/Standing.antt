@@ -5,7 +5,7 @@ use Rattle.std.specs.Map.{lookup}
 use Rattle.git_objects.specs.Lists.{Each}
 use Rattle.git_objects.specs.Parts.{name_bytes}
 use Rattle.git_objects.specs.Paths.{Bytes}
-use Rattle.git_objects.specs.Refs.{Refs, bytes_cmp}
+use Rattle.git_objects.specs.Refs.{bytes_cmp}
 use Rattle.git_objects.specs.Snapshots.{Snapshot, snapshot_name}
 use Rattle.git_objects.specs.Trees.{Flat}
 use Rattle.git_objects.specs.declared.limits.TheConstants.{PARENTS}
@@ -20,7 +20,7 @@ use Rattle.fast_import.specs.Made.{IsBlobAmong, IsMadeAt, IsPutFault, IsRefusal,
 use Rattle.fast_import.specs.Replays.{Base, Marked, BlobMark, CommitMark, Draft, Replay, Replayed, blob_inline, commit_of, heads_of, inline_blob, is_replayable, step}
 use Rattle.fast_import.specs.Replaying.{Replaying, setting_value}
 use Rattle.git_objects.specs.declared.mode.Mode.{Mode}
-use Rattle.git_objects.specs.declared.mode.Mode.TheVariants.{File, Exec, Link, Module, Dir}
+use Rattle.git_objects.specs.declared.mode.Mode.TheVariants.{Module}
 use Rattle.fast_import.specs.declared.command.BlobRef.{BlobRef}
 use Rattle.fast_import.specs.declared.command.Change.{Change}
 use Rattle.fast_import.specs.declared.command.Placed.{Placed}

@@ -6,9 +6,8 @@ use Rattle.object_store.specs.Growth.{IsGrownBy}
 use Rattle.object_store.specs.Objects.{Object}
 use Rattle.fast_import.specs.Made.{IsMadeBy, IsRefusal}
 use Rattle.fast_import.specs.Readers.{Reading, fed}
-use Rattle.fast_import.specs.Replays.{Base, Replayed, nothing_yet, ran, replay}
+use Rattle.fast_import.specs.Replays.{Base, nothing_yet, ran, replay}
 use Rattle.fast_import.specs.Standing.{IsReplayedOf}
-use Rattle.fast_import.specs.declared.fault.StreamFault.{StreamFault}
 use Rattle.fast_import.specs.declared.whole.ReplayError.{ReplayError}
 use Rattle.fast_import.specs.declared.whole.ReplayError.TheVariants.{ReadFault, Stream}
 use Rattle.fast_import.specs.declared.replayed.Replayed.{Replayed as ReplayedNames}

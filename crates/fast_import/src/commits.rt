@@ -1,17 +1,19 @@
 // The commits that a stream has made.
-ghost use Rattle.std.specs.Prelude.{◌≡◌, ◌++◌, ◌∷◌, [], None, Some, cond, OnErr, OnOk};
+ghost use Rattle.std.specs.Prelude.{◌≡◌, ◌≤◌, ◌++◌, ◌∷◌, [], None, Some, cond, length, OnErr, OnOk};
 ghost use Rattle.std.specs.Map.{lookup};
 ghost use Rattle.std.specs.Option.{option_or};
+ghost use Rattle.git_objects.specs.declared.limits.TheConstants.{STREAM_BYTES};
 ghost use Rattle.git_objects.specs.declared.name.Name.{Name};
 ghost use Rattle.fast_import.specs.Replaying.{is_named, tree_made};
 
 use crate::Made;
 use git_objects::Name;
+use git_objects::limits::STREAM_BYTES;
 use indexmap::IndexMap;
 use std::alloc::{AllocError, Global};
 use std::marker::Model;
 
-/// The commits that were made, in order, looked up by their names.
+/// The commits that were made, in order, looked up by their names. No more than a stream may have bytes.
 #[derive(Drop)]
 pub(crate) struct Commits {
     made: Vec<Made>,
@@ -21,13 +23,13 @@ pub(crate) struct Commits {
 impl Model for Commits {
     ghost use Rattle.std.specs.Prelude.{List};
     ghost use Rattle.fast_import.specs.declared.replayed.Made.{Made};
-    ghost use Rattle.fast_import.specs.Replaying.{HasTrees};
+    ghost use Rattle.fast_import.specs.Replaying.{AreKept};
 
     ghost Value = { List Made };
 
     ghost view = { λ c. c.made.items };
 
-    ghost invariant = { λ c. HasTrees c.trees.entries c.made.items };
+    ghost invariant = { λ c. AreKept c.trees.entries c.made.items };
 }
 
 impl Commits {
@@ -52,6 +54,10 @@ impl Commits {
         ensures ok { OnOk result (self.new ≡ self.old ++ made ∷ []) }
         ensures err { OnErr result (self.new ≡ self.old) }
     {
+        // No stream has so many.
+        if self.made.len() as u64 >= STREAM_BYTES {
+            return Err(AllocError);
+        }
         self.made.reserve(1)?;
         hold_tree(&mut self.trees, made)?;
         let pushed = self.made.push(made);
@@ -60,7 +66,8 @@ impl Commits {
     }
 
     pub(crate) fn into_vec(self) -> Vec<Made>
-        ensures { result.items ≡ self }
+        ensures same { result.items ≡ self }
+        ensures few { length result.items ≤ STREAM_BYTES }
     {
         self.made
     }

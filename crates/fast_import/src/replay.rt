@@ -1,7 +1,8 @@
 // The replay of a stream's commands into a store.
-ghost use Rattle.std.specs.Prelude.{◌≡◌, List};
+ghost use Rattle.std.specs.Prelude.{◌≡◌, ◌≤◌, List, length};
 ghost use Rattle.std.specs.Option.{option_map};
 ghost use Rattle.git_objects.specs.Parts.{name_bytes};
+ghost use Rattle.git_objects.specs.declared.limits.TheConstants.{STREAM_BYTES};
 ghost use Rattle.object_store.specs.Objects.{Object};
 ghost use Rattle.fast_import.specs.Bases.{base_in};
 ghost use Rattle.fast_import.specs.Replays.{Replay as ReplayOf, given_by, nothing_yet, target_name};
@@ -34,11 +35,11 @@ impl Model for Replay {
     ghost Value = { Replaying };
 
     ghost view = { λ r. record {
-        blobs = r.blobs;
-        commits = r.commits;
-        branches = r.branches;
-        marks = r.marks;
-        draft = r.draft;
+      blobs = r.blobs;
+      commits = r.commits;
+      branches = r.branches;
+      marks = r.marks;
+      draft = r.draft;
     } };
 }
 
@@ -59,7 +60,8 @@ impl Replay {
 
     /// What the commands have given. Takes no memory.
     pub fn finish(self) -> Replayed
-        ensures { (S : List Object) (r : ReplayOf) → IsReplayOf S self r → IsReplayedOf S result (given_by r) }
+        ensures gives { (S : List Object) (r : ReplayOf) → IsReplayOf S self r → IsReplayedOf S result (given_by r) }
+        ensures few { length result.commits.items ≤ STREAM_BYTES }
     {
         let Replay {
             alloc: _,

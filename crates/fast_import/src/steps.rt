@@ -47,11 +47,7 @@ impl Replay {
     }
 
     // Puts a blob into the store, behind those that were read.
-    pub(crate) fn bring(
-        &mut self,
-        store: &mut Store,
-        content: &[u8],
-    ) -> Result<Name, StreamFault>
+    pub(crate) fn bring(&mut self, store: &mut Store, content: &[u8]) -> Result<Name, StreamFault>
         ensures { IsBrought store.old store.new self.old self.new content.now result }
     {
         let name = put_object(store, Kind::Blob, content)?;

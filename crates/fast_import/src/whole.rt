@@ -1,6 +1,7 @@
 // The replay of a whole stream.
-ghost use Rattle.std.specs.Prelude.{◌≡◌, ◌⊎◌, ◌<◌, ◌≤◌, ◌↔◌, ℕ, List, false, length, IfErr, IfSome, IsErrOf};
+ghost use Rattle.std.specs.Prelude.{◌≡◌, ◌⊎◌, ◌<◌, ◌≤◌, ◌↔◌, ℕ, List, false, length, IfErr, IfOk, IfSome, IsErrOf};
 ghost use Rattle.std.specs.Prelude.{OnOk};
+ghost use Rattle.git_objects.specs.declared.limits.TheConstants.{STREAM_BYTES};
 ghost use Rattle.proj_io.specs.Counts.{Counts};
 ghost use Rattle.fast_import.specs.Bases.{IsBaseIn, base_in};
 ghost use Rattle.fast_import.specs.Whole.{IsFed, IsWhole};
@@ -33,6 +34,7 @@ pub fn replay_all<S: Source, B: Base>(
     requires { IsBaseIn store.old (B.commits base.now) (B.refs base.now) (B.blobs base.now) }
     ensures stream { (all : List ℕ) × IfSome (S.left input.old) (λ bytes. bytes ≡ all) × IsWhole
         (base_in store.old (B.commits base.now) (B.refs base.now) (B.blobs base.now)) store.old store.new all result }
+    ensures few { IfOk result (λ g. length g.commits.items ≤ STREAM_BYTES) }
     ensures told { S.tells input.new ↔ S.tells input.old }
     ensures cause { Counts (S.faults input.old) (S.faults input.new) (IsErrOf result ReplayError.ReadFault) }
 {
@@ -53,6 +55,7 @@ fn replay_by<S: Source, B: Base>(
     requires few { length piece.old ≤ 65536 }
     ensures stream { (all : List ℕ) × IfSome (S.left input.old) (λ bytes. bytes ≡ all) × IsWhole
         (base_in store.old (B.commits base.now) (B.refs base.now) (B.blobs base.now)) store.old store.new all result }
+    ensures few { IfOk result (λ g. length g.commits.items ≤ STREAM_BYTES) }
     ensures told { S.tells input.new ↔ S.tells input.old }
     ensures cause { Counts (S.faults input.old) (S.faults input.new) (IsErrOf result ReplayError.ReadFault) }
 {

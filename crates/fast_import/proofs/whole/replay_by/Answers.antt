@@ -1,10 +1,9 @@
-use Rattle.std.proofs.Common.{◌≡◌, ◌<◌, ◌≤◌, ◌+◌, Ok, Err, Result, sym, subst, ap, ◌∙◌, arith}
+use Rattle.std.proofs.Common.{◌≡◌, ◌<◌, ◌≤◌, Ok, Err, sym, subst, ap, arith}
 use Rattle.git_objects.specs.declared.limits.TheConstants.{STREAM_BYTES}
-use Rattle.fast_import.specs.Bases.{IsBaseIn, base_in}
+use Rattle.fast_import.specs.Bases.{base_in}
 use Rattle.fast_import.specs.Readers.{Follows, OnMore, Reading, TellsNext, came}
 use Rattle.fast_import.specs.Replays.{Base}
-use Rattle.fast_import.specs.Standing.{IfTold, IsStepped}
-use Rattle.fast_import.specs.declared.fault.StreamFault.{StreamFault}
+use Rattle.fast_import.specs.Standing.{IsStepped}
 use Rattle.fast_import.specs.declared.reader.Next.{Next}
 use Rattle.fast_import.proofs.Growing.{base-grown, is_base-grown}
 use Rattle.fast_import.proofs.Running.{IsSoFar, fed_more, nothing_so_far, one_more, waiting}
@@ -22,8 +21,7 @@ stream-init g c = record {
 
 pub returns-in-Err-clause-stream : goal.returns-in-Err-clause-stream
 returns-in-Err-clause-stream g c =
-    let h = c.stream.invariant.so_far in
-    (
+    let h = c.stream.invariant.so_far in (
       all (base_in c.args.store.now (g.B.Base.commits c.args.base.now) (g.B.Base.refs c.args.base.now) (g.B.Base.blobs c.args.base.now)) c.args.store.now c.stream.store (g.S.Source.left c.args.input.now) (g.S.Source.left c.stream.input) c.stream.reader c.stream.replay h,
       all_told (base_in c.args.store.now (g.B.Base.commits c.args.base.now) (g.B.Base.refs c.args.base.now) (g.B.Base.blobs c.args.base.now)) c.args.store.now c.stream.store (g.S.Source.left c.args.input.now) (g.S.Source.left c.stream.input) c.stream.reader c.stream.replay h,
       reading_refused (base_in c.args.store.now (g.B.Base.commits c.args.base.now) (g.B.Base.refs c.args.base.now) (g.B.Base.blobs c.args.base.now)) c.args.store.now c.stream.store (g.S.Source.left c.args.input.now) (g.S.Source.left c.stream.input) c.stream.reader c.stream.replay h c.in-Err.fault c.in-Err.ensures.follows,
@@ -31,11 +29,10 @@ returns-in-Err-clause-stream g c =
 
 pub returns-in-Ok-Ended-clause-stream : goal.returns-in-Ok-Ended-clause-stream
 returns-in-Ok-Ended-clause-stream g c =
-    let h = c.stream.invariant.so_far in
-    (
+    let h = c.stream.invariant.so_far in (
       all (base_in c.args.store.now (g.B.Base.commits c.args.base.now) (g.B.Base.refs c.args.base.now) (g.B.Base.blobs c.args.base.now)) c.args.store.now c.stream.store (g.S.Source.left c.args.input.now) (g.S.Source.left c.stream.input) c.stream.reader c.stream.replay h,
       all_told (base_in c.args.store.now (g.B.Base.commits c.args.base.now) (g.B.Base.refs c.args.base.now) (g.B.Base.blobs c.args.base.now)) c.args.store.now c.stream.store (g.S.Source.left c.args.input.now) (g.S.Source.left c.stream.input) c.stream.reader c.stream.replay h,
-      all_given (base_in c.args.store.now (g.B.Base.commits c.args.base.now) (g.B.Base.refs c.args.base.now) (g.B.Base.blobs c.args.base.now)) c.args.store.now c.stream.store (g.S.Source.left c.args.input.now) (g.S.Source.left c.stream.input) c.stream.reader c.stream.replay h (subst (λ (n : Next). Follows (Ok n) c.stream.reader c.next.new.self) c.in-Ok-Ended.field-0-is c.in-Ok-Ended.ensures.follows) c.finish.result (c.finish.ensures c.stream.store h.state h.stands),
+      all_given (base_in c.args.store.now (g.B.Base.commits c.args.base.now) (g.B.Base.refs c.args.base.now) (g.B.Base.blobs c.args.base.now)) c.args.store.now c.stream.store (g.S.Source.left c.args.input.now) (g.S.Source.left c.stream.input) c.stream.reader c.stream.replay h (subst (λ (n : Next). Follows (Ok n) c.stream.reader c.next.new.self) c.in-Ok-Ended.field-0-is c.in-Ok-Ended.ensures.follows) c.finish.result (c.finish.ensures.gives c.stream.store h.state h.stands),
     )
 
 pub step-requires-clause-base : goal.step-requires-clause-base
@@ -46,8 +43,7 @@ step-requires-clause-base g c =
 pub returns-in-Err-step-clause-stream : goal.returns-in-Err-step-clause-stream
 returns-in-Err-step-clause-stream g c =
     let h = c.stream.invariant.so_far in
-    let p = c.in-Ok-Command.placed in
-    (
+    let p = c.in-Ok-Command.placed in (
       all (base_in c.args.store.now (g.B.Base.commits c.args.base.now) (g.B.Base.refs c.args.base.now) (g.B.Base.blobs c.args.base.now)) c.args.store.now c.stream.store (g.S.Source.left c.args.input.now) (g.S.Source.left c.stream.input) c.stream.reader c.stream.replay h,
       all_told (base_in c.args.store.now (g.B.Base.commits c.args.base.now) (g.B.Base.refs c.args.base.now) (g.B.Base.blobs c.args.base.now)) c.args.store.now c.stream.store (g.S.Source.left c.args.input.now) (g.S.Source.left c.stream.input) c.stream.reader c.stream.replay h,
       step_refused (base_in c.args.store.now (g.B.Base.commits c.args.base.now) (g.B.Base.refs c.args.base.now) (g.B.Base.blobs c.args.base.now)) c.args.store.now c.stream.store (g.S.Source.left c.args.input.now) (g.S.Source.left c.stream.input) c.stream.reader c.stream.replay h p c.next.new.self
@@ -77,8 +73,7 @@ feed_on-requires-clause-open g c =
 
 pub returns-in-Err-feed_on-clause-stream : goal.returns-in-Err-feed_on-clause-stream
 returns-in-Err-feed_on-clause-stream g c =
-    let h = c.stream.invariant.so_far in
-    (
+    let h = c.stream.invariant.so_far in (
       all (base_in c.args.store.now (g.B.Base.commits c.args.base.now) (g.B.Base.refs c.args.base.now) (g.B.Base.blobs c.args.base.now)) c.args.store.now c.stream.store (g.S.Source.left c.args.input.now) (g.S.Source.left c.stream.input) c.stream.reader c.stream.replay h,
       all_told (base_in c.args.store.now (g.B.Base.commits c.args.base.now) (g.B.Base.refs c.args.base.now) (g.B.Base.blobs c.args.base.now)) c.args.store.now c.stream.store (g.S.Source.left c.args.input.now) (g.S.Source.left c.stream.input) c.stream.reader c.stream.replay h,
       feeding_refused (base_in c.args.store.now (g.B.Base.commits c.args.base.now) (g.B.Base.refs c.args.base.now) (g.B.Base.blobs c.args.base.now)) c.args.store.now c.stream.store (g.S.Source.left c.args.input.now) (g.S.Source.left c.stream.input) c.stream.reader c.stream.replay h c.in-Err-feed_on.error c.in-Err-feed_on.ensures.err,

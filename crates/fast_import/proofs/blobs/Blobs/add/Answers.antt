@@ -1,4 +1,4 @@
-use Rattle.std.proofs.Common.{◌∷◌, [], ◌++◌, ◌≡◌, arith}
+use Rattle.std.proofs.Common.{arith}
 use Rattle.std.proofs.lemmas.Grind.{common_steps}
 use Rattle.fast_import.proofs.Keeping.{same-push}
 use Rattle.fast_import.proofs.blobs.Blobs.add.Goals as goal

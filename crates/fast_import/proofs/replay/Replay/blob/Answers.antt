@@ -1,4 +1,3 @@
-use Rattle.std.proofs.Common.{◌≡◌, ap, sym, subst, Some}
 use Rattle.fast_import.proofs.Stepping.{blob_done, blob_refused}
 use Rattle.fast_import.proofs.replay.Replay.blob.Goals as goal
 

@@ -5,7 +5,7 @@ use Rattle.fast_import.specs.Bases.{base_in}
 use Rattle.fast_import.specs.Replays.{with_merges}
 use Rattle.fast_import.specs.Replaying.{Replaying}
 use Rattle.fast_import.specs.declared.commit_ref.CommitRef.{CommitRef}
-use Rattle.fast_import.proofs.Committing.{commit_begun, no_merge, no_parent, no_stage}
+use Rattle.fast_import.proofs.Committing.{commit_begun}
 use Rattle.fast_import.proofs.replay.Replay.commit.Goals as goal
 
 pub returns : goal.returns

@@ -1,7 +1,7 @@
-use Rattle.std.proofs.Common.{◌≡◌, [], Result, Ok, refl, sym, subst, ap, inl}
+use Rattle.std.proofs.Common.{[], Result, Ok, refl, sym, subst}
 use Rattle.git_objects.specs.Trees.{Flat}
 use Rattle.fast_import.specs.Bases.{base_in}
-use Rattle.fast_import.specs.Replays.{edited, inline_blob}
+use Rattle.fast_import.specs.Replays.{edited}
 use Rattle.fast_import.specs.Standing.{IsChanged, IsRedrawn}
 use Rattle.fast_import.specs.declared.command.Change.{Change}
 use Rattle.fast_import.specs.declared.command.Change.TheVariants as changes

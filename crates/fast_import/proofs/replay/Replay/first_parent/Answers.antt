@@ -1,4 +1,4 @@
-use Rattle.std.proofs.Common.{◌≡◌, Ok, None, Some, Result, Option, ap, sym, ◌∙◌}
+use Rattle.std.proofs.Common.{Ok, Option, ap, sym, ◌∙◌}
 use Rattle.std.specs.FinMap.{find}
 use Rattle.git_objects.specs.Refs.{bytes_cmp}
 use Rattle.git_objects.specs.Paths.{Bytes}

@@ -1,7 +1,4 @@
-use Rattle.std.proofs.Common.{◌≡◌, Ok, None, Some, Result, Option, ap, sym, ◌∙◌}
-use Rattle.std.specs.FinMap.{find}
-use Rattle.git_objects.specs.Refs.{bytes_cmp}
-use Rattle.git_objects.specs.Paths.{Bytes}
+use Rattle.std.proofs.Common.{ap, sym, ◌∙◌}
 use Rattle.fast_import.specs.Bases.{base_in}
 use Rattle.fast_import.specs.Replaying.{Replaying}
 use Rattle.fast_import.specs.Replaying.{tree_made}
