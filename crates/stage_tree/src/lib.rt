@@ -1,8 +1,8 @@
 //! A tree that is edited: its directories and leaves are nodes of one vector, linked by their numbers.
 #![tactic(auto)]
 
-mod count;
 mod copies;
+mod count;
 mod edits;
 mod fault;
 mod finish;
