@@ -81,7 +81,8 @@ impl Replay {
         requires store { IsStore store.old }
         requires base { IsBaseIn store.old (B.commits base.now) (B.refs base.now) (B.blobs base.now) }
         requires fit { is_fit mode blob.now ≡ true }
-        ensures { (r : ReplayOf) → IsReplayOf store.old self.old r → IsGiven store.old store.new self.new r mode blob.now
+        ensures { (r : ReplayOf) → IsReplayOf store.old self.old r →
+            IsGiven store.old store.new self.new r mode blob.now
             (given_bytes (base_in store.old (B.commits base.now) (B.refs base.now) (B.blobs base.now)) r at mode
             blob.now) result }
     {

@@ -17,7 +17,7 @@ use object_store::Store;
 use path_names::RefName;
 
 impl Replay {
-    /// Carries out a command that a reader gave, behind those that it gave before, none of which was refused. A base gives
+    /// Carries out a command that a reader gave behind those before it, none of which was refused. A base gives
     /// the same answers in each call, and the store may only have grown. A command is refused exactly where it has a
     /// fault; Collision comes only where another object has the name of one that the command brings.
     pub fn step<B: Base>(

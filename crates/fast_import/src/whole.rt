@@ -24,7 +24,7 @@ pub enum ReplayError {
     Stream(StreamFault),
 }
 
-/// Replays a stream upon what is there. The stream is read in pieces, up to its end, its `done` line or its first fault.
+/// Replays a stream upon what is there. It is read in pieces, up to its end, its `done` line or its first fault.
 pub fn replay_all<S: Source, B: Base>(
     alloc: Global,
     input: &mut S,
