@@ -1,11 +1,9 @@
 -- Ways made clear of stored directories.
-use Rattle.std.proofs.Common.{◌≡◌, ℕ, ◌+◌, ◌<◌, ◌⊎◌, inl, inr, Bool, true, false, not, cond, ◌==◌, ◌&&◌, ◌||◌, List, [], ◌∷◌, ◌++◌, length, take, drop, get_or, Option, Some, None, refl, sym, ap, subst, ◌∙◌, arith, append_assoc, length-append, length-take, true≢false}
+use Rattle.std.proofs.Common.{◌≡◌, ℕ, ◌+◌, ◌<◌, ◌⊎◌, inl, inr, Bool, true, false, not, cond, ◌&&◌, ◌||◌, List, [], ◌∷◌, ◌++◌, length, take, drop, get_or, Option, Some, refl, sym, ap, subst, ◌∙◌, arith, append_assoc, length-append, length-take, true≢false}
 use Rattle.std.specs.declared.cmp.Ordering.TheVariants.{Less}
-use Rattle.std.specs.Cmp.Lexicographic.{bytes_decides}
 use Rattle.git_objects.specs.Paths.{Bytes, Path, comparable, is_prefix, same_bytes}
 use Rattle.git_objects.specs.Entries.{is_dir}
 use Rattle.git_objects.specs.declared.mode.Mode.TheVariants.{Dir}
-use Rattle.git_objects.specs.declared.name.Name.{Name}
 use Rattle.git_objects.proofs.Basics.{same_bytes-self, same_bytes-back}
 use Rattle.object_store.specs.Objects.{Object, IsStore}
 use Rattle.path_trees.specs.declared.found.Found.{Found}
@@ -21,7 +19,7 @@ use Rattle.stage_tree.specs.Pools.{hanging}
 use Rattle.stage_tree.specs.Frames.{Frame, Below, Behind, plug, path_of, Fits, SoundUp}
 use Rattle.stage_tree.specs.Leaves.{is_held}
 use Rattle.stage_tree.specs.Expanding.{IsExpanded}
-use Rattle.stage_tree.specs.Ways.{IsBlocked, IsDirOf, IsEntered, IsOpen, IsPlaceOf, IsStill, NotBefore, kids_of, named_first}
+use Rattle.stage_tree.specs.Ways.{IsBlocked, IsDirOf, IsOpen, IsPlaceOf, IsStill, NotBefore, kids_of, named_first}
 use Rattle.stage_tree.specs.Renames.{IsCleared, StaysClear, clear_below, is_clear}
 use Rattle.stage_tree.proofs.Order.{less_apart, less_back, less_trans}
 use Rattle.stage_tree.proofs.Leaves.{fits_far}

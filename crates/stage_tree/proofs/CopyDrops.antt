@@ -1,9 +1,8 @@
 -- Copies given back.
-use Rattle.std.proofs.Common.{◌≡◌, ℕ, ◌+◌, ◌<◌, ◌≤◌, ◌==◌, List, [], ◌∷◌, ◌++◌, length, Option, Some, None, refl, sym, ap, subst, ◌∙◌, arith, true, false, true≢false}
+use Rattle.std.proofs.Common.{◌≡◌, ℕ, ◌+◌, ◌<◌, ◌≤◌, ◌==◌, List, [], ◌∷◌, ◌++◌, length, Option, Some, refl, sym, ap, subst, ◌∙◌, arith, true, false, true≢false}
 use Rattle.std.specs.Prelude.{slice_get, nat_lt}
 use Rattle.std.proofs.lemmas.Bool.Decides.{nat_tests}
 use Rattle.std.proofs.lemmas.Option.{slice_get_within}
-use Rattle.git_objects.specs.Paths.{Bytes}
 use Rattle.stage_tree.specs.declared.nodes.Node.{Node}
 use Rattle.stage_tree.specs.declared.nodes.Nodes.{Nodes}
 use Rattle.stage_tree.specs.declared.copies.Work.{Work}
@@ -15,7 +14,7 @@ use Rattle.stage_tree.specs.Pools.{CanFree, IsFreed, IsKept, IsSame, inside, spa
 use Rattle.stage_tree.proofs.Branching.{kept_on}
 use Rattle.stage_tree.proofs.Expanding.{same_inside, same_pool, same_spare}
 use Rattle.stage_tree.specs.Expanding.{IsWaste}
-use Rattle.stage_tree.specs.Copies.{ArePending, CanCopy, IsAlike, IsCopied, IsCopying, IsDropping, IsGrowing, IsNext, IsStep}
+use Rattle.stage_tree.specs.Copies.{CanCopy, IsAlike, IsCopied, IsCopying, IsDropping, IsGrowing, IsNext, IsStep}
 use Rattle.stage_tree.proofs.Framing.{reads_kept, same_names}
 use Rattle.stage_tree.proofs.Pools.{forest_is, inside_one, one_most, walk_is}
 use Rattle.stage_tree.proofs.CopyTurns.{IsLast, pending_last, pending_stays}

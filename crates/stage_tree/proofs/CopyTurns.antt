@@ -1,5 +1,5 @@
 -- Turns of a copy.
-use Rattle.std.proofs.Common.{◌≡◌, ℕ, zero, suc, take, get_or, ◌+◌, ◌*◌, ◌<◌, ◌≤◌, ◌≢◌, ◌==◌, Bool, true, false, List, [], ◌∷◌, ◌++◌, length, Option, Some, None, refl, sym, ap, subst, ◌∙◌, arith, true≢false}
+use Rattle.std.proofs.Common.{◌≡◌, ℕ, zero, suc, take, get_or, ◌+◌, ◌*◌, ◌<◌, ◌≤◌, true, List, [], ◌∷◌, ◌++◌, length, Option, Some, None, refl, sym, ap, subst, ◌∙◌, arith, true≢false}
 use Rattle.std.specs.Prelude.{slice_get, slice_set, nat_lt}
 use Rattle.std.proofs.lemmas.Option.{slice_get_within}
 use Rattle.git_objects.specs.Paths.{Bytes}
@@ -11,9 +11,9 @@ use Rattle.stage_tree.specs.declared.copies.Work.{Work}
 use Rattle.stage_tree.specs.declared.copies.Work.TheVariants.{Siblings, Children}
 use Rattle.stage_tree.specs.declared.copies.Turn.{Turn}
 use Rattle.stage_tree.specs.declared.copies.Turn.TheVariants.{Copy, Copied}
-use Rattle.stage_tree.specs.Forests.{Forest, Nil, Bin, IsCell, IsTop, one, count, forest, size, is_link, target, Reads}
-use Rattle.stage_tree.specs.Pools.{IsKept, IsPool, IsSame, StayBut, hanging, inside, spare}
-use Rattle.stage_tree.specs.Copies.{ArePending, CanCopyOne, IsAlike, IsCopying, IsDropping, IsGrowing, IsNext, IsOneCopied, IsStep, is_turn, turns_of, works_of}
+use Rattle.stage_tree.specs.Forests.{Forest, Nil, Bin, IsCell, count, forest, size, is_link, target, Reads}
+use Rattle.stage_tree.specs.Pools.{IsKept, inside, spare}
+use Rattle.stage_tree.specs.Copies.{ArePending, CanCopyOne, IsAlike, IsCopying, IsGrowing, IsOneCopied, IsStep, is_turn, works_of}
 use Rattle.stage_tree.proofs.Seeking.{inside_link}
 use Rattle.stage_tree.proofs.Framing.{cell_kept, reads_kept}
 use Rattle.stage_tree.proofs.Freeing.{first_of, next_of}

@@ -1,26 +1,19 @@
 -- Nodes copied one by one.
-use Rattle.std.proofs.Common.{◌≡◌, ℕ, ◌+◌, ◌*◌, ◌<◌, ◌≤◌, ◌≢◌, ◌==◌, Bool, true, false, List, [], ◌∷◌, ◌++◌, length, Option, Some, None, refl, sym, ap, subst, ◌∙◌, arith}
-use Rattle.std.specs.Prelude.{slice_get, slice_set, nat_lt}
+use Rattle.std.proofs.Common.{◌≡◌, ℕ, ◌+◌, ◌≤◌, ◌==◌, true, length, Option, Some, None, refl, sym, ap, subst, ◌∙◌, arith}
+use Rattle.std.specs.Prelude.{slice_get, nat_lt}
 use Rattle.std.proofs.lemmas.Option.{slice_get_within}
 use Rattle.git_objects.specs.Paths.{Bytes}
 use Rattle.stage_tree.specs.declared.nodes.Node.{Node}
 use Rattle.stage_tree.specs.declared.nodes.Nodes.{Nodes}
-use Rattle.stage_tree.specs.declared.nodes.Content.{Content}
-use Rattle.stage_tree.specs.declared.nodes.Link.TheVariants.{First, Next}
-use Rattle.stage_tree.specs.declared.copies.Work.{Work}
-use Rattle.stage_tree.specs.declared.copies.Work.TheVariants.{Siblings, Children}
-use Rattle.stage_tree.specs.declared.copies.Turn.{Turn}
-use Rattle.stage_tree.specs.declared.copies.Turn.TheVariants.{Copy, Copied}
-use Rattle.stage_tree.specs.Forests.{Forest, Nil, Bin, IsCell, one, count, forest, size, is_link, target, Reads}
+use Rattle.stage_tree.specs.declared.nodes.Link.TheVariants.{Next}
+use Rattle.stage_tree.specs.Forests.{Forest, IsCell, one, count, is_link, Reads}
 use Rattle.stage_tree.specs.Frames.{pointed}
-use Rattle.stage_tree.specs.Pools.{IsAdded, IsKept, IsPool, IsSame, StayBut, free_after, hanging, inside, place_number, placed, spare}
-use Rattle.stage_tree.specs.Copies.{ArePending, CanCopyOne, IsAlike, IsCopying, IsDropping, IsGrowing, IsNext, IsOneCopied, IsStep, turns_of, works_of}
+use Rattle.stage_tree.specs.Pools.{IsAdded, IsKept, StayBut, free_after, inside, place_number, placed, spare}
+use Rattle.stage_tree.specs.Copies.{CanCopyOne, IsOneCopied}
 use Rattle.stage_tree.proofs.Seeking.{inside_link}
 use Rattle.stage_tree.proofs.Framing.{reads_kept, same_names}
-use Rattle.stage_tree.proofs.Freeing.{first_of, next_of}
 use Rattle.stage_tree.proofs.Pointing.{IsBeside, next_before, next_beside, next_stay}
-use Rattle.stage_tree.proofs.Pools.{added, forest_is, inside_one, one_most, own_count, walk_is}
-use Rattle.stage_tree.proofs.Branching.{kept_on}
+use Rattle.stage_tree.proofs.Pools.{added, inside_one, one_most, own_count}
 
 -- ---- one node
 

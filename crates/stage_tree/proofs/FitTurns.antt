@@ -1,9 +1,8 @@
 -- Paths measured node by node.
-use Rattle.std.proofs.Common.{◌≡◌, ℕ, ◌+◌, ◌-◌, ◌<◌, ◌≤◌, Bool, true, false, cond, ◌&&◌, List, [], ◌∷◌, ◌++◌, length, length-take, drop, min, get_or, Option, Some, None, refl, sym, ap, subst, ◌∙◌, arith}
-use Rattle.std.specs.Prelude.{nat_le, slice_get, slice_range}
+use Rattle.std.proofs.Common.{◌≡◌, ℕ, ◌+◌, ◌-◌, ◌<◌, ◌≤◌, Bool, true, false, ◌&&◌, List, [], ◌∷◌, ◌++◌, length, length-take, drop, min, get_or, Option, Some, None, refl, sym, ap, ◌∙◌, arith}
+use Rattle.std.specs.Prelude.{nat_le, slice_get}
 use Rattle.std.proofs.lemmas.List.{length-drop}
 use Rattle.std.proofs.lemmas.Option.{slice_get_read}
-use Rattle.git_objects.specs.Lists.{Each}
 use Rattle.object_store.specs.Objects.{Object}
 use Rattle.stage_tree.specs.declared.nodes.Node.{Node}
 use Rattle.stage_tree.specs.declared.nodes.Nodes.{Nodes}
@@ -14,7 +13,7 @@ use Rattle.stage_tree.specs.declared.nodes.Link.{Link}
 use Rattle.stage_tree.specs.declared.nodes.Link.TheVariants.{First, Next}
 use Rattle.stage_tree.specs.declared.limits.Measure.{Measure}
 use Rattle.std.proofs.lemmas.Bool.Decides.{nat_tests}
-use Rattle.stage_tree.specs.Forests.{Forest, Nil, Bin, is_link, node_component, target}
+use Rattle.stage_tree.specs.Forests.{is_link, node_component, target}
 use Rattle.stage_tree.specs.Pools.{hanging}
 use Rattle.stage_tree.specs.Counts.{IsCountable}
 use Rattle.stage_tree.specs.Limits.{content_fits, fits_in, weight}

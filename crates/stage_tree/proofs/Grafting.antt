@@ -1,21 +1,21 @@
 -- A branch made from its end, and children given to its end.
-use Rattle.std.proofs.Common.{◌≡◌, ℕ, ◌+◌, ◌<◌, ◌≤◌, ◌≢◌, ◌==◌, true, List, [], ◌∷◌, ◌++◌, length, drop, get_or, Option, Some, None, refl, sym, ap, subst, ◌∙◌, arith}
+use Rattle.std.proofs.Common.{◌≡◌, ℕ, ◌+◌, ◌<◌, ◌≤◌, ◌≢◌, ◌==◌, true, List, [], ◌∷◌, length, drop, get_or, Option, Some, None, refl, sym, ap, subst, ◌∙◌, arith}
 use Rattle.std.specs.Prelude.{slice_get, slice_set, nat_lt}
 use Rattle.std.proofs.lemmas.Option.{slice_get_within}
 use Rattle.git_objects.specs.Paths.{Bytes, Path}
 use Rattle.stage_tree.specs.declared.nodes.Node.{Node}
 use Rattle.stage_tree.specs.declared.nodes.Nodes.{Nodes}
 use Rattle.stage_tree.specs.declared.nodes.Content.{Content}
-use Rattle.stage_tree.specs.declared.nodes.Content.TheVariants.{Held, Open}
+use Rattle.stage_tree.specs.declared.nodes.Content.TheVariants.{Open}
 use Rattle.stage_tree.specs.declared.nodes.Link.TheVariants.{First}
 use Rattle.stage_tree.specs.Forests.{Forest, Nil, one, count, Reads, forest, is_link}
 use Rattle.stage_tree.specs.Frames.{pointed}
 use Rattle.stage_tree.specs.Pools.{IsKept, IsPool, IsSame, IsAdded, CanFree, IsFreed, inside, spare}
 use Rattle.stage_tree.specs.Expanding.{IsWaste}
-use Rattle.stage_tree.specs.Renames.{IsGraft, IsTrunk, last_of, trunk, trunk_content}
+use Rattle.stage_tree.specs.Renames.{IsGraft, IsTrunk, last_of, trunk}
 use Rattle.stage_tree.proofs.Lists.{got_set, got_other}
 use Rattle.stage_tree.proofs.Seeking.{inside_link}
-use Rattle.stage_tree.proofs.Framing.{reads_kept, same_names}
+use Rattle.stage_tree.proofs.Framing.{reads_kept}
 use Rattle.stage_tree.proofs.Pools.{one_most, inside_one, own_count, forest_is, walk_is}
 use Rattle.stage_tree.proofs.Freeing.{point_first, reads_names}
 use Rattle.stage_tree.proofs.Pointing.{IsBeside, set_beside, set_stay}

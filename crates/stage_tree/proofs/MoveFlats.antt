@@ -1,8 +1,8 @@
 -- What a move leaves of a flat tree.
-use Rattle.std.proofs.Common.{◌≡◌, ℕ, ◌⊎◌, inl, inr, Bool, true, false, cond, ◌&&◌, ◌||◌, List, [], ◌∷◌, ◌++◌, length, Option, Some, None, refl, sym, ap, subst, ◌∙◌, arith, true≢false, length-append, append-nil}
+use Rattle.std.proofs.Common.{◌≡◌, Bool, true, false, cond, ◌&&◌, ◌||◌, [], ◌∷◌, ◌++◌, length, Option, Some, None, refl, sym, ap, ◌∙◌, arith, true≢false, length-append, append-nil}
 use Rattle.std.specs.Option.{option_map, option_or}
-use Rattle.git_objects.specs.Paths.{Bytes, Path, comparable, is_path, is_prefix, same_bytes}
-use Rattle.git_objects.specs.Trees.{Flat, IsTree, Leaf, ModuleLeaf, Node as FlatNode, LeafNode, TreeNode, at, if_full, put, remove, rests, standing, under}
+use Rattle.git_objects.specs.Paths.{Bytes, Path, comparable, is_prefix, same_bytes}
+use Rattle.git_objects.specs.Trees.{Flat, IsTree, Leaf, Node as FlatNode, LeafNode, TreeNode, at, if_full, put, remove, rests, standing, under}
 use Rattle.git_objects.proofs.Basics.{same_bytes-back, same_bytes-self}
 use Rattle.git_objects.proofs.Maps.{after, at-put, at-remove, at_rest, first_some}
 use Rattle.git_objects.proofs.Order.{path_decides}

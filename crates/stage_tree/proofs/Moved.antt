@@ -1,8 +1,8 @@
 -- A stage after a move.
-use Rattle.std.proofs.Common.{◌≡◌, ℕ, ◌≤◌, ◌⊎◌, true, List, [], Option, Some, None, IfSome, Result, IsOkAnd, Ok, Err, refl, sym, ap, subst, arith}
+use Rattle.std.proofs.Common.{◌≡◌, ℕ, true, List, Option, Some, None, IfSome, Result, IsOkAnd, Ok, Err, refl, subst}
 use Rattle.git_objects.specs.Paths.{Path, is_path}
 use Rattle.git_objects.specs.Results.{◌>>=◌, or_refuse}
-use Rattle.git_objects.specs.Trees.{Flat, IsTree, Node as FlatNode, put, remove, standing}
+use Rattle.git_objects.specs.Trees.{Flat, Node as FlatNode, put, remove, standing}
 use Rattle.git_objects.proofs.Pointwise.{IsNode, put-tree, remove-tree}
 use Rattle.git_objects.proofs.Standing.{standing_node}
 use Rattle.object_store.specs.Objects.{Object}
@@ -15,7 +15,7 @@ use Rattle.stage_tree.specs.Renames.{IsEditedTo}
 use Rattle.stage_tree.specs.Stages.{IsOpened, Shows, Staged, staged}
 use Rattle.stage_tree.specs.Ways.{IsOpen}
 use Rattle.stage_tree.proofs.Fewer.{rename_few}
-use Rattle.stage_tree.proofs.Staging.{as_test, most_stays, shows_open, shows_still, stands_opened}
+use Rattle.stage_tree.proofs.Staging.{as_test, most_stays, shows_open, shows_still}
 
 pub edited_open : (S : List Object) (s s' : Nodes) (left : Result Flat StageFault) (r : Result (Unit {0}) StageFault) → IsEditedTo S s s' left r → IsOpen S s'
 edited_open S s s' (Ok t) (Ok u) h = h.done.0

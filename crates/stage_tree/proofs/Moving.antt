@@ -1,8 +1,8 @@
 -- What stands at a path moved to another.
-use Rattle.std.proofs.Common.{◌≡◌, ℕ, ◌+◌, ◌<◌, ◌≤◌, ◌≢◌, ◌⊎◌, inl, inr, Bool, true, false, cond, ◌==◌, List, [], ◌∷◌, ◌++◌, length, replicate, take, Option, Some, None, Result, IsOkAnd, Ok, Err, refl, sym, ap, subst, ◌∙◌, arith, true≢false, append_assoc, length-append}
+use Rattle.std.proofs.Common.{◌≡◌, ℕ, ◌+◌, ◌≢◌, ◌⊎◌, inl, inr, Bool, true, false, cond, ◌==◌, List, [], ◌∷◌, ◌++◌, length, replicate, take, Option, Some, None, Result, IsOkAnd, Ok, Err, refl, sym, ap, subst, ◌∙◌, arith, true≢false, append_assoc, length-append}
 use Rattle.std.proofs.lemmas.Bool.Decides.{eqb_tells}
 use Rattle.std.proofs.lemmas.List.{take_all}
-use Rattle.git_objects.specs.Paths.{Bytes, Path, comparable, is_prefix}
+use Rattle.git_objects.specs.Paths.{Path, comparable, is_prefix}
 use Rattle.git_objects.specs.Results.{◌>>=◌, or_refuse}
 use Rattle.git_objects.specs.Trees.{Flat, IsTree, Leaf, ModuleLeaf, Node as FlatNode, at, put, remove, standing}
 use Rattle.object_store.specs.Objects.{Object, IsStore}
@@ -10,10 +10,9 @@ use Rattle.path_trees.specs.Standing.{node}
 use Rattle.stage_tree.specs.declared.fault.StageFault.{StageFault}
 use Rattle.stage_tree.specs.declared.fault.StageFault.TheVariants.{NoSource, OutOfMemory}
 use Rattle.stage_tree.specs.declared.nodes.Nodes.{Nodes}
-use Rattle.stage_tree.specs.declared.nodes.Link.{Link}
 use Rattle.stage_tree.specs.declared.ways.Way.{Way}
 use Rattle.stage_tree.specs.Branches.{IsRemoved, Stands, reached}
-use Rattle.stage_tree.specs.Edits.{copied, few_files, renamed, within_paths}
+use Rattle.stage_tree.specs.Edits.{renamed, within_paths}
 use Rattle.stage_tree.specs.Standings.{Holds}
 use Rattle.stage_tree.specs.Ways.{HasPlace, IsOpen, IsPlaceOf, IsStill, IsWay, kids_of}
 use Rattle.stage_tree.specs.Renames.{CanMove, CanPrune, IsCleared, IsEditedTo, IsMoved, IsStop, IsWalkable, is_clear, stand_in}
@@ -22,7 +21,7 @@ use Rattle.stage_tree.proofs.MoveFlats.{moved_apart, moved_over, standing_none, 
 use Rattle.stage_tree.proofs.PutFits.{place_leaf, v}
 use Rattle.stage_tree.proofs.Removing.{nothing_below}
 use Rattle.stage_tree.proofs.SomeLeaf.{some_leaf}
-use Rattle.stage_tree.proofs.Walking.{stop_within, way_of}
+use Rattle.stage_tree.proofs.Walking.{way_of}
 
 -- ---- the end of a walk
 

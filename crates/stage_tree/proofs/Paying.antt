@@ -1,8 +1,7 @@
 -- Steps for the entries that become nodes.
-use Rattle.std.proofs.Common.{◌≡◌, ℕ, zero, suc, ◌+◌, ◌<◌, ◌≤◌, ◌≢◌, ◌⊎◌, inl, inr, ◌==◌, Bool, true, false, cond, not, ◌&&◌, ◌||◌, List, [], ◌∷◌, ◌++◌, length, take, drop, filter, get_or, Option, Some, None, refl, sym, ap, subst, ◌∙◌, arith, true≢false, append_assoc, length-append}
+use Rattle.std.proofs.Common.{◌≡◌, ℕ, zero, suc, ◌+◌, ◌<◌, ◌≤◌, ◌≢◌, ◌⊎◌, inl, inr, ◌==◌, Bool, true, false, cond, not, ◌&&◌, ◌||◌, List, [], ◌∷◌, ◌++◌, length, take, get_or, Option, Some, refl, sym, ap, subst, ◌∙◌, arith, true≢false, append_assoc}
 use Rattle.std.specs.Prelude.{nat_lt}
 use Rattle.std.specs.List.{list_any, IsDistinct, AllByRecursion}
-use Rattle.std.specs.Cmp.{second_so, first_so}
 use Rattle.std.specs.Cmp.Lexicographic.{bytes_decides, nat_list_eq_equiv}
 use Rattle.std.proofs.lemmas.Bool.Decides.{eqb_tells, nat_tests}
 use Rattle.std.proofs.lemmas.Map.Made.{length-le_from_is_member}
@@ -10,18 +9,16 @@ use Rattle.git_objects.specs.Entries.{is_dir}
 use Rattle.git_objects.specs.Names.{add_top, tops, with_top}
 use Rattle.git_objects.specs.Paths.{Bytes, Path, is_prefix, same_bytes, same_path}
 use Rattle.git_objects.specs.Trees.{Flat, Leaf, at, rests, under}
-use Rattle.git_objects.specs.declared.mode.Mode.TheVariants.{Dir}
 use Rattle.git_objects.proofs.Basics.{same_bytes-self}
 use Rattle.git_objects.proofs.Order.{path_decides}
 use Rattle.git_objects.proofs.Under.{at-under}
 use Rattle.object_store.specs.Objects.{Object, IsStore}
-use Rattle.object_store.specs.Unfolding.{flat}
 use Rattle.path_trees.specs.Standing.{node}
 use Rattle.path_trees.specs.declared.found.Found.{Found}
 use Rattle.stage_tree.specs.declared.nodes.Node.{Node}
 use Rattle.stage_tree.specs.declared.nodes.Nodes.{Nodes}
 use Rattle.stage_tree.specs.declared.nodes.Content.{Content}
-use Rattle.stage_tree.specs.declared.nodes.Content.TheVariants.{Held, Open}
+use Rattle.stage_tree.specs.declared.nodes.Content.TheVariants.{Held}
 use Rattle.stage_tree.specs.declared.nodes.Link.{Link}
 use Rattle.stage_tree.specs.declared.nodes.Link.TheVariants.{First}
 use Rattle.stage_tree.specs.Forests.{Forest, Nil, Bin, Beyond, Sound}

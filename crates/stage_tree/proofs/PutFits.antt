@@ -8,7 +8,7 @@ use Rattle.std.proofs.lemmas.Bool.Decides.{nat_tests}
 use Rattle.std.proofs.lemmas.List.Folds.{list_all-map}
 use Rattle.git_objects.specs.Lists.{Each}
 use Rattle.git_objects.specs.Paths.{Bytes, Path, is_path, same_bytes, same_path, text}
-use Rattle.git_objects.specs.Trees.{Flat, IsTree, Leaf, LeafNode, TreeNode, Node as FlatNode, at, rests, standing}
+use Rattle.git_objects.specs.Trees.{Flat, Leaf, LeafNode, TreeNode, Node as FlatNode, at, rests}
 use Rattle.git_objects.specs.Bodies.{is_name}
 use Rattle.git_objects.specs.declared.limits.TheConstants.{PATH_BYTES, PATH_COMPONENTS}
 use Rattle.git_objects.proofs.Basics.{and_both, same_bytes-self}
@@ -38,7 +38,7 @@ use Rattle.stage_tree.specs.Limits.{content_fits, cost, fits_in, put_fits, room_
 use Rattle.stage_tree.specs.Standings.{Holds}
 use Rattle.stage_tree.specs.Counts.{IsCountable}
 use Rattle.stage_tree.specs.Pools.{Walks, hanging, inside}
-use Rattle.stage_tree.specs.Ways.{HasPlace, IsOpen, kids_of}
+use Rattle.stage_tree.specs.Ways.{HasPlace, IsOpen}
 use Rattle.stage_tree.proofs.Framing.{count_plug}
 use Rattle.stage_tree.proofs.Freeing.{first_of}
 use Rattle.stage_tree.proofs.Opening.{read_node}

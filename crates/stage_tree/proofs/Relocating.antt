@@ -1,29 +1,28 @@
 -- A node taken to another path.
-use Rattle.std.proofs.Common.{◌≡◌, ℕ, ◌+◌, ◌<◌, ◌≤◌, ◌≢◌, ◌⊎◌, inl, inr, Bool, true, false, cond, not, ◌==◌, List, [], ◌∷◌, ◌++◌, length, drop, Option, Some, None, refl, sym, ap, subst, ◌∙◌, arith}
+use Rattle.std.proofs.Common.{◌≡◌, ℕ, ◌+◌, ◌<◌, ◌≤◌, ◌≢◌, ◌⊎◌, inl, inr, true, false, cond, ◌==◌, List, [], ◌∷◌, ◌++◌, length, drop, Option, Some, None, refl, sym, ap, subst, ◌∙◌, arith}
 use Rattle.std.specs.Prelude.{slice_get, slice_set, nat_lt}
 use Rattle.std.specs.List.{list_all}
 use Rattle.std.proofs.lemmas.Bool.Decides.{eqb_tells}
 use Rattle.std.proofs.lemmas.List.{drop_at}
 use Rattle.std.proofs.lemmas.Option.{slice_get_within}
 use Rattle.git_objects.specs.Paths.{Bytes, Path, comparable, is_component, same_bytes}
-use Rattle.git_objects.specs.Trees.{Flat, Node as FlatNode, at, put, rests}
+use Rattle.git_objects.specs.Trees.{Flat, at, put}
 use Rattle.git_objects.proofs.Basics.{same_bytes-self}
 use Rattle.object_store.specs.Objects.{Object}
 use Rattle.path_trees.specs.Standing.{node}
 use Rattle.stage_tree.specs.declared.nodes.Node.{Node}
 use Rattle.stage_tree.specs.declared.nodes.Nodes.{Nodes}
-use Rattle.stage_tree.specs.declared.nodes.Content.{Content}
-use Rattle.stage_tree.specs.declared.nodes.Content.TheVariants.{Held, Open}
+use Rattle.stage_tree.specs.declared.nodes.Content.TheVariants.{Held}
 use Rattle.stage_tree.specs.declared.nodes.Link.{Link}
 use Rattle.stage_tree.specs.declared.nodes.Link.TheVariants.{Next}
 use Rattle.stage_tree.specs.Forests.{Forest, Nil, Bin, one, count, IsCell, Reads, forest, is_link, Sound}
-use Rattle.stage_tree.specs.Frames.{Frame, plug, path_of, count_up, ReadsUp, Fits}
-use Rattle.stage_tree.specs.Pools.{IsPool, inside, spare}
+use Rattle.stage_tree.specs.Frames.{Frame, plug, count_up, ReadsUp}
+use Rattle.stage_tree.specs.Pools.{inside, spare}
 use Rattle.stage_tree.specs.Directories.{IsDirectory}
 use Rattle.stage_tree.specs.Leaves.{leaf_below, leaf_in, is_held}
 use Rattle.stage_tree.specs.Expanding.{IsWaste}
-use Rattle.stage_tree.specs.Ways.{IsAlone, IsOpen, IsPlaceOf, IsStill, NotBefore, kids_of}
-use Rattle.stage_tree.specs.Branches.{HasSpot, IsReplaced, Stands, after_named}
+use Rattle.stage_tree.specs.Ways.{IsAlone, IsPlaceOf, IsStill, NotBefore, kids_of}
+use Rattle.stage_tree.specs.Branches.{HasSpot, IsReplaced, Stands}
 use Rattle.stage_tree.specs.Renames.{CanMove, IsGraft, IsMoved, IsStop, IsWalkable, StaysClear, clear_below, is_clear, stand_in, trunk, trunk_content}
 use Rattle.stage_tree.proofs.Seeking.{inside_link}
 use Rattle.stage_tree.proofs.Framing.{ReadsAll, count_plug, reads_kept, reads_plug, same_names, up_kept}

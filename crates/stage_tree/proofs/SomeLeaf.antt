@@ -1,7 +1,7 @@
 -- Each node stands for a leaf at least.
-use Rattle.std.proofs.Common.{◌≡◌, ℕ, true, cond, List, [], ◌∷◌, Option, Some, None, refl, sym, ap, subst, ◌∙◌}
+use Rattle.std.proofs.Common.{◌≡◌, true, cond, List, [], ◌∷◌, Some, refl, ap, ◌∙◌}
 use Rattle.std.specs.Cmp.{first_so}
-use Rattle.git_objects.specs.Paths.{Bytes, Path, same_bytes}
+use Rattle.git_objects.specs.Paths.{Path}
 use Rattle.git_objects.specs.Trees.{Flat, Leaf, at, rests}
 use Rattle.git_objects.specs.Bodies.{is_name}
 use Rattle.git_objects.proofs.Basics.{same_bytes-self}

@@ -1,5 +1,5 @@
 -- What a branch with children at its end stands for, and which ways it leaves clear.
-use Rattle.std.proofs.Common.{◌≡◌, ℕ, ◌+◌, Bool, true, false, cond, ◌||◌, ◌&&◌, List, [], ◌∷◌, ◌++◌, length, Option, Some, None, refl, sym, ap, ◌∙◌, arith, true≢false}
+use Rattle.std.proofs.Common.{◌≡◌, ℕ, true, false, cond, ◌||◌, ◌&&◌, List, [], ◌∷◌, ◌++◌, length, None, refl, sym, ap, ◌∙◌, arith, true≢false}
 use Rattle.std.specs.Cmp.{first_so, second_so}
 use Rattle.std.specs.Cmp.Lexicographic.{bytes_decides}
 use Rattle.std.specs.List.{list_all}
@@ -9,7 +9,6 @@ use Rattle.git_objects.proofs.Basics.{same_bytes-back}
 use Rattle.git_objects.proofs.Maps.{after, at_rest}
 use Rattle.object_store.specs.Objects.{Object}
 use Rattle.stage_tree.specs.declared.nodes.Content.{Content}
-use Rattle.stage_tree.specs.declared.nodes.Content.TheVariants.{Held, Open}
 use Rattle.stage_tree.specs.Forests.{Forest, Nil, Bin, IsFilled, IsSound, Sound}
 use Rattle.stage_tree.specs.Frames.{Frame, plug, path_of}
 use Rattle.stage_tree.specs.Leaves.{leaf_below, leaf_in, is_held}

@@ -1,10 +1,9 @@
 -- Walks to a path on whose way no stored directory stands.
 use Rattle.std.proofs.Common.{◌≡◌, ℕ, ◌+◌, ◌<◌, ◌⊎◌, inl, inr, Bool, true, false, not, cond, List, [], ◌∷◌, ◌++◌, length, take, drop, get_or, Option, Some, None, refl, sym, ap, subst, ◌∙◌, arith, append_assoc, length-append, length-take}
-use Rattle.std.specs.Prelude.{slice_get}
 use Rattle.std.specs.Option.{option_and_then, IfSome}
 use Rattle.std.proofs.lemmas.List.{drop_all}
 use Rattle.std.proofs.lemmas.Option.{slice_get_within}
-use Rattle.git_objects.specs.Paths.{Bytes, Path, same_bytes}
+use Rattle.git_objects.specs.Paths.{Bytes, Path}
 use Rattle.git_objects.specs.Entries.{is_dir}
 use Rattle.git_objects.proofs.Basics.{same_bytes-self}
 use Rattle.object_store.specs.Objects.{Object}
@@ -13,7 +12,7 @@ use Rattle.stage_tree.specs.declared.nodes.Content.{Content}
 use Rattle.stage_tree.specs.declared.nodes.Content.TheVariants.{Held, Open}
 use Rattle.stage_tree.specs.declared.nodes.Link.{Link}
 use Rattle.stage_tree.specs.declared.nodes.Link.TheVariants.{First}
-use Rattle.stage_tree.specs.Forests.{Forest, Nil, Bin, sought}
+use Rattle.stage_tree.specs.Forests.{Forest, Bin, sought}
 use Rattle.stage_tree.specs.Frames.{Frame, Below, Behind, plug, path_of, Fits, SoundUp}
 use Rattle.stage_tree.specs.Pools.{hanging}
 use Rattle.stage_tree.specs.Directories.{IsDirectory}

@@ -1,12 +1,11 @@
 -- Nodes moved from one path to another.
-use Rattle.std.specs.Prelude.{◌≡◌, ℕ, zero, suc, nat_lt, filter, take, ◌&&◌, ◌+◌, ◌<◌, ◌≤◌, ◌⊎◌, Bool, true, false, not, cond, ◌==◌, List, [], ◌∷◌, ◌++◌, length, slice_get, Option, Some, None, replicate, OnOk, IfErr, IsOkAnd, Result, Err}
+use Rattle.std.specs.Prelude.{◌≡◌, ℕ, zero, suc, nat_lt, filter, take, ◌&&◌, ◌+◌, ◌≤◌, ◌⊎◌, Bool, true, false, not, cond, List, [], ◌∷◌, ◌++◌, length, slice_get, Option, Some, None, replicate, OnOk, IfErr, IsOkAnd, Result, Err}
 use Rattle.std.specs.Option.{option_and_then}
 use Rattle.git_objects.specs.Paths.{Bytes, Path, comparable, is_prefix, same_bytes}
-use Rattle.git_objects.specs.Trees.{Flat, Node as FlatNode, at, put, remove, rests, under}
+use Rattle.git_objects.specs.Trees.{Flat, Node as FlatNode, at, put, rests, under}
 use Rattle.git_objects.specs.Names.{tops}
 use Rattle.git_objects.specs.Entries.{is_dir}
 use Rattle.git_objects.specs.declared.mode.Mode.TheVariants.{Module}
-use Rattle.git_objects.specs.declared.name.Name.{Name}
 use Rattle.object_store.specs.Objects.{Object}
 use Rattle.path_trees.specs.Standing.{node}
 use Rattle.path_trees.specs.declared.found.Found.{Found}
@@ -17,10 +16,10 @@ use Rattle.stage_tree.specs.declared.nodes.Nodes.{Nodes}
 use Rattle.stage_tree.specs.declared.nodes.Content.{Content}
 use Rattle.stage_tree.specs.declared.nodes.Content.TheVariants.{Held, Open}
 use Rattle.stage_tree.specs.declared.nodes.Link.{Link}
-use Rattle.stage_tree.specs.Forests.{Forest, Nil, Bin, one, count, Reads, Sound}
+use Rattle.stage_tree.specs.Forests.{Forest, Nil, Bin, count, Reads, Sound}
 use Rattle.stage_tree.specs.Pools.{IsKept, IsPool, StayBut, inside, spare}
 use Rattle.stage_tree.specs.Directories.{IsDirectory}
-use Rattle.stage_tree.specs.Leaves.{leaf_in, is_held}
+use Rattle.stage_tree.specs.Leaves.{is_held}
 use Rattle.stage_tree.specs.Branches.{Stands}
 use Rattle.stage_tree.specs.Ways.{IsBlocked, IsOpen, IsPlaceOf, IsStill, kids_of}
 

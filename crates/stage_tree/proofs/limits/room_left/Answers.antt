@@ -1,4 +1,4 @@
-use Rattle.std.proofs.Common.{refl, sym, ap, ◌∙◌, length, drop, ◌+◌, ◌≡◌, arith}
+use Rattle.std.proofs.Common.{refl, sym, ap, ◌∙◌, length, drop, ◌+◌, arith}
 use Rattle.path_trees.proofs.Lookups.{read_at}
 use Rattle.stage_tree.specs.Limits.{cost, room_left, weight}
 use Rattle.stage_tree.proofs.Fits.{cost_drop, cost_end, left_all, left_more, left_none}

@@ -1,4 +1,4 @@
-use Rattle.std.proofs.Common.{refl, ◌∙◌, arith, ◌<◌, length}
+use Rattle.std.proofs.Common.{refl, ◌∙◌, arith}
 use Rattle.git_objects.specs.Paths.{same_bytes}
 use Rattle.path_trees.proofs.Lookups.{read_at}
 use Rattle.stage_tree.proofs.Comparing.{of_eq, of_ne, one_ended, one_other, one_same}

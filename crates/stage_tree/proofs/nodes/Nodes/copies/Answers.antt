@@ -1,9 +1,8 @@
-use Rattle.std.proofs.Common.{◌≡◌, List, [], sym, ap, subst, arith}
+use Rattle.std.proofs.Common.{List, sym, subst, arith}
 use Rattle.std.specs.Vec.{vec_len}
 use Rattle.stage_tree.specs.declared.copies.Work.{Work}
-use Rattle.stage_tree.specs.declared.copies.Turn.{Turn}
 use Rattle.stage_tree.specs.declared.copies.Turn.TheVariants.{Copy, Copied}
-use Rattle.stage_tree.specs.Copies.{IsCopied, IsCopying, turns_of, works_of}
+use Rattle.stage_tree.specs.Copies.{IsCopying}
 use Rattle.stage_tree.proofs.CopyDrops.{copy_begun, copy_ended, empty_works, same_copying}
 use Rattle.stage_tree.proofs.nodes.Nodes.copies.Goals as goal
 

@@ -1,10 +1,7 @@
-use Rattle.std.proofs.Common.{◌≡◌, ◌+◌, ◌*◌, ◌<◌, ◌-◌, ℕ, Option, Some, None, List, ◌++◌, ◌∷◌, [], length, get_or, refl, sym, ap, subst, ◌∙◌, arith}
-use Rattle.std.specs.Prelude.{slice_set}
+use Rattle.std.proofs.Common.{◌≡◌, ◌-◌, Some, None, List, get_or, sym, ap, subst, ◌∙◌, arith}
 use Rattle.stage_tree.specs.declared.copies.Work.{Work}
 use Rattle.stage_tree.specs.declared.copies.Work.TheVariants.{Siblings, Children}
-use Rattle.stage_tree.specs.declared.copies.Turn.{Turn}
 use Rattle.stage_tree.specs.declared.copies.Turn.TheVariants.{Copy, Copied}
-use Rattle.stage_tree.specs.Forests.{forest, size}
 use Rattle.stage_tree.specs.Copies.{IsCopying, turns_of, works_of}
 use Rattle.stage_tree.proofs.CopyTurns.{none_copied, head_link, head_waits, head_less, siblings_link, children_next, children_less, can_copy_one, node_copied, node_less, IsSplit, split_last, works_full}
 use Rattle.stage_tree.proofs.nodes.Nodes.copy_turn.Goals as goal

@@ -1,7 +1,6 @@
-use Rattle.std.proofs.Common.{◌≡◌, ℕ, List, ◌++◌, ◌∷◌, [], sym, ap, subst, ◌∙◌, arith}
+use Rattle.std.proofs.Common.{List, ◌++◌, ◌∷◌, [], ap, subst, ◌∙◌, arith}
 use Rattle.std.specs.Vec.{vec_len}
 use Rattle.stage_tree.specs.declared.copies.Work.{Work}
-use Rattle.stage_tree.specs.declared.copies.Work.TheVariants.{Siblings, Children}
 use Rattle.stage_tree.specs.Copies.{IsDropping}
 use Rattle.stage_tree.proofs.CopyDrops.{children_can_free, drop_children, drop_other, none_waits, works_popped}
 use Rattle.stage_tree.proofs.nodes.Nodes.drop_waiting.Goals as goal

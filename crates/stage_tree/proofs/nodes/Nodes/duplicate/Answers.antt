@@ -1,11 +1,11 @@
-use Rattle.std.proofs.Common.{◌≡◌, List, None, true, not, drop, sym, ap, subst, ◌∙◌, arith}
+use Rattle.std.proofs.Common.{◌≡◌, true, not, drop, sym, ap, subst, ◌∙◌, arith}
 use Rattle.std.specs.Cmp.{second_so}
 use Rattle.std.specs.List.{list_all}
 use Rattle.std.proofs.lemmas.Result.{err_from_is_err_and}
 use Rattle.git_objects.specs.Paths.{is_component, is_nil}
 use Rattle.stage_tree.specs.declared.nodes.Node.{Node}
 use Rattle.stage_tree.specs.declared.nodes.Content.{Content}
-use Rattle.stage_tree.specs.Copies.{CanCopy, IsCopied}
+use Rattle.stage_tree.specs.Copies.{CanCopy}
 use Rattle.stage_tree.specs.Renames.{IsGraft}
 use Rattle.stage_tree.proofs.OnWay.{waste_still}
 use Rattle.stage_tree.proofs.Opening.{read_node}

@@ -1,7 +1,7 @@
 use Rattle.std.proofs.Common.{◌≡◌, ◌-◌, ℕ, length, drop, refl, subst, ap, arith}
 use Rattle.std.proofs.lemmas.Result.{err_from_is_err_and}
 use Rattle.path_trees.proofs.Lookups.{read_at}
-use Rattle.stage_tree.specs.Renames.{IsGraft, IsTrunk}
+use Rattle.stage_tree.specs.Renames.{IsGraft}
 use Rattle.stage_tree.proofs.Branching.{same_waste}
 use Rattle.stage_tree.proofs.Grafting.{last_trunk, longer_trunk, can_free_trunk, trunk_wasted, end_link, grafted}
 use Rattle.stage_tree.proofs.nodes.Nodes.graft.Goals as goal

@@ -1,4 +1,4 @@
-use Rattle.std.proofs.Common.{◌≡◌, ◌+◌, ◌<◌, ℕ, ◌-◌, length, ap, refl, subst, arith, take}
+use Rattle.std.proofs.Common.{◌≡◌, ◌+◌, ◌<◌, length, ap, refl, subst, arith, take}
 use Rattle.path_trees.proofs.Lookups.{read_at, path_long}
 use Rattle.git_objects.specs.Paths.{Path}
 use Rattle.stage_tree.specs.Ways.{IsEntered, IsDirOf}

@@ -1,9 +1,8 @@
-use Rattle.std.proofs.Common.{◌≡◌, ℕ, ◌-◌, List, length, take, refl, ap, subst, ◌∙◌, arith}
+use Rattle.std.proofs.Common.{◌≡◌, ℕ, ◌-◌, length, take, refl, ap, subst, arith}
 use Rattle.std.proofs.lemmas.List.{take_all}
 use Rattle.path_trees.proofs.Lookups.{path_long}
-use Rattle.git_objects.specs.Paths.{Path, is_path}
+use Rattle.git_objects.specs.Paths.{Path}
 use Rattle.git_objects.specs.Trees.{Flat, at, remove}
-use Rattle.stage_tree.specs.declared.nodes.Nodes.{Nodes}
 use Rattle.stage_tree.specs.Branches.{Stands}
 use Rattle.stage_tree.proofs.Removing.{front_path, level_less, nothing_removed, child_link, can_cut, can_cut_root, cut_removed, cut_removed_root, directory_goes}
 use Rattle.stage_tree.proofs.Pruning.{still_now, walk_now, way_now}

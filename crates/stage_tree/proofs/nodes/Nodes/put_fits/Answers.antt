@@ -1,7 +1,6 @@
-use Rattle.std.proofs.Common.{◌≡◌, Bool, true, Some, sym, ap, ◌∙◌, arith}
+use Rattle.std.proofs.Common.{sym, ap, ◌∙◌, arith}
 use Rattle.stage_tree.specs.declared.nodes.Content.{Content}
 use Rattle.stage_tree.specs.declared.nodes.Content.TheVariants.{Held, Open}
-use Rattle.stage_tree.specs.Forests.{Forest}
 use Rattle.stage_tree.specs.Limits.{content_fits, cost, fits_in}
 use Rattle.stage_tree.proofs.Fits.{room_less}
 use Rattle.stage_tree.proofs.Finishing.{on_ok}

@@ -1,9 +1,9 @@
-use Rattle.std.proofs.Common.{◌≡◌, false, Ok, Err, ◌⊎◌, inl, inr, IfOk, length, refl, sym, ap, subst, ◌∙◌, arith}
+use Rattle.std.proofs.Common.{◌≡◌, false, Ok, Err, inl, inr, length, sym, ap, ◌∙◌, arith}
 use Rattle.std.proofs.lemmas.Result.{err_from_is_err_and}
 use Rattle.git_objects.specs.Paths.{Path, comparable}
-use Rattle.git_objects.specs.Trees.{Flat, put, remove}
+use Rattle.git_objects.specs.Trees.{put, remove}
 use Rattle.stage_tree.specs.Edits.{renamed}
-use Rattle.stage_tree.specs.Renames.{IsEditedTo, above_both, entries_of}
+use Rattle.stage_tree.specs.Renames.{above_both, entries_of}
 use Rattle.stage_tree.proofs.Paying.{paid_first, paid_second}
 use Rattle.stage_tree.proofs.Walking.{stop_within}
 use Rattle.stage_tree.proofs.OnWay.{still_on}

@@ -1,11 +1,9 @@
-use Rattle.std.proofs.Common.{List, ℕ, Option, None, Some, ◌≡◌, ◌<◌, ◌≤◌, ◌+◌, ◌-◌, ◌++◌, ◌&&◌, ◌∷◌, [], true, false, sym, ap, subst, ◌∙◌, arith, length}
+use Rattle.std.proofs.Common.{List, ℕ, None, ◌≤◌, ◌+◌, ◌-◌, ◌&&◌, true, sym, ap, subst, ◌∙◌, arith}
 use Rattle.std.specs.Vec.{vec_len}
-use Rattle.stage_tree.specs.declared.nodes.Node.{Node}
-use Rattle.stage_tree.specs.declared.nodes.Content.TheVariants.{Held, Open}
+use Rattle.stage_tree.specs.declared.nodes.Content.TheVariants.{Held}
 use Rattle.stage_tree.specs.declared.nodes.Link.TheVariants.{First, Next}
-use Rattle.stage_tree.specs.Forests.{size}
 use Rattle.stage_tree.specs.Leaves.{is_held}
-use Rattle.stage_tree.specs.Limits.{content_fits, fits_in, weight}
+use Rattle.stage_tree.specs.Limits.{content_fits, fits_in}
 use Rattle.stage_tree.specs.Pools.{hanging}
 use Rattle.stage_tree.proofs.Seeking.{passed_at}
 use Rattle.stage_tree.proofs.Finishing.{none_popped}

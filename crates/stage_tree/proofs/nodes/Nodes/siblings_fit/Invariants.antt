@@ -1,4 +1,4 @@
-use Rattle.std.proofs.Common.{◌≡◌, ◌+◌, ◌*◌, ◌≤◌, ◌&&◌, None}
+use Rattle.std.proofs.Common.{◌≡◌, ◌+◌, ◌*◌, ◌&&◌, None}
 use Rattle.stage_tree.specs.Counts.{IsCountable}
 use Rattle.stage_tree.specs.Forests.{size}
 use Rattle.stage_tree.specs.Limits.{fits_in}

@@ -1,7 +1,6 @@
 use Rattle.std.proofs.Common.{◌≡◌, ◌-◌, ℕ, length, refl, subst, arith, take}
 use Rattle.path_trees.proofs.Lookups.{read_at, path_long}
 use Rattle.stage_tree.specs.Ways.{IsDirOf}
-use Rattle.stage_tree.specs.Renames.{IsStop, IsWalkable}
 use Rattle.stage_tree.proofs.OnWay.{at_root, dir_link, dir_walk}
 use Rattle.stage_tree.proofs.Walking.{here_at, stop_last, stop_closed, goes_on, number_inside}
 use Rattle.stage_tree.proofs.nodes.Nodes.walk.Goals as goal

@@ -1,4 +1,4 @@
-use Rattle.std.proofs.Common.{sym, ◌⊎◌, inl, inr, ◌∙◌}
+use Rattle.std.proofs.Common.{sym, inr, ◌∙◌}
 use Rattle.stage_tree.proofs.PutFits.{deep_test, in_limits, long_test, too_deep, too_long}
 use Rattle.stage_tree.proofs.nodes.Nodes.within.Goals as goal
 
