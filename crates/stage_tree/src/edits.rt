@@ -1,12 +1,10 @@
 // Edits at a path.
 ghost use Rattle.std.specs.Prelude.{◌≡◌, ◌<◌, true, drop, length, IfOk, OnErr, OnOk};
-ghost use Rattle.stage_tree.specs.Branches.{CanCut, HasSpot, IsBranch, IsCut, IsPut, IsRemoved, IsReplaced};
+ghost use Rattle.stage_tree.specs.Branches.{CanCut, HasSpot, IsBranch, IsCut, IsRemoved, IsReplaced};
 ghost use Rattle.stage_tree.specs.Branches.{is_alone, reached};
 ghost use Rattle.stage_tree.specs.Expanding.{IsWaste};
-ghost use Rattle.stage_tree.specs.Leaves.{is_held};
 ghost use Rattle.stage_tree.specs.Pools.{IsPool};
 ghost use Rattle.stage_tree.specs.Ways.{IsOpen, IsStill};
-ghost use Rattle.path_trees.specs.Standing.{node};
 ghost use Rattle.stage_tree.specs.Forests.{is_link};
 
 use crate::nodes::{Content, Link, Nodes};
@@ -62,26 +60,6 @@ impl Nodes {
                 self.free_all(Some(old));
             }
         }
-    }
-
-    // Puts a leaf or a stored directory at a path, where every path that is comparable with it goes.
-    pub fn put(
-        &mut self,
-        alloc: Global,
-        store: &Store,
-        path: &Path,
-        found: Found,
-    ) -> Result<(), AllocError>
-        requires opened { IsOpen store.now self.old }
-        requires found { is_held store.now (Content.Held found) ≡ true }
-        ensures ok { OnOk result (IsPut store.now self.old self.new path.now (node store.now found)) }
-        ensures err { OnErr result (IsStill store.now self.old self.new) }
-    {
-        let components = path.components();
-        let way = self.way(alloc, store, components)?;
-        let number = self.branch(components, way.level, found)?;
-        self.replace(way.spot.link, way.spot.child, number);
-        Ok(())
     }
 
     // The node at the end of a way through so many components.
