@@ -23,18 +23,18 @@ use Rattle.stage_tree.specs.declared.nodes.Link.TheVariants.{First}
 use Rattle.stage_tree.specs.Forests.{Forest, Nil, Bin, Sound}
 use Rattle.stage_tree.specs.Frames.{plug, path_of}
 use Rattle.stage_tree.specs.Pools.{hanging}
-use Rattle.stage_tree.specs.Leaves.{leaf_below, leaf_in, is_held}
+use Rattle.stage_tree.specs.Leaves.{leaf_in, is_held}
 use Rattle.stage_tree.specs.Branches.{Stands, after_named}
 use Rattle.stage_tree.specs.Copies.{IsCopyTo, node_files}
-use Rattle.stage_tree.specs.Counts.{IsRoom, content_files, files, files_but}
+use Rattle.stage_tree.specs.Counts.{content_files, files, files_but}
 use Rattle.stage_tree.specs.Edits.{copied, few_files, within_paths}
 use Rattle.stage_tree.specs.Renames.{IsStop, trunk, trunk_content}
 use Rattle.stage_tree.specs.Standings.{Holds}
-use Rattle.stage_tree.specs.Ways.{HasPlace, IsOpen, IsStill, kids_of}
+use Rattle.stage_tree.specs.Ways.{HasPlace, IsOpen, kids_of}
 use Rattle.path_trees.specs.Standing.{node}
 use Rattle.path_trees.specs.declared.found.Found.{Found}
 use Rattle.stage_tree.proofs.Opening.{read_node}
-use Rattle.stage_tree.proofs.CountLeaves.{length_files, files_up, files_plug}
+use Rattle.stage_tree.proofs.CountLeaves.{length_files, files_plug}
 use Rattle.stage_tree.proofs.MoveFlats.{standing_rests}
 use Rattle.stage_tree.proofs.Moving.{IsNodeAt}
 use Rattle.stage_tree.proofs.Places.{sound_plug}

@@ -1,10 +1,10 @@
 -- A stage after a copy.
-use Rattle.std.proofs.Common.{◌≡◌, ℕ, ◌≤◌, ◌⊎◌, Bool, true, false, List, [], length, Option, Some, None, IfSome, Result, IsOkAnd, Ok, Err, refl, sym, ap, subst, arith}
+use Rattle.std.proofs.Common.{◌≡◌, ℕ, ◌≤◌, ◌⊎◌, Bool, true, false, List, length, Option, Some, None, IfSome, Result, IsOkAnd, Ok, Err, refl, sym, subst, arith}
 use Rattle.std.specs.Prelude.{nat_le, if◌then◌else◌}
 use Rattle.git_objects.specs.declared.limits.TheConstants.{TREE_FILES}
 use Rattle.git_objects.specs.Paths.{Path, is_path}
 use Rattle.git_objects.specs.Results.{◌>>=◌, or_refuse}
-use Rattle.git_objects.specs.Trees.{Flat, IsTree, Node as FlatNode, put, standing}
+use Rattle.git_objects.specs.Trees.{Flat, Node as FlatNode, put, standing}
 use Rattle.git_objects.proofs.Pointwise.{IsNode, put-tree}
 use Rattle.git_objects.proofs.Standing.{standing_node}
 use Rattle.object_store.specs.Objects.{Object}
@@ -16,7 +16,7 @@ use Rattle.stage_tree.specs.Copies.{IsCopyTo}
 use Rattle.stage_tree.specs.Edits.{IsEdited, copied, few_files, within_paths}
 use Rattle.stage_tree.specs.Stages.{IsOpened, Shows, Staged, staged}
 use Rattle.stage_tree.specs.Ways.{IsOpen}
-use Rattle.stage_tree.proofs.Staging.{as_test, most_stays, shows_open, shows_still}
+use Rattle.stage_tree.proofs.Staging.{as_test, shows_open, shows_still}
 
 pub copy_open : (S : List Object) (s s' : Nodes) (left : Result Flat StageFault) (r : Result ℕ StageFault) → IsCopyTo S s s' left r → IsOpen S s'
 copy_open S s s' (Ok t) (Ok m) h = h.done.0

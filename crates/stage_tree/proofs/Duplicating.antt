@@ -33,7 +33,7 @@ use Rattle.stage_tree.proofs.PutLeaves.{put_there}
 use Rattle.stage_tree.proofs.OnWay.{IsNamed, alone_stay, named_of, waste_still}
 use Rattle.stage_tree.proofs.Putting.{all_behind}
 use Rattle.stage_tree.proofs.Grafting.{count_trunk}
-use Rattle.stage_tree.proofs.TrunkLeaves.{put_clear, sound_trunk, trunk_new}
+use Rattle.stage_tree.proofs.TrunkLeaves.{sound_trunk, trunk_new}
 
 -- ---- nodes that differ in their numbers
 

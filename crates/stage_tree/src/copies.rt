@@ -1,7 +1,7 @@
 // Nodes copied with all below them.
 ghost use Rattle.std.specs.Prelude.{◌≡◌, ◌+◌, ◌<◌, ◌≤◌, true, length, slice_get, Some, IfOk, OnErr, OnOk};
-ghost use Rattle.stage_tree.specs.Copies.{CanCopy, CanCopyOne, IsCopied, IsCopying};
-ghost use Rattle.stage_tree.specs.Copies.{IsDropping, IsGrowing, IsOneCopied, is_turn};
+ghost use Rattle.stage_tree.specs.Copies.{CanCopy, CanCopyOne, IsCopied, IsCopying, IsDropping, IsOneCopied};
+ghost use Rattle.stage_tree.specs.Copies.{is_turn};
 ghost use Rattle.stage_tree.specs.Copies.{turns_of, works_of};
 ghost use Rattle.stage_tree.specs.Expanding.{IsWaste};
 ghost use Rattle.stage_tree.specs.Forests.{Forest};
@@ -73,11 +73,11 @@ impl Nodes {
     fn copy_turn(&mut self, works: &mut Vec<Work>, turn: Turn) -> Result<Turn, AllocError>
         requires turn { is_turn works.old.items turn ≡ true }
         requires copying { (s0 : TheNodes) × (source : Forest) × IsCopying s0 self.old source works.old.items turn }
-        ensures ok { IfOk result (λ next. (s0 : TheNodes) (source : Forest) →
-            IsCopying s0 self.old source works.old.items turn
+        ensures ok { IfOk result (λ next. (s0 : TheNodes) (source : Forest)
+            → IsCopying s0 self.old source works.old.items turn
             → IsCopying s0 self.new source works.new.items next) }
-        ensures less { IfOk result (λ next. (s0 : TheNodes) (source : Forest) →
-            IsCopying s0 self.old source works.old.items turn
+        ensures less { IfOk result (λ next. (s0 : TheNodes) (source : Forest)
+            → IsCopying s0 self.old source works.old.items turn
             → turns_of s0 next + works_of s0 works.new.items < turns_of s0 turn + works_of s0 works.old.items) }
         ensures err { OnErr result (IsSame self.old self.new) }
         ensures works { OnErr result (works.new.items ≡ works.old.items) }
@@ -136,7 +136,8 @@ impl Nodes {
         }
     }
 
-    // Copies the nodes from a number on: each, what is below it, and its later siblings. Nothing reaches the copies.
+    // Copies the nodes from a number on: each, what is below it, and the siblings behind it. Nothing reaches the
+    // copies.
     pub fn copies(
         &mut self,
         alloc: Global,
@@ -174,8 +175,8 @@ impl Nodes {
     ) -> Result<(), AllocError>
         requires node { CanMove self.old number to.now }
         requires path { is_path to.now ≡ true }
-        ensures ok { OnOk result ((h : CanMove self.old number to.now) →
-            IsDuplicated self.old self.new number to.now h) }
+        ensures ok { OnOk result ((h : CanMove self.old number to.now)
+            → IsDuplicated self.old self.new number to.now h) }
         ensures err { OnErr result ((h : CanMove self.old number to.now) → IsStill h.objects self.old self.new) }
     {
         let way = self.walk(to);

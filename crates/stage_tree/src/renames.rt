@@ -10,8 +10,8 @@ ghost use Rattle.stage_tree.specs.Expanding.{IsWaste};
 ghost use Rattle.stage_tree.specs.Pools.{IsPool};
 ghost use Rattle.stage_tree.specs.Stages.{Shows};
 ghost use Rattle.stage_tree.specs.Ways.{IsOpen, IsStill};
-ghost use Rattle.stage_tree.specs.Renames.{CanMove, CanPrune, IsEditedTo, IsGraft};
-ghost use Rattle.stage_tree.specs.Renames.{IsMoved, above_both, entries_of, stand_in};
+ghost use Rattle.stage_tree.specs.Renames.{CanMove, CanPrune, IsEditedTo, IsGraft, IsMoved, above_both};
+ghost use Rattle.stage_tree.specs.Renames.{entries_of, stand_in};
 
 use crate::fault::StageFault;
 use crate::nodes::{Content, Link, Node, Nodes};
@@ -46,7 +46,8 @@ fn comparable(a: &[Component], b: &[Component]) -> bool
 }
 
 impl Nodes {
-    // Removes a path whose way is clear, all below it, and the directories that would be left empty. Needs no memory.
+    // Removes a path whose way is clear and all below it, and the directories that would be left empty. Needs no
+    // memory.
     fn prune(&mut self, components: &[Component])
         requires clear { CanPrune self.old components.now }
         requires path { is_path components.now ≡ true }
@@ -70,8 +71,8 @@ impl Nodes {
         }
     }
 
-    // Makes a node for each component from a level on, a step for each: each but the last a directory with the next
-    // as its only child, the last with this content and these children.
+    // Makes a node for each component from a level on, with a step for each: each but the last a directory with the
+    // next as its only child, the last with this content and these children.
     pub fn graft<L: Ledger>(
         &mut self,
         components: &[Component],
@@ -139,8 +140,8 @@ impl Nodes {
         }
     }
 
-    // Takes out what stands at a path, with the directories that would be left empty, and puts it at another. Nothing
-    // of it is made anew.
+    // Takes out what stands at a path, with the directories that would be left empty, and then puts it at another.
+    // Nothing of it is made anew.
     pub fn rename<L: Ledger>(
         &mut self,
         alloc: Global,
@@ -175,9 +176,9 @@ impl Nodes {
 }
 
 impl Stage {
-    /// Takes what stands at a path out, and then puts it at another: all that is comparable with that goes, and with
-    /// the first path what it leaves empty. What lies below the first path is neither read nor made anew. There is a
-    /// step for each node that is made: for the entries of the directories above both paths, and for the second path.
+    /// Takes what stands at a path out, with the directories that it leaves empty, and then puts it at another, where
+    /// every path that is comparable with that goes. What lies below the first path is neither read nor made anew: a
+    /// step is a node made, of the entries of the directories above the two paths and of the second path itself.
     pub fn rename<L: Ledger>(
         &mut self,
         store: &Store,

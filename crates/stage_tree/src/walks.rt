@@ -7,8 +7,8 @@ ghost use Rattle.git_objects.specs.Paths.{is_path};
 ghost use Rattle.git_objects.specs.Trees.{Flat, under};
 ghost use Rattle.object_store.specs.Objects.{IsStore};
 ghost use Rattle.stage_tree.specs.Branches.{Stands};
-ghost use Rattle.stage_tree.specs.Renames.{IsCleared, IsPaid, IsStop, IsWalkable, IsWayPaid};
-ghost use Rattle.stage_tree.specs.Renames.{StaysClear, breadth, is_clear, open_number};
+ghost use Rattle.stage_tree.specs.Renames.{IsCleared, IsPaid, IsStop, IsWalkable, IsWayPaid, StaysClear, breadth};
+ghost use Rattle.stage_tree.specs.Renames.{is_clear, open_number};
 ghost use Rattle.stage_tree.specs.Stages.{IsOpened, IsRooted, IsStage, IsUnopened, items_of};
 ghost use Rattle.stage_tree.specs.Ways.{HasPlace, IsEntered, IsOpen, IsStill, kids_of};
 
@@ -65,8 +65,8 @@ impl Nodes {
         }
     }
 
-    // Enters the directory of that number, whose entries are made nodes where they aren't yet, a step for each. None:
-    // it is no directory.
+    // Enters the directory of that number, whose entries are made nodes where they aren't yet, with a step for each.
+    // None: it is no directory.
     pub fn enter<L: Ledger>(
         &mut self,
         alloc: Global,

@@ -1,13 +1,12 @@
-use Rattle.std.proofs.Common.{◌≡◌, ◌+◌, ◌<◌, ◌≤◌, ℕ, true, Ok, Err, ◌⊎◌, inl, inr, length, refl, sym, ap, subst, ◌∙◌, arith}
+use Rattle.std.proofs.Common.{◌≡◌, true, Ok, Err, inl, inr, sym, ap, ◌∙◌, arith}
 use Rattle.std.proofs.lemmas.Result.{err_from_is_err_and}
 use Rattle.git_objects.specs.Paths.{Path, is_path}
-use Rattle.git_objects.specs.Trees.{Flat, put}
+use Rattle.git_objects.specs.Trees.{put}
 use Rattle.stage_tree.specs.Edits.{copied}
-use Rattle.stage_tree.specs.Copies.{IsCopyTo}
 use Rattle.stage_tree.proofs.Walking.{stop_within}
 use Rattle.stage_tree.proofs.OnWay.{still_on}
 use Rattle.stage_tree.proofs.Moving.{both_still, both_stand, both_walk, first_clear, holds_there, node_at, nothing_there, stands_there}
-use Rattle.stage_tree.proofs.CopyEdits.{copied_files, copy_done, copy_judged, copy_left, copy_many, files_held, no_copy_source, room_refused, same_copy, stands_copied}
+use Rattle.stage_tree.proofs.CopyEdits.{copied_files, copy_done, copy_judged, copy_left, files_held, no_copy_source, room_refused, same_copy, stands_copied}
 use Rattle.stage_tree.proofs.nodes.Nodes.copy.Goals as goal
 
 pub walk-way-requires-clause-nodes : goal.walk-way-requires-clause-nodes

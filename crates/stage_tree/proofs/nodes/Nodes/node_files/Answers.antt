@@ -1,7 +1,5 @@
-use Rattle.std.proofs.Common.{◌≡◌, ℕ, sym, ap, ◌∙◌, arith, length}
+use Rattle.std.proofs.Common.{sym, ap, ◌∙◌, arith}
 use Rattle.object_store.specs.Sizes.{held_number}
-use Rattle.stage_tree.specs.declared.nodes.Content.TheVariants.{Held, Open}
-use Rattle.stage_tree.specs.Copies.{node_files}
 use Rattle.stage_tree.proofs.CopyEdits.{open_files, held_files}
 use Rattle.stage_tree.proofs.Finishing.{on_ok}
 use Rattle.stage_tree.proofs.PutFits.{children_countable, node_inside, read_held}

@@ -1,7 +1,6 @@
-use Rattle.std.proofs.Common.{◌≡◌, ap, sym, subst, arith}
+use Rattle.std.proofs.Common.{arith}
 use Rattle.std.proofs.lemmas.Result.{err_from_is_err_and}
 use Rattle.stage_tree.specs.Edits.{copied}
-use Rattle.stage_tree.specs.Stages.{Staged}
 use Rattle.stage_tree.proofs.CopyShown.{copy_open, copy_refused, copy_shown}
 use Rattle.stage_tree.proofs.Staging.{most_stays, stage_of, stands_opened}
 use Rattle.stage_tree.proofs.stage.Stage.copy.Goals as goal
