@@ -1,5 +1,5 @@
 // What is there before a stream.
-ghost use Rattle.std.specs.Prelude.{◌≡◌, List};
+ghost use Rattle.std.specs.Prelude.{◌≡◌, List, []};
 ghost use Rattle.std.specs.List.{list_any};
 ghost use Rattle.std.specs.Option.{option_map};
 ghost use Rattle.std.specs.FinMap.{find};
@@ -33,4 +33,28 @@ pub trait Base {
     /// Whether a blob of that name is known.
     fn knows_blob(&self, blob: &Name) -> bool
         ensures { result ≡ list_any (same_bytes blob.now.0) (blobs self.now) };
+}
+
+/// Nothing is there before the stream.
+#[derive(Clone, Copy, Debug)]
+pub struct EmptyBase;
+
+impl Base for EmptyBase {
+    ghost commits = { λ _. [] };
+
+    ghost refs = { λ _. [] };
+
+    ghost blobs = { λ _. [] };
+
+    fn tree_of(&self, _commit: &Name) -> Option<Name> {
+        None
+    }
+
+    fn branch(&self, _refname: &RefName) -> Option<Name> {
+        None
+    }
+
+    fn knows_blob(&self, _blob: &Name) -> bool {
+        false
+    }
 }

@@ -34,7 +34,7 @@ mod turns;
 mod whole;
 mod words;
 
-pub use base::Base;
+pub use base::{Base, EmptyBase};
 pub use command::{BlobRef, Change, Command, CommitHead, Merges, Placed};
 pub use commit_ref::{CommitRef, Target};
 pub use fault::{Feature, StreamFault};

@@ -1,35 +1,8 @@
 // A whole stream, replayed into an empty store.
-ghost use Rattle.std.specs.Prelude.{[]};
-
-use fast_import::{Base, Made, ReplayError, Replayed, Setting, replay_all};
-use git_objects::Name;
+use fast_import::{EmptyBase, Made, ReplayError, Replayed, Setting, replay_all};
 use object_store::Store;
-use path_names::RefName;
 use proj_io::Source;
 use std::alloc::{AllocError, Global};
-
-// Nothing is there before the stream.
-struct Nothing;
-
-impl Base for Nothing {
-    ghost commits = { λ _. [] };
-
-    ghost refs = { λ _. [] };
-
-    ghost blobs = { λ _. [] };
-
-    fn tree_of(&self, _commit: &Name) -> Option<Name> {
-        None
-    }
-
-    fn branch(&self, _refname: &RefName) -> Option<Name> {
-        None
-    }
-
-    fn knows_blob(&self, _blob: &Name) -> bool {
-        false
-    }
-}
 
 // A line for each commit.
 fn list_commits(made: &[Made], lines: &mut Vec<u8>) -> Result<(), AllocError> {
@@ -62,7 +35,7 @@ fn listed(alloc: Global, given: &Replayed) -> Result<Vec<u8>, AllocError> {
 /// commit. None: the stream is refused, or it can't be read.
 pub fn answer<S: Source>(alloc: Global, input: &mut S) -> Result<Option<Vec<u8>>, AllocError> {
     let mut store = Store::new(alloc);
-    match replay_all(alloc, input, &Nothing, &mut store) {
+    match replay_all(alloc, input, &EmptyBase, &mut store) {
         Ok(given) => Ok(Some(listed(alloc, &given)?)),
         Err(ReplayError::ReadFault) => Ok(None),
         Err(ReplayError::Stream(_)) => Ok(None),

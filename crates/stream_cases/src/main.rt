@@ -6,6 +6,7 @@ mod commands;
 mod lexing;
 mod names;
 mod reading;
+mod replays;
 mod session;
 
 use case_lines::Fault;
