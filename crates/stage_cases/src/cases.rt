@@ -1,0 +1,122 @@
+// A tree that is made, stored, and edited on a stage of its own.
+ghost use Rattle.std.specs.Prelude.{◌≡◌, true, IfOk};
+ghost use Rattle.git_objects.specs.Trees.{Flat};
+ghost use Rattle.git_objects.specs.declared.kind.Kind.TheVariants.{Blob};
+ghost use Rattle.object_store.specs.Objects.{has};
+ghost use Rattle.stage_tree.specs.Stages.{Shows};
+
+use crate::edits::{edit, is_held};
+use crate::words::edit_of;
+use case_lines::{Fault, Word};
+use git_objects::{Kind, Name};
+use object_store::Store;
+use stage_tree::{Stage, StageFault};
+use std::alloc::Global;
+
+// The line of an edit: how many nodes the stage then has, or why it wasn't edited.
+fn add_line(
+    alloc: Global,
+    lines: &mut String,
+    word: &str,
+    answer: Result<(), StageFault>,
+    nodes: usize,
+) -> Result<(), Fault> {
+    let line = match answer {
+        Ok(()) => format!(in alloc; "{word} nodes {nodes}\n")?,
+        Err(fault) => format!(in alloc; "{word} {fault:?}, nodes {nodes}\n")?,
+    };
+    Ok(lines.push_str(line.as_str())?)
+}
+
+// Edits a stage by each word, and adds a line for each.
+fn edited(
+    alloc: Global,
+    stage: &mut Stage,
+    store: &Store,
+    blob: Name,
+    words: &[Word],
+    lines: &mut String,
+) -> Result<(), Fault>
+    requires blob { has Blob store.now blob.0 ≡ true }
+    requires shows { (t : Flat) × Shows store.now stage.old t }
+    ensures { (t : Flat) × Shows store.now stage.new t }
+{
+    for word in words {
+        let asked = edit_of(alloc, word.text())?;
+        let answer = edit(stage, store, blob, &asked);
+        add_line(alloc, lines, word.text(), answer, stage.nodes())?;
+    }
+    Ok(())
+}
+
+// The name of the tree that a stage shows, which is then stored.
+fn finished(stage: &mut Stage, store: &mut Store) -> Result<Name, Fault>
+    requires { (t : Flat) × Shows store.old stage.old t }
+{
+    stage.finish(store).ok().ok_or(Fault::OutOfMemory)
+}
+
+// Stores the tree of the edits from nothing.
+fn base(alloc: Global, store: &mut Store, blob: Name, words: &[Word]) -> Result<Name, Fault>
+    requires { has Blob store.old blob.0 ≡ true }
+{
+    // The store is looked at so that the proof has what each store keeps.
+    let _ = store.get(&blob);
+    let mut stage = Stage::empty(alloc)?;
+    let mut lines = String::new(alloc);
+    edited(alloc, &mut stage, store, blob, words, &mut lines)?;
+    finished(&mut stage, store)
+}
+
+// Edits the stored tree, a line for each edit, and the name of the tree then.
+fn upon(
+    alloc: Global,
+    store: &mut Store,
+    blob: Name,
+    root: Name,
+    words: &[Word],
+) -> Result<String, Fault> {
+    if !is_held(store, Kind::Tree, &root) || !is_held(store, Kind::Blob, &blob) {
+        return Err(Fault::BadLine);
+    }
+    let mut lines = String::new(alloc);
+    let mut stage = Stage::begin(alloc, store, root)?;
+    edited(alloc, &mut stage, store, blob, words, &mut lines)?;
+    let name = finished(&mut stage, store)?;
+    lines.push_str("tree ")?;
+    for digit in name.hex().iter() {
+        lines.push(char::from(*digit))?;
+    }
+    lines.push('\n')?;
+    Ok(lines)
+}
+
+fn answered(alloc: Global, front: &[Word], behind: &[Word]) -> Result<String, Fault> {
+    let mut store = Store::new(alloc);
+    let blob = store
+        .put_slice(Kind::Blob, b"x")
+        .ok()
+        .ok_or(Fault::OutOfMemory)?;
+    if !is_held(&store, Kind::Blob, &blob) {
+        return Err(Fault::BadLine);
+    }
+    let root = base(alloc, &mut store, blob, front)?;
+    upon(alloc, &mut store, blob, root, behind)
+}
+
+/// `stage EDIT .. begin EDIT ..`: the tree of the first edits is stored, and a stage of it edited by the others.
+pub fn answer(alloc: Global, words: &[Word]) -> Result<Option<String>, Fault> {
+    let [first, inner @ ..] = words else {
+        return Err(Fault::BadLine);
+    };
+    let Some(at) = inner.iter().position(|word| word.text() == "begin") else {
+        return Err(Fault::BadLine);
+    };
+    let Some((front, behind)) = inner.split_at_checked(at) else {
+        return Err(Fault::BadLine);
+    };
+    if first.text() != "stage" {
+        return Err(Fault::BadLine);
+    }
+    Ok(Some(answered(alloc, front, behind.get(1..).unwrap_or(&[]))?))
+}

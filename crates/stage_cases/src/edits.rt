@@ -1,0 +1,96 @@
+// Edits of a stage, which shows a tree whatever they answer.
+ghost use Rattle.std.specs.Prelude.{◌≡◌, ◌<◌, true};
+ghost use Rattle.git_objects.specs.Trees.{Flat};
+ghost use Rattle.git_objects.specs.declared.kind.Kind.TheVariants.{Blob};
+ghost use Rattle.object_store.specs.Objects.{has};
+ghost use Rattle.stage_tree.specs.Stages.{Shows};
+
+use crate::words::Edit;
+use git_objects::{Kind, Mode, Name, Steps};
+use object_store::Store;
+use path_names::Path;
+use path_trees::Leaf;
+use stage_tree::{Stage, StageFault};
+use std::marker::Brand;
+use std::sync::ledger::{Blank, Ledger};
+
+/// Whether an object of that kind and name is held.
+pub fn is_held(store: &Store, kind: Kind, name: &Name) -> bool
+    ensures { result ≡ has kind store.now name.now.0 }
+{
+    match store.get(name) {
+        None => false,
+        Some(object) => object.kind == kind,
+    }
+}
+
+fn set(stage: &mut Stage, store: &Store, path: &Path, blob: Name) -> Result<(), StageFault>
+    requires blob { has Blob store.now blob.0 ≡ true }
+    requires shows { (t : Flat) × Shows store.now stage.old t }
+    ensures { (t : Flat) × Shows store.now stage.new t }
+{
+    let leaf = Leaf {
+        mode: Mode::File,
+        name: blob,
+    };
+    stage.set(store, path, leaf)
+}
+
+fn removed(stage: &mut Stage, store: &Store, path: &Path) -> Result<(), StageFault>
+    requires { (t : Flat) × Shows store.now stage.old t }
+    ensures { (t : Flat) × Shows store.now stage.new t }
+{
+    match stage.remove(store, path) {
+        Ok(()) => Ok(()),
+        Err(_) => Err(StageFault::OutOfMemory),
+    }
+}
+
+fn renamed<L: Ledger>(
+    stage: &mut Stage,
+    store: &Store,
+    from: &Path,
+    to: &Path,
+    blank: Blank,
+) -> Result<(), StageFault>
+    requires name { blank.name ≡ L.name }
+    requires parts { blank.parts ≡ L.parts }
+    requires some { 0 < blank.parts }
+    requires shows { (t : Flat) × Shows store.now stage.old t }
+    ensures { (t : Flat) × Shows store.now stage.new t }
+{
+    let mut steps = Steps::<L>::new(blank);
+    stage.rename(store, from, to, &mut steps)
+}
+
+fn copied(stage: &mut Stage, store: &Store, from: &Path, to: &Path) -> Result<(), StageFault>
+    requires { (t : Flat) × Shows store.now stage.old t }
+    ensures { (t : Flat) × Shows store.now stage.new t }
+{
+    stage.copy(store, from, to)
+}
+
+fn cleared(stage: &mut Stage, store: &Store) -> Result<(), StageFault>
+    requires { (t : Flat) × Shows store.now stage.old t }
+    ensures { (t : Flat) × Shows store.now stage.new t }
+{
+    // The store is looked at so that the proof has what each store keeps.
+    let _ = store.get(&Name([0; 20]));
+    stage.clear();
+    Ok(())
+}
+
+/// Edits a stage. Each file that is set has the same blob.
+pub fn edit(stage: &mut Stage, store: &Store, blob: Name, edit: &Edit) -> Result<(), StageFault>
+    requires blob { has Blob store.now blob.0 ≡ true }
+    requires shows { (t : Flat) × Shows store.now stage.old t }
+    ensures { (t : Flat) × Shows store.now stage.new t }
+{
+    match edit {
+        Edit::Set(path) => set(stage, store, path, blob),
+        Edit::Remove(path) => removed(stage, store, path),
+        Edit::Rename(from, to) => renamed::<Brand>(stage, store, from, to, Blank::new(1)),
+        Edit::Copy(from, to) => copied(stage, store, from, to),
+        Edit::Clear => cleared(stage, store),
+    }
+}
