@@ -38,6 +38,7 @@ impl Model for Table {
 
 impl Table {
     ghost use Rattle.decision_lists.specs.Hits.{image_at, source_hit};
+    ghost use Rattle.filter_routes.specs.Lists.{IsListOf};
     ghost use Rattle.filter_routes.specs.Tables.{target, source, IsOrigin, IsTableOf};
     ghost use Rattle.filter_routes.specs.RouteFaults.{IsRouteFault};
 
@@ -63,6 +64,15 @@ impl Table {
         ensures paths { has_paths (shape self.now.filter) ≡ true }
     {
         &self.filter
+    }
+
+    /// The filter's decision list: of the entries that have a path the first decides. Those with a target are the
+    /// routes, by their places, and each entry before a route may take paths from it.
+    pub fn entries(&self) -> &[Entry]
+        ensures entries { result.now ≡ self.now.routes }
+        ensures list { IsListOf (shape self.now.filter) self.now.routes }
+    {
+        self.entries.as_slice()
     }
 
     /// The route that takes a path to its image, if it has one. Needs no memory.

@@ -10,3 +10,4 @@ pub mod TreeObjects
 pub mod StoredSnapshots
 pub mod Fits
 pub mod Growth
+pub mod Hands
