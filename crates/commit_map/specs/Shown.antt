@@ -20,7 +20,7 @@ Entries = List (Bytes × Option Shown)
 -- what is kept of that commit
 abbrev pub kept_at : Bytes → Entries → Option (Option Shown)
 kept_at n [] = None
-kept_at n (e ∷ es) = if same_bytes e.0 n then Some e.1 else kept_at n es
+kept_at n (e ∷ es) = if same_bytes n e.0 then Some e.1 else kept_at n es
 
 abbrev pub entry_value : Name × Option declared.Shown → Bytes × Option Shown
 entry_value e = (e.0.0, option_map shown_value e.1)
