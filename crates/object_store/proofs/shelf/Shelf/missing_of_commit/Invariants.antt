@@ -1,6 +1,6 @@
 use Rattle.std.proofs.Common.{◌≡◌, drop}
 use Rattle.object_store.specs.Objects.{missing_parent}
-use Rattle.object_store.proofs.store.Store.missing_of_commit.Given as goal
+use Rattle.object_store.proofs.shelf.Shelf.missing_of_commit.Given as goal
 
 -- the parents that were looked at are held
 abbrev pub invariant-parents : goal.invariant-parents

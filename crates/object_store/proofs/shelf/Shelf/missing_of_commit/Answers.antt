@@ -3,7 +3,7 @@ use Rattle.git_objects.specs.Parts.{name_bytes}
 use Rattle.git_objects.specs.declared.kind.Kind.TheVariants.{Tree}
 use Rattle.object_store.specs.Objects.{has, missing_parent}
 use Rattle.object_store.proofs.Parents.{missing-next, missing-here}
-use Rattle.object_store.proofs.store.Store.missing_of_commit.Goals as goal
+use Rattle.object_store.proofs.shelf.Shelf.missing_of_commit.Goals as goal
 
 pub returns-then-not-has-2 : goal.returns-then-not-has-2
 returns-then-not-has-2 c =

@@ -3,7 +3,7 @@ use Rattle.git_objects.specs.declared.kind.Kind.TheVariants.{Blob}
 use Rattle.object_store.specs.Objects.{missing_entry, body_of}
 use Rattle.object_store.specs.Unfolding.{joined, flat}
 use Rattle.object_store.specs.Sizes.{sizes, sizes_joined}
-use Rattle.object_store.proofs.store.Store.entries_stats.Given as goal
+use Rattle.object_store.proofs.shelf.Shelf.entries_stats.Given as goal
 
 -- what was looked at is held, and its sizes with those of the rest are those of the whole
 abbrev pub invariant-entries : goal.invariant-entries

@@ -1,7 +1,7 @@
 use Rattle.std.proofs.Common.{Some, None, ◌∙◌}
 use Rattle.object_store.specs.Errors.{object_value}
 use Rattle.object_store.proofs.Finding.{has-found, kind_test}
-use Rattle.object_store.proofs.store.Store.has.Goals as goal
+use Rattle.object_store.proofs.shelf.Shelf.has.Goals as goal
 
 pub returns-in-None : goal.returns-in-None
 returns-in-None c = has-found c.args.kind _ c.args.name.now.0 None c.in-None.ensures.store c.in-None.ensures.object

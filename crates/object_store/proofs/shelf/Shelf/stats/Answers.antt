@@ -4,7 +4,7 @@ use Rattle.object_store.specs.Objects.{Object}
 use Rattle.object_store.specs.Sizes.{stats_of}
 use Rattle.object_store.proofs.Finding.{kind_test}
 use Rattle.object_store.proofs.Sizes.{stats-found}
-use Rattle.object_store.proofs.store.Store.stats.Goals as goal
+use Rattle.object_store.proofs.shelf.Shelf.stats.Goals as goal
 
 pub returns-in-None : goal.returns-in-None
 returns-in-None c =

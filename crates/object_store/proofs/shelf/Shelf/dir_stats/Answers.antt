@@ -4,7 +4,7 @@ use Rattle.object_store.specs.Objects.{Object, has_child}
 use Rattle.object_store.specs.Sizes.{sizes}
 use Rattle.object_store.specs.Unfolding.{below, flat}
 use Rattle.object_store.proofs.Sizes.{dir-none, dir-place, dir-sizes}
-use Rattle.object_store.proofs.store.Store.dir_stats.Goals as goal
+use Rattle.object_store.proofs.shelf.Shelf.dir_stats.Goals as goal
 
 pub returns-in-None-clause-held : goal.returns-in-None-clause-held
 returns-in-None-clause-held c =

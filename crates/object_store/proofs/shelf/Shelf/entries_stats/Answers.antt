@@ -6,7 +6,7 @@ use Rattle.object_store.specs.Objects.{missing_entry, body_of}
 use Rattle.object_store.specs.Sizes.{sizes, sizes_joined}
 use Rattle.object_store.specs.Unfolding.{joined, flat}
 use Rattle.object_store.proofs.Sizes.{entry_step}
-use Rattle.object_store.proofs.store.Store.entries_stats.Goals as goal
+use Rattle.object_store.proofs.shelf.Shelf.entries_stats.Goals as goal
 
 pub entries-preserved : goal.entries-preserved
 entries-preserved c =
