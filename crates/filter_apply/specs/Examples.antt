@@ -1,10 +1,10 @@
 -- Worked examples.
 use Rattle.std.specs.Prelude.{◌≡◌, refl, Bool, true, false, List, [], ◌∷◌, codes, Some, None}
 use Rattle.git_objects.specs.Paths.{Bytes, Path}
-use Rattle.git_objects.specs.Trees.{Leaf, FileLeaf, Flat}
+use Rattle.git_objects.specs.Trees.{Leaf, FileLeaf, Flat, standing}
 use Rattle.decision_lists.specs.Entries.{Entry, at, below}
 use Rattle.filter_text.specs.Filters.{exclude, join, chain, sub, onto, dir, no_more, more}
-use Rattle.filter_apply.specs.Parts.{place_of, decides, rests_at, part_of}
+use Rattle.filter_apply.specs.Parts.{place_of, decides, rests_of, part_of}
 use Rattle.filter_apply.specs.Hands.{parts_in}
 
 abbrev a : Bytes
@@ -37,13 +37,13 @@ tree = (a ∷ c ∷ [], leaf) ∷ (b ∷ c ∷ [], other) ∷ (b ∷ d ∷ e ∷
 
 -- ---- what stands at a path
 
-pub below_a_directory : rests_at (b ∷ []) tree ≡ (c ∷ [], other) ∷ (d ∷ e ∷ [], leaf) ∷ []
+pub below_a_directory : rests_of (standing tree (b ∷ [])) ≡ (c ∷ [], other) ∷ (d ∷ e ∷ [], leaf) ∷ []
 below_a_directory = refl
 
-pub at_a_leaf : rests_at (b ∷ c ∷ []) tree ≡ ([], other) ∷ []
+pub at_a_leaf : rests_of (standing tree (b ∷ c ∷ [])) ≡ ([], other) ∷ []
 at_a_leaf = refl
 
-pub at_the_root : rests_at [] tree ≡ tree
+pub at_the_root : rests_of (standing tree []) ≡ tree
 at_the_root = refl
 
 -- ---- one entry

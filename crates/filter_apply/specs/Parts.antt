@@ -1,10 +1,8 @@
 -- What one entry of a decision list has of a tree.
 use Rattle.std.specs.Prelude.{ℕ, suc, Bool, true, false, nat_eq, if◌then◌else◌, List, [], ◌∷◌, ◌++◌, Option, Some, None, is_some, filter, slice_get}
 use Rattle.std.specs.Option.{option_map}
-use Rattle.std.specs.List.{filter_map}
 use Rattle.git_objects.specs.Paths.{Path}
-use Rattle.git_objects.specs.Trees.{Flat, Node, moved, rests}
-use Rattle.decision_lists.specs.Fronts.{strip}
+use Rattle.git_objects.specs.Trees.{Flat, Node, rests, standing}
 use Rattle.decision_lists.specs.Entries.{Entry, base, tail}
 
 -- the place of the first entry whose cone has the path: the one that decides for it
@@ -24,17 +22,13 @@ abbrev pub base_in : Option Entry → Path
 base_in None = []
 base_in (Some e) = base e.0
 
--- the leaves at a path and below it, by the rests of their paths behind it
-abbrev pub rests_at : Path → Flat → Flat
-rests_at s t = filter_map (λ e. moved (strip s e.0) e.1) t
-
--- What the entry at i has of the leaves at s and below it, by the rests of their paths: those rests that stand behind the
--- entry's base in a path for which the entry decides. At its base this is what the entry shows of a tree, and at its
--- target what it has of a tree that is shown.
-abbrev pub part_of : List Entry → ℕ → Path → Flat → Flat
-part_of es i s t = filter (λ e. decides es i (base_in (slice_get es i) ++ e.0)) (rests_at s t)
-
--- what stands at a place, as rests of paths; nothing, where nothing does
+-- what stands at a place, by the rests of its paths; nothing, where nothing does
 abbrev pub rests_of : Option Node → Flat
 rests_of None = []
 rests_of (Some n) = rests n
+
+-- What the entry at i has of what stands at s, by the rests of the paths behind s: the rests that stand behind the entry's
+-- base in a path for which the entry decides. At its base this is what the entry shows of a tree, and at its target what
+-- it has of a tree that is shown.
+abbrev pub part_of : List Entry → ℕ → Path → Flat → Flat
+part_of es i s t = filter (λ e. decides es i (base_in (slice_get es i) ++ e.0)) (rests_of (standing t s))
