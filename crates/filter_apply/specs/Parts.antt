@@ -3,7 +3,7 @@ use Rattle.std.specs.Prelude.{ℕ, suc, Bool, true, false, nat_eq, if◌then◌e
 use Rattle.std.specs.Option.{option_map}
 use Rattle.git_objects.specs.Paths.{Path}
 use Rattle.git_objects.specs.Trees.{Flat, Node, rests, standing}
-use Rattle.decision_lists.specs.Entries.{Entry, base, tail}
+use Rattle.decision_lists.specs.Entries.{Cone, at, below, Entry, base, tail}
 
 -- the place of the first entry whose cone has the path: the one that decides for it
 abbrev pub place_of : List Entry → Path → Option ℕ
@@ -22,6 +22,11 @@ abbrev pub base_in : Option Entry → Path
 base_in None = []
 base_in (Some e) = base e.0
 
+-- all below a path, and no single one
+abbrev pub is_wide : Cone → Bool
+is_wide (at s) = false
+is_wide (below s) = true
+
 -- what stands at a place, by the rests of its paths; nothing, where nothing does
 abbrev pub rests_of : Option Node → Flat
 rests_of None = []
@@ -32,3 +37,8 @@ rests_of (Some n) = rests n
 -- it has of a tree that is shown.
 abbrev pub part_of : List Entry → ℕ → Path → Flat → Flat
 part_of es i s t = filter (λ e. decides es i (base_in (slice_get es i) ++ e.0)) (rests_of (standing t s))
+
+-- whether it is all below a path, and no single one
+abbrev pub is_below : Option Entry → Bool
+is_below None = false
+is_below (Some e) = is_wide e.0

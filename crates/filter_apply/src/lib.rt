@@ -2,5 +2,11 @@
 #![tactic(auto)]
 
 mod fault;
+mod holes;
+mod parts;
+mod placing;
+mod standing;
 
 pub use fault::ApplyError;
+pub use parts::part;
+pub use placing::placed;
