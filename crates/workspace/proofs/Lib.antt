@@ -1,2 +1,2 @@
-pub mod Resolving
-pub mod Resolved
+pub mod Usable
+pub mod Cleared

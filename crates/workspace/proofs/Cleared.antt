@@ -15,7 +15,7 @@ use Rattle.filter_routes.specs.SoundTests.{is_sound}
 use Rattle.workspace.specs.Workspaces.{Split, split, split_at, split_pieces, directory_of, fronts, around, filters_of, own_branch, listed, readable_items, leaf_items, put_in, with_leaf}
 use Rattle.git_objects.specs.Lists.{Each}
 use Rattle.workspace.specs.Laws.{ResolveLaw}
-use Rattle.workspace.proofs.Resolving.{directory-is, each-append, place-path, place-shown, with-usable}
+use Rattle.workspace.proofs.Usable.{directory-is, each-append, place-path, place-shown, with-usable}
 
 not-is : (b : Bool) → not b ≡ true → b ≡ false
 not-is true e = absurd (true≢false (sym e))
