@@ -5,7 +5,7 @@ ghost use Rattle.filter_text.specs.Shapes.{shape, shapes};
 ghost use Rattle.filter_text.specs.Views.{item_values};
 ghost use Rattle.workspace.specs.Workspaces.{around, filters_of, fronts, listed, own_branch};
 
-use filter_text::{Filter, Item};
+use filter_text::{Filter, Item, copy};
 use git_objects::Component;
 use path_names::Path;
 use std::alloc::{AllocError, Global};
@@ -49,29 +49,27 @@ fn own_branch(alloc: Global, directory: &Path, items: &[Item]) -> Result<Filter,
     ensures { IfOk result (λ f. shape f ≡ own_branch directory.now (item_values items.now)) }
 {
     let kept = Filter::Join(around_all(alloc, items)?);
-    let mut pieces = Vec::new(alloc);
-    pieces.push(Filter::Sub(directory.copy(alloc)?))?;
-    pieces.push(Filter::Exclude(Box::new(alloc, kept)?))?;
-    Ok(Filter::Chain(pieces))
+    let own = Filter::Sub(directory.copy(alloc)?);
+    let others = Filter::Exclude(Box::new(alloc, kept)?);
+    Ok(Filter::Chain(vec![in alloc; own, others]?))
 }
 
 // The filters of items.
-fn branches(alloc: Global, items: Vec<Item>) -> Result<Vec<Filter>, AllocError>
-    ensures { IfOk result (λ v. shapes v.items ≡ filters_of (map (λ i. i.1) (item_values items.items))) }
+fn branches(alloc: Global, items: &[Item]) -> Result<Vec<Filter>, AllocError>
+    ensures { IfOk result (λ v. shapes v.items ≡ filters_of (map (λ i. i.1) (item_values items.now))) }
 {
     let mut branches = Vec::new(alloc);
     for item in items {
-        let Item { place: _, filter } = item;
-        branches.push(filter)?;
+        branches.push(copy(alloc, &item.filter)?)?;
     }
     Ok(branches)
 }
 
 // A branch for each item, in order, and as last branch the workspace's own directory.
-pub fn listed(alloc: Global, directory: &Path, items: Vec<Item>) -> Result<Filter, AllocError>
-    ensures { IfOk result (λ f. shape f ≡ listed directory.now (item_values items.items)) }
+pub fn listed(alloc: Global, directory: &Path, items: &[Item]) -> Result<Filter, AllocError>
+    ensures { IfOk result (λ f. shape f ≡ listed directory.now (item_values items.now)) }
 {
-    let own = own_branch(alloc, directory, &items)?;
+    let own = own_branch(alloc, directory, items)?;
     let mut members = branches(alloc, items)?;
     members.push(own)?;
     Ok(Filter::Join(members))

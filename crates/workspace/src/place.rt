@@ -1,8 +1,9 @@
 // The original path of a workspace's file.
-ghost use Rattle.std.specs.Prelude.{◌≡◌, ◌++◌, true, IfOk, OnOk};
-ghost use Rattle.filter_text.specs.Filters.{append, has_paths};
+ghost use Rattle.std.specs.Prelude.{◌≡◌, ◌++◌, IfOk, OnOk};
+ghost use Rattle.filter_text.specs.Filters.{append, chain};
 ghost use Rattle.filter_text.specs.Shapes.{shape, shapes};
 ghost use Rattle.filter_routes.specs.Origins.{origin};
+ghost use Rattle.filter_routes.specs.Soundness.{AreSound};
 ghost use Rattle.workspace.specs.Laws.{IsUsable};
 ghost use Rattle.workspace.specs.Workspaces.{file_name, place};
 
@@ -17,9 +18,8 @@ use std::alloc::{AllocError, Global};
 fn file_in(alloc: Global, directory: &Path) -> Result<Path, AllocError>
     ensures { IfOk result (λ p. p ≡ directory.now ++ file_name) }
 {
-    let mut tail = Vec::new(alloc);
-    tail.push(Component::of(b"workspace.josh".to_vec(alloc)?))?;
-    Path::of_parts(alloc, directory.components(), &tail)
+    let file = Component::of(b"workspace.josh".to_vec(alloc)?);
+    Path::of_parts(alloc, directory.components(), &vec![in alloc; file]?)
 }
 
 // Adds copies of the filters.
@@ -36,16 +36,30 @@ pub fn add_copies(
     Ok(())
 }
 
+// The table of the chain of these pieces.
+fn table_of(alloc: Global, pieces: &[Filter]) -> Result<Table, AllocError>
+    requires sound { AreSound (shapes pieces.now) }
+    ensures { IfOk result (λ t. shape t.filter ≡ chain (shapes pieces.now)) }
+{
+    let mut copies = Vec::new(alloc);
+    add_copies(&mut copies, alloc, pieces)?;
+    match Table::if_sound(alloc, &Filter::Chain(copies))? {
+        None => unreachable!(),
+        Some(table) => Ok(table),
+    }
+}
+
 // The path that the table's filter shows as this one, if one is.
 fn origin_of(alloc: Global, table: &Table, image: &Path) -> Result<Option<Path>, AllocError>
+    requires { IsUsable (shape table.now.filter) }
     ensures { IfOk result (λ p. p ≡ origin (shape table.now.filter) image.now) }
 {
-    let _ = table.filter();
+    let components = image.components();
     match table.origin(image) {
         None => Ok(None),
         Some(hit) => {
-            let rest = &image.components()[hit.cut..];
-            Ok(Some(Path::of_parts(alloc, table.source(hit.route), rest)?))
+            let source = table.source(hit.route);
+            Ok(Some(Path::of_parts(alloc, source, &components[hit.cut..])?))
         }
     }
 }
@@ -56,15 +70,12 @@ pub fn file_place(alloc: Global, filter: &Filter) -> Result<Option<Path>, AllocE
     requires usable { IsUsable (shape filter.now) }
     ensures place { IfOk result (λ p. p ≡ place (shape filter.now)) }
 {
-    let Some(parts) = parts_of(filter) else {
-        return Ok(None);
-    };
-    let mut pieces = Vec::new(alloc);
-    add_copies(&mut pieces, alloc, parts.before)?;
-    let before = Filter::Chain(pieces);
-    let file = file_in(alloc, parts.directory)?;
-    match Table::if_sound(alloc, &before)? {
-        None => unreachable!(),
-        Some(table) => origin_of(alloc, &table, &file),
+    match parts_of(filter) {
+        None => Ok(None),
+        Some(parts) => {
+            let table = table_of(alloc, parts.before)?;
+            let file = file_in(alloc, parts.directory)?;
+            origin_of(alloc, &table, &file)
+        }
     }
 }

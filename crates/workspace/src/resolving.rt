@@ -4,8 +4,8 @@ ghost use Rattle.std.specs.Option.{option_map, option_and_then};
 ghost use Rattle.git_objects.specs.Lists.{Each};
 ghost use Rattle.git_objects.specs.Paths.{is_path};
 ghost use Rattle.git_objects.specs.Trees.{at};
-ghost use Rattle.git_objects.specs.declared.kind.Kind.TheVariants.{Tree};
-ghost use Rattle.object_store.specs.Objects.{has, has_child};
+ghost use Rattle.git_objects.specs.declared.kind.Kind.TheVariants.{Blob, Tree};
+ghost use Rattle.object_store.specs.Objects.{body_of, has, has_child};
 ghost use Rattle.object_store.specs.Unfolding.{flat};
 ghost use Rattle.filter_text.specs.Items.{IsMadeOfPaths, items};
 ghost use Rattle.filter_text.specs.Shapes.{shape};
@@ -22,7 +22,7 @@ use crate::parts::{Parts, parts_of};
 use crate::place::{add_copies, file_place};
 use filter_routes::Tables;
 use filter_text::{Filter, Item, ItemsFault, parse_items};
-use git_objects::{Kind, Mode, Name};
+use git_objects::{Mode, Name};
 use object_store::Store;
 use path_names::Path;
 use path_trees::{Leaf, entry_at};
@@ -76,6 +76,17 @@ fn items_in(alloc: Global, text: &[u8]) -> Result<Option<Vec<Item>>, AllocError>
     }
 }
 
+// The bytes of a blob of the store.
+fn text_at<'a>(store: &'a Store, name: &Name) -> &'a [u8]
+    requires held { has Blob store.now name.now.0 ≡ true }
+    ensures { result.now ≡ body_of Blob store.now name.now.0 }
+{
+    match store.get(name) {
+        None => unreachable!(),
+        Some(object) => object.body,
+    }
+}
+
 // The items of a leaf; None where it has no text, or one that can't be read.
 fn items_of(alloc: Global, store: &Store, leaf: Leaf) -> Result<Option<Vec<Item>>, AllocError>
     requires held { has_child store.now leaf.mode leaf.name.0 ≡ true }
@@ -83,11 +94,11 @@ fn items_of(alloc: Global, store: &Store, leaf: Leaf) -> Result<Option<Vec<Item>
     ensures paths { IfOk result (λ o. IfSome o (λ v. Each IsMadeOfPaths (item_values v.items))) }
 {
     match leaf.mode {
-        Mode::File | Mode::Exec => match store.get(&leaf.name) {
-            None => unreachable!(),
-            Some(object) => items_in(alloc, object.body),
-        },
-        Mode::Link | Mode::Module | Mode::Dir => Ok(None),
+        Mode::File => items_in(alloc, text_at(store, &leaf.name)),
+        Mode::Exec => items_in(alloc, text_at(store, &leaf.name)),
+        Mode::Link => Ok(None),
+        Mode::Module => Ok(None),
+        Mode::Dir => Ok(None),
     }
 }
 
@@ -112,7 +123,7 @@ fn with_items(
     match items_of(alloc, store, leaf)? {
         None => Ok(None),
         Some(items) => {
-            let list = listed(alloc, parts.directory, items)?;
+            let list = listed(alloc, parts.directory, &items)?;
             let whole = put_in(alloc, parts, list)?;
             tables.intern_if_sound(&whole)
         }
@@ -130,7 +141,7 @@ fn without_items(
         (put_in (parts_value parts.now) (listed parts.now.directory.now []))) }
     ensures err { OnErr result (tables.new ≡ tables.old) }
 {
-    let list = listed(alloc, parts.directory, Vec::new(alloc))?;
+    let list = listed(alloc, parts.directory, &[])?;
     let whole = put_in(alloc, parts, list)?;
     interned(tables, &whole)
 }
