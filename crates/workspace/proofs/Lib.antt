@@ -1,0 +1,5 @@
+pub mod Usable
+pub mod Cleared
+pub mod Splits
+pub mod Lists
+pub mod Sources
