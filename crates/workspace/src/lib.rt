@@ -1,0 +1,2 @@
+//! What a filter becomes for a tree, by the workspace file in it.
+#![tactic(auto)]
