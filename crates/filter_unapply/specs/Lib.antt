@@ -1,4 +1,6 @@
 pub mod Laying
 pub mod Stored
 pub mod Laws
+pub mod Sifted
+pub mod Hands
 pub mod Rows

@@ -4,6 +4,7 @@
 mod below;
 mod fault;
 mod laws;
+mod sifting;
 
 pub use below::laid_below;
 pub use fault::LayFault;
