@@ -10,3 +10,4 @@ mod MadeTrees
 mod Sieves
 mod Fittings
 mod Empties
+mod Moves

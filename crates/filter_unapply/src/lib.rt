@@ -4,6 +4,7 @@
 mod below;
 mod fault;
 mod laws;
+mod moving;
 mod sifting;
 
 pub use below::laid_below;
