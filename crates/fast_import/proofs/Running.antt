@@ -11,14 +11,14 @@ use Rattle.object_store.proofs.Growth.{grown_as, grown_self, grown_then}
 use Rattle.stream_lex.specs.Lines.{Input}
 use Rattle.stream_lex.proofs.Passing.{grown_twice}
 use Rattle.fast_import.specs.Made.{IsMadeAt, IsMadeBy, IsMadeOn}
-use Rattle.fast_import.specs.Readers.{MayFollow, Reading, verdict_with}
+use Rattle.stream_reader.specs.Readers.{MayFollow, Reading, verdict_with}
 use Rattle.fast_import.specs.Replays.{Base, Ran, Replay, also_tried, gone_on, nothing_yet, ran_by, step}
 use Rattle.fast_import.specs.Replaying.{Replaying}
 use Rattle.fast_import.specs.Standing.{IsReplayOf, IsStepped}
-use Rattle.fast_import.specs.Verdicts.{Verdict, start, stopped, verdict, weight, with_command}
+use Rattle.stream_reader.specs.Verdicts.{Verdict, start, stopped, verdict, weight, with_command}
 use Rattle.fast_import.specs.Whole.{IsFed}
-use Rattle.fast_import.specs.declared.command.Placed.{Placed}
-use Rattle.fast_import.specs.declared.fault.StreamFault.{StreamFault}
+use Rattle.stream_reader.specs.declared.command.Placed.{Placed}
+use Rattle.stream_reader.specs.declared.fault.StreamFault.{StreamFault}
 
 -- ---- commands in a row
 
@@ -169,7 +169,7 @@ fed_more base S T before now later rd new v most un h (inl p) = record {
   same = λ more m.
       ap (verdict start) (append_assoc h.taken p.bytes more)
       ∙ h.same (p.bytes ++ more) (λ e. cc)
-      ∙ ap (λ (i : Input). with_all h.told (Rattle.fast_import.specs.Verdicts.verdict_from rd.progress i)) (sym (grown_twice p.bytes more rd.input))
+      ∙ ap (λ (i : Input). with_all h.told (Rattle.stream_reader.specs.Verdicts.verdict_from rd.progress i)) (sym (grown_twice p.bytes more rd.input))
       ∙ ap (λ (r : Reading). with_all h.told (verdict_with more r)) (sym p.now);
   grown = h.grown;
   at_end = λ e. let no : false ≡ true = ap (λ (r : Reading). r.ended) (sym p.now) ∙ e in cc;

@@ -11,25 +11,25 @@ use Rattle.object_store.proofs.Growth.{grown_as, grown_then}
 use Rattle.stream_lex.specs.Cutting.{IsTold}
 use Rattle.stream_lex.specs.declared.stop.Wanted.{Wanted}
 use Rattle.stream_lex.specs.declared.stop.Stop.TheVariants.{More}
-use Rattle.fast_import.specs.Commands.{read_command}
+use Rattle.stream_reader.specs.Commands.{read_command}
 use Rattle.fast_import.specs.Made.{IsMadeAt, IsMadeBy, IsRefusal}
-use Rattle.fast_import.specs.Readers.{MayFollow, Reading, TellsNext, came, fed, left, verdict_with}
+use Rattle.stream_reader.specs.Readers.{MayFollow, Reading, TellsNext, came, fed, left, verdict_with}
 use Rattle.fast_import.specs.Replays.{Base, Ran, Replay, Replayed, given_by, gone_on, nothing_yet, outcome_of, ran, ran_by, replay, step}
 use Rattle.fast_import.specs.Replaying.{Replaying}
 use Rattle.fast_import.specs.Standing.{IsReplayedOf, IsStepped}
-use Rattle.fast_import.specs.Verdicts.{Verdict, stopped, weight, with_command}
+use Rattle.stream_reader.specs.Verdicts.{Verdict, stopped, weight, with_command}
 use Rattle.fast_import.specs.Whole.{IsFed, IsMadeOfStream, IsStreamError, IsWhole}
-use Rattle.fast_import.specs.declared.command.Placed.{Placed}
-use Rattle.fast_import.specs.declared.fault.StreamFault.{StreamFault}
-use Rattle.fast_import.specs.declared.fault.StreamFault.TheVariants.{OutOfMemory}
-use Rattle.fast_import.specs.declared.progress.Phase.{Phase}
-use Rattle.fast_import.specs.declared.progress.Phase.TheVariants.{Between, InCommit, Finished}
-use Rattle.fast_import.specs.declared.progress.Progress.{Progress}
-use Rattle.fast_import.specs.declared.reader.Next.TheVariants as nexts
+use Rattle.stream_reader.specs.declared.command.Placed.{Placed}
+use Rattle.stream_reader.specs.declared.fault.StreamFault.{StreamFault}
+use Rattle.stream_reader.specs.declared.fault.StreamFault.TheVariants.{OutOfMemory}
+use Rattle.stream_reader.specs.declared.progress.Phase.{Phase}
+use Rattle.stream_reader.specs.declared.progress.Phase.TheVariants.{Between, InCommit, Finished}
+use Rattle.stream_reader.specs.declared.progress.Progress.{Progress}
+use Rattle.stream_reader.specs.declared.reader.Next.TheVariants as nexts
 use Rattle.fast_import.specs.declared.replayed.Replayed.{Replayed as ReplayedNames}
 use Rattle.fast_import.specs.declared.whole.ReplayError.{ReplayError}
 use Rattle.fast_import.specs.declared.whole.ReplayError.TheVariants.{ReadFault, Stream}
-use Rattle.fast_import.proofs.Commanding.{command-reader}
+use Rattle.stream_reader.proofs.Commanding.{command-reader}
 use Rattle.fast_import.proofs.Putting.{fault_as}
 use Rattle.fast_import.proofs.Running.{IsRunTo, IsSoFar, made-behind, made-front, run-on}
 

@@ -14,17 +14,17 @@ use Rattle.path_names.specs.Quoting.{unquote}
 use Rattle.path_names.specs.RefNames.{is_ref_name}
 use Rattle.path_names.specs.Words.{number}
 use Rattle.stream_lex.specs.Lines.{any_line, line_at, block_at}
-use Rattle.fast_import.specs.declared.command.Change.TheVariants.{Delete, Rename, Copy}
-use Rattle.fast_import.specs.declared.fault.StreamFault.TheVariants.{Syntax, Unresolved, NoSource}
-use Rattle.fast_import.specs.Words.{first_word, mark}
-use Rattle.fast_import.specs.Reading.{option_line, need_line}
-use Rattle.fast_import.specs.Names.{target}
-use Rattle.fast_import.specs.Blocks.{data_behind, blob_data, message_data}
-use Rattle.fast_import.specs.PathWords.{last_path, first_path, two_paths}
-use Rattle.fast_import.specs.Changes.{mode, dataref, modify_line, modify, change_line, change}
-use Rattle.fast_import.specs.Heads.{mark_lines, blob, people, ref_line, parents, head, reset}
-use Rattle.fast_import.specs.Commands.{command_line, turn, read_command}
-use Rattle.fast_import.specs.Verdicts.{verdict_from}
+use Rattle.stream_reader.specs.declared.command.Change.TheVariants.{Delete, Rename, Copy}
+use Rattle.stream_reader.specs.declared.fault.StreamFault.TheVariants.{Syntax, Unresolved, NoSource}
+use Rattle.stream_reader.specs.Words.{first_word, mark}
+use Rattle.stream_reader.specs.Reading.{option_line, need_line}
+use Rattle.stream_reader.specs.Names.{target}
+use Rattle.stream_reader.specs.Blocks.{data_behind, blob_data, message_data}
+use Rattle.stream_reader.specs.PathWords.{last_path, first_path, two_paths}
+use Rattle.stream_reader.specs.Changes.{mode, dataref, modify_line, modify, change_line, change}
+use Rattle.stream_reader.specs.Heads.{mark_lines, blob, people, ref_line, parents, head, reset}
+use Rattle.stream_reader.specs.Commands.{command_line, turn, read_command}
+use Rattle.stream_reader.specs.Verdicts.{verdict_from}
 use Rattle.fast_import.specs.Replays.{Base, edited, empty_base, nothing_yet, ran, replay}
 
 abbrev main : Bytes

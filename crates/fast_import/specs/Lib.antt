@@ -1,17 +1,3 @@
-pub mod Words
-pub mod Reading
-pub mod Names
-pub mod Blocks
-pub mod PathWords
-pub mod Changes
-pub mod Heads
-pub mod Commands
-pub mod Verdicts
-pub mod Views
-pub mod Readers
-pub mod Spelling
-pub mod Laws
-pub mod Rows
 pub mod Replays
 pub mod Examples
 pub mod Bases

@@ -5,7 +5,7 @@ use Rattle.git_objects.specs.Paths.{Bytes}
 use Rattle.object_store.specs.Growth.{IsGrownBy}
 use Rattle.object_store.specs.Objects.{Object}
 use Rattle.fast_import.specs.Made.{IsMadeBy, IsRefusal}
-use Rattle.fast_import.specs.Readers.{Reading, fed}
+use Rattle.stream_reader.specs.Readers.{Reading, fed}
 use Rattle.fast_import.specs.Replays.{Base, nothing_yet, ran, replay}
 use Rattle.fast_import.specs.Standing.{IsReplayedOf}
 use Rattle.fast_import.specs.declared.whole.ReplayError.{ReplayError}

@@ -5,7 +5,7 @@ ghost use Rattle.git_objects.specs.declared.limits.TheConstants.{STREAM_BYTES};
 ghost use Rattle.proj_io.specs.Counts.{Counts};
 ghost use Rattle.fast_import.specs.Bases.{IsBaseIn, base_in};
 ghost use Rattle.fast_import.specs.Whole.{IsFed, IsWhole};
-ghost use Rattle.fast_import.specs.declared.fault.StreamFault.TheVariants.{OutOfMemory};
+ghost use Rattle.stream_reader.specs.declared.fault.StreamFault.TheVariants.{OutOfMemory};
 
 use crate::{Base, Next, Reader, Replay, Replayed, StreamFault};
 use git_objects::Name;

@@ -1,10 +1,10 @@
 use Rattle.std.proofs.Common.{◌≡◌, ◌<◌, ◌≤◌, Ok, Err, sym, subst, ap, arith}
 use Rattle.git_objects.specs.declared.limits.TheConstants.{STREAM_BYTES}
 use Rattle.fast_import.specs.Bases.{base_in}
-use Rattle.fast_import.specs.Readers.{Follows, OnMore, Reading, TellsNext, came}
+use Rattle.stream_reader.specs.Readers.{Follows, OnMore, Reading, TellsNext, came}
 use Rattle.fast_import.specs.Replays.{Base}
 use Rattle.fast_import.specs.Standing.{IsStepped}
-use Rattle.fast_import.specs.declared.reader.Next.{Next}
+use Rattle.stream_reader.specs.declared.reader.Next.{Next}
 use Rattle.fast_import.proofs.Growing.{base-grown, is_base-grown}
 use Rattle.fast_import.proofs.Running.{IsSoFar, fed_more, nothing_so_far, one_more, waiting}
 use Rattle.fast_import.proofs.Stopping.{ahead, ahead_fed, all, all_given, all_told, feeding_refused, more_open, reading_refused, step_refused, within_fed}
