@@ -10,5 +10,6 @@ pub mod Ending
 pub mod Committing
 pub mod KnownBlobs
 pub mod Changing
+pub mod Taking
 pub mod Running
 pub mod Stopping

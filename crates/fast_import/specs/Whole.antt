@@ -20,6 +20,10 @@ pub record IsPiece (before after : Option Bytes) (old new : Reading) (most : ℕ
   pub taken : Consumes before after bytes
   pub now : new ≡ fed bytes false old
 
+-- a source has given at most so many bytes
+abbrev pub IsGiven : Option Bytes → Option Bytes → ℕ → Type 0
+IsGiven before after most = (bytes : Bytes) × Consumes before after bytes × (length bytes ≤ most)
+
 -- or it was told that nothing more comes
 pub record IsEnd (before after : Option Bytes) (old new : Reading) : Type 0 where
   pub none : Consumes before after []

@@ -21,7 +21,7 @@ use Rattle.stream_reader.proofs.Reading.{came_along}
 
 -- ---- what was told is told of all that follows
 
-later_told : (p : Progress) (i : Input) (ended : Bool) (more : Bytes) (x : Told × Input) → (ended ≡ true → (more ≡ []) × (true ≡ true)) → read_command p ended i ≡ Ok x →
+pub later_told : (p : Progress) (i : Input) (ended : Bool) (more : Bytes) (x : Told × Input) → (ended ≡ true → (more ≡ []) × (true ≡ true)) → read_command p ended i ≡ Ok x →
     read_command p true (grown more i) ≡ Ok (x.0, grown more x.1)
 later_told p i false more x m e = subst (λ r. Agrees more r (read_command p true (grown more i))) e ((command-reader p).settles true more i)
 later_told p i true more x m e =
