@@ -1,0 +1,16 @@
+pub mod Growing
+pub mod Lengths
+pub mod ReadFields
+pub mod RefsMoved
+pub mod Additions
+pub mod ReadObjects
+pub mod TreesHeld
+pub mod TreesAdded
+pub mod Bringing
+pub mod RefsSet
+pub mod Imports
+pub mod Limits
+pub mod ReadEntries
+pub mod ItemReads
+pub mod Appended
+pub mod Kepts
