@@ -5,3 +5,4 @@ pub mod Changes
 pub mod Appending
 pub mod Imported
 pub mod KeptLaws
+pub mod Examples
