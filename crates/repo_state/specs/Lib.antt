@@ -13,3 +13,7 @@ pub mod Growing
 pub mod StoredObjects
 pub mod Wholes
 pub mod Rows
+pub mod Bases
+pub mod SoundCommands
+pub mod SmallCommands
+pub mod Replayed
