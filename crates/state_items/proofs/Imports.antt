@@ -1,12 +1,12 @@
 -- What is held after a change that brings blobs and commits.
-use Rattle.std.proofs.Common.{◌≡◌, Bool, true, false, cond, ◌&&◌, ◌||◌, List, [], ◌∷◌, ◌++◌, map, reverse, All, Contains, Some, refl, sym, ap, subst, ◌∙◌, true≢false}
+use Rattle.std.proofs.Common.{◌≡◌, Bool, true, false, cond, ◌&&◌, ◌||◌, List, [], ◌∷◌, ◌++◌, map, reverse, Contains, Some, refl, sym, ap, subst, ◌∙◌, true≢false}
 use Rattle.std.specs.Prelude.{if◌then◌else◌}
 use Rattle.std.specs.Cmp.{first_so, second_so}
 use Rattle.std.specs.Cmp.Lexicographic.{bytes_decides}
 use Rattle.std.specs.List.{flat_map, list_all, list_any}
 use Rattle.std.specs.Option.{option_map, option_to_list}
 use Rattle.std.proofs.lemmas.Bool.{or_right}
-use Rattle.std.proofs.lemmas.List.Elements.{All-contains_itself, All-head, All-tail}
+use Rattle.std.proofs.lemmas.List.Elements.{All-contains_itself}
 use Rattle.git_objects.specs.Paths.{Bytes, is_nil, same_bytes}
 use Rattle.git_objects.specs.Trees.{Flat}
 use Rattle.git_objects.specs.Names.{name}
@@ -34,6 +34,7 @@ use Rattle.state_items.specs.Items.{Held}
 use Rattle.state_items.specs.Imported.{AreWhole, ImportedLaw, IsBrought, IsImported, IsWhole, is_among, with_blobs, with_commits}
 use Rattle.state_items.proofs.Bringing.{IsBringing, among-has, any-back, blobs-brought, commits-brought, tree-all-held}
 use Rattle.state_items.proofs.RefsSet.{refs-set}
+use Rattle.state_items.proofs.TreeParts.{each-all}
 use Rattle.state_items.proofs.TreesHeld.{IsIn, each-back, each-both, each-front}
 use Rattle.state_items.proofs.TreesAdded.{AreAdded, added-both, all-in, hand-all, store-added}
 
@@ -152,10 +153,6 @@ change-after h os es =
     ∙ ap (λ (G : List Object). record h { objects = G; refs = with_refs h.refs (moved h.refs es) }) (sym (grown-fresh h.objects os))
 
 -- ---- the law
-
-each-all : (P : Object → Type 0) (xs : List Object) → All P xs → Each P xs
-each-all P [] h = tt
-each-all P (x ∷ xs) h = (All-head P x xs h, each-all P xs (All-tail P x xs h))
 
 pub any-cases : (p : Bytes → Bool) (xs ys : List Bytes) (R : Type 0) → list_any p (xs ++ ys) ≡ true → (list_any p xs ≡ true → R) → (list_any p ys ≡ true → R) → R
 any-cases p [] ys R e f g = g e

@@ -1,7 +1,7 @@
 -- Items stay Kept behind an addition.
 use Rattle.std.proofs.Common.{◌≡◌, ℕ, true, false, ◌||◌, List, [], ◌∷◌, ◌++◌, map, All, Option, None, refl, sym, subst, ◌∙◌, true≢false}
 use Rattle.std.specs.List.{list_all}
-use Rattle.std.proofs.lemmas.List.Elements.{All-append, All-cons, All-map, All-nil}
+use Rattle.std.proofs.lemmas.List.Elements.{All-append, All-map}
 use Rattle.git_objects.specs.Paths.{Bytes, same_bytes}
 use Rattle.git_objects.specs.Names.{name}
 use Rattle.git_objects.specs.declared.kind.Kind.{Kind}
@@ -25,10 +25,7 @@ use Rattle.state_items.proofs.Bringing.{commit-in, commit-one}
 use Rattle.state_items.proofs.Imports as imports
 use Rattle.state_items.proofs.Limits.{change-law}
 use Rattle.state_items.proofs.ReadEntries.{read-sound}
-
-all-from : {A : Type 0} (P : A → Type 0) (xs : List A) → Each P xs → All P xs
-all-from P [] h = All-nil P
-all-from P (x ∷ xs) h = All-cons P x xs h.0 (all-from P xs h.1)
+use Rattle.state_items.proofs.TreeParts.{all-each}
 
 all-both : {A : Type 0} (P Q R : A → Type 0) → ((x : A) → P x → Q x → R x) → (xs : List A) → All P xs → All Q xs → All R xs
 all-both P Q R f xs p q = λ k d lt. f _ (p k d lt) (q k d lt)
@@ -102,7 +99,7 @@ module _ (project : Projecting) where
       let apart = imports.apart h bs cs es b in
       let cs0 = (repo h).commits in
       let originals : All (λ e. is_among cs0 e.original ≡ true) h.kept =
-      all-from (λ e. is_among cs0 e.original ≡ true) h.kept (each-among hand apart h.objects b.store h.kept (read-sound items h w.spelled).0) in
+      all-each (λ e. is_among cs0 e.original ≡ true) h.kept (each-among hand apart h.objects b.store h.kept (read-sound items h w.spelled).0) in
       let stays : All (IsTrue (with_commits cs0 cs)) h.kept =
       all-both (IsTrue cs0) (λ e. is_among cs0 e.original ≡ true) (IsTrue (with_commits cs0 cs))
       (λ e t m. t ∙ sym (stay e.filter e.rule cs0 cs e.original (closed hand apart h.objects b.store) b.commits m)) h.kept w.entries originals in

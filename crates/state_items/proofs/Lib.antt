@@ -14,3 +14,5 @@ pub mod ReadEntries
 pub mod ItemReads
 pub mod Appended
 pub mod Kepts
+pub mod TreeParts
+pub mod InHand

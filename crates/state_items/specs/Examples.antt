@@ -3,13 +3,13 @@ use Rattle.std.specs.Prelude.{◌≡◌, refl, ◌^◌, true, false, List, [], �
 use Rattle.std.specs.Fmt.{digits}
 use Rattle.git_objects.specs.Paths.{Bytes}
 use Rattle.git_objects.specs.Trees.{Flat, FileLeaf}
-use Rattle.git_objects.specs.Names.{name, body, line, tree_name}
+use Rattle.git_objects.specs.Names.{name, body, line}
 use Rattle.git_objects.specs.Bodies.{tree_entries}
 use Rattle.git_objects.specs.Commits.{commit_body, commit_name}
 use Rattle.git_objects.specs.CommitBodies.{commit_from}
 use Rattle.git_objects.specs.Idents.{is_ident}
 use Rattle.git_objects.specs.Snapshots.{Snapshot, snapshot_name}
-use Rattle.git_objects.specs.declared.kind.Kind.TheVariants.{Blob, Tree, Commit}
+use Rattle.git_objects.specs.declared.kind.Kind.TheVariants.{Tree}
 use Rattle.git_objects.specs.declared.quantity.Quantity.TheVariants as limits
 use Rattle.path_names.specs.PathTexts.{path_of}
 use Rattle.path_names.specs.Quoting.{unquote}
@@ -25,7 +25,7 @@ use Rattle.commit_map.specs.Shown.{Shown}
 use Rattle.hex.specs.Hex.{encode_with, decode_pairs}
 use Rattle.sha1.specs.Sha1.{sha1, first_words, schedule, rounds, compress, hash_after, digest_bytes}
 use Rattle.state_items.specs.Fields.{BrokenAt}
-use Rattle.state_items.specs.Items.{Held, Kept, change_text, is_canonical, kept_text, nothing, read_item, read_items, rule_text}
+use Rattle.state_items.specs.Items.{Held, change_text, is_canonical, kept_text, nothing, read_item, read_items, rule_text}
 use Rattle.state_items.specs.Repos.{are_used, repo}
 use Rattle.state_items.specs.Changes.{ChangePlan, KeepPlan, NoPlan, RulePlan, blob_object, change_plan, fresh, held_after, moved, objects_of, passed, plan_items, rule_plan}
 

@@ -5,4 +5,5 @@ pub mod Changes
 pub mod Appending
 pub mod Imported
 pub mod KeptLaws
+pub mod Hands
 pub mod Examples

@@ -1,5 +1,6 @@
 // Laws of the definitions.
 ghost use Rattle.state_items.specs.Appending.{AppendLaw};
+ghost use Rattle.state_items.specs.Hands.{HandLaw};
 ghost use Rattle.state_items.specs.Imported.{ChangeLaw, ImportedLaw};
 ghost use Rattle.state_items.specs.KeptLaws.{KeptLaw, Projecting};
 
@@ -21,4 +22,9 @@ pub fn change_law()
 /// Kept items stay Kept behind each addition.
 pub fn kept_law()
     ensures { (project : Projecting) → KeptLaw project }
+{}
+
+/// Whatever whole commits of known blobs bring is in hand.
+pub fn hand_law()
+    ensures { HandLaw }
 {}
