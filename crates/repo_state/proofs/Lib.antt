@@ -28,3 +28,4 @@ pub mod EditLeaves
 pub mod Replaying
 pub mod ImportsKept
 pub mod ReadCommands
+pub mod Making

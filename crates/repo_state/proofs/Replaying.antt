@@ -166,7 +166,7 @@ abbrev IfDraft : List Bytes → List Snapshot → Option Draft → Type 0
 IfDraft pool cs None = Unit
 IfDraft pool cs (Some d) = IsDraft pool cs d
 
-refuse-value : {A E : Type 0} (e : E) (o : Option A) (x : A) → or_refuse e o ≡ Ok x → o ≡ Some x
+pub refuse-value : {A E : Type 0} (e : E) (o : Option A) (x : A) → or_refuse e o ≡ Ok x → o ≡ Some x
 refuse-value e None x h = let no-value : Err e ≡ Ok x = h in cc
 refuse-value e (Some y) x h = ap (λ z. Some z) (ok-same y x h)
 

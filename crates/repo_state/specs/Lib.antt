@@ -17,3 +17,4 @@ pub mod Bases
 pub mod SoundCommands
 pub mod SmallCommands
 pub mod Replayed
+pub mod MadeObjects

@@ -32,7 +32,7 @@ any-member b (x ∷ xs) e =
     ] refl e
 
 -- a known blob is an object that is held
-known-held : (b : Bytes) (H : List Object) → list_any (same_bytes b) (blobs_in H) ≡ true → Contains H (blob_object b)
+pub known-held : (b : Bytes) (H : List Object) → list_any (same_bytes b) (blobs_in H) ≡ true → Contains H (blob_object b)
 known-held b [] e = absurd (true≢false (sym e))
 known-held b (o ∷ H) e = by o.kind o.body (known-held b H) e
   where
