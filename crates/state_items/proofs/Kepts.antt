@@ -1,5 +1,6 @@
 -- Items stay Kept behind an addition.
 use Rattle.std.proofs.Common.{◌≡◌, ℕ, true, false, ◌||◌, List, [], ◌∷◌, ◌++◌, map, All, Option, None, refl, sym, subst, ◌∙◌, true≢false}
+use Rattle.std.specs.Cmp.{first_so, second_so}
 use Rattle.std.specs.List.{list_all}
 use Rattle.std.proofs.lemmas.List.Elements.{All-append, All-map}
 use Rattle.git_objects.specs.Paths.{Bytes, same_bytes}
@@ -65,9 +66,9 @@ module _ (hand : Object → Type 0) (apart : (o d : Object) → hand o → hand 
   closed [] s = tt
   closed (o ∷ H) s = closed-one H o.kind o.body s (closed H s.2)
 
-  each-among : (H : List Object) → IsStore H → (kept : List Kept) → Each (λ e. has CommitKind H e.original ≡ true) kept → Each (λ e. is_among (snapshots_in H) e.original ≡ true) kept
+  each-among : (H : List Object) → IsStore H → (kept : List Kept) → list_all (λ e. has CommitKind H e.original) kept ≡ true → Each (λ e. is_among (snapshots_in H) e.original ≡ true) kept
   each-among H s [] h = tt
-  each-among H s (e ∷ kept) h = (has-among e.original H s h.0, each-among H s kept h.1)
+  each-among H s (e ∷ kept) h = (has-among e.original H s (first_so _ _ h), each-among H s kept (second_so (has CommitKind H e.original) _ h))
 
 -- ---- the law
 
@@ -99,7 +100,7 @@ module _ (project : Projecting) where
       let apart = imports.apart h bs cs es b in
       let cs0 = (repo h).commits in
       let originals : All (λ e. is_among cs0 e.original ≡ true) h.kept =
-      all-each (λ e. is_among cs0 e.original ≡ true) h.kept (each-among hand apart h.objects b.store h.kept (read-sound items h w.spelled).0) in
+      all-each (λ e. is_among cs0 e.original ≡ true) h.kept (each-among hand apart h.objects b.store h.kept (read-sound items h w.spelled).originals) in
       let stays : All (IsTrue (with_commits cs0 cs)) h.kept =
       all-both (IsTrue cs0) (λ e. is_among cs0 e.original ≡ true) (IsTrue (with_commits cs0 cs))
       (λ e t m. t ∙ sym (stay e.filter e.rule cs0 cs e.original (closed hand apart h.objects b.store) b.commits m)) h.kept w.entries originals in

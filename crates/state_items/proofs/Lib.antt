@@ -1,5 +1,6 @@
 pub mod Growing
 pub mod Lengths
+pub mod ByteLists
 pub mod ReadFields
 pub mod RefsMoved
 pub mod Additions

@@ -41,7 +41,7 @@ module _ (q : Bytes × Bytes → Bool) where
       ]
 
 module _ (q : Bytes → Bool) where
-  keys-put : (m : Refs) (k v : Bytes) → list_all (λ e. q e.0) m ≡ true → q k ≡ true → list_all (λ e. q e.0) (put bytes_cmp k v m) ≡ true
+  pub keys-put : (m : Refs) (k v : Bytes) → list_all (λ e. q e.0) m ≡ true → q k ≡ true → list_all (λ e. q e.0) (put bytes_cmp k v m) ≡ true
   keys-put [] k v h g = and_both g refl
   keys-put (d ∷ m) k v h g =
       elim (bytes_cmp k d.0) as (λ (o : Ordering). list_all (λ e. q e.0) (by_order o ((k, v) ∷ d ∷ m) ((d.0, v) ∷ m) (d ∷ put bytes_cmp k v m)) ≡ true) [
@@ -57,7 +57,7 @@ module _ (q : Bytes → Bool) where
   pub keys-moved : (refs es : Refs) → list_all (λ e. q e.0) es ≡ true → list_all (λ e. q e.0) (moved refs es) ≡ true
   keys-moved refs es h = refs-filter (λ e. q e.0) (is_moved refs) (with_refs [] es) (keys-with es [] refl h)
 
-  values-put : (m : Refs) (k v : Bytes) → list_all (λ e. q e.1) m ≡ true → q v ≡ true → list_all (λ e. q e.1) (put bytes_cmp k v m) ≡ true
+  pub values-put : (m : Refs) (k v : Bytes) → list_all (λ e. q e.1) m ≡ true → q v ≡ true → list_all (λ e. q e.1) (put bytes_cmp k v m) ≡ true
   values-put [] k v h g = and_both g refl
   values-put (d ∷ m) k v h g =
       elim (bytes_cmp k d.0) as (λ (o : Ordering). list_all (λ e. q e.1) (by_order o ((k, v) ∷ d ∷ m) ((d.0, v) ∷ m) (d ∷ put bytes_cmp k v m)) ≡ true) [

@@ -3,6 +3,7 @@ ghost use Rattle.state_items.specs.Appending.{AppendLaw};
 ghost use Rattle.state_items.specs.Hands.{HandLaw};
 ghost use Rattle.state_items.specs.Imported.{ChangeLaw, ImportedLaw};
 ghost use Rattle.state_items.specs.KeptLaws.{KeptLaw, Projecting};
+ghost use Rattle.state_items.specs.ReadHeld.{ReadLaw};
 
 /// An addition that passes no limit is read back behind the items, and no items are Kept.
 pub fn append_law()
@@ -27,4 +28,9 @@ pub fn kept_law()
 /// Whatever whole commits of known blobs bring is in hand.
 pub fn hand_law()
     ensures { HandLaw }
+{}
+
+/// What items hold is sound, and of items that are bytes the objects are a store.
+pub fn read_law()
+    ensures { ReadLaw }
 {}
