@@ -4,4 +4,7 @@ pub mod Repos
 pub mod Changes
 pub mod Appending
 pub mod Imported
+pub mod ReadHeld
 pub mod KeptLaws
+pub mod Hands
+pub mod Examples
