@@ -3,3 +3,4 @@ pub mod Cleared
 pub mod Splits
 pub mod Lists
 pub mod Sources
+pub mod Readable

@@ -1,5 +1,5 @@
 -- Members of the list that takes a workspace's place.
-use Rattle.std.specs.Prelude.{◌≡◌, refl, ℕ, ◌+◌, ◌<◌, ◌≤◌, List, [], ◌∷◌, ◌++◌, length, drop, take, map, flat_map, Result, Ok, Err, OnOk}
+use Rattle.std.specs.Prelude.{◌≡◌, refl, ℕ, ◌+◌, ◌<◌, ◌≤◌, List, [], ◌∷◌, ◌++◌, length, take, map, flat_map, Result, Ok, Err, OnOk}
 use Rattle.std.proofs.Common.{ap, ◌∙◌, sym, get_or, arith}
 use Rattle.std.proofs.lemmas.List.{take_more, length-take-le}
 use Rattle.filter_text.proofs.Files.{values-push}

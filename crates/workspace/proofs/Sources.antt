@@ -1,9 +1,8 @@
 -- The original path of a workspace's file, by tables of routes.
-use Rattle.std.specs.Prelude.{◌≡◌, refl, true, ◌<◌, ◌+◌, ◌++◌, length, drop, Option, Some, None}
+use Rattle.std.specs.Prelude.{◌≡◌, refl, true, ◌++◌, Option, Some, None}
 use Rattle.std.specs.Option.{option_and_then}
-use Rattle.std.proofs.Common.{ap, ◌∙◌, sym, subst, arith}
+use Rattle.std.proofs.Common.{ap}
 use Rattle.git_objects.specs.Paths.{Path, is_path}
-use Rattle.decision_lists.specs.Hits.{onto_rest}
 use Rattle.filter_text.specs.Filters.{Filter, chain}
 use Rattle.filter_routes.specs.Origins.{origin}
 use Rattle.filter_routes.specs.Tables.{IsOrigin}

@@ -1,10 +1,11 @@
 -- A filter around its workspace, by the places of its pieces.
-use Rattle.std.specs.Prelude.{◌≡◌, refl, ℕ, ◌+◌, ◌-◌, ◌<◌, List, length, drop, take, Option, Some, None}
+use Rattle.std.specs.Prelude.{◌≡◌, refl, ℕ, zero, suc, false, eqb, ◌+◌, ◌-◌, ◌<◌, List, [], ◌∷◌, length, drop, take, Option, Some, None}
 use Rattle.std.specs.Option.{option_map}
-use Rattle.std.proofs.Common.{ap, ◌∙◌, sym, get_or, arith}
+use Rattle.std.proofs.Common.{ap, ◌∙◌, get_or, arith, true≢false}
 use Rattle.std.proofs.lemmas.List.{take_all, length-drop}
 use Rattle.git_objects.specs.Paths.{Path}
-use Rattle.filter_text.specs.Filters.{Filter, Filters, no_more, more, append, only}
+use Rattle.filter_text.specs.Filters.{Filter, Filters, no_more, more, append, only, chain}
+use Rattle.filter_text.specs.Reading.{linked}
 use Rattle.filter_text.specs.Shapes.{shape, shapes}
 use Rattle.filter_text.specs.declared.filter.Filter as code
 use Rattle.filter_routes.proofs.Members.{members-split, members-next}
@@ -44,3 +45,20 @@ split-past ms i m l e n h = ap split_pieces (members-next ms i m l e) ∙ no-wor
 -- all from a place on
 pub from-place : {A : Type 0} (xs : List A) (n : ℕ) → take (length xs - n) (drop n xs) ≡ drop n xs
 from-place xs n = take_all (length xs - n) (drop n xs) (omega (arith, length-drop n xs))
+
+-- ---- pieces around a list
+
+pub linked-around : (xs ys : List code.Filter) (l : Filter) → 0 < length xs + length ys → chain (append (shapes xs) (more l (shapes ys))) ≡ linked (append (shapes xs) (more l (shapes ys)))
+linked-around [] [] l h = absurd (omega (arith, h))
+linked-around [] (y ∷ ys) l h = refl
+linked-around (x ∷ []) ys l h = refl
+linked-around (x ∷ y ∷ xs) ys l h = refl
+
+pub linked-alone : (xs ys : List code.Filter) (l : Filter) → length xs ≡ 0 → length ys ≡ 0 → l ≡ linked (append (shapes xs) (more l (shapes ys)))
+linked-alone [] [] l h k = refl
+linked-alone [] (y ∷ ys) l h k = absurd (omega (arith, k))
+linked-alone (x ∷ xs) ys l h k = absurd (omega (arith, h))
+
+pub filled : (n : ℕ) → eqb n 0 ≡ false → 0 < n
+filled zero h = absurd (true≢false h)
+filled (suc n) h = omega arith

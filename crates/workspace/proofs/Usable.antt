@@ -57,14 +57,14 @@ split-is f s e = subst (Around (outermost f)) e (around-pieces (outermost f))
 
 -- ---- usable pieces
 
-record AreUsable (fs : Filters) : Type 0 where
+record ArePieces (fs : Filters) : Type 0 where
   paths : have_paths fs ≡ true
   sound : AreSound fs
 
-usable-only : (f : Filter) → IsUsable f → AreUsable (only f)
+usable-only : (f : Filter) → IsUsable f → ArePieces (only f)
 usable-only f h = record { paths = and_from (has_paths f) true h.paths refl; sound = (h.sound, tt) }
 
-usable-outermost : (f : Filter) → IsUsable f → AreUsable (outermost f)
+usable-outermost : (f : Filter) → IsUsable f → ArePieces (outermost f)
 usable-outermost nop h = usable-only nop h
 usable-outermost (sub a) h = usable-only (sub a) h
 usable-outermost (onto a) h = usable-only (onto a) h
@@ -75,41 +75,41 @@ usable-outermost (join fs) h = usable-only (join fs) h
 usable-outermost (chain fs) h = record { paths = h.paths; sound = h.sound }
 usable-outermost (workspace a) h = usable-only (workspace a) h
 
-usable-head : (f : Filter) (fs : Filters) → AreUsable (more f fs) → IsUsable f
+usable-head : (f : Filter) (fs : Filters) → ArePieces (more f fs) → IsUsable f
 usable-head f fs h = record { paths = (and_parts (has_paths f) (have_paths fs) h.paths).0; sound = h.sound.0 }
 
-usable-tail : (f : Filter) (fs : Filters) → AreUsable (more f fs) → AreUsable fs
+usable-tail : (f : Filter) (fs : Filters) → ArePieces (more f fs) → ArePieces fs
 usable-tail f fs h = record { paths = (and_parts (has_paths f) (have_paths fs) h.paths).1; sound = h.sound.1 }
 
-usable-more : (f : Filter) (fs : Filters) → IsUsable f → AreUsable fs → AreUsable (more f fs)
+usable-more : (f : Filter) (fs : Filters) → IsUsable f → ArePieces fs → ArePieces (more f fs)
 usable-more f fs h k = record { paths = and_from (has_paths f) (have_paths fs) h.paths k.paths; sound = (h.sound, k.sound) }
 
-usable-front : (fs gs : Filters) → AreUsable (append fs gs) → AreUsable fs
+usable-front : (fs gs : Filters) → ArePieces (append fs gs) → ArePieces fs
 usable-front no_more gs h = record { paths = refl; sound = tt }
 usable-front (more f fs) gs h = usable-more f fs (usable-head f (append fs gs) h) (usable-front fs gs (usable-tail f (append fs gs) h))
 
-usable-behind : (fs gs : Filters) → AreUsable (append fs gs) → AreUsable gs
+usable-behind : (fs gs : Filters) → ArePieces (append fs gs) → ArePieces gs
 usable-behind no_more gs h = h
 usable-behind (more f fs) gs h = usable-behind fs gs (usable-tail f (append fs gs) h)
 
-usable-append : (fs gs : Filters) → AreUsable fs → AreUsable gs → AreUsable (append fs gs)
+usable-append : (fs gs : Filters) → ArePieces fs → ArePieces gs → ArePieces (append fs gs)
 usable-append no_more gs h k = k
 usable-append (more f fs) gs h k = usable-more f (append fs gs) (usable-head f fs h) (usable-append fs gs (usable-tail f fs h) k)
 
-usable-linked : (fs : Filters) → AreUsable fs → IsUsable (linked fs)
+usable-linked : (fs : Filters) → ArePieces fs → IsUsable (linked fs)
 usable-linked no_more h = record { paths = refl; sound = tt }
 usable-linked (more f no_more) h = usable-head f no_more h
 usable-linked (more f (more g fs)) h = record { paths = h.paths; sound = h.sound }
 
-parts-usable : (f : Filter) (s : Split) → IsUsable f → split f ≡ Some s → AreUsable (append s.before (more (workspace s.directory) s.behind))
-parts-usable f s h e = subst AreUsable (split-is f s e) (usable-outermost f h)
+parts-usable : (f : Filter) (s : Split) → IsUsable f → split f ≡ Some s → ArePieces (append s.before (more (workspace s.directory) s.behind))
+parts-usable f s h e = subst ArePieces (split-is f s e) (usable-outermost f h)
 
-usable-before : (f : Filter) (s : Split) → IsUsable f → split f ≡ Some s → IsUsable (chain s.before)
+pub usable-before : (f : Filter) (s : Split) → IsUsable f → split f ≡ Some s → IsUsable (chain s.before)
 usable-before f s h e =
-    let k : AreUsable s.before = usable-front s.before (more (workspace s.directory) s.behind) (parts-usable f s h e) in
+    let k : ArePieces s.before = usable-front s.before (more (workspace s.directory) s.behind) (parts-usable f s h e) in
     record { paths = k.paths; sound = k.sound }
 
-directory-path : (f : Filter) (s : Split) → IsUsable f → split f ≡ Some s → is_path s.directory ≡ true
+pub directory-path : (f : Filter) (s : Split) → IsUsable f → split f ≡ Some s → is_path s.directory ≡ true
 directory-path f s h e =
     (usable-head (workspace s.directory) s.behind (usable-behind s.before (more (workspace s.directory) s.behind) (parts-usable f s h e))).paths
 
@@ -153,7 +153,7 @@ append-paths (more f fs) gs h k =
 own-paths : (w : Path) (is : List Item) → IsPath w → Each IsMadeOfPaths is → has_paths (own_branch w is) ≡ true
 own-paths w is h k = and_from (is_path w) _ h (and_from (have_paths (filters_of (flat_map (λ i. around i.0) is))) true (members-paths (flat_map (λ i. around i.0) is) (kept-paths is k)) refl)
 
-listed-paths : (w : Path) (is : List Item) → IsPath w → Each IsMadeOfPaths is → has_paths (listed w is) ≡ true
+pub listed-paths : (w : Path) (is : List Item) → IsPath w → Each IsMadeOfPaths is → has_paths (listed w is) ≡ true
 unfolding listed
 listed-paths w is h k =
     append-paths (filters_of (map (λ i. i.1) is)) (only (own_branch w is))
@@ -162,8 +162,8 @@ listed-paths w is h k =
 
 -- items with paths, whose list is sound
 record AreListed (w : Path) (is : List Item) : Type 0 where
-  fine : Each IsMadeOfPaths is
-  sound : is_sound (listed w is) ≡ true
+  pub fine : Each IsMadeOfPaths is
+  pub sound : is_sound (listed w is) ≡ true
 
 abbrev GivenOf : Path → Option (List Item) → Type 0
 GivenOf w None = Unit {0}
@@ -195,7 +195,7 @@ items-listed : (w : Path) (x : Option Leaf) → AreListed w (leaf_items w x)
 items-listed w None = none-listed w
 items-listed w (Some x) = or-none-listed w (readable_items w x) (given-listed w x)
 
-list-usable : (w : Path) (x : Option Leaf) → IsPath w → IsUsable (listed w (leaf_items w x))
+pub list-usable : (w : Path) (x : Option Leaf) → IsPath w → IsUsable (listed w (leaf_items w x))
 list-usable w x h =
     let k : AreListed w (leaf_items w x) = items-listed w x in
     let p : has_paths (listed w (leaf_items w x)) ≡ true = listed-paths w (leaf_items w x) h k.fine in
@@ -203,9 +203,9 @@ list-usable w x h =
 
 -- ---- the resolved filter
 
-put-usable : (f : Filter) (s : Split) (l : Filter) → IsUsable f → split f ≡ Some s → IsUsable l → IsUsable (put_in s l)
+pub put-usable : (f : Filter) (s : Split) (l : Filter) → IsUsable f → split f ≡ Some s → IsUsable l → IsUsable (put_in s l)
 put-usable f s l h e k =
-    let u : AreUsable (append s.before (more (workspace s.directory) s.behind)) = parts-usable f s h e in
+    let u : ArePieces (append s.before (more (workspace s.directory) s.behind)) = parts-usable f s h e in
     usable-linked (append s.before (more l s.behind))
     (usable-append s.before (more l s.behind) (usable-front s.before (more (workspace s.directory) s.behind) u)
     (usable-more l s.behind k (usable-tail (workspace s.directory) s.behind (usable-behind s.before (more (workspace s.directory) s.behind) u))))

@@ -1,5 +1,5 @@
 -- What contracts see of filters around their workspace, and of leaves.
-use Rattle.std.specs.Prelude.{◌≡◌, true, List, Option, IfSome}
+use Rattle.std.specs.Prelude.{◌≡◌, true, List, Option, Some, IfSome}
 use Rattle.std.specs.Option.{option_map}
 use Rattle.git_objects.specs.Trees as trees
 use Rattle.git_objects.specs.declared.kind.Kind.TheVariants.{Blob}
@@ -9,15 +9,15 @@ use Rattle.path_trees.specs.declared.found.Leaf.{Leaf}
 use Rattle.filter_text.specs.Filters.{Filter}
 use Rattle.filter_text.specs.Shapes.{shapes}
 use Rattle.workspace.specs.Laws.{IsUsable}
-use Rattle.workspace.specs.Workspaces.{Split, put_in}
+use Rattle.workspace.specs.Workspaces.{Split, split}
 use Rattle.workspace.specs.declared.parts.Parts.{Parts}
 
 abbrev pub parts_value : Parts → Split
 parts_value s = record { before = shapes s.before.now; directory = s.directory.now; behind = shapes s.behind.now }
 
--- a sound list of paths makes a sound filter of paths in the workspace's place
-abbrev pub TakesLists : Split → Type 0
-TakesLists s = (l : Filter) → IsUsable l → IsUsable (put_in s l)
+-- the parts of a sound filter of paths around its workspace
+abbrev pub AreUsable : Split → Type 0
+AreUsable s = (f : Filter) × IsUsable f × (split f ≡ Some s)
 
 -- the leaf that a mode and a name stand for in a store
 abbrev pub leaf_value : List Object → Leaf → trees.Leaf

@@ -11,11 +11,7 @@ use path_names::Path;
 use std::alloc::{AllocError, Global};
 
 // Adds what keeps each front of a path other than itself, from short to long.
-fn add_fronts(
-    onto: &mut Vec<Filter>,
-    alloc: Global,
-    path: &[Component],
-) -> Result<(), AllocError>
+fn add_fronts(onto: &mut Vec<Filter>, alloc: Global, path: &[Component]) -> Result<(), AllocError>
     ensures { OnOk result (shapes onto.new.items ≡ append (shapes onto.old.items) (filters_of (map file (fronts path.now)))) }
 {
     for end in 1..path.len() {

@@ -23,11 +23,7 @@ fn file_in(alloc: Global, directory: &Path) -> Result<Path, AllocError>
 }
 
 // Adds copies of the filters.
-pub fn add_copies(
-    onto: &mut Vec<Filter>,
-    alloc: Global,
-    from: &[Filter],
-) -> Result<(), AllocError>
+pub fn add_copies(onto: &mut Vec<Filter>, alloc: Global, from: &[Filter]) -> Result<(), AllocError>
     ensures { OnOk result (shapes onto.new.items ≡ append (shapes onto.old.items) (shapes from.now)) }
 {
     for filter in from {

@@ -15,7 +15,7 @@ ghost use Rattle.filter_routes.specs.Soundness.{IsSound};
 ghost use Rattle.workspace.specs.Laws.{IsUsable};
 ghost use Rattle.workspace.specs.Workspaces.{has_unreadable, leaf_items, listed, put_in, readable_items, resolve, text_of};
 ghost use Rattle.workspace.specs.Workspaces.{with_leaf};
-ghost use Rattle.workspace.specs.Views.{found_value, IsHeldLeaf, leaf_value, parts_value, TakesLists};
+ghost use Rattle.workspace.specs.Views.{AreUsable, found_value, IsHeldLeaf, leaf_value, parts_value};
 
 use crate::listing::listed;
 use crate::parts::{Parts, parts_of};
@@ -110,11 +110,11 @@ fn with_items(
     leaf: Leaf,
     tables: &mut Tables,
 ) -> Result<Option<usize>, AllocError>
-    requires takes { TakesLists (parts_value parts.now) }
+    requires parts { AreUsable (parts_value parts.now) }
     requires held { has_child store.now leaf.mode leaf.name.0 ≡ true }
     ensures some { IfOk result (λ o. IfSome o (Interns tables.old tables.new
         (put_in (parts_value parts.now) (listed parts.now.directory.now
-            (leaf_items parts.now.directory.now (Some (leaf_value store.now leaf))))))) }
+        (leaf_items parts.now.directory.now (Some (leaf_value store.now leaf))))))) }
     ensures readable { IfOk result
         (λ o. is_none o ≡ is_none (readable_items parts.now.directory.now (leaf_value store.now leaf))) }
     ensures none { IfOk result (λ o. IfNone o (tables.new ≡ tables.old)) }
@@ -131,12 +131,8 @@ fn with_items(
 }
 
 // The number of the filter without items.
-fn without_items(
-    alloc: Global,
-    parts: &Parts<'_>,
-    tables: &mut Tables,
-) -> Result<usize, AllocError>
-    requires takes { TakesLists (parts_value parts.now) }
+fn without_items(alloc: Global, parts: &Parts<'_>, tables: &mut Tables) -> Result<usize, AllocError>
+    requires parts { AreUsable (parts_value parts.now) }
     ensures number { IfOk result (Interns tables.old tables.new
         (put_in (parts_value parts.now) (listed parts.now.directory.now []))) }
     ensures err { OnErr result (tables.new ≡ tables.old) }
@@ -203,6 +199,18 @@ fn leaf_at(store: &Store, root: Name, path: &Path) -> Option<Leaf>
     })
 }
 
+// The leaf at a path of that tree, if there is a path and a leaf stands there.
+fn leaf_where(store: &Store, root: Name, place: &Option<Path>) -> Option<Leaf>
+    requires root { has Tree store.now root.0 ≡ true }
+    ensures leaf { found_value store.now result ≡ option_and_then (at (flat store.now root.0)) place.now }
+    ensures held { IsHeldLeaf store.now result }
+{
+    match place {
+        None => None,
+        Some(path) => leaf_at(store, root, path),
+    }
+}
+
 /// The number of the table of the filter for that tree. Of a filter without a workspace it is the filter's own, and no
 /// tree is read.
 pub fn resolve(
@@ -217,9 +225,7 @@ pub fn resolve(
     ensures number { IfOk result (Interns tables.old tables.new (resolve (shape filter.now) (flat store.now root.0))) }
     ensures err { OnErr result (tables.new ≡ tables.old) }
 {
-    let leaf = match file_place(alloc, filter)? {
-        None => None,
-        Some(place) => leaf_at(store, root, &place),
-    };
+    let place = file_place(alloc, filter)?;
+    let leaf = leaf_where(store, root, &place);
     Ok(resolve_leaf(alloc, store, filter, leaf, tables)?.table)
 }

@@ -1,5 +1,5 @@
-use Rattle.std.proofs.Common.{◌≡◌, ◌∙◌, ap, sym, map, take, arith}
-use Rattle.filter_text.specs.Filters.{append, file, only, no_more}
+use Rattle.std.proofs.Common.{◌∙◌, ap, sym, map, take, arith}
+use Rattle.filter_text.specs.Filters.{append, file, only}
 use Rattle.filter_text.specs.Shapes.{shapes}
 use Rattle.filter_text.proofs.RowLists.{pushed}
 use Rattle.filter_text.proofs.Resuming.{append-none}

@@ -1,4 +1,4 @@
-use Rattle.std.proofs.Common.{◌≡◌, ◌∙◌, ◌+◌, ap, sym, flat_map, take}
+use Rattle.std.proofs.Common.{◌∙◌, ap, sym, flat_map, take}
 use Rattle.filter_text.specs.Filters.{append}
 use Rattle.filter_text.specs.Views.{item_value, item_values}
 use Rattle.workspace.specs.Workspaces.{around, filters_of}

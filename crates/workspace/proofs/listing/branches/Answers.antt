@@ -1,4 +1,4 @@
-use Rattle.std.proofs.Common.{◌≡◌, ◌∙◌, ◌+◌, ap, sym, map, take}
+use Rattle.std.proofs.Common.{◌∙◌, ap, sym, map, take}
 use Rattle.filter_text.specs.Filters.{append, only}
 use Rattle.filter_text.specs.Shapes.{shape, shapes}
 use Rattle.filter_text.specs.Views.{item_value, item_values}

@@ -1,9 +1,9 @@
-use Rattle.std.proofs.Common.{◌≡◌, ◌∙◌, ap, map}
+use Rattle.std.proofs.Common.{◌∙◌, ap}
 use Rattle.filter_text.specs.Filters.{append, join, only}
-use Rattle.filter_text.specs.Shapes.{shape, shapes}
+use Rattle.filter_text.specs.Shapes.{shapes}
 use Rattle.filter_text.specs.Views.{item_values}
 use Rattle.filter_text.proofs.RowLists.{pushed, shape-join}
-use Rattle.workspace.specs.Workspaces.{filters_of, listed, own_branch}
+use Rattle.workspace.specs.Workspaces.{listed, own_branch}
 use Rattle.workspace.proofs.listing.listed.Goals as goal
 
 pub returns : goal.returns

@@ -1,4 +1,4 @@
-use Rattle.std.proofs.Common.{◌≡◌, ◌∙◌, ap}
+use Rattle.std.proofs.Common.{◌∙◌, ap}
 use Rattle.filter_text.specs.Filters.{chain, exclude, join, more, only, sub}
 use Rattle.filter_text.specs.Shapes.{shape, shapes}
 use Rattle.filter_text.proofs.RowLists.{shape-chain, shape-join}

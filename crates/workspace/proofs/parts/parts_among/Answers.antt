@@ -1,4 +1,4 @@
-use Rattle.std.proofs.Common.{◌≡◌, ◌∙◌, ap, sym, Some, ◌+◌, take}
+use Rattle.std.proofs.Common.{◌∙◌, ap, sym, Some, ◌+◌, take}
 use Rattle.std.specs.Option.{option_copied}
 use Rattle.filter_text.specs.Shapes.{shapes}
 use Rattle.workspace.proofs.Splits.{from-place, split-here, split-past}
