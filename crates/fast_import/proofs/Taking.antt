@@ -1,5 +1,5 @@
 -- How far a stream is read.
-use Rattle.std.proofs.Common.{◌≡◌, ◌+◌, ◌<◌, ◌≤◌, ℕ, zero, suc, true, length, Option, Some, None, Result, Ok, Err, refl, sym, ap, ◌∙◌, arith, subst}
+use Rattle.std.proofs.Common.{◌≡◌, ◌+◌, ◌<◌, ◌≤◌, ℕ, zero, suc, true, Option, Some, None, Result, Ok, Err, refl, sym, ap, ◌∙◌, arith, subst}
 use Rattle.git_objects.specs.declared.limits.TheConstants.{LINE_BYTES}
 use Rattle.stream_lex.specs.Cutting.{IsTold}
 use Rattle.stream_lex.specs.Lines.{Input}

@@ -1,5 +1,5 @@
 -- Replaying a stream upon what is there: the blobs, commits and heads that it gives, or its first fault.
-use Rattle.std.specs.Prelude.{ℕ, Bool, true, false, ◌==◌, nat_le, nat_lt, if◌then◌else◌, List, [], ◌∷◌, ◌++◌, length, map, filter_map, find, Option, Some, None, Result, Ok, Err}
+use Rattle.std.specs.Prelude.{ℕ, ◌==◌, nat_le, nat_lt, if◌then◌else◌, List, [], ◌∷◌, ◌++◌, length, map, filter_map, find, Option, Some, None, Result, Ok, Err}
 use Rattle.std.specs.Option.{is_some, option_and_then, option_map, option_or, option_to_list, unwrap_or}
 use Rattle.std.specs.List.{list_all}
 use Rattle.std.specs.FinMap.{find as find_entry, put as put_entry}

@@ -20,6 +20,8 @@ mod whole;
 pub use base::{Base, EmptyBase};
 pub use replay::Replay;
 pub use replayed::{Made, Replayed, Setting};
-pub use stream_reader::{BlobRef, Change, Command, CommitHead, CommitRef, Feature, Merges, Next};
-pub use stream_reader::{Placed, Reader, StreamFault, Target};
+pub use stream_reader::{
+    BlobRef, Change, Command, CommitHead, CommitRef, Feature, Merges, Next, Placed, Reader,
+    StreamFault, Target,
+};
 pub use whole::{ReplayError, replay_all};

@@ -1,5 +1,5 @@
 -- Where the next line stands, and how much has come where it is waited for.
-use Rattle.std.proofs.Common.{◌≡◌, ◌⊎◌, inl, inr, ◌+◌, ◌<◌, ◌≤◌, ℕ, zero, suc, Bool, true, false, cond, List, [], ◌∷◌, ◌++◌, length, Option, Some, None, Ok, Err, refl, sym, ap, ◌∙◌, arith, leb, leb-true, subst, length-append}
+use Rattle.std.proofs.Common.{◌≡◌, inl, inr, ◌+◌, ◌<◌, ◌≤◌, ℕ, zero, suc, Bool, true, false, cond, List, [], ◌∷◌, length, Option, Some, None, Ok, Err, refl, sym, ap, ◌∙◌, arith, leb, leb-true, subst}
 use Rattle.std.specs.Prelude.{◌&&◌}
 use Rattle.std.proofs.lemmas.Bool.{leb-false}
 use Rattle.git_objects.specs.declared.limits.TheConstants.{LINE_BYTES, STREAM_BYTES}
@@ -7,14 +7,12 @@ use Rattle.git_objects.specs.Paths.{Bytes}
 use Rattle.stream_lex.specs.Cutting.{Steps, grown, place}
 use Rattle.stream_lex.specs.Lines.{Input, Lex, Line, any_line, is_comment, is_long, last_line, line_at, line_from, split_line}
 use Rattle.stream_lex.specs.Spelling.{NextLine, SkipsComments, TakesLine}
-use Rattle.stream_lex.specs.declared.stop.LimitFault.{LimitFault}
 use Rattle.stream_lex.specs.declared.stop.LimitFault.TheVariants.{LongLine, StreamTooLong}
 use Rattle.stream_lex.specs.declared.stop.Stop.TheVariants.{More, Fault}
 use Rattle.stream_lex.specs.declared.stop.Wanted.{Wanted}
-use Rattle.stream_lex.specs.declared.stop.Wanted.TheVariants as wants
 use Rattle.stream_lex.proofs.Advance.{any_line-steps}
 use Rattle.stream_lex.proofs.Fuel.{line_err, line_none, line_skip, line_some, moves_some}
-use Rattle.stream_lex.proofs.Passing.{grown_none, past_one}
+use Rattle.stream_lex.proofs.Passing.{past_one}
 use Rattle.stream_lex.proofs.Spelled.{Spelled, Told, any_line-told, line_at-spelled}
 use Rattle.stream_reader.specs.Waited.{line_place, next_place}
 use Rattle.stream_reader.proofs.Reading.{came_along}

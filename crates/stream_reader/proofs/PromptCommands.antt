@@ -1,5 +1,5 @@
 -- Each reader of the grammar waits near what it tells then.
-use Rattle.std.proofs.Common.{◌≡◌, inl, inr, ◌+◌, ◌<◌, ◌≤◌, ℕ, zero, suc, Bool, true, false, cond, List, [], ◌∷◌, ◌++◌, length, Option, Some, None, Result, Ok, Err, refl, sym, ap, ◌∙◌, arith, subst, nat_eq, leb, leb-true}
+use Rattle.std.proofs.Common.{◌≡◌, inl, inr, ◌+◌, ◌≤◌, ℕ, zero, suc, Bool, true, false, cond, List, [], ◌∷◌, ◌++◌, length, Option, Some, None, Ok, Err, refl, ap, arith, subst, nat_eq, leb-true}
 use Rattle.std.specs.Prelude.{codes, nat_le}
 use Rattle.std.specs.List.{starts_with}
 use Rattle.git_objects.specs.Paths.{Bytes}
@@ -7,13 +7,12 @@ use Rattle.git_objects.specs.Results.{◌>>=◌}
 use Rattle.git_objects.specs.declared.limits.TheConstants.{BLOB_BYTES, LINE_BYTES, MESSAGE_BYTES, STREAM_BYTES}
 use Rattle.git_objects.specs.declared.quantity.Quantity.{Quantity}
 use Rattle.git_objects.specs.declared.quantity.Quantity.TheVariants as limits
-use Rattle.stream_lex.specs.Cutting.{◌then◌, Agrees, IsReader, grown, judged, place, pure, refuse}
+use Rattle.stream_lex.specs.Cutting.{◌then◌, grown, judged, place, pure, refuse}
 use Rattle.stream_lex.specs.Lines.{Input, Lex, Line, block_at}
-use Rattle.stream_lex.specs.Spelling.{PastLf, TakesBlock}
+use Rattle.stream_lex.specs.Spelling.{PastLf}
 use Rattle.stream_lex.specs.declared.stop.LimitFault.TheVariants.{LongLine, StreamTooLong}
 use Rattle.stream_lex.specs.declared.stop.Stop.TheVariants.{More, Fault}
 use Rattle.stream_lex.specs.declared.stop.Wanted.{Wanted}
-use Rattle.stream_lex.specs.declared.stop.Wanted.TheVariants as wants
 use Rattle.stream_lex.proofs.BlockSpelled.{BlockTold, block_at-told}
 use Rattle.stream_lex.proofs.Combining.{judged-reader}
 use Rattle.stream_reader.specs.Blocks.{blob_data, block_in, count, data_behind, message_behind, message_data, sized_block, whole_block}
@@ -21,17 +20,16 @@ use Rattle.stream_reader.specs.Changes.{ChangeLine, ModifyIs, DeleteIs, RenameIs
 use Rattle.stream_reader.specs.Heads.{author_in, author_or, blob, committer_of, head, if_some, mark_in, mark_lines, merges, merges_max, more_merges, parents, people, ref_in, ref_line, reset, said}
 use Rattle.stream_reader.specs.Names.{refname}
 use Rattle.stream_reader.specs.PathWords.{last_path, two_paths}
-use Rattle.stream_reader.specs.Reading.{Judged, Read, Reader, lifted, need_line, option_line, or_fault}
-use Rattle.stream_reader.specs.Waited.{fault_place, next_place}
+use Rattle.stream_reader.specs.Reading.{Judged, Read, Reader, lifted, option_line, or_fault}
 use Rattle.stream_reader.specs.declared.commit_ref.CommitRef.{CommitRef}
 use Rattle.stream_reader.specs.declared.commit_ref.Target.{Target}
-use Rattle.stream_reader.specs.declared.fault.StreamFault.TheVariants.{Limit, Syntax, Unsupported}
+use Rattle.stream_reader.specs.declared.fault.StreamFault.TheVariants.{Limit, Syntax}
 use Rattle.stream_reader.specs.declared.modify.DataRef.{DataRef}
 use Rattle.stream_reader.specs.declared.modify.DataRef.TheVariants as datas
-use Rattle.stream_reader.proofs.Composed.{blob-reader, blob_data-reader, blob_ref-reader, mark_lines-reader, merges-reader, message_data-reader, parents-reader, people-reader, ref_line-reader, said-reader}
-use Rattle.stream_reader.proofs.Judging.{IsJudged, author_in-judged, committer_of-judged, given, if_some-judged, last_path-judged, mark_in-judged, modify_line-judged, ref_in-judged, refname-judged, target-judged, two_paths-judged}
+use Rattle.stream_reader.proofs.Composed.{blob_data-reader, blob_ref-reader, mark_lines-reader, merges-reader, message_data-reader, parents-reader, people-reader, ref_line-reader, said-reader}
+use Rattle.stream_reader.proofs.Judging.{IsJudged, author_in-judged, committer_of-judged, if_some-judged, last_path-judged, mark_in-judged, modify_line-judged, ref_in-judged, refname-judged, target-judged, two_paths-judged}
 use Rattle.stream_reader.proofs.Placing.{ahead}
-use Rattle.stream_reader.proofs.Prompting.{From, IsBeside, IsNearIn, IsPrompt, Later, cond-beside, judged-prompt, need-prompt, option-prompt, prompt-beside, prompt_as, pure-prompt, refuse-prompt, then-prompt}
+use Rattle.stream_reader.proofs.Prompting.{From, IsBeside, IsPrompt, Later, cond-beside, judged-prompt, need-prompt, option-prompt, prompt-beside, prompt_as, pure-prompt, refuse-prompt, then-prompt}
 
 -- ---- blocks
 

@@ -1,16 +1,16 @@
 -- The next command is told near what it is told by.
-use Rattle.std.proofs.Common.{◌≡◌, ◌+◌, ◌<◌, ◌≤◌, ℕ, zero, suc, Bool, true, false, List, [], ◌∷◌, ◌++◌, length, Option, Some, None, Result, Ok, Err, refl, sym, ap, ◌∙◌, arith, subst}
+use Rattle.std.proofs.Common.{◌≡◌, ◌+◌, ◌<◌, ◌≤◌, ℕ, zero, suc, Bool, true, false, length, Option, Some, Result, Ok, Err, refl, sym, ap, ◌∙◌, arith, subst}
 use Rattle.git_objects.specs.Paths.{Bytes}
 use Rattle.git_objects.specs.Results.{◌>>=◌}
 use Rattle.git_objects.specs.declared.limits.TheConstants.{BLOB_BYTES, LINE_BYTES, STREAM_BYTES}
 use Rattle.stream_lex.specs.Cutting.{◌then◌, IsReader, IsTold, grown, place, pure}
-use Rattle.stream_lex.specs.Lines.{Input, Line, line_at}
+use Rattle.stream_lex.specs.Lines.{Input, Line}
 use Rattle.stream_lex.specs.declared.stop.Stop.TheVariants.{More, Fault}
 use Rattle.stream_lex.specs.declared.stop.Wanted.{Wanted}
 use Rattle.stream_reader.specs.Changes.{ChangeLine, ModifyIs, DeleteIs, RenameIs, CopyIs, DeleteAllIs, NotesAre, EmptyIs, NoChange, change, change_line}
 use Rattle.stream_reader.specs.Commands.{CommandLine, EmptyLine, BlobLine, CommitLine, ResetLine, IdleLine, WantsDone, DoneLine, RefusedLine, OtherLine, Told, Turn, at_the_end, between, between_at, by_event, changed, command_line, gives, in_commit_at, read_command, turn, turn_in, turn_on}
 use Rattle.stream_reader.specs.Heads.{blob, head, reset}
-use Rattle.stream_reader.specs.Readers.{IsBefore, OnMore, Reading, TellsNext, came}
+use Rattle.stream_reader.specs.Readers.{OnMore, Reading, TellsNext}
 use Rattle.stream_reader.specs.Reading.{Read, Reader, lifted}
 use Rattle.stream_reader.specs.Waited.{IsNear, awaited, fault_place, next_place, place_behind, told_place}
 use Rattle.stream_reader.specs.declared.command.Command.{Command}
@@ -26,7 +26,7 @@ use Rattle.stream_reader.specs.declared.reader.Next.TheVariants as nexts
 use Rattle.stream_reader.proofs.Commanding.{command-is, command-reader}
 use Rattle.stream_reader.proofs.Composed.{blob-reader, change-reader, head-reader, reset-reader}
 use Rattle.stream_reader.proofs.Lowering.{TurnLowers, turn_lowers}
-use Rattle.stream_reader.proofs.Placing.{ahead, none_is}
+use Rattle.stream_reader.proofs.Placing.{ahead}
 use Rattle.stream_reader.proofs.PromptCommands.{blob-prompt, change-prompt, head-prompt, reset-prompt}
 use Rattle.stream_reader.proofs.Prompting.{From, IsNearIn, IsPrompt, Later, bind_from, by_line, line_came, line_later, line_more, line_near, then_near}
 use Rattle.stream_reader.proofs.Turning.{turn-reader}
@@ -93,10 +93,10 @@ module _ (d : Bool) where
   between_near : (i : Input) (w : Wanted) → by_line after_line false i ≡ Err (More w) → IsNearIn TurnLater (by_line after_line) i w
   between_near i w = line_near TurnLater after_line i w between_later
       (λ l j e p k.
-          let u = (between-turn (command_line l.bytes) l.place d).near j w p.within k in record {
-            few = omega (arith, u.few, line_came i (Some l) j e);
-            after = λ more. subst (From (place w) (TurnLater (place w))) (sym (ap (λ r. lifted r >>= between_at d true) (line_more i (Some l) j e more))) (u.after more);
-          })
+      let u = (between-turn (command_line l.bytes) l.place d).near j w p.within k in record {
+        few = omega (arith, u.few, line_came i (Some l) j e);
+        after = λ more. subst (From (place w) (TurnLater (place w))) (sym (ap (λ r. lifted r >>= between_at d true) (line_more i (Some l) j e more))) (u.after more);
+      })
       (λ j e k. absurd (end_tells d false j w k))
 
   -- ---- in a commit
@@ -143,10 +143,10 @@ module _ (d : Bool) where
   commit_near : (i : Input) (w : Wanted) → by_line (in_commit_at d) false i ≡ Err (More w) → IsNearIn TurnLater (by_line (in_commit_at d)) i w
   commit_near i w = line_near TurnLater (in_commit_at d) i w commit_later
       (λ l j e p k.
-          let u = changed_near (change_line l.bytes) l.place i j w p.within k in record {
-            few = omega (arith, u.few, line_came i (Some l) j e);
-            after = λ more. subst (From (place w) (TurnLater (place w))) (sym (ap (λ r. lifted r >>= in_commit_at d true (grown more i)) (line_more i (Some l) j e more))) (u.after more);
-          })
+      let u = changed_near (change_line l.bytes) l.place i j w p.within k in record {
+        few = omega (arith, u.few, line_came i (Some l) j e);
+        after = λ more. subst (From (place w) (TurnLater (place w))) (sym (ap (λ r. lifted r >>= in_commit_at d true (grown more i)) (line_more i (Some l) j e more))) (u.after more);
+      })
       (λ j e k. let no : ⊥ = cc in absurd no)
 
   phase_later : (p : Phase) (b : ℕ) (i : Input) → b ≤ awaited p i → From b (TurnLater b) (turn_in p d true i)

@@ -1,27 +1,22 @@
 -- What a reader waits for stands near what it tells then.
-use Rattle.std.proofs.Common.{◌≡◌, ◌+◌, ◌<◌, ◌≤◌, ℕ, zero, suc, Bool, true, false, cond, List, [], ◌∷◌, ◌++◌, length, Option, Some, None, Result, Ok, Err, refl, sym, ap, ◌∙◌, arith, subst, nat_eq, leb-true}
-use Rattle.std.specs.Prelude.{codes, nat_le}
-use Rattle.std.specs.List.{starts_with}
+use Rattle.std.proofs.Common.{◌≡◌, ◌+◌, ◌≤◌, ℕ, Bool, true, false, cond, length, Option, Some, None, Ok, Err, refl, sym, ap, ◌∙◌, arith, subst}
 use Rattle.git_objects.specs.CommitBodies.{strip}
 use Rattle.git_objects.specs.Paths.{Bytes}
 use Rattle.git_objects.specs.Results.{◌>>=◌}
-use Rattle.git_objects.specs.declared.limits.TheConstants.{BLOB_BYTES, LINE_BYTES, MESSAGE_BYTES, STREAM_BYTES}
-use Rattle.git_objects.specs.declared.quantity.Quantity.{Quantity}
-use Rattle.git_objects.specs.declared.quantity.Quantity.TheVariants as limits
-use Rattle.stream_lex.specs.Cutting.{◌then◌, Advances, Agrees, IsReader, Steps, grown, judged, place, pure, refuse}
-use Rattle.stream_lex.specs.Lines.{Input, Lex, Line, block_at, line_at}
+use Rattle.git_objects.specs.declared.limits.TheConstants.{BLOB_BYTES, LINE_BYTES, STREAM_BYTES}
+use Rattle.stream_lex.specs.Cutting.{◌then◌, Agrees, IsReader, Steps, grown, judged, place, pure, refuse}
+use Rattle.stream_lex.specs.Lines.{Input, Lex, Line, line_at}
 use Rattle.stream_lex.specs.declared.stop.LimitFault.{LimitFault}
 use Rattle.stream_lex.specs.declared.stop.LimitFault.TheVariants.{LongLine, StreamTooLong}
 use Rattle.stream_lex.specs.declared.stop.Stop.{Stop}
 use Rattle.stream_lex.specs.declared.stop.Stop.TheVariants.{More, Fault}
 use Rattle.stream_lex.specs.declared.stop.Wanted.{Wanted}
-use Rattle.stream_lex.proofs.BlockSpelled.{BlockTold, block_at-told}
-use Rattle.stream_lex.proofs.Waiting.{block_at-reader, line_at-reader}
-use Rattle.stream_reader.specs.Reading.{Judged, Read, Reader, fault, lifted, line_behind, line_text, must, need_line, option_line}
+use Rattle.stream_lex.proofs.Waiting.{line_at-reader}
+use Rattle.stream_reader.specs.Reading.{Judged, Read, Reader, lifted, line_behind, line_text, must, need_line, option_line}
 use Rattle.stream_reader.specs.Waited.{fault_place, line_place, next_place}
 use Rattle.stream_reader.specs.declared.fault.StreamFault.{StreamFault}
-use Rattle.stream_reader.proofs.Judging.{IsFaultAt, IsJudged}
-use Rattle.stream_reader.proofs.Placing.{IsLineAt, IsWaited, ahead, line_is, line_waited, none_is}
+use Rattle.stream_reader.proofs.Judging.{IsJudged}
+use Rattle.stream_reader.proofs.Placing.{IsLineAt, ahead, line_is, line_waited, none_is}
 use Rattle.stream_reader.proofs.Reading.{came_along}
 
 -- a fault stands at b or up to a line before it, and of a value holds what Q says
@@ -196,10 +191,10 @@ module _ {B : Type 0} (g : Line → Reader B) (h : (l : Line) → IsBeside l.pla
   need_near : (i : Input) (w : Wanted) → by_line by_need false i ≡ Err (More w) → IsNearIn Later (by_line by_need) i w
   need_near i w = line_near Later by_need i w need_later
       (λ l j e p k.
-          let u = (h l).near j w p.short p.within k in record {
-            few = omega (arith, u.few, line_came i (Some l) j e);
-            after = λ more. subst (From (place w) (Later (place w))) (sym (ap (λ r. lifted r >>= by_need true (grown more i)) (line_more i (Some l) j e more))) (u.after more);
-          })
+      let u = (h l).near j w p.short p.within k in record {
+        few = omega (arith, u.few, line_came i (Some l) j e);
+        after = λ more. subst (From (place w) (Later (place w))) (sym (ap (λ r. lifted r >>= by_need true (grown more i)) (line_more i (Some l) j e more))) (u.after more);
+      })
       (λ j e k. let no : ⊥ = cc in absurd no)
 
   pub need-prompt : (at : ℕ) → IsPrompt at (need_line then g)
@@ -244,10 +239,10 @@ module _ {B : Type 0} (word : Bytes) (g : Option Line → Reader B) (some : (l :
   option_near i w = line_near Later by_option i w option_later
       (λ l j e p k. text_near i w l j e (strip word l.bytes) refl k)
       (λ j e k.
-          let u = (none 0).near i w k in record {
-            few = u.few;
-            after = λ more. subst (From (place w) (Later (place w))) (sym (ap (λ x. lifted x >>= by_option true (grown more i)) (line_more i None j e more))) (u.after more);
-          })
+      let u = (none 0).near i w k in record {
+        few = u.few;
+        after = λ more. subst (From (place w) (Later (place w))) (sym (ap (λ x. lifted x >>= by_option true (grown more i)) (line_more i None j e more))) (u.after more);
+      })
 
   pub option-prompt : (at : ℕ) → IsPrompt at (option_line word then g)
   option-prompt at = prompt_as at (by_line by_option) (option_line word then g) option_same (record { later = λ b i l n. option_later b i n; near = option_near })

@@ -1,5 +1,5 @@
 -- How far a stream has to be read before something of it is told.
-use Rattle.std.specs.Prelude.{◌+◌, ◌≤◌, ℕ, true, length, Option, Some, None, Result, Ok, Err}
+use Rattle.std.specs.Prelude.{◌+◌, ◌≤◌, ℕ, true, Option, Some, None, Ok, Err}
 use Rattle.git_objects.specs.Paths.{Bytes}
 use Rattle.git_objects.specs.declared.limits.TheConstants.{BLOB_BYTES, LINE_BYTES, STREAM_BYTES}
 use Rattle.stream_lex.specs.Cutting.{grown, place}
