@@ -3,3 +3,5 @@ pub mod Members
 pub mod Overs
 pub mod Cones
 pub mod Handing
+pub mod Deciding
+pub mod Placements

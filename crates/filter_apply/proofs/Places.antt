@@ -82,7 +82,7 @@ empty-body S n s h e =
     none_listed [] e es r = sym (same_Some [] es r)
     none_listed (x ∷ b) e es r = absurd (true≢false (sym e))
 
-full-child : (S : List Object) (n : Bytes) → IsStore S → has Tree S n ≡ true → IsFull (flat S n) → has_child S Dir n ≡ true
+pub full-child : (S : List Object) (n : Bytes) → IsStore S → has Tree S n ≡ true → IsFull (flat S n) → has_child S Dir n ≡ true
 full-child S n s h f = by (is_nil (body_of Tree S n)) refl
   where
     by : (b : Bool) → is_nil (body_of Tree S n) ≡ b → (has Tree S n && not (is_nil (body_of Tree S n))) ≡ true
