@@ -8,3 +8,4 @@ pub mod Placements
 pub mod Restricting
 pub mod Routing
 pub mod Truths
+pub mod Shows
