@@ -47,7 +47,9 @@ use Rattle.filter_apply.specs.Faults.{IsApplyFault, fault_of}
 use Rattle.filter_apply.specs.Hands.{parts_in, IsNamedIn, IsPartObject, IsShownObject, IsPlacedObject, IsJoinedObject}
 use Rattle.filter_apply.specs.Parts.{part_of, rests_of}
 use Rattle.filter_apply.specs.Ranges.{between, passed, seen_between, map_of}
+use Rattle.filter_apply.specs.declared.fault.ApplyError.{ApplyError}
 use Rattle.filter_apply.proofs.Cones.{in_cone}
+use Rattle.filter_apply.proofs.Handing.{fault_as}
 use Rattle.filter_apply.proofs.Members.{in-each, each-as, each-in}
 use Rattle.filter_apply.proofs.Overs.{IsOver, AreOver, tree_over, over_own, over_as, over_under, over_both, made_as, leaf_over, part_over, grown_over, clash_over, fault_over}
 use Rattle.filter_apply.proofs.Places.{dir_node, leaf_node, dir_held}
@@ -328,3 +330,60 @@ module _ (f : Filter) (t : Flat) (S0 S : List Object) (g : IsGrownBy (IsShownObj
       by : (x : TreeFault) → IsRefused S [] x → IsTreeFault (λ b. b ≡ []) S x
       by (Collision n) r = record { body = []; is_made = refl; held = r }
       by OutOfMemory r = tt
+
+-- ---- two halves
+
+module _ (f : Filter) (es : List Entry) (list : IsListOf f es) (sound : IsSound f) (named : has_paths f ≡ true) (S0 S1 S2 : List Object) (root : Bytes) (s : IsStore S0) (held : has Tree S0 root ≡ true)
+    (first : IsGrownBy (IsShownObject f (flat S0 root)) S0 S1) (second : IsGrownBy (IsShownObject f (flat S1 root)) S1 S2) where
+  abbrev t : Flat
+  t = flat S0 root
+
+  h : IsTree t
+  h = (flat_good S0 s root held).tree
+
+  same : flat S1 root ≡ t
+  same = flat-grown S0 S1 root first held
+
+  pub half_held : has Tree S1 root ≡ true
+  half_held = has-grown S0 S1 Tree root first held
+
+  pub both_grown : IsGrownBy (IsShownObject f t) S0 S2
+  both_grown = grown_then (IsShownObject f t) S0 S1 S2 first (subst (λ (u : Flat). IsGrownBy (IsShownObject f u) S1 S2) same second)
+
+  pub half_fault : (e : ApplyError) → IsApplyFault (IsShownObject f (flat S1 root)) S2 e → IsApplyFault (IsShownObject f t) S2 e
+  half_fault e = subst (λ (u : Flat). IsApplyFault (IsShownObject f u) S2 e) same
+
+  module _ (j k l : ℕ) (a b : Option Name) (da : IsDirectory S1 (seen_between f es j k t) a) (db : IsDirectory S2 (seen_between f es k l (flat S1 root)) b) where
+    left : IsDirectory S2 (seen_between f es j k t) a
+    left = dir-grown S1 S2 (seen_between f es j k t) a second da
+
+    right : IsDirectory S2 (seen_between f es k l t) b
+    right = subst (λ (u : Flat). IsDirectory S2 (seen_between f es k l u) b) same db
+
+    pub left_held : IfSome a (λ n. has Tree S2 n.0 ≡ true)
+    left_held = dir-has S2 (seen_between f es j k t) a left
+
+    pub right_held : IfSome b (λ n. has Tree S2 n.0 ≡ true)
+    right_held = dir-has S2 (seen_between f es k l t) b right
+
+    left-map : map_of S2 a ≡ seen_between f es j k t
+    left-map = map-of S2 (seen_between f es j k t) a left
+
+    right-map : map_of S2 b ≡ seen_between f es k l t
+    right-map = map-of S2 (seen_between f es k l t) b right
+
+    pub halves_apart : clash (map_of S2 a) (map_of S2 b) ≡ None
+    halves_apart = (λ i. clash (left-map i) (right-map i)) ∙ ranges_clash f es list sound named t h j k l
+
+    pub halves_ok : {E : Type 0} (S3 : List Object) (r : Result (Option Name) E) → j ≤ k → k ≤ l → IfOk r (IsDirectory S3 (together (map_of S2 a) (map_of S2 b))) → IfOk r (IsDirectory S3 (seen_between f es j l t))
+    halves_ok S3 r x y = subst (λ (u : Flat). IfOk r (IsDirectory S3 u)) ((λ i. together (left-map i) (right-map i)) ∙ ranges_join f es list sound named t h j k l x y)
+
+    handed : (o : Object) → IsJoinedObject (map_of S2 a) (map_of S2 b) o → IsShownObject f t o
+    handed o m = joined_shown f es list sound named t h j k l o (subst (λ (w : Flat × Flat). IsJoinedObject w.0 w.1 o) (λ i. (left-map i, right-map i)) m)
+
+    pub halves_err : {A : Type 0} (S3 : List Object) (r : Result A ApplyError) → IfErr r (IsApplyFault (IsJoinedObject (map_of S2 a) (map_of S2 b)) S3) → IfErr r (IsApplyFault (IsShownObject f t) S3)
+    halves_err S3 (Ok x) m = m
+    halves_err S3 (Err e) m = fault_as (IsJoinedObject (map_of S2 a) (map_of S2 b)) (IsShownObject f t) S3 e handed m
+
+    pub halves_store : (S3 : List Object) → IsGrownBy (IsJoinedObject (map_of S2 a) (map_of S2 b)) S2 S3 → IsGrownBy (IsShownObject f t) S0 S3
+    halves_store S3 g = grown_then (IsShownObject f t) S0 S2 S3 both_grown (grown_as (IsJoinedObject (map_of S2 a) (map_of S2 b)) (IsShownObject f t) S2 S3 handed g)

@@ -80,6 +80,15 @@ fn joined(
     }
 }
 
+// A place between two that are apart.
+fn middle_of(first: usize, last: usize) -> usize
+    requires { first + 1 < last }
+    ensures above { first < result }
+    ensures below { result < last }
+{
+    first + (last - first) / 2
+}
+
 // What the entries from one place up to another show of a tree. None: nothing. The two halves are joined when each is
 // made, so that every part takes part in as few joins as the number of entries can be halved.
 pub fn shown_between<L: Ledger>(
@@ -103,9 +112,10 @@ pub fn shown_between<L: Ledger>(
     if last - first == 1 {
         return shown_by(alloc, store, table, first, root, steps);
     }
-    // The list is looked at so that the proof has what each table keeps.
+    // The store and the list are looked at so that the proof has what each store and table keeps.
+    let _ = store.get(&root);
     let _ = table.entries();
-    let middle = first + (last - first) / 2;
+    let middle = middle_of(first, last);
     let left = shown_between(alloc, store, table, first, middle, root, steps)?;
     let right = shown_between(alloc, store, table, middle, last, root, steps)?;
     joined(alloc, store, left, right)
