@@ -11,3 +11,6 @@ mod Sieves
 mod Fittings
 mod Empties
 mod Moves
+mod Cellwise
+mod PartLists
+mod Leasts
