@@ -14,3 +14,5 @@ mod Moves
 mod Cellwise
 mod PartLists
 mod Leasts
+mod PathOrders
+mod BlockSteps

@@ -1,7 +1,7 @@
 // Why parts can't be put together.
 ghost use Rattle.std.specs.Prelude.{◌≡◌, true, Some, None, IfOk};
 ghost use Rattle.git_objects.specs.Lists.{Each};
-ghost use Rattle.git_objects.specs.Paths.{Path as PathValue};
+ghost use Rattle.git_objects.specs.Paths.{Path as PathValue, path_cmp};
 ghost use Rattle.git_objects.specs.Trees.{Leaf as LeafValue, at};
 ghost use Rattle.std.specs.Ordering.{is_lt};
 ghost use Rattle.git_objects.specs.declared.kind.Kind.TheVariants.{Tree};
@@ -16,6 +16,7 @@ use object_store::Store;
 use path_names::{Path, before};
 use path_trees::first_clash;
 use std::alloc::{AllocError, Global};
+use std::cmp::Ordering;
 
 // The first path of the parts that is comparable with another path of all, and the first such other path.
 pub fn first_block(
@@ -100,11 +101,22 @@ fn lesser(a: Option<(Path, Path)>, b: Option<(Path, Path)>) -> Option<(Path, Pat
 fn comes_before(a: &(Path, Path), b: &(Path, Path)) -> bool
     ensures { result ≡ is_lt (pair_cmp a.now b.now) }
 {
-    if before(&a.0, &b.0) {
-        return true;
+    let first = order(&a.0, &b.0);
+    let second = order(&a.1, &b.1);
+    first.then(second).is_lt()
+}
+
+fn order(a: &Path, b: &Path) -> Ordering
+    ensures { result ≡ path_cmp a.now b.now }
+{
+    // The components are looked at so that the proof has that both are paths.
+    let _ = a.components();
+    let _ = b.components();
+    if before(a, b) {
+        return Ordering::Less;
     }
-    if before(&b.0, &a.0) {
-        return false;
+    if before(b, a) {
+        return Ordering::Greater;
     }
-    before(&a.1, &b.1)
+    Ordering::Equal
 }
