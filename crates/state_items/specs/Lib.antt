@@ -5,3 +5,6 @@ pub mod Changes
 pub mod Appending
 pub mod Imported
 pub mod KeptLaws
+pub mod Stops
+pub mod Arrivals
+pub mod Steps

@@ -1,2 +1,9 @@
 //! The items of a store: reading them, writing them, and what they hold.
 #![tactic(auto)]
+
+mod cursor;
+mod fault;
+mod objects;
+
+pub use commit_map::Rule;
+pub use fault::ItemFault;
