@@ -5,3 +5,6 @@ pub mod RowsHeld
 pub mod ParentPlaces
 pub mod Taking
 pub mod ObjectRuns
+pub mod RefsHeld
+pub mod HeadsHeld
+pub mod RefRuns

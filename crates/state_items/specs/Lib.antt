@@ -8,3 +8,4 @@ pub mod KeptLaws
 pub mod Stops
 pub mod Arrivals
 pub mod Steps
+pub mod KeptMaps

@@ -4,6 +4,7 @@
 mod cursor;
 mod fault;
 mod objects;
+mod ref_fields;
 
 pub use commit_map::Rule;
 pub use fault::ItemFault;
