@@ -8,3 +8,9 @@ pub mod ObjectRuns
 pub mod RefsHeld
 pub mod HeadsHeld
 pub mod RefRuns
+pub mod MapsKept
+pub mod EntryRuns
+pub mod KeptRead
+pub mod KeptHeld
+pub mod ItemSteps
+pub mod Gathering

@@ -138,7 +138,7 @@ nil-from (x ∷ xs) h = absurd (let n : suc (length xs) ≡ 0 = h in omega (arit
 pub nothing-held : (S : List Object) (names : List Name) (rows : List Row) (blobs : List Name) → S ≡ [] → length names ≡ 0 → rows ≡ [] → length blobs ≡ 0 → AreHeld S names rows blobs
 unfolding rows_of blobs_of
 nothing-held S names rows blobs s n r b =
-    let empty : AreHeld [] [] [] [] = record { whole = tt; named = refl; graph = refl; known = refl; few = omega arith } in
+    let empty : AreHeld [] [] [] [] = record { whole = tt; named = refl; graph = refl; known = refl; room = refl } in
     subst (λ (d : List Object × List Name × List Row × List Name). AreHeld d.0 d.1 d.2 d.3) (λ i. (sym s i, sym (nil-from names n) i, sym r i, sym (nil-from blobs b) i)) empty
 
 -- a blob's name behind the others

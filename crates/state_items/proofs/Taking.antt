@@ -40,7 +40,8 @@ module _ (S : List Object) (names : List Name) (rows : List Row) (blobs : List N
   new = record { kind = k; body = b }
 
   pub few-rows : length rows ≤ 2 ^ 20
-  few-rows = subst (λ (n : ℕ). n ≤ 2 ^ 20) (sym (ap length h.graph ∙ rows-number S h.whole)) h.few
+  few-rows = subst (λ (n : ℕ). n ≤ 2 ^ 20) (sym (ap length h.graph ∙ rows-number S h.whole))
+      (leb-true (length (filter is_commit S)) (2 ^ 20) (second_so (nat_le (length S) OBJECTS) _ h.room))
 
   pub rows-counted : (n : ℕ) → n ≡ length rows → n ≡ length (filter is_commit S)
   rows-counted n e = e ∙ ap length h.graph ∙ rows-number S h.whole
@@ -70,7 +71,7 @@ module _ (S : List Object) (names : List Name) (rows : List Row) (blobs : List N
         named = named-more S names new key h.named named;
         graph = r ∙ ap (λ (q : List Row). with_row q k b) h.graph;
         known = f ∙ ap (λ (q : List Bytes). with_blob_name q k b) h.known;
-        few = leb-true (length (filter is_commit (new ∷ S))) (2 ^ 20) (second_so (nat_le (length (new ∷ S)) OBJECTS) _ room);
+        room = room;
       })
 
   pub commits-stay : (S' : List Object) → S' ≡ new ∷ S → (n : Bytes) → has Commit S n ≡ true → has Commit S' n ≡ true

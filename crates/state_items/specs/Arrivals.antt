@@ -13,6 +13,7 @@ use Rattle.git_objects.specs.declared.name.Name.{Name}
 use Rattle.object_store.specs.Objects.{Object, object_name, same_kind, IsStore}
 use Rattle.object_store.specs.Fits.{is_commit}
 use Rattle.commit_graph.specs.Graphs.{Row, place_of}
+use Rattle.state_items.specs.Items.{has_room}
 
 -- ---- commits
 
@@ -62,7 +63,7 @@ pub record AreHeld (S : List Object) (names : List Name) (rows : List Row) (blob
   pub named : AreNamed S names
   pub graph : rows ≡ rows_of S
   pub known : map name_bytes blobs ≡ blobs_of S
-  pub few : length (filter is_commit S) ≤ 2 ^ 20
+  pub room : has_room S ≡ true
 
 abbrev pub more_commits : ℕ → Kind → ℕ
 more_commits n k = if same_kind CommitKind k then n + 1 else n

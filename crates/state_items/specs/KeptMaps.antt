@@ -39,6 +39,10 @@ with_map_by rule maps text es =
     if rule == 1 then record { first = with_map maps.first text es; second = maps.second }
     else record { first = maps.first; second = with_map maps.second text es }
 
+-- the code's maps as pairs
+abbrev pub text_maps : {K : Type 0} → (K → Bytes) → List (K × Entries) → TextMaps
+text_maps text ms = map (λ m. (text m.0, m.1)) ms
+
 -- ---- what is held
 
 abbrev pub is_for : Bytes → ℕ → Kept → Bool

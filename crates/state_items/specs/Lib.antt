@@ -7,5 +7,7 @@ pub mod Imported
 pub mod KeptLaws
 pub mod Stops
 pub mod Arrivals
-pub mod Steps
 pub mod KeptMaps
+pub mod Steps
+pub mod Readings
+pub mod Lending

@@ -3,8 +3,13 @@
 
 mod cursor;
 mod fault;
+mod kept;
+mod kept_fields;
 mod objects;
+mod reading;
 mod ref_fields;
 
 pub use commit_map::Rule;
 pub use fault::ItemFault;
+pub use kept::KeptMaps;
+pub use reading::{Loaded, Reading};
