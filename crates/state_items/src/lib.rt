@@ -4,3 +4,15 @@
 mod laws;
 
 pub use laws::{append_law, change_law, hand_law, imported_law, kept_law, read_law};
+mod cursor;
+mod fault;
+mod kept;
+mod kept_fields;
+mod objects;
+mod reading;
+mod ref_fields;
+
+pub use commit_map::Rule;
+pub use fault::ItemFault;
+pub use kept::KeptMaps;
+pub use reading::{Loaded, Reading};
