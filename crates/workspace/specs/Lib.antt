@@ -1,0 +1,3 @@
+pub mod Workspaces
+pub mod Laws
+pub mod Examples
