@@ -83,6 +83,8 @@ impl Table {
     pub fn entries(&self) -> &[Entry]
         ensures entries { result.now ≡ self.now.routes }
         ensures list { IsListOf (shape self.now.filter) self.now.routes }
+        ensures sound { IsSound (shape self.now.filter) }
+        ensures paths { has_paths (shape self.now.filter) ≡ true }
     {
         self.entries.as_slice()
     }
