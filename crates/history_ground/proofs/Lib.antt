@@ -1,0 +1,4 @@
+mod GraphLemmas
+mod ProjectionLemmas
+mod KeptLemmas
+mod HistoryLemmas
