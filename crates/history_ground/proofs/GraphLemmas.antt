@@ -25,7 +25,7 @@ grown c older e =
     let k : (not (has older (snapshot_name c)) ≡ true) × (list_all (has older) c.parents ≡ true) = and_parts (not (has older (snapshot_name c))) (list_all (has older) c.parents) h.0 in
     record { new = not-is (has older (snapshot_name c)) k.0; parents = k.1; graph = h.1 }
 
-graph-from : (c : Snapshot) (older : Graph) → has older (snapshot_name c) ≡ false → list_all (has older) c.parents ≡ true → is_graph older ≡ true → is_graph (c ∷ older) ≡ true
+pub graph-from : (c : Snapshot) (older : Graph) → has older (snapshot_name c) ≡ false → list_all (has older) c.parents ≡ true → is_graph older ≡ true → is_graph (c ∷ older) ≡ true
 graph-from c older e h g = and_from (not (has older (snapshot_name c)) && list_all (has older) c.parents) (is_graph older) (and_from (not (has older (snapshot_name c))) (list_all (has older) c.parents) (ap not e) h) g
 
 -- a name that is there isn't that of a new commit

@@ -33,7 +33,7 @@ any-append p (x ∷ xs) ys = ap (λ b. p x || b) (any-append p xs ys) ∙ turn (
 pub any-in-front : {A : Type 0} (p : A → Bool) (xs ys : List A) → list_any p xs ≡ true → list_any p (xs ++ ys) ≡ true
 any-in-front p xs ys h = any-append p xs ys ∙ or_left (list_any p xs) (list_any p ys) h
 
-any-behind : {A : Type 0} (p : A → Bool) (xs ys : List A) → list_any p ys ≡ true → list_any p (xs ++ ys) ≡ true
+pub any-behind : {A : Type 0} (p : A → Bool) (xs ys : List A) → list_any p ys ≡ true → list_any p (xs ++ ys) ≡ true
 any-behind p xs ys h = any-append p xs ys ∙ or_right (list_any p xs) (list_any p ys) h
 
 same-image : {A B : Type 0} (p : B → Bool) (q : A → Bool) (f : A → B) → ((x : A) → p (f x) ≡ q x) → (xs : List A) → list_any p (map f xs) ≡ list_any q xs
@@ -48,7 +48,7 @@ cons-append : {A : Type 0} (o : Option A) (xs ys : List A) → cons_option o (xs
 cons-append None xs ys = refl
 cons-append (Some x) xs ys = refl
 
-filter-append : {A B : Type 0} (f : A → Option B) (xs ys : List A) → filter_map f (xs ++ ys) ≡ filter_map f xs ++ filter_map f ys
+pub filter-append : {A B : Type 0} (f : A → Option B) (xs ys : List A) → filter_map f (xs ++ ys) ≡ filter_map f xs ++ filter_map f ys
 filter-append f [] ys = refl
 filter-append f (x ∷ xs) ys = ap (cons_option (f x)) (filter-append f xs ys) ∙ cons-append (f x) (filter_map f xs) (filter_map f ys)
 
@@ -152,7 +152,7 @@ wanted-still ws c n h = by (is_wanted ws c)
     by false = h
 
 -- what is wanted and there is reached
-reached-has : (g : Graph) (ws : List Bytes) (n : Bytes) → has g n ≡ true → list_any (same_bytes n) ws ≡ true → has (reached g ws) n ≡ true
+pub reached-has : (g : Graph) (ws : List Bytes) (n : Bytes) → has g n ≡ true → list_any (same_bytes n) ws ≡ true → has (reached g ws) n ≡ true
 reached-has [] ws n h k = h
 reached-has (c ∷ g) ws n h k = by (has_name n c) refl h (λ e. reached-has g (wanted_below ws c) n e (wanted-still ws c n k))
   where
@@ -256,7 +256,7 @@ module _ (k : Rule) (shown : Flat → Flat) where
       by h None e r = r
       by h (Some p) e r = (in-history g ws n p e h w.0, r)
 
-  self-wanted : (ns ws : List Bytes) → Each (λ n. list_any (same_bytes n) (ns ++ ws) ≡ true) ns
+  pub self-wanted : (ns ws : List Bytes) → Each (λ n. list_any (same_bytes n) (ns ++ ws) ≡ true) ns
   self-wanted [] ws = tt
   self-wanted (n ∷ ns) ws = (
     or_left (same_bytes n n) (list_any (same_bytes n) (ns ++ ws)) (same_bytes-self n),

@@ -2,3 +2,6 @@ mod GraphLemmas
 mod ProjectionLemmas
 mod KeptLemmas
 mod HistoryLemmas
+mod HeldCommits
+mod StoredGraphs
+mod Reached

@@ -1,2 +1,3 @@
 pub mod Projections
 pub mod ProjectionLaws
+pub mod StoredGraphs
