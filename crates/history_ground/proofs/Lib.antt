@@ -5,3 +5,4 @@ mod HistoryLemmas
 mod HeldCommits
 mod StoredGraphs
 mod Reached
+mod Growing

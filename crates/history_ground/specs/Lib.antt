@@ -1,3 +1,6 @@
 pub mod Projections
 pub mod ProjectionLaws
 pub mod StoredGraphs
+pub mod Grounds
+pub mod Filled
+pub mod Asked

@@ -1,6 +1,9 @@
 //! Projections of commits and histories, over what a state holds.
 #![tactic(auto)]
 
+mod ground;
 mod laws;
+mod seeing;
 
+pub use ground::Ground;
 pub use laws::{history_law, projection_law};
