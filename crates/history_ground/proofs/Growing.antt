@@ -104,7 +104,7 @@ interned-front old new f n h = elim (find-number old f) as (λ o. AreInFront old
   | inr m ↦ let w = h.fresh m in (w.1.0 ∷ [], sym w.1.1)
 ]
 
-front-self : (ts : List Table) → AreInFront ts ts
+pub front-self : (ts : List Table) → AreInFront ts ts
 front-self ts = ([], append-nil ts)
 
 front-then : (ts us vs : List Table) → AreInFront ts us → AreInFront us vs → AreInFront ts vs

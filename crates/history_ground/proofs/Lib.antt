@@ -6,3 +6,4 @@ mod HeldCommits
 mod StoredGraphs
 mod Reached
 mod Growing
+mod Asking

@@ -43,14 +43,14 @@ impl Asked {
         ensures same { Extends IsNone ground.old ground.new }
         ensures map { ground.new.map ≡ ground.old.map }
     {
-        let table = match file_place(alloc, filter)? {
-            Some(_) => None,
-            None => {
-                let number = resolve(alloc, &ground.store, filter, root, &mut ground.tables)?;
-                Some(number)
-            }
-        };
-        Ok(Asked { table, last: None })
+        if file_place(alloc, filter)?.is_some() {
+            return Ok(Asked { table: None, last: None });
+        }
+        let number = resolve(alloc, &ground.store, filter, root, &mut ground.tables)?;
+        Ok(Asked {
+            table: Some(number),
+            last: None,
+        })
     }
 }
 
