@@ -7,3 +7,6 @@ mod StoredGraphs
 mod Reached
 mod Growing
 mod Asking
+mod Gathering
+mod Lacks
+mod Leading

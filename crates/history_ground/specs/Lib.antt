@@ -4,3 +4,4 @@ pub mod StoredGraphs
 pub mod Grounds
 pub mod Filled
 pub mod Asked
+pub mod Choosing

@@ -1,6 +1,7 @@
 //! Projections of commits and histories, over what a state holds.
 #![tactic(auto)]
 
+mod choosing;
 mod ground;
 mod laws;
 mod seeing;
