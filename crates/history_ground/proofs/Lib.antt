@@ -10,3 +10,5 @@ mod Asking
 mod Gathering
 mod Lacks
 mod Leading
+mod Members
+mod Chosen

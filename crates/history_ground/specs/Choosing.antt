@@ -1,9 +1,7 @@
 -- What becomes of a commit, from what is kept of older ones.
-use Rattle.std.specs.Prelude.{◌≡◌, ◌<◌, ℕ, true, List, [], map, take, slice_get, Option, Some, None, All, IsSome}
+use Rattle.std.specs.Prelude.{◌≡◌, ◌<◌, ℕ, Bool, true, List, [], map, take, slice_get, Option, Some, None, All, IsSome}
 use Rattle.std.specs.Option.{option_map_or}
 use Rattle.git_objects.specs.Paths.{Bytes}
-use Rattle.git_objects.specs.Trees.{Flat}
-use Rattle.git_objects.specs.Commits.{Letter}
 use Rattle.git_objects.specs.Snapshots.{Snapshot, Graph, has}
 use Rattle.commit_graph.specs.Graphs.{Row, Reaches}
 use Rattle.commit_map.specs.Shown.{Shown, Entries, kept_at, shown_value}
@@ -47,14 +45,19 @@ pub record IsBelow (g : Ground) (place q : ℕ) : Type 0 where
   pub reached : Reaches g.graph place q
   pub lacked : kept_at (name_at g.graph q) g.map ≡ None
 
--- whether a projection of a parent of the commit at the place leads the others, or a commit that has to be projected first
-abbrev pub IsTest : Ground → ℕ → Shown → Test → Type 0
-IsTest g place m (Is b) = (ks : Entries) → Agree g.map ks (commits_before g place) → b ≡ leads (commits_before g place) ks (names_at g.graph (parents_at g.graph place)) m
-IsTest g place m (Lacks q) = IsBelow g place q
+-- whether a projection of a parent of the commit at the place leads the others, by what is known
+abbrev pub leads_at : Ground → ℕ → Entries → Shown → Bool
+leads_at g place ks m = leads (commits_before g place) ks (names_at g.graph (parents_at g.graph place)) m
 
--- what was chosen, where a commit of its own is d
-abbrev pub choice_value : Snapshot → Choice → Option projections.Choice
-choice_value d (Below q) = None
-choice_value d Nothing = Some projections.Nothing
-choice_value d (Member m) = Some (projections.Member (shown_value m))
-choice_value d New = Some (projections.New d)
+-- Whether something is so of the commit at the place by all that agrees with what is kept; or a commit that has to be projected first.
+abbrev pub IsTest : Ground → ℕ → (Entries → Bool) → Test → Type 0
+IsTest g place value (Is b) = (ks : Entries) → Agree g.map ks (commits_before g place) → b ≡ value ks
+IsTest g place value (Lacks q) = IsBelow g place q
+
+-- What becomes of the commit at the place by all that agrees with what is kept, where a commit of its own is d; or a commit that has
+-- to be projected first.
+abbrev pub IsChoice : Ground → ℕ → Snapshot → (Entries → projections.Choice) → Choice → Type 0
+IsChoice g place d value (Below q) = IsBelow g place q
+IsChoice g place d value Nothing = (ks : Entries) → Agree g.map ks (commits_before g place) → value ks ≡ projections.Nothing
+IsChoice g place d value (Member m) = (ks : Entries) → Agree g.map ks (commits_before g place) → value ks ≡ projections.Member (shown_value m)
+IsChoice g place d value New = (ks : Entries) → Agree g.map ks (commits_before g place) → value ks ≡ projections.New d

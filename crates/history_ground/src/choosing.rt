@@ -1,17 +1,24 @@
 // What becomes of a commit, from what is kept of older ones.
-ghost use Rattle.std.specs.Prelude.{◌≡◌, ◌+◌, ◌<◌, ◌≤◌, ℕ, All, Contains, IfOk, IfSome, IfNone, None, OnOk, length, map, is_none};
+ghost use Rattle.std.specs.Prelude.{◌≡◌, ◌+◌, ◌<◌, ◌≤◌, ◌&&◌, ℕ, true, All, Contains, IfOk, IfSome, IfNone, None, OnOk, length, map, is_none};
 ghost use Rattle.std.specs.List.{find, list_all, list_any};
 ghost use Rattle.std.specs.Option.{option_map};
-ghost use Rattle.git_objects.specs.Paths.{same_bytes};
+ghost use Rattle.git_objects.specs.Paths.{is_nil, same_bytes};
+ghost use Rattle.git_objects.specs.Commits.{Letter};
+ghost use Rattle.git_objects.specs.Snapshots.{Snapshot};
+ghost use Rattle.git_objects.specs.declared.kind.Kind.TheVariants.{Tree};
+ghost use Rattle.object_store.specs.Objects.{has};
+ghost use Rattle.object_store.specs.Unfolding.{flat};
 ghost use Rattle.commit_map.specs.Shown.{kept_at, shown_value};
 ghost use Rattle.history_ground.specs.Grounds.{IsGround};
-ghost use Rattle.history_ground.specs.Choosing.{AreKept, IsBelow, IsTest, names_at, parents_at, with_known};
-ghost use Rattle.history_ground.specs.Projections.{is_shown_as, known_at, members};
+ghost use Rattle.history_ground.specs.Choosing.{AreKept, IsBelow, IsChoice, IsTest, leads_at};
+ghost use Rattle.history_ground.specs.Choosing.{names_at, parents_at, with_known};
+ghost use Rattle.history_ground.specs.Projections.{chosen, is_shown_as, known_at, member_or, members, own};
 ghost use Rattle.history_ground.specs.StoredGraphs.{name_at};
 
 use crate::Ground;
 use commit_map::{Rule, Shown};
 use git_objects::Name;
+use object_store::Store;
 use std::alloc::{AllocError, Global};
 
 // Whether a projection leads the others.
@@ -157,7 +164,7 @@ fn leads(ground: &Ground, place: u32, projected: &[Shown], m: &Shown) -> Result<
     requires kept { AreKept ground.now (parents_at ground.now.graph place) }
     requires members { map shown_value projected.now
         ≡ members ground.now.map (names_at ground.now.graph (parents_at ground.now.graph place)) }
-    ensures { IfOk result (IsTest ground.now place (shown_value m.now)) }
+    ensures { IfOk result (IsTest ground.now place (λ ks. leads_at ground.now place ks (shown_value m.now))) }
 {
     let Some(first) = first_shown_as(ground, ground.graph.parents(place), m) else {
         return Ok(Test::Is(false));
@@ -166,5 +173,103 @@ fn leads(ground: &Ground, place: u32, projected: &[Shown], m: &Shown) -> Result<
     match last_lacking(ground, &places) {
         Some(place) => Ok(Test::Lacks(place)),
         None => Ok(Test::Is(are_among(ground, &places, projected))),
+    }
+}
+
+// Whether a projection of a parent of the commit at a place has the tree and leads the others.
+fn has_and_leads(
+    ground: &Ground,
+    place: u32,
+    projected: &[Shown],
+    tree: &Name,
+    m: &Shown,
+) -> Result<Test, AllocError>
+    requires ground { IsGround ground.now }
+    requires place { place < length ground.now.graph }
+    requires kept { AreKept ground.now (parents_at ground.now.graph place) }
+    requires members { map shown_value projected.now
+        ≡ members ground.now.map (names_at ground.now.graph (parents_at ground.now.graph place)) }
+    ensures { IfOk result (IsTest ground.now place (λ ks. same_bytes m.now.tree.0 tree.now.0
+        && leads_at ground.now place ks (shown_value m.now))) }
+{
+    if m.tree != *tree {
+        return Ok(Test::Is(false));
+    }
+    leads(ground, place, projected, m)
+}
+
+// The first of the parents' projections that has the tree and leads the others, for the commit at a place; or a commit of
+// its own.
+fn first_leading(
+    ground: &Ground,
+    place: u32,
+    projected: &[Shown],
+    tree: &Name,
+) -> Result<Choice, AllocError>
+    requires ground { IsGround ground.now }
+    requires place { place < length ground.now.graph }
+    requires kept { AreKept ground.now (parents_at ground.now.graph place) }
+    requires members { map shown_value projected.now
+        ≡ members ground.now.map (names_at ground.now.graph (parents_at ground.now.graph place)) }
+    ensures { (d : Snapshot) → IfOk result (IsChoice ground.now place d
+        (λ ks. member_or (find (λ m. same_bytes m.tree tree.now.0 && leads_at ground.now place ks m) (map shown_value projected.now)) d)) }
+{
+    for m in projected {
+        match has_and_leads(ground, place, projected, tree, m)? {
+            Test::Lacks(below) => return Ok(Choice::Below(below)),
+            Test::Is(true) => return Ok(Choice::Member(*m)),
+            Test::Is(false) => {}
+        }
+    }
+    Ok(Choice::New)
+}
+
+// Whether the tree of that name has no path.
+fn is_empty(store: &Store, tree: &Name) -> bool
+    requires { has Tree store.now tree.now.0 ≡ true }
+    ensures { result ≡ is_nil (flat store.now tree.now.0) }
+{
+    match store.stats(tree) {
+        None => unreachable!(),
+        Some(stats) => stats.files == 0,
+    }
+}
+
+// What becomes of the commit at a place, of which this tree is shown, upon the projections of its parents.
+pub(crate) fn chosen(
+    ground: &Ground,
+    place: u32,
+    projected: &[Shown],
+    tree: &Name,
+) -> Result<Choice, AllocError>
+    requires ground { IsGround ground.now }
+    requires place { place < length ground.now.graph }
+    requires kept { AreKept ground.now (parents_at ground.now.graph place) }
+    requires members { map shown_value projected.now
+        ≡ members ground.now.map (names_at ground.now.graph (parents_at ground.now.graph place)) }
+    requires tree { has Tree ground.now.store tree.now.0 ≡ true }
+    ensures { (letter : Letter) → IfOk result (IsChoice ground.now place
+        (own (flat ground.now.store tree.now.0) letter (map shown_value projected.now))
+        (λ ks. chosen ground.now.rule (leads_at ground.now place ks) (flat ground.now.store tree.now.0) letter (map shown_value projected.now))) }
+{
+    match projected {
+        [] => {
+            if is_empty(&ground.store, tree) {
+                Ok(Choice::Nothing)
+            } else {
+                Ok(Choice::New)
+            }
+        }
+        [m] => {
+            if m.tree == *tree {
+                Ok(Choice::Member(*m))
+            } else {
+                Ok(Choice::New)
+            }
+        }
+        _ => match ground.rule {
+            Rule::One => Ok(Choice::New),
+            Rule::Two => first_leading(ground, place, projected, tree),
+        },
     }
 }
