@@ -1,5 +1,5 @@
 -- A commit of a store.
-use Rattle.std.proofs.Common.{◌≡◌, true, List, [], ◌∷◌, ◌++◌, Option, Some, sym, ap, subst, ◌∙◌}
+use Rattle.std.proofs.Common.{◌≡◌, true, List, Some, None, sym, ap, subst, ◌∙◌, true≢false}
 use Rattle.std.specs.Option.{option_map}
 use Rattle.std.proofs.lemmas.Option.{same_Some}
 use Rattle.git_objects.specs.Paths.{Bytes}
@@ -9,11 +9,12 @@ use Rattle.git_objects.specs.CommitBodies.{commit_from, IsCommitBody}
 use Rattle.git_objects.specs.Snapshots.{Snapshot, snapshot_name}
 use Rattle.git_objects.specs.declared.kind.Kind.TheVariants.{Tree, Commit as CommitKind}
 use Rattle.git_objects.proofs.CommitReading.{commit_law}
-use Rattle.object_store.specs.Objects.{Object, IsStore, has, body_of}
+use Rattle.object_store.specs.Objects.{Object, IsStore, find_named, has, body_of}
 use Rattle.object_store.specs.Unfolding.{flat}
 use Rattle.object_store.specs.StoredSnapshots.{commit_named, snapshot_of}
 use Rattle.object_store.proofs.Held.{body_named, body_bytes}
-use Rattle.object_store.proofs.StoredCommits.{stored-commit}
+use Rattle.object_store.proofs.StoredCommits.{stored-commit, commit-told, commit-read}
+use Rattle.object_store.proofs.Finding.{has-found}
 use Rattle.object_store.proofs.Unfolding.{unfolding_law}
 
 -- a commit that a store holds under a name
@@ -40,3 +41,17 @@ held S n c s h e =
           ∙ ap (name CommitKind) spelled.spelled
           ∙ body_named CommitKind S n h;
     }
+
+-- ---- what the code reads of a name
+
+body-found : (S : List Object) (n : Bytes) (o : Object) → IsStore S → has CommitKind S n ≡ true → Some o ≡ find_named S n → body_of CommitKind S n ≡ o.body
+body-found S n o s h e = commit-told S n o s h e
+
+pub never-none : (S : List Object) (n : Bytes) → IsStore S → has CommitKind S n ≡ true → None ≡ find_named S n → ⊥
+never-none S n s h e = true≢false (sym h ∙ sym (has-found CommitKind S n None s e))
+
+pub never-unread : (S : List Object) (n : Bytes) (o : Object) → IsStore S → has CommitKind S n ≡ true → Some o ≡ find_named S n → None ≡ commit_from o.body → ⊥
+never-unread S n o s h e f = commit-read S n o s h e (sym f)
+
+pub view-held : (S : List Object) (n : Bytes) (o : Object) (c : Commit) → IsStore S → has CommitKind S n ≡ true → Some o ≡ find_named S n → Some c ≡ commit_from o.body → IsHeld S n c
+view-held S n o c s h e f = held S n c s h (ap commit_from (body-found S n o s h e) ∙ sym f)

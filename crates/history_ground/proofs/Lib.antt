@@ -12,3 +12,4 @@ mod Lacks
 mod Leading
 mod Members
 mod Chosen
+mod Bodies

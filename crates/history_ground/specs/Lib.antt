@@ -5,3 +5,5 @@ pub mod Grounds
 pub mod Filled
 pub mod Asked
 pub mod Choosing
+pub mod Made
+pub mod Turns

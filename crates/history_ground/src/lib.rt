@@ -4,7 +4,9 @@
 mod choosing;
 mod ground;
 mod laws;
+mod made;
 mod seeing;
+mod turning;
 
 pub use ground::Ground;
 pub use laws::{history_law, projection_law};
