@@ -66,7 +66,7 @@ module _ {made : Object → Type 0} (S T : List Object) (g : IsGrownBy made S T)
       ∙ ap Some (let tree : flat T w.commit.tree ≡ flat S w.commit.tree = ap (flat T) w.tree ∙ flat-grown S T r.tree g w.tree_held ∙ ap (flat S) (sym w.tree) in λ i. record { tree = tree i; parents = w.commit.parents; letter = w.commit.letter })
       ∙ sym (ap (option_map (snapshot_of S)) w.named)
 
-  older-grown : (rows : List Row) (w : IsGraphIn S rows) (k : ℕ) → k ≤ length rows → graph_of T (take k rows) ≡ graph_of S (take k rows)
+  pub older-grown : (rows : List Row) (w : IsGraphIn S rows) (k : ℕ) → k ≤ length rows → graph_of T (take k rows) ≡ graph_of S (take k rows)
   unfolding graph_of
   older-grown rows w zero l = refl
   older-grown rows w (suc k) l =

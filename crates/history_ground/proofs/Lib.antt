@@ -13,3 +13,4 @@ mod Leading
 mod Members
 mod Chosen
 mod Bodies
+mod TurnLemmas

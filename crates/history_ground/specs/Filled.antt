@@ -8,10 +8,14 @@ use Rattle.commit_map.specs.Shown.{Entries, kept_at}
 use Rattle.commit_map.specs.declared.rule.Rule.{Rule}
 use Rattle.history_ground.specs.Projections.{projection_by}
 
+-- so much for each of the commits that the map lacks
+abbrev pub weighing : ℕ → Entries → Graph → ℕ
+weighing w es [] = 0
+weighing w es (c ∷ cs) = (if is_some (kept_at (snapshot_name c) es) then 0 else w) + weighing w es cs
+
 -- how many of the commits the map lacks
 abbrev pub lacking : Entries → Graph → ℕ
-lacking es [] = 0
-lacking es (c ∷ cs) = (if is_some (kept_at (snapshot_name c) es) then 0 else 1) + lacking es cs
+lacking es cs = weighing 1 es cs
 
 -- The old entries, and behind them one for each of some of the commits that the old ones lack, of that commit and its
 -- ancestors: what it is projected to with the old entries kept.

@@ -6,14 +6,14 @@ use Rattle.git_objects.specs.Commits.{Letter, commit_body}
 use Rattle.git_objects.specs.Names.{name}
 use Rattle.git_objects.specs.declared.kind.Kind.TheVariants.{Commit as CommitKind}
 use Rattle.git_objects.specs.CommitBodies.{commit_from}
-use Rattle.object_store.specs.Unfolding.{StandsFor}
+use Rattle.object_store.specs.Unfolding.{flat, StandsFor}
 use Rattle.filter_text.specs.Filters.{Filter}
 use Rattle.workspace.specs.Workspaces.{shown}
 use Rattle.commit_map.specs.Shown.{Shown, Entries, shown_value}
 use Rattle.commit_map.specs.declared.commit_map.Shown as code
 use Rattle.history_ground.specs.Made.{IsOwnBody}
-use Rattle.history_ground.specs.Projections.{Choice, Nothing, Member, New, choice_of, shown_of}
-use Rattle.history_ground.specs.Choosing.{Agree, commits_before, IsBelow}
+use Rattle.history_ground.specs.Projections.{Choice, Nothing, Member, New, choice_of, chosen, own, shown_of}
+use Rattle.history_ground.specs.Choosing.{Agree, commits_before, IsBelow, leads_at}
 use Rattle.history_ground.specs.declared.ground.Ground.{Ground}
 use Rattle.history_ground.specs.declared.turning.Turn.{Turn}
 use Rattle.history_ground.specs.declared.turning.Turn.TheVariants as turns
@@ -46,6 +46,14 @@ pub record IsNew (f : Filter) (g g' : Ground) (place : ℕ) (c : Snapshot) (s : 
 abbrev pub kept_choice : Option code.Shown → Choice
 kept_choice None = Nothing
 kept_choice (Some m) = Member (shown_value m)
+
+-- what the commit at a place becomes by the tree that is shown of it, and by its parents' projections
+abbrev pub IsTurnUpon : Ground → ℕ → Bytes → Letter → List Shown → Turn → Type 0
+IsTurnUpon g place tree letter ms (turns.Below q) = IsBelow g place q
+IsTurnUpon g place tree letter ms (turns.Kept o) = (ks : Entries) → Agree g.map ks (commits_before g place) → chosen g.rule (leads_at g place ks) (flat g.store tree) letter ms ≡ kept_choice o
+IsTurnUpon g place tree letter ms (turns.New s b) =
+    ((ks : Entries) → Agree g.map ks (commits_before g place) → chosen g.rule (leads_at g place ks) (flat g.store tree) letter ms ≡ New (own (flat g.store tree) letter ms))
+    × IsOwn tree ms letter s b.items
 
 abbrev pub IsTurn : Filter → Ground → Ground → ℕ → Snapshot → Turn → Type 0
 IsTurn f g g' place c (turns.Below q) = IsBelow g place q

@@ -1,16 +1,20 @@
 // One commit of a walk.
-ghost use Rattle.std.specs.Prelude.{◌≡◌, ◌<◌, ◌≤◌, Some, length, map, IfOk, IfErr};
+ghost use Rattle.std.specs.Prelude.{◌≡◌, ◌<◌, ◌≤◌, true, Some, length, map, IfOk, IfErr};
 ghost use Rattle.git_objects.specs.Commits.{Commit as CommitValue};
 ghost use Rattle.git_objects.specs.Snapshots.{Snapshot};
+ghost use Rattle.git_objects.specs.declared.kind.Kind.TheVariants.{Tree};
+ghost use Rattle.object_store.specs.Objects.{has};
 ghost use Rattle.object_store.specs.StoredSnapshots.{commit_named};
 ghost use Rattle.commit_map.specs.Shown.{shown_value};
 ghost use Rattle.filter_text.specs.Shapes.{shape};
 ghost use Rattle.filter_apply.specs.Faults.{IsApplyFault};
 ghost use Rattle.workspace.specs.Laws.{IsUsable};
 ghost use Rattle.history_ground.specs.Asked.{IsAskedFor};
+ghost use Rattle.history_ground.specs.Choosing.{AreKept, names_at, parents_at};
+ghost use Rattle.history_ground.specs.Projections.{members};
 ghost use Rattle.history_ground.specs.Grounds.{Extends, IsGround, IsShownOf, commits_of};
 ghost use Rattle.history_ground.specs.StoredGraphs.{name_at, snapshot_named};
-ghost use Rattle.history_ground.specs.Turns.{IsOwnTurn, IsTurn};
+ghost use Rattle.history_ground.specs.Turns.{IsOwnTurn, IsTurn, IsTurnUpon};
 
 use crate::Ground;
 use crate::choosing::{Choice, chosen, lacking_parent, members};
@@ -55,7 +59,33 @@ fn made(
     Ok(Turn::New { shown, body })
 }
 
-// What becomes of the commit at a place, where a commit that has to be projected first doesn't come before it.
+// What becomes of the commit at a place, of which this tree is shown, upon the projections of its parents.
+fn turn_upon(
+    alloc: Global,
+    ground: &Ground,
+    place: u32,
+    projected: &[Shown],
+    tree: Name,
+) -> Result<Turn, AllocError>
+    requires ground { IsGround ground.now }
+    requires place { place < length ground.now.graph }
+    requires kept { AreKept ground.now (parents_at ground.now.graph place) }
+    requires members { map shown_value projected.now
+        ≡ members ground.now.map (names_at ground.now.graph (parents_at ground.now.graph place)) }
+    requires few { length projected.now ≤ 16 }
+    requires tree { has Tree ground.now.store tree.0 ≡ true }
+    ensures { (c : CommitValue) → commit_named ground.now.store (name_at ground.now.graph place) ≡ Some c →
+        IfOk result (IsTurnUpon ground.now place tree.0 c.letter (map shown_value projected.now)) }
+{
+    match chosen(ground, place, projected, &tree)? {
+        Choice::Below(below) => Ok(Turn::Below(below)),
+        Choice::Nothing => Ok(Turn::Kept(None)),
+        Choice::Member(m) => Ok(Turn::Kept(Some(m))),
+        Choice::New => made(alloc, ground, place, tree, projected),
+    }
+}
+
+// What becomes of the commit at a place, unless another commit has to be projected first.
 pub(crate) fn take_turn(
     alloc: Global,
     ground: &mut Ground,
@@ -80,10 +110,6 @@ pub(crate) fn take_turn(
     let projected = members(alloc, ground, ground.graph.parents(place))?;
     let root = ground.graph.tree(place);
     let tree = seen(alloc, ground, filter, asked, root)?;
-    match chosen(ground, place, &projected, &tree)? {
-        Choice::Below(below) => Ok(Turn::Below(below)),
-        Choice::Nothing => Ok(Turn::Kept(None)),
-        Choice::Member(m) => Ok(Turn::Kept(Some(m))),
-        Choice::New => Ok(made(alloc, ground, place, tree, &projected)?),
-    }
+    let turn = turn_upon(alloc, ground, place, &projected, tree)?;
+    Ok(turn)
 }
