@@ -24,6 +24,7 @@ use Rattle.filter_apply.specs.Hands.{IsShownObject}
 use Rattle.filter_apply.specs.Truth.{IsTrueFor, KeepsOthers}
 use Rattle.filter_apply.specs.declared.fault.ApplyError.{ApplyError}
 use Rattle.filter_apply.specs.declared.fault.ApplyError.TheVariants.{OutOfMemory}
+use Rattle.commit_map.specs.Shown.{Entries}
 use Rattle.workspace.specs.Workspaces.{place, resolve, shown, with_leaf}
 use Rattle.history_ground.specs.Grounds.{IsGround, AreInFront, Extends}
 use Rattle.history_ground.specs.Asked.{IsNone, IsShownBy, IsAskedFor}
@@ -152,3 +153,6 @@ asked-now f g h made a root shown' t e k s = record {
 pub asked-first : (f : Filter) (t : Flat) (g : Ground) (number : ℕ) (ts : List Table) (o : Option Path) → o ≡ place f → false ≡ is_some o → HasAt ts (resolve f t) number → IsAskedFor f (record g { tables = ts }) (record { table = Some number; last = None })
 asked-first f t g number ts (Some p) e n h = absurd (true≢false (sym n))
 asked-first f t g number ts None e n h = record { table = λ u. subst (λ (k : Filter). HasAt ts k number) (same-resolve f t u e) h; last = tt }
+
+pub asked-same : (f : Filter) (g h : Ground) (a : Asked) (es : Entries) → h ≡ record g { map = es } → IsAskedFor f g a → IsAskedFor f h a
+asked-same f g h a es q k = subst (λ (x : Ground). IsAskedFor f x a) (sym q) (record { table = k.table; last = k.last })

@@ -14,3 +14,5 @@ mod Members
 mod Chosen
 mod Bodies
 mod TurnLemmas
+mod Filling
+mod Steps

@@ -7,3 +7,4 @@ pub mod Asked
 pub mod Choosing
 pub mod Made
 pub mod Turns
+pub mod Walks

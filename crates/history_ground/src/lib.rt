@@ -7,6 +7,7 @@ mod laws;
 mod made;
 mod seeing;
 mod turning;
+mod walking;
 
 pub use ground::Ground;
 pub use laws::{history_law, projection_law};

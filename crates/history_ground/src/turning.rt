@@ -27,6 +27,7 @@ use git_objects::{Kind, Name, name_of};
 use std::alloc::{AllocError, Global};
 
 // What a turn of a walk gives.
+#[derive(Drop)]
 pub(crate) enum Turn {
     // The commit at this place has to be projected first.
     Below(u32),
