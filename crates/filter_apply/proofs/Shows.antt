@@ -22,10 +22,10 @@ use Rattle.object_store.proofs.Growth.{grown_self, grown_as, grown_then, stands-
 use Rattle.object_store.proofs.Unfolding.{IsFull, flat_good}
 use Rattle.decision_lists.specs.Entries.{Entry, base, tail, decide, run}
 use Rattle.decision_lists.specs.Cells.{free_in}
-use Rattle.filter_text.specs.Filters.{Filter, has_paths}
+use Rattle.filter_text.specs.Filters.{Filter, has_paths, nop, sub, onto, dir, file, exclude, join, chain, workspace}
 use Rattle.filter_routes.specs.Images.{image}
 use Rattle.filter_routes.specs.Soundness.{IsSound}
-use Rattle.filter_routes.specs.Lists.{IsListOf}
+use Rattle.filter_routes.specs.Lists.{IsListOf, IsOneEntry}
 use Rattle.filter_routes.specs.Lenses.{seen_through}
 use Rattle.filter_routes.specs.Origins.{lens_of, origin}
 use Rattle.filter_routes.proofs.Carried.{same_on_paths}
@@ -42,10 +42,12 @@ use Rattle.path_trees.specs.declared.found.TreeFault.TheVariants.{Collision, Out
 use Rattle.path_trees.proofs.Apart.{rests_full}
 use Rattle.path_trees.proofs.Taken.{taken}
 use Rattle.path_trees.proofs.Together.{together_law}
-use Rattle.path_trees.proofs.Trees.{AreGood}
+use Rattle.path_trees.proofs.Trees.{AreGood, good_fits}
 use Rattle.filter_apply.specs.Faults.{IsApplyFault, fault_of}
 use Rattle.filter_apply.specs.Hands.{parts_in, IsNamedIn, IsPartObject, IsShownObject, IsPlacedObject, IsJoinedObject}
-use Rattle.filter_apply.specs.Parts.{part_of, rests_of}
+use Rattle.filter_apply.specs.Parts.{base_in, part_of, rests_of}
+use Rattle.filter_apply.specs.Truth.{IsPaid}
+use Rattle.object_store.specs.Puts.{of_body}
 use Rattle.filter_apply.specs.Ranges.{between, passed, seen_between, map_of}
 use Rattle.filter_apply.specs.declared.fault.ApplyError.{ApplyError}
 use Rattle.filter_apply.proofs.Cones.{in_cone}
@@ -387,3 +389,19 @@ module _ (f : Filter) (es : List Entry) (list : IsListOf f es) (sound : IsSound 
 
     pub halves_store : (S3 : List Object) → IsGrownBy (IsJoinedObject (map_of S2 a) (map_of S2 b)) S2 S3 → IsGrownBy (IsShownObject f t) S0 S3
     halves_store S3 g = grown_then (IsShownObject f t) S0 S2 S3 both_grown (grown_as (IsJoinedObject (map_of S2 a) (map_of S2 b)) (IsShownObject f t) S2 S3 handed g)
+
+-- ---- steps
+
+pub paid : (f : Filter) (es : List Entry) (old new : ℕ) → IsOneEntry f es → (length es ≡ 1 → new ≤ old + length (base_in (slice_get es 0))) → IsPaid f old new
+paid nop es old new o h = tt
+paid (sub a) es old new o h = subst (λ (ds : List Entry). new ≤ old + length (base_in (slice_get ds 0))) o (h (ap length o))
+paid (onto a) es old new o h = let none = subst (λ (ds : List Entry). new ≤ old + length (base_in (slice_get ds 0))) o (h (ap length o)) in omega arith
+paid (dir a) es old new o h = subst (λ (ds : List Entry). new ≤ old + length (base_in (slice_get ds 0))) o (h (ap length o))
+paid (file a) es old new o h = tt
+paid (exclude f) es old new o h = tt
+paid (join fs) es old new o h = tt
+paid (chain fs) es old new o h = tt
+paid (workspace a) es old new o h = tt
+
+pub empty_fits : (S : List Object) → of_body S Tree [] None ≡ None
+empty_fits S = good_fits S [] (record { entries = tt; held = tt })
