@@ -1,5 +1,5 @@
 -- Memos that stay true.
-use Rattle.std.proofs.Common.{◌≡◌, ℕ, zero, suc, ◌-◌, ◌⊎◌, inl, inr, Bool, true, false, List, [], ◌∷◌, ◌++◌, take, Contains, Option, Some, None, is_some, refl, sym, ap, subst, ◌∙◌, cond, arith, true≢false}
+use Rattle.std.proofs.Common.{◌≡◌, ℕ, zero, suc, ◌-◌, ◌⊎◌, inl, inr, Bool, true, false, List, [], ◌∷◌, ◌++◌, take, Contains, Option, Some, None, is_some, refl, sym, ap, subst, ◌∙◌, cond, arith}
 use Rattle.std.proofs.lemmas.Bool.{eqb-true}
 use Rattle.std.proofs.lemmas.Bool.Decides.{eqb_tells}
 use Rattle.std.proofs.lemmas.Option.{none-some, same_Some}
@@ -7,8 +7,7 @@ use Rattle.std.specs.Cmp.Lexicographic.{bytes_decides}
 use Rattle.std.proofs.lemmas.Bool.{and_parts}
 use Rattle.git_objects.specs.Paths.{Bytes, same_bytes}
 use Rattle.git_objects.specs.declared.kind.Kind.TheVariants.{Tree}
-use Rattle.object_store.specs.Objects.{Object, IsStore, has}
-use Rattle.object_store.specs.Unfolding.{flat}
+use Rattle.object_store.specs.Objects.{Object, IsStore}
 use Rattle.object_store.specs.Growth.{IsGrownBy}
 use Rattle.object_store.proofs.Held.{has-above}
 use Rattle.object_store.proofs.Unfolding.{growing_law}
@@ -19,7 +18,7 @@ use Rattle.filter_routes.specs.Origins.{lens_of}
 use Rattle.filter_routes.specs.TableValues.{Table}
 use Rattle.std.specs.Prelude.{nat_eq}
 use Rattle.filter_cache.specs.Memos.{Key, Memo, same_key, found, without, used, used_for, entered}
-use Rattle.filter_apply.specs.Truth.{IsPaid, IsShownAs, Holds, IsTrueFor, KeepsOthers}
+use Rattle.filter_apply.specs.Truth.{IsPaid, IsShownAs, IsTrueFor, KeepsOthers}
 use Rattle.filter_apply.proofs.Members.{here_or_later, first_in, later_in, none_in}
 
 pub same_or_other : (m n : ℕ) → (m ≡ n) ⊎ (m ≡ n → ⊥)

@@ -60,9 +60,7 @@ fn without<L: Ledger>(
     ensures store { IsGrownBy (IsPartObject (flat store.old root.0)) store.old store.new }
 {
     match found_at(store, root, rest, steps) {
-        Some(found) if found.mode.is_dir() != point => {
-            removed(alloc, store, root, rest)
-        }
+        Some(found) if found.mode.is_dir() != point => { removed(alloc, store, root, rest) }
         _ => Ok(root),
     }
 }

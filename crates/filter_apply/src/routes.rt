@@ -43,7 +43,15 @@ fn shown_by<L: Ledger>(
     let entry = &entries[route];
     match &entry.target {
         None => Ok(None),
-        Some(target) => match part(alloc, store, entries, route, root, entry.base.as_slice(), steps)? {
+        Some(target) => match part(
+            alloc,
+            store,
+            entries,
+            route,
+            root,
+            entry.base.as_slice(),
+            steps,
+        )? {
             None => Ok(None),
             Some(found) => Ok(Some(placed(alloc, store, target.as_slice(), found)?)),
         },

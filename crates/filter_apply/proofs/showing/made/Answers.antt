@@ -1,8 +1,6 @@
-use Rattle.std.proofs.Common.{◌≡◌, ◌∙◌, [], Option, sym, ap, subst}
-use Rattle.git_objects.specs.Trees.{Flat}
+use Rattle.std.proofs.Common.{◌≡◌, [], sym, subst}
 use Rattle.git_objects.specs.Names.{name}
 use Rattle.git_objects.specs.Paths.{Bytes}
-use Rattle.git_objects.specs.declared.name.Name.{Name}
 use Rattle.git_objects.specs.declared.kind.Kind.TheVariants.{Tree}
 use Rattle.object_store.specs.Unfolding.{flat, StandsFor}
 use Rattle.path_trees.specs.Levels.{IsDirectory}

@@ -1,8 +1,7 @@
-use Rattle.std.proofs.Common.{◌≡◌, ◌∙◌, sym, ap, subst, arith}
-use Rattle.git_objects.specs.Paths.{Bytes}
+use Rattle.std.proofs.Common.{sym, subst}
 use Rattle.git_objects.specs.Trees.{Flat}
 use Rattle.git_objects.specs.declared.kind.Kind.TheVariants.{Tree}
-use Rattle.object_store.specs.Unfolding.{flat, StandsFor}
+use Rattle.object_store.specs.Unfolding.{StandsFor}
 use Rattle.object_store.proofs.Growth.{has-grown, flat-grown}
 use Rattle.filter_text.specs.Shapes.{shape}
 use Rattle.filter_routes.specs.Lenses.{seen_through}

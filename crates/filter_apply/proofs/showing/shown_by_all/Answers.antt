@@ -1,15 +1,11 @@
-use Rattle.std.proofs.Common.{◌≡◌, ◌∙◌, ℕ, ◌+◌, ◌≤◌, length, slice_get, IfOk, sym, ap, subst, arith, List}
-use Rattle.git_objects.specs.declared.kind.Kind.TheVariants.{Tree}
+use Rattle.std.proofs.Common.{◌≡◌, ◌∙◌, length, IfOk, sym, ap, subst, arith, List}
 use Rattle.git_objects.specs.Trees.{Flat}
 use Rattle.object_store.specs.Unfolding.{flat}
 use Rattle.object_store.proofs.Unfolding.{flat_good}
 use Rattle.path_trees.specs.Levels.{IsDirectory}
 use Rattle.decision_lists.specs.Entries.{Entry}
 use Rattle.filter_text.specs.Shapes.{shape}
-use Rattle.filter_routes.specs.Lenses.{seen_through}
-use Rattle.filter_routes.specs.Origins.{lens_of}
 use Rattle.filter_apply.specs.Ranges.{seen_between}
-use Rattle.filter_apply.specs.Parts.{base_in}
 use Rattle.filter_apply.proofs.Shows.{all_seen, none_seen, paid}
 use Rattle.filter_apply.proofs.showing.shown_by_all.Goals as goal
 
