@@ -34,7 +34,8 @@ fn shown_by_all<L: Ledger>(
     requires root { has Tree store.old root.0 ≡ true }
     ensures ok { IfOk result (IsDirectory store.new
         (seen_through (lens_of (shape table.now.filter)) (flat store.old root.0))) }
-    ensures err { IfErr result (IsApplyFault (IsShownObject (shape table.now.filter) (flat store.old root.0)) store.new) }
+    ensures err { IfErr result (IsApplyFault
+        (IsShownObject (shape table.now.filter) (flat store.old root.0)) store.new) }
     ensures store { IsGrownBy (IsShownObject (shape table.now.filter) (flat store.old root.0)) store.old store.new }
     ensures few { IsPaid (shape table.now.filter) steps.old steps.new }
 {
@@ -58,7 +59,8 @@ fn made<L: Ledger>(
     requires root { has Tree store.old root.0 ≡ true }
     ensures ok { IfOk result (λ n. StandsFor store.new n.0
         (seen_through (lens_of (shape table.now.filter)) (flat store.old root.0))) }
-    ensures err { IfErr result (IsApplyFault (IsShownObject (shape table.now.filter) (flat store.old root.0)) store.new) }
+    ensures err { IfErr result (IsApplyFault
+        (IsShownObject (shape table.now.filter) (flat store.old root.0)) store.new) }
     ensures store { IsGrownBy (IsShownObject (shape table.now.filter) (flat store.old root.0)) store.old store.new }
     ensures few { IsPaid (shape table.now.filter) steps.old steps.new }
 {
@@ -69,8 +71,8 @@ fn made<L: Ledger>(
 }
 
 /// The tree that the table shows of the tree `root`. The memo is asked before anything is read, and then has the pair.
-/// A table's number `id` is its own among all tables that the memo is used with. A step is one body of a directory that
-/// is looked up on the way to what an entry shows or leaves out; what edits and joins read is not counted.
+/// A table's number `id` is its own among all tables that the memo is used with. A step is one body of a directory
+/// that is looked up on the way to what an entry shows or leaves out; what edits and joins read is not counted.
 pub fn shown<L: Ledger>(
     alloc: Global,
     store: &mut Store,
@@ -84,7 +86,8 @@ pub fn shown<L: Ledger>(
     requires memo { IsTrueFor store.old table.now id memo.old }
     ensures ok { IfOk result (λ n. StandsFor store.new n.0
         (seen_through (lens_of (shape table.now.filter)) (flat store.old root.0))) }
-    ensures err { IfErr result (IsApplyFault (IsShownObject (shape table.now.filter) (flat store.old root.0)) store.new) }
+    ensures err { IfErr result (IsApplyFault
+        (IsShownObject (shape table.now.filter) (flat store.old root.0)) store.new) }
     ensures store { IsGrownBy (IsShownObject (shape table.now.filter) (flat store.old root.0)) store.old store.new }
     ensures true_now { IsTrueFor store.new table.now id memo.new }
     ensures others { KeepsOthers id memo.old memo.new }
