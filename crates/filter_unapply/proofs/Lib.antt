@@ -16,3 +16,5 @@ mod PartLists
 mod Leasts
 mod PathOrders
 mod BlockSteps
+mod HandTrees
+mod Lays
