@@ -45,6 +45,8 @@ use Rattle.filter_unapply.proofs.Firsts.{blocked-some, first-at, first-passes}
 use Rattle.filter_unapply.proofs.HandTrees.{IsKnown}
 use Rattle.filter_unapply.proofs.HiddenLeaves.{at-hidden}
 use Rattle.filter_unapply.proofs.Lawful.{at-image, at-kept, free, pre-paths, pre-sorted}
+use Rattle.filter_unapply.proofs.Fittings.{sifted-within}
+use Rattle.filter_unapply.proofs.PartLists.{or-parts}
 use Rattle.filter_unapply.proofs.Told.{is_tree}
 
 -- ---- lists
@@ -262,3 +264,12 @@ module _ (f : Filter) (v : has_paths f ≡ true) (s : IsSound f) (es : List Entr
                   let w = first-passes (is_other d.0) u r.0 r.1 in
                   let z = some-of (at u r.0) w.0 in
                   not-less-first d.0 r.0 (least.1 d.0 r.0 (test-block d.0 r.0 (u-path d.0 d.1 g) (u-path r.0 z.0 z.1) (ap is_some g) i w.0 w.1))
+
+    -- what the tree and the parts have is known
+    pub among-both : (S : List Object) (k : Name) (ns : List Name) → ((p : Path) → at (flat S k.0) p ≡ at (sifted false es t) p) → ((p : Path) → any_at S ns p ≡ taken (cells [] es) n p) →
+        (p : Path) (x : Leaf) → with_parts S k ns p ≡ Some x → IsOfBoth es t n p x
+    among-both S k ns hk hp p x e = by (or-parts (at (flat S k.0) p) (any_at S ns p) x e)
+      where
+        by : (at (flat S k.0) p ≡ Some x) ⊎ (any_at S ns p ≡ Some x) → IsOfBoth es t n p x
+        by (inl g) = inl (sifted-within false es t p x (sym (hk p) ∙ g))
+        by (inr g) = inr (inr (sym (hp p) ∙ g))

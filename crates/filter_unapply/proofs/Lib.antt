@@ -18,3 +18,4 @@ mod PathOrders
 mod BlockSteps
 mod HandTrees
 mod Lays
+mod Nears
