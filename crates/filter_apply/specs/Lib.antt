@@ -1,0 +1,6 @@
+pub mod Parts
+pub mod Ranges
+pub mod Hands
+pub mod Truth
+pub mod Faults
+pub mod Examples
