@@ -14,3 +14,4 @@ pub mod KeptRead
 pub mod KeptHeld
 pub mod ItemSteps
 pub mod Gathering
+pub mod ChangeLengths

@@ -8,8 +8,10 @@ mod kept_fields;
 mod objects;
 mod reading;
 mod ref_fields;
+mod writing;
 
 pub use commit_map::Rule;
 pub use fault::ItemFault;
 pub use kept::KeptMaps;
 pub use reading::{Loaded, Reading};
+pub use writing::{change_item, change_size, count_commits, first_passed, kept_item, rule_item};
