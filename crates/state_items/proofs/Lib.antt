@@ -33,3 +33,4 @@ pub mod KeptRead
 pub mod KeptHeld
 pub mod ItemSteps
 pub mod Gathering
+pub mod ChangeLengths

@@ -14,3 +14,4 @@ pub mod KeptMaps
 pub mod Steps
 pub mod Readings
 pub mod Lending
+pub mod Writings
