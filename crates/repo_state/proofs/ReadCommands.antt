@@ -7,7 +7,7 @@ use Rattle.std.specs.List.{list_all, starts_with}
 use Rattle.std.specs.Option.{option_map}
 use Rattle.std.proofs.lemmas.List.{length-take-le}
 use Rattle.std.proofs.lemmas.List.Elements.{All-cons, All-nil}
-use Rattle.git_objects.specs.Paths.{Bytes, Path, is_bytes, is_component, is_nil, is_path, same_bytes}
+use Rattle.git_objects.specs.Paths.{Bytes, Path, is_component, is_nil, is_path, same_bytes}
 use Rattle.git_objects.specs.Idents.{cut_at, is_ident}
 use Rattle.git_objects.specs.Bodies.{is_name}
 use Rattle.git_objects.specs.CommitBodies.{digits_name, strip}
@@ -59,6 +59,7 @@ use Rattle.fast_import.specs.declared.progress.Event.TheVariants.{Gives, Skips, 
 use Rattle.fast_import.specs.declared.progress.Phase.{Phase}
 use Rattle.fast_import.specs.declared.progress.Phase.TheVariants.{Between, InCommit, Finished}
 use Rattle.fast_import.specs.declared.progress.Progress.{Progress}
+use Rattle.state_items.proofs.ByteLists.{AreBytes, drop-bytes, take-bytes}
 use Rattle.repo_state.specs.SoundCommands.{IsSoundBlob, IsSoundChange}
 use Rattle.repo_state.specs.SmallCommands.{IsRead, IsShortPath, IsSmallBlob, IsSmallChange, ReaderLaw}
 
@@ -82,19 +83,6 @@ value_if P true x y h g = h refl
 value_if P false x y h g = g refl
 
 -- ---- bytes
-
-abbrev AreBytes : Bytes → Type 0
-AreBytes b = is_bytes b ≡ true
-
-take-bytes : (n : ℕ) (b : Bytes) → AreBytes b → AreBytes (take n b)
-take-bytes zero b h = refl
-take-bytes (suc n) [] h = refl
-take-bytes (suc n) (x ∷ b) h = and_both (first_so _ _ h) (take-bytes n b (second_so (nat_lt x 256) _ h))
-
-drop-bytes : (n : ℕ) (b : Bytes) → AreBytes b → AreBytes (drop n b)
-drop-bytes zero b h = h
-drop-bytes (suc n) [] h = refl
-drop-bytes (suc n) (x ∷ b) h = drop-bytes n b (second_so (nat_lt x 256) _ h)
 
 abbrev IfBytes : Option Bytes → Type 0
 IfBytes None = Unit {0}

@@ -18,3 +18,4 @@ pub mod SoundCommands
 pub mod SmallCommands
 pub mod Replayed
 pub mod MadeObjects
+pub mod SmallReplays
