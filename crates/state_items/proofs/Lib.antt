@@ -17,3 +17,4 @@ pub mod Appended
 pub mod Kepts
 pub mod TreeParts
 pub mod InHand
+pub mod TreesStored

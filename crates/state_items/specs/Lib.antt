@@ -7,4 +7,5 @@ pub mod Imported
 pub mod ReadHeld
 pub mod KeptLaws
 pub mod Hands
+pub mod Stored
 pub mod Examples
