@@ -16,5 +16,7 @@ pub mod ItemReads
 pub mod Appended
 pub mod Kepts
 pub mod TreeParts
+pub mod Twices
 pub mod InHand
 pub mod TreesStored
+pub mod Canonicals

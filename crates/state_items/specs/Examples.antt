@@ -27,6 +27,8 @@ use Rattle.sha1.specs.Sha1.{sha1, first_words, schedule, rounds, compress, hash_
 use Rattle.state_items.specs.Fields.{BrokenAt}
 use Rattle.state_items.specs.Items.{Held, change_text, is_canonical, kept_text, nothing, read_item, read_items, rule_text}
 use Rattle.state_items.specs.Repos.{are_used, repo}
+use Rattle.state_items.specs.Appending.{are_refs}
+use Rattle.state_items.specs.Imported.{with_blobs, with_commits}
 use Rattle.state_items.specs.Changes.{ChangePlan, KeepPlan, NoPlan, RulePlan, blob_object, change_plan, fresh, held_after, moved, objects_of, passed, plan_items, rule_plan}
 
 abbrev ident : Bytes
@@ -185,6 +187,29 @@ nothing_beside_it = refl
 
 pub a_lone_tree_is_beside_it : are_used (record { kind = Tree; body = [] } ∷ []) ≡ false
 a_lone_tree_is_beside_it = refl
+
+-- ---- what is brought
+
+-- each blob once, those that come in front of those before
+pub blobs_once : with_blobs (codes "a" ∷ []) (codes "b" ∷ codes "a" ∷ codes "b" ∷ []) ≡ codes "b" ∷ codes "a" ∷ []
+blobs_once = refl
+
+pub a_commit_once : with_commits (first ∷ []) (first ∷ []) ≡ first ∷ []
+unfolding commit_body commit_name encode_with body line name digits first_words schedule rounds compress hash_after digest_bytes sha1
+a_commit_once = refl
+
+-- refs rise, and name commits that are held
+pub refs_that_rise : are_refs held.objects None ((codes "refs/heads/a", snapshot_name first) ∷ (codes "refs/heads/b", snapshot_name first) ∷ []) ≡ true
+unfolding has is_ref_name commit_body commit_name encode_with body line name digits first_words schedule rounds compress hash_after digest_bytes sha1
+refs_that_rise = refl
+
+pub refs_that_fall : are_refs held.objects None ((codes "refs/heads/b", snapshot_name first) ∷ (codes "refs/heads/a", snapshot_name first) ∷ []) ≡ false
+unfolding has is_ref_name commit_body commit_name encode_with body line name digits first_words schedule rounds compress hash_after digest_bytes sha1
+refs_that_fall = refl
+
+pub a_ref_to_nothing : are_refs [] None ((main, snapshot_name first) ∷ []) ≡ false
+unfolding has is_ref_name
+a_ref_to_nothing = refl
 
 -- ---- texts of filters
 

@@ -8,4 +8,5 @@ pub mod ReadHeld
 pub mod KeptLaws
 pub mod Hands
 pub mod Stored
+pub mod Canonical
 pub mod Examples

@@ -1,5 +1,6 @@
 // Laws of the definitions.
 ghost use Rattle.state_items.specs.Appending.{AppendLaw};
+ghost use Rattle.state_items.specs.Canonical.{CanonicalLaw};
 ghost use Rattle.state_items.specs.Hands.{HandLaw};
 ghost use Rattle.state_items.specs.Imported.{ChangeLaw, ImportedLaw};
 ghost use Rattle.state_items.specs.KeptLaws.{KeptLaw, Projecting};
@@ -39,4 +40,9 @@ pub fn read_law()
 /// A store that has blobs and commits has each object that they bring, and no two of these have one name.
 pub fn stored_law()
     ensures { StoredLaw }
+{}
+
+/// A canonical text is that of a sound filter, and a sound filter is printed as its canonical text.
+pub fn canonical_law()
+    ensures { CanonicalLaw }
 {}
