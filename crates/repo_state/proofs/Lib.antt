@@ -32,3 +32,4 @@ pub mod Making
 pub mod SmallEdits
 pub mod SmallReplaying
 pub mod StreamsKept
+pub mod StoredReplaying

@@ -30,8 +30,9 @@ use Rattle.state_items.proofs.InHand.{any-member, known-held}
 use Rattle.state_items.proofs.ReadObjects.{ok-same, value-of}
 use Rattle.state_items.proofs.TreeParts.{all-each, each-map, each-member, tree-each}
 use Rattle.state_items.proofs.TreesHeld.{each-both}
+use Rattle.state_items.proofs.Twices.{clash-twice}
 use Rattle.repo_state.specs.Bases.{base_of}
-use Rattle.repo_state.specs.MadeObjects.{IsHeldOrMade, MadeLaw}
+use Rattle.repo_state.specs.MadeObjects.{ClashLaw, IsHeldOrMade, MadeLaw}
 use Rattle.repo_state.specs.Replayed.{end_of}
 use Rattle.repo_state.specs.SoundCommands.{IsSound}
 use Rattle.repo_state.proofs.Replaying.{refuse-value, replayed-law}
@@ -144,3 +145,6 @@ module _ (h : Held) (ps : List Placed) (end : Option StreamFault) (s : IsStore h
 
 pub made-law : MadeLaw
 made-law h ps end s v o m = All-contains (IsHeldOrMade h ps) _ o (all-each (IsHeldOrMade h ps) _ (all-hand h ps end s v)) m
+
+pub clash-law : ClashLaw
+clash-law h ps S n g c = clash-twice (IsMadeBy (base_of h) nothing_yet ps) h.objects S n g c

@@ -6,6 +6,8 @@ use Rattle.state_items.specs.Changes.{objects_of}
 use Rattle.state_items.specs.Imported.{AreApart}
 use Rattle.state_items.specs.KeptLaws.{Projecting}
 use Rattle.state_items.proofs.ReadEntries.{read-law}
+use Rattle.state_items.proofs.Twices.{once-same}
+use Rattle.repo_state.specs.MadeObjects.{IsHeldOrMade}
 use Rattle.repo_state.specs.Replayed.{end_of}
 use Rattle.repo_state.specs.SmallCommands.{IsRead, IsSmall}
 use Rattle.repo_state.specs.SmallReplays.{StreamKeptLaw}
@@ -28,5 +30,5 @@ stream-kept-law project items h input stay w s bytes apart f =
     let r = end_of h ps end in
     let given = reader-law start input bytes in
     let sound = all-sound ps given in
-    let once : AreApart (h.objects ++ objects_of r.blobs r.commits) = λ o d m n e. apart o d (made-law h ps end s sound o m) (made-law h ps end s sound d n) e in
+    let once : AreApart (h.objects ++ objects_of r.blobs r.commits) = λ o d m n e. once-same (IsHeldOrMade h ps) apart o d (made-law h ps end s sound o m) (made-law h ps end s sound d n) e in
     import-kept-law project items h ps end stay w s sound once (small-law h ps end (read-law.sound items h w.spelled).trees (all-small ps given)) f

@@ -19,3 +19,4 @@ pub mod SmallCommands
 pub mod Replayed
 pub mod MadeObjects
 pub mod SmallReplays
+pub mod StoredReplays

@@ -3,7 +3,7 @@ use Rattle.std.specs.Prelude.{◌≡◌, true, List, All, Option, None}
 use Rattle.std.specs.List.{list_all}
 use Rattle.git_objects.specs.Paths.{Bytes, is_bytes}
 use Rattle.object_store.specs.Fits.{tree_fits}
-use Rattle.object_store.specs.Objects.{Object, IsStore, object_name}
+use Rattle.object_store.specs.Objects.{IsStore}
 use Rattle.fast_import.specs.Replays.{Replay, heads_of, ran}
 use Rattle.fast_import.specs.Verdicts.{start, verdict}
 use Rattle.fast_import.specs.declared.command.Placed.{Placed}
@@ -11,6 +11,7 @@ use Rattle.fast_import.specs.declared.fault.StreamFault.{StreamFault}
 use Rattle.state_items.specs.Items.{Held}
 use Rattle.state_items.specs.Repos.{IsKept, repo}
 use Rattle.state_items.specs.Changes.{Plan, change_plan, objects_of, passed, room_of}
+use Rattle.state_items.specs.Hands.{IsTwice}
 use Rattle.state_items.specs.Imported.{AreSmall}
 use Rattle.state_items.specs.KeptLaws.{IsKeptAfter, Projecting, StayLaw}
 use Rattle.repo_state.specs.Bases.{base_of}
@@ -32,7 +33,7 @@ stream_plan h input = change_plan h (objects_of (given_upon h input).blobs (give
 
 -- no two objects that are held or that the stream brings have one name
 abbrev pub IsApartUpon : Held → Bytes → Type 0
-IsApartUpon h input = (o d : Object) → IsHeldOrMade h (verdict start input).commands o → IsHeldOrMade h (verdict start input).commands d → object_name o ≡ object_name d → o ≡ d
+IsApartUpon h input = (n : Bytes) → IsTwice (IsHeldOrMade h (verdict start input).commands) n → ⊥
 
 -- A stream of bytes keeps items Kept, where no two objects have one name and the state passes no limit.
 abbrev pub StreamKeptLaw : Projecting → Type 0

@@ -1,9 +1,10 @@
 // Laws of what a stream brings.
 ghost use Rattle.state_items.specs.KeptLaws.{Projecting};
-ghost use Rattle.repo_state.specs.MadeObjects.{MadeLaw};
+ghost use Rattle.repo_state.specs.MadeObjects.{ClashLaw, MadeLaw};
 ghost use Rattle.repo_state.specs.Replayed.{ImportKeptLaw, ReplayedLaw};
 ghost use Rattle.repo_state.specs.SmallCommands.{ReaderLaw};
 ghost use Rattle.repo_state.specs.SmallReplays.{SmallLaw, StreamKeptLaw};
+ghost use Rattle.repo_state.specs.StoredReplays.{StoredReplayLaw};
 
 /// A replay of sound commands gives whole commits of known blobs, and refs to commits that are there.
 pub fn replayed_law()
@@ -33,4 +34,14 @@ pub fn small_law()
 /// A stream of bytes keeps items Kept, where no two objects have one name and the state passes no limit.
 pub fn stream_kept_law()
     ensures { (project : Projecting) → StreamKeptLaw project }
+{}
+
+/// A clash in a store that a stream has filled is of two objects that are held or that its commands bring.
+pub fn clash_law()
+    ensures { ClashLaw }
+{}
+
+/// A store has what the code's names stand for over it.
+pub fn stored_replay_law()
+    ensures { StoredReplayLaw }
 {}
