@@ -15,12 +15,12 @@ use Rattle.object_store.specs.StoredSnapshots.{snapshot_object}
 use Rattle.object_store.specs.TreeObjects.{leaf_objects, tree_objects}
 use Rattle.fast_import.specs.Made.{IsMadeAt, IsMadeBy, IsMadeOf, IsMadeOn, blob_object, tree_object}
 use Rattle.fast_import.specs.Replays.{Base, BlobMark, CommitMark, Draft, Marked, Replay, begun, commit_of, committed, command_step, edited, first_parent, gone_on, inline_blob, nothing_yet, ran_by, said, step, with_branch, with_mark, with_merges}
-use Rattle.fast_import.specs.declared.command.Command.{Command}
-use Rattle.fast_import.specs.declared.command.Command.TheVariants as commands
-use Rattle.fast_import.specs.declared.command.CommitHead.{CommitHead}
-use Rattle.fast_import.specs.declared.command.Placed.{Placed}
-use Rattle.fast_import.specs.declared.fault.StreamFault.{StreamFault}
-use Rattle.fast_import.specs.declared.fault.StreamFault.TheVariants.{Syntax}
+use Rattle.stream_reader.specs.declared.command.Command.{Command}
+use Rattle.stream_reader.specs.declared.command.Command.TheVariants as commands
+use Rattle.stream_reader.specs.declared.command.CommitHead.{CommitHead}
+use Rattle.stream_reader.specs.declared.command.Placed.{Placed}
+use Rattle.stream_reader.specs.declared.fault.StreamFault.{StreamFault}
+use Rattle.stream_reader.specs.declared.fault.StreamFault.TheVariants.{Syntax}
 use Rattle.state_items.specs.Items.{Held}
 use Rattle.state_items.specs.Repos.{repo}
 use Rattle.state_items.specs.Changes.{commit_objects, objects_of}

@@ -29,17 +29,17 @@ use Rattle.git_objects.proofs.Pointwise.{IsNode, from-T, leaf_at, put-tree, remo
 use Rattle.git_objects.proofs.Under.{under-tree}
 use Rattle.path_names.specs.RefNames.{is_ref_name}
 use Rattle.object_store.specs.Objects.{IsStore}
-use Rattle.fast_import.specs.declared.command.Command.{Command}
-use Rattle.fast_import.specs.declared.command.Command.TheVariants as commands
-use Rattle.fast_import.specs.declared.command.CommitHead.{CommitHead}
-use Rattle.fast_import.specs.declared.command.Change.{Change}
-use Rattle.fast_import.specs.declared.command.Change.TheVariants as changes
-use Rattle.fast_import.specs.declared.command.BlobRef.{BlobRef}
-use Rattle.fast_import.specs.declared.command.BlobRef.TheVariants as blobs
-use Rattle.fast_import.specs.declared.command.Placed.{Placed}
-use Rattle.fast_import.specs.declared.commit_ref.CommitRef.{CommitRef}
-use Rattle.fast_import.specs.declared.fault.StreamFault.{StreamFault}
-use Rattle.fast_import.specs.declared.fault.StreamFault.TheVariants.{Syntax, Unresolved, NoSource, Limit}
+use Rattle.stream_reader.specs.declared.command.Command.{Command}
+use Rattle.stream_reader.specs.declared.command.Command.TheVariants as commands
+use Rattle.stream_reader.specs.declared.command.CommitHead.{CommitHead}
+use Rattle.stream_reader.specs.declared.command.Change.{Change}
+use Rattle.stream_reader.specs.declared.command.Change.TheVariants as changes
+use Rattle.stream_reader.specs.declared.command.BlobRef.{BlobRef}
+use Rattle.stream_reader.specs.declared.command.BlobRef.TheVariants as blobs
+use Rattle.stream_reader.specs.declared.command.Placed.{Placed}
+use Rattle.stream_reader.specs.declared.commit_ref.CommitRef.{CommitRef}
+use Rattle.stream_reader.specs.declared.fault.StreamFault.{StreamFault}
+use Rattle.stream_reader.specs.declared.fault.StreamFault.TheVariants.{Syntax, Unresolved, NoSource, Limit}
 use Rattle.git_objects.specs.declared.quantity.Quantity.TheVariants.{Files, Parents}
 use Rattle.git_objects.specs.Refs.{bytes_cmp}
 use Rattle.git_objects.specs.Snapshots.{Snapshot, snapshot_commit, snapshot_name}

@@ -19,8 +19,8 @@ use Rattle.git_objects.proofs.Basics.{and_both}
 use Rattle.object_store.specs.Fits.{tree_fits}
 use Rattle.object_store.specs.Sizes.{longest}
 use Rattle.fast_import.specs.Replays.{few_files, within_paths}
-use Rattle.fast_import.specs.declared.fault.StreamFault.{StreamFault}
-use Rattle.fast_import.specs.declared.fault.StreamFault.TheVariants.{Limit}
+use Rattle.stream_reader.specs.declared.fault.StreamFault.{StreamFault}
+use Rattle.stream_reader.specs.declared.fault.StreamFault.TheVariants.{Limit}
 use Rattle.state_items.proofs.ReadObjects.{must-hold, ok-same}
 use Rattle.repo_state.specs.SmallCommands.{IsShortPath}
 

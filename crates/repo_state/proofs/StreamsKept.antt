@@ -1,7 +1,7 @@
 -- Items stay Kept behind a stream of bytes.
 use Rattle.std.proofs.Common.{List, ◌++◌, All}
-use Rattle.fast_import.specs.Verdicts.{start, verdict}
-use Rattle.fast_import.specs.declared.command.Placed.{Placed}
+use Rattle.stream_reader.specs.Verdicts.{start, verdict}
+use Rattle.stream_reader.specs.declared.command.Placed.{Placed}
 use Rattle.state_items.specs.Changes.{objects_of}
 use Rattle.state_items.specs.Imported.{AreApart}
 use Rattle.state_items.specs.KeptLaws.{Projecting}

@@ -5,8 +5,8 @@ use Rattle.object_store.specs.Growth.{IsClash, IsGrownBy}
 use Rattle.object_store.specs.Objects.{Object, IsStore}
 use Rattle.fast_import.specs.Made.{IsMadeBy}
 use Rattle.fast_import.specs.Replays.{nothing_yet}
-use Rattle.fast_import.specs.declared.command.Placed.{Placed}
-use Rattle.fast_import.specs.declared.fault.StreamFault.{StreamFault}
+use Rattle.stream_reader.specs.declared.command.Placed.{Placed}
+use Rattle.stream_reader.specs.declared.fault.StreamFault.{StreamFault}
 use Rattle.state_items.specs.Items.{Held}
 use Rattle.state_items.specs.Changes.{objects_of}
 use Rattle.state_items.specs.Hands.{IsTwice}

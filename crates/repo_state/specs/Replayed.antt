@@ -3,8 +3,8 @@ use Rattle.std.specs.Prelude.{◌≡◌, true, List, ◌++◌, All, Option, None
 use Rattle.std.specs.List.{list_all}
 use Rattle.git_objects.specs.Paths.{Bytes, is_bytes}
 use Rattle.object_store.specs.Objects.{IsStore}
-use Rattle.fast_import.specs.declared.command.Placed.{Placed}
-use Rattle.fast_import.specs.declared.fault.StreamFault.{StreamFault}
+use Rattle.stream_reader.specs.declared.command.Placed.{Placed}
+use Rattle.stream_reader.specs.declared.fault.StreamFault.{StreamFault}
 use Rattle.fast_import.specs.Replays.{Replay, heads_of, nothing_yet, ran_by, step}
 use Rattle.state_items.specs.Items.{Held}
 use Rattle.state_items.specs.Repos.{IsKept, repo}

@@ -5,9 +5,9 @@ use Rattle.git_objects.specs.Paths.{Bytes, is_bytes}
 use Rattle.object_store.specs.Fits.{tree_fits}
 use Rattle.object_store.specs.Objects.{IsStore}
 use Rattle.fast_import.specs.Replays.{Replay, heads_of, ran}
-use Rattle.fast_import.specs.Verdicts.{start, verdict}
-use Rattle.fast_import.specs.declared.command.Placed.{Placed}
-use Rattle.fast_import.specs.declared.fault.StreamFault.{StreamFault}
+use Rattle.stream_reader.specs.Verdicts.{start, verdict}
+use Rattle.stream_reader.specs.declared.command.Placed.{Placed}
+use Rattle.stream_reader.specs.declared.fault.StreamFault.{StreamFault}
 use Rattle.state_items.specs.Items.{Held}
 use Rattle.state_items.specs.Repos.{IsKept, repo}
 use Rattle.state_items.specs.Changes.{Plan, change_plan, objects_of, passed, room_of}
