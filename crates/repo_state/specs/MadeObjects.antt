@@ -21,8 +21,11 @@ IsHeldOrMade h ps o = Contains h.objects o ⊎ IsMadeBy (base_of h) nothing_yet 
 -- The objects of the blobs and commits that sound commands give, wherever the stream stops.
 abbrev pub MadeLaw : Type 0
 MadeLaw = (h : Held) (ps : List Placed) (end : Option StreamFault) → IsStore h.objects → All (λ p. IsSound p.command) ps
-    → (o : Object) → Contains (h.objects ++ objects_of (end_of h ps end).blobs (end_of h ps end).commits) o → IsHeldOrMade h ps o
+    → (o : Object) → Contains (h.objects ++ objects_of (end_of h ps end).blobs (end_of h ps end).commits) o
+    → IsHeldOrMade h ps o
 
 -- A clash in a store that had what is held, and has grown by what the commands bring, is of two such objects.
 abbrev pub ClashLaw : Type 0
-ClashLaw = (h : Held) (ps : List Placed) (S : List Object) (n : Bytes) → IsGrownBy (IsMadeBy (base_of h) nothing_yet ps) h.objects S → IsClash (IsMadeBy (base_of h) nothing_yet ps) S n → IsTwice (IsHeldOrMade h ps) n
+ClashLaw = (h : Held) (ps : List Placed) (S : List Object) (n : Bytes)
+    → IsGrownBy (IsMadeBy (base_of h) nothing_yet ps) h.objects S → IsClash (IsMadeBy (base_of h) nothing_yet ps) S n
+    → IsTwice (IsHeldOrMade h ps) n

@@ -47,4 +47,5 @@ pub record IsRead (c : Command) : Type 0 where
 
 -- Each command that a stream of bytes spells, up to its first fault or to its end.
 abbrev pub ReaderLaw : Type 0
-ReaderLaw = (p : Progress) (input : Bytes) → is_bytes input ≡ true → All (λ c. IsRead c.command) (verdict p input).commands
+ReaderLaw = (p : Progress) (input : Bytes) → is_bytes input ≡ true
+    → All (λ c. IsRead c.command) (verdict p input).commands

@@ -11,5 +11,6 @@ use Rattle.state_items.specs.Stored.{IsStoredIn}
 
 -- Where a store has what is held, and names of the code stand for these blobs and commits over it.
 abbrev pub StoredReplayLaw : Type 0
-StoredReplayLaw = (S : List Object) (h : Held) (ns : List Name) (blobs : List Bytes) (ms : List Made) (cs : List Snapshot) → IsStore S → ((o : Object) → Contains h.objects o → find_named S (object_name o) ≡ Some o)
+StoredReplayLaw = (S : List Object) (h : Held) (ns : List Name) (blobs : List Bytes) (ms : List Made) (cs : List Snapshot)
+    → IsStore S → ((o : Object) → Contains h.objects o → find_named S (object_name o) ≡ Some o)
     → AreBlobsIn S ns blobs → AreCommitsIn S ms cs → IsStoredIn S h blobs cs

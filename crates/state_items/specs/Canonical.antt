@@ -15,8 +15,9 @@ pub record IsCanonicalOf (t : Bytes) (f : Filter) : Type 0 where
   pub sound : is_sound f ≡ true
   pub short : length t < 2 ^ 16
 
--- A canonical text is that of a filter; and the text that a sound filter is printed as is canonical, where it is within the limits of
--- texts.
+-- A canonical text is that of a filter; and the text that a sound filter is printed as is canonical, where it is within
+-- the limits of texts.
 pub record CanonicalLaw : Type 0 where
   pub of_text : (t : Bytes) → is_canonical t ≡ true → (f : Filter) × IsCanonicalOf t f
-  pub of_filter : (t : Bytes) (f : Filter) → read t ≡ Ok f → is_sound f ≡ true → length (printed f) ≤ FILTER_BYTES → too_deep (printed f) ≡ false → is_canonical (printed f) ≡ true
+  pub of_filter : (t : Bytes) (f : Filter) → read t ≡ Ok f → is_sound f ≡ true → length (printed f) ≤ FILTER_BYTES
+      → too_deep (printed f) ≡ false → is_canonical (printed f) ≡ true

@@ -21,5 +21,7 @@ pub record IsStoredIn (S : List Object) (h : Held) (blobs : List Bytes) (cs : Li
 
 -- So it has each object that they bring, and no two of these have one name.
 pub record StoredLaw : Type 0 where
-  pub found : (S : List Object) (h : Held) (blobs : List Bytes) (cs : List Snapshot) → IsStoredIn S h blobs cs → (o : Object) → Contains (h.objects ++ objects_of blobs cs) o → find_named S (object_name o) ≡ Some o
-  pub apart : (S : List Object) (h : Held) (blobs : List Bytes) (cs : List Snapshot) → IsStoredIn S h blobs cs → AreApart (h.objects ++ objects_of blobs cs)
+  pub found : (S : List Object) (h : Held) (blobs : List Bytes) (cs : List Snapshot) → IsStoredIn S h blobs cs
+      → (o : Object) → Contains (h.objects ++ objects_of blobs cs) o → find_named S (object_name o) ≡ Some o
+  pub apart : (S : List Object) (h : Held) (blobs : List Bytes) (cs : List Snapshot) → IsStoredIn S h blobs cs
+      → AreApart (h.objects ++ objects_of blobs cs)

@@ -3,4 +3,6 @@
 
 mod laws;
 
-pub use laws::{append_law, canonical_law, change_law, hand_law, imported_law, kept_law, read_law, stored_law};
+pub use laws::{
+    append_law, canonical_law, change_law, hand_law, imported_law, kept_law, read_law, stored_law,
+};
