@@ -1,5 +1,5 @@
 -- What the code's names stand for, blob by blob and commit by commit.
-use Rattle.std.proofs.Common.{◌≡◌, List, [], ◌∷◌, Contains, Some, sym, ap, ◌∙◌}
+use Rattle.std.proofs.Common.{◌≡◌, List, [], ◌∷◌, Contains, Some, ap, ◌∙◌}
 use Rattle.std.proofs.lemmas.List.Elements.{All-contains}
 use Rattle.git_objects.specs.Lists.{Each}
 use Rattle.git_objects.specs.Names.{name}
@@ -11,7 +11,7 @@ use Rattle.object_store.specs.Objects.{Object, find_named}
 use Rattle.object_store.specs.StoredSnapshots.{snapshot_object}
 use Rattle.object_store.specs.Unfolding.{StandsFor}
 use Rattle.object_store.proofs.Parts.{find-name}
-use Rattle.fast_import.specs.Standing.{AreBlobsIn, AreCommitsIn, IsCommitIn}
+use Rattle.fast_import.specs.Standing.{AreBlobsIn, AreCommitsIn}
 use Rattle.fast_import.specs.declared.replayed.Made.{Made}
 use Rattle.state_items.specs.Changes.{blob_object}
 use Rattle.state_items.proofs.TreeParts.{all-each}
