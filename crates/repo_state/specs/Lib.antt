@@ -20,3 +20,4 @@ pub mod Replayed
 pub mod MadeObjects
 pub mod SmallReplays
 pub mod StoredReplays
+pub mod StreamExamples
