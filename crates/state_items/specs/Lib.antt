@@ -10,3 +10,9 @@ pub mod Hands
 pub mod Stored
 pub mod Canonical
 pub mod Examples
+pub mod Stops
+pub mod Arrivals
+pub mod KeptMaps
+pub mod Steps
+pub mod Readings
+pub mod Lending
