@@ -1,0 +1,5 @@
+pub mod ExportTexts
+pub mod Histories
+pub mod Given
+pub mod Sending
+pub mod Errors
