@@ -4,3 +4,9 @@ pub mod Lookups
 pub mod StoredLeaves
 pub mod NewBlobs
 pub mod WrittenBlobs
+pub mod ParentLines
+pub mod WrittenLeaves
+pub mod StoredHistories
+pub mod Listed
+pub mod Exported
+pub mod WrittenCommits

@@ -12,6 +12,10 @@ use Rattle.fast_export.specs.Sending.{IsSent, IsFront, IsPut}
 use Rattle.fast_export.specs.declared.error.ExportError.{ExportError}
 use Rattle.fast_export.specs.declared.error.ExportError.TheVariants.{Fault, OutOfMemory}
 
+pub whenever : {A E : Type 0} (r : Result A E) (P : Type 0) → P → OnOk r P
+whenever (Ok x) P h = h
+whenever (Err e) P h = tt
+
 pub err_of : (r : Result Unit ExportError) (e : ExportError) → IsErrAnd r (λ x. x ≡ e) → r ≡ Err e
 err_of (Ok x) e h = absurd h
 err_of (Err x) e h = ap Err h
@@ -140,3 +144,6 @@ module _ {O : Type 0} {tells : O → Type 0} {written : O → Option Bytes} {fau
   -- or there is no memory for it
   pub put_short : (a b : O) (k l m t u : Bytes) → IsPut tells written faults refusals a b k l t (Ok tt) → IsPut tells written faults refusals a b k m (t ++ u) (Err OutOfMemory)
   put_short a b k l m t u p = put_then a b b k l m t u (Err OutOfMemory) p (put_none b l m u)
+
+  pub put_result : (a b : O) (k l t : Bytes) (q r : Result Unit ExportError) → q ≡ r → IsPut tells written faults refusals a b k l t q → IsPut tells written faults refusals a b k l t r
+  put_result a b k l t q r e p = subst (λ (x : Result Unit ExportError). IsPut tells written faults refusals a b k l t x) e p

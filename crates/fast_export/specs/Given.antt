@@ -1,10 +1,10 @@
 -- The marks that the code has given, by the names of blobs and commits.
 use Rattle.std.specs.Prelude.{◌≡◌, ℕ, ◌+◌, Bool, true, false, if◌then◌else◌, ◌==◌, decimal, List, [], ◌∷◌, ◌++◌, length, map, flat_map, codes}
 use Rattle.git_objects.specs.Lists.{Each}
-use Rattle.git_objects.specs.Paths.{Bytes, Path, same_bytes, text}
+use Rattle.git_objects.specs.Paths.{Bytes, Path, is_nil, same_bytes, text}
 use Rattle.git_objects.specs.Trees.{Leaf, Flat}
 use Rattle.git_objects.specs.Names.{mode_text}
-use Rattle.git_objects.specs.Commits.{hex}
+use Rattle.git_objects.specs.Commits.{Commit, hex}
 use Rattle.git_objects.specs.declared.kind.Kind.TheVariants.{Blob}
 use Rattle.git_objects.specs.declared.mode.Mode.{Mode}
 use Rattle.git_objects.specs.declared.mode.Mode.TheVariants.{File, Exec, Link, Module, Dir}
@@ -52,6 +52,10 @@ is_module Dir = false
 abbrev pub one_leaf : List Object → FoundLeaf → Flat
 one_leaf S leaf = ([], leaf_of (body_of Blob S) leaf.mode leaf.name.0) ∷ []
 
+-- the commits that have marks
+abbrev pub commit_names : Given → List Name
+commit_names g = map (λ e. e.0) g.commits
+
 -- ---- steps of the text
 
 -- the marks behind a tree's new blobs
@@ -77,3 +81,10 @@ parent_word i = if i == 0 then codes "from " else codes "merge "
 abbrev pub parents_from : List (ℕ × Bytes) → ℕ → List Bytes → Bytes
 parents_from marks i [] = []
 parents_from marks i (p ∷ ps) = mark_line (parent_word i) (mark_of p marks) ++ parents_from marks (i + 1) ps
+
+-- a commit's lines in front of its message
+abbrev pub head_text : Bytes → ℕ → Commit → Bytes
+head_text refname number c =
+    (if is_nil c.parents then line (codes "reset ") refname else [])
+    ++ line (codes "commit ") refname ++ mark_line (codes "mark ") number ++ line (codes "author ") c.letter.author
+    ++ line (codes "committer ") c.letter.committer ++ line (codes "data ") (decimal (length c.letter.message))

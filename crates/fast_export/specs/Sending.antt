@@ -1,5 +1,5 @@
 -- What a sink gets of a text that is gathered before it is sent.
-use Rattle.std.specs.Prelude.{◌≡◌, ◌↔◌, ◌≤◌, ℕ, ◌++◌, take, Option, Result, OnOk, OnErr, IsErrOf}
+use Rattle.std.specs.Prelude.{◌≡◌, ◌↔◌, ◌≤◌, ℕ, ◌++◌, take, Option, Result, Ok, Err, OnOk, OnErr, IsErrOf}
 use Rattle.std.specs.Io.KnownBytes.{Appends}
 use Rattle.git_objects.specs.Paths.{Bytes}
 use Rattle.proj_io.specs.Counts.{Counts}
@@ -26,3 +26,8 @@ pub record IsPut {O : Type 0} (tells : O → Type 0) (written : O → Option Byt
   pub told : tells new ↔ tells old
   pub fault : Counts (faults old) (faults new) (IsErrOf result Fault)
   pub memory : refusals old ≤ refusals new
+
+-- whether there was an error
+abbrev pub unit_of : {A : Type 0} → Result A ExportError → Result Unit ExportError
+unit_of (Ok x) = Ok tt
+unit_of (Err e) = Err e

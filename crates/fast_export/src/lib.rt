@@ -2,9 +2,12 @@
 #![tactic(auto)]
 
 mod blobs;
+mod commits;
 mod error;
+mod export;
 mod given;
 mod lines;
 mod sending;
 
 pub use error::ExportError;
+pub use export::write_history;

@@ -5,8 +5,8 @@ ghost use Rattle.fast_export.specs.Sending.{IsPut};
 use crate::ExportError;
 use proj_io::{Sink, SinkError, write_whole};
 
-// Bytes that a piece has, but for the last one.
-const PIECE: usize = 32_768;
+/// Bytes that a piece has at least, but for the last one.
+pub const PIECE: usize = 32_768;
 
 impl From<SinkError> for ExportError {
     ghost use Rattle.fast_export.specs.Errors.{error_of};
