@@ -21,24 +21,24 @@ use Rattle.filter_text.specs.Filters.{Filter, Filters, append, chain, dir, exclu
 use Rattle.git_objects.specs.Paths.{Path, comparable}
 
 pub list-nop : IsListOf nop ((below [], Some []) ∷ [])
-list-nop = record { gives = λ p n. ap (λ o. decide o (Some []) None) n; thin = (refl, tt); fine = ((refl, refl), tt) }
+list-nop = record { gives = λ p n. ap (λ o. decide o (Some []) None) n; thin = (refl, tt); fine = ((refl, refl), tt); one = tt }
 
 pub list-sub : (a : Path) → IsPath a → IsListOf (sub a) ((below a, Some []) ∷ [])
-list-sub a h = record { gives = λ p n. one-sub (proper (strip a p)); thin = (refl, tt); fine = ((valid-path a h, refl), tt) }
+list-sub a h = record { gives = λ p n. one-sub (proper (strip a p)); thin = (refl, tt); fine = ((valid-path a h, refl), tt); one = refl }
 
 pub list-workspace : (a : Path) → IsPath a → IsListOf (workspace a) ((below a, Some []) ∷ [])
-list-workspace a h = record { gives = λ p n. one-sub (proper (strip a p)); thin = (refl, tt); fine = ((valid-path a h, refl), tt) }
+list-workspace a h = record { gives = λ p n. one-sub (proper (strip a p)); thin = (refl, tt); fine = ((valid-path a h, refl), tt); one = tt }
 
 pub list-onto : (a : Path) → IsPath a → IsListOf (onto a) ((below [], Some a) ∷ [])
-list-onto a h = record { gives = λ p n. ap (λ o. decide o (Some a) None) n; thin = (refl, tt); fine = ((refl, valid-path a h), tt) }
+list-onto a h = record { gives = λ p n. ap (λ o. decide o (Some a) None) n; thin = (refl, tt); fine = ((refl, valid-path a h), tt); one = refl }
 
 pub list-dir : (a : Path) → IsPath a → IsListOf (dir a) ((below a, Some a) ∷ [])
 list-dir a h =
-    record { gives = λ p n. one-kept (proper (strip a p)) a p (tail-is (below a) p); thin = (refl, tt); fine = ((valid-path a h, valid-path a h), tt) }
+    record { gives = λ p n. one-kept (proper (strip a p)) a p (tail-is (below a) p); thin = (refl, tt); fine = ((valid-path a h, valid-path a h), tt); one = refl }
 
 pub list-file : (a : Path) → IsPath a → IsListOf (file a) ((at a, Some a) ∷ [])
 list-file a h =
-    record { gives = λ p n. one-kept (whole (strip a p)) a p (tail-is (at a) p); thin = (refl, tt); fine = ((h, valid-path a h), tt) }
+    record { gives = λ p n. one-kept (whole (strip a p)) a p (tail-is (at a) p); thin = (refl, tt); fine = ((h, valid-path a h), tt); one = tt }
 
 pub list-exclude : (f : Filter) (es : List Entry) → IsListOf f es → IsListOf (exclude f) (turned [] es)
 list-exclude f es h =
@@ -46,13 +46,14 @@ list-exclude f es h =
       gives = λ p n. turned-run es [] p n tt ∙ ap (λ o. left_out o p) (h.gives p n);
       thin = turned-thin es [] h.thin;
       fine = each-turned es [] h.fine;
+      one = tt;
     }
 
 pub list-none : IsListOf (join no_more) []
-list-none = record { gives = λ p n. refl; thin = tt; fine = tt }
+list-none = record { gives = λ p n. refl; thin = tt; fine = tt; one = tt }
 
 pub list-all : IsListOf (chain no_more) ((below [], Some []) ∷ [])
-list-all = record { gives = λ p n. ap (λ o. decide o (Some []) None) n; thin = (refl, tt); fine = ((refl, refl), tt) }
+list-all = record { gives = λ p n. ap (λ o. decide o (Some []) None) n; thin = (refl, tt); fine = ((refl, refl), tt); one = tt }
 
 or_else-more : (o o' o'' : Option Path) → or_else (or_else o o') o'' ≡ or_else o (or_else o' o'')
 or_else-more None o' o'' = refl
@@ -86,6 +87,7 @@ list-join fs g es gs h k =
       gives = λ p n. either_left-run es gs p ∙ ap₂ or_else (h.gives p n) (k.gives p n) ∙ sym (first-one fs g p);
       thin = either_left-thin es gs h.thin;
       fine = each-either es gs h.fine k.fine;
+      one = tt;
     }
 
 pub list-chain : (fs : Filters) (g : Filter) (es gs : List Entry) → IsListOf (chain fs) es → IsListOf g gs → IsListOf (chain (append fs (only g))) (after_left es gs)
@@ -95,6 +97,7 @@ list-chain fs g es gs h k =
           ∙ and_then-same (through fs p) (run None gs) (image g) (λ x e. k.gives x (through-full fs p x n e)) ∙ sym (through-one fs g p);
       thin = after_left-thin es gs h.thin;
       fine = each-after es gs h.fine k.fine;
+      one = tt;
     }
 
 -- ---- the test is exact

@@ -1,5 +1,5 @@
 // Tables of routes.
-ghost use Rattle.std.specs.Prelude.{◌≡◌, ◌≤◌, ◌<◌, ◌^◌, true, is_some, length, Some, IfOk, IfErr, IfSome};
+ghost use Rattle.std.specs.Prelude.{◌≡◌, ◌≤◌, ◌<◌, ◌^◌, true, is_some, length, Some, IfOk, IfErr, IfSome, IfNone};
 ghost use Rattle.filter_text.specs.Filters.{pieces, has_paths};
 ghost use Rattle.filter_text.specs.Shapes.{shape};
 ghost use Rattle.filter_routes.specs.Images.{image};
@@ -12,7 +12,7 @@ use decision_lists::{Entry, RouteHit, locate, locate_origin};
 use filter_text::{Filter, copy};
 use git_objects::Component;
 use path_names::Path;
-use std::alloc::Global;
+use std::alloc::{AllocError, Global};
 use std::marker::Model;
 
 /// The routes of a sound filter: where each path goes, and where each image comes from.
@@ -48,12 +48,24 @@ impl Table {
         ensures table { IfOk result (λ t. IsTableOf t (shape filter.now)) }
         ensures fault { IfErr result (IsRouteFault (shape filter.now)) }
     {
-        match list_of(alloc, filter, true)? {
+        match Table::if_sound(alloc, filter)? {
             None => Err(fault_of(alloc, filter)),
-            Some(entries) => Ok(Table {
+            Some(table) => Ok(table),
+        }
+    }
+
+    /// The filter's table; None where the filter isn't sound. Where its fault lies isn't looked for: that can take far
+    /// longer than to say that there is one.
+    pub fn if_sound(alloc: Global, filter: &Filter) -> Result<Option<Table>, AllocError>
+        ensures table { IfOk result (λ o. IfSome o (λ t. IsTableOf t (shape filter.now))) }
+        ensures unsound { IfOk result (λ o. IfNone o (IsSound (shape filter.now) → ⊥)) }
+    {
+        match list_of(alloc, filter, true)? {
+            None => Ok(None),
+            Some(entries) => Ok(Some(Table {
                 filter: copy(alloc, filter)?,
                 entries,
-            }),
+            })),
         }
     }
 
@@ -71,6 +83,8 @@ impl Table {
     pub fn entries(&self) -> &[Entry]
         ensures entries { result.now ≡ self.now.routes }
         ensures list { IsListOf (shape self.now.filter) self.now.routes }
+        ensures sound { IsSound (shape self.now.filter) }
+        ensures paths { has_paths (shape self.now.filter) ≡ true }
     {
         self.entries.as_slice()
     }

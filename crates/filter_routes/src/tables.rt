@@ -1,6 +1,6 @@
 // The tables of many filters.
 ghost use Rattle.std.specs.Prelude.{◌≡◌, ◌↔◌, ◌<◌, ◌^◌, ◌∷◌, [], ℕ, List, length, nat_eq, slice_get, ◌++◌, IsTrue};
-ghost use Rattle.std.specs.Prelude.{IfOk, IfErr, OnOk, OnErr};
+ghost use Rattle.std.specs.Prelude.{IfOk, IfErr, IfSome, IfNone, OnOk, OnErr};
 ghost use Rattle.std.proofs.Common.{rules};
 ghost use Rattle.std.specs.Cmp.{partial_equiv_from_equiv};
 ghost use Rattle.std.specs.Cmp.Lexicographic.{pointwise, nat_list_eq_equiv};
@@ -11,6 +11,7 @@ ghost use Rattle.filter_text.specs.Printing.{printed};
 ghost use Rattle.filter_text.specs.Shapes.{shape};
 
 use crate::RouteFault;
+use crate::search::fault_of;
 use crate::table::Table;
 use filter_text::{Filter, print, same};
 use indexmap::IndexMap;
@@ -82,6 +83,7 @@ impl Model for Tables {
 impl Tables {
     ghost use Rattle.filter_routes.specs.Interned.{AreDistinct, HasNone, Interns, NumberOf};
     ghost use Rattle.filter_routes.specs.RouteFaults.{IsRouteFault};
+    ghost use Rattle.filter_routes.specs.Soundness.{IsSound};
     ghost use Rattle.filter_routes.specs.Tables.{IsTableOf};
 
     /// No tables; those that come take their memory from `alloc`.
@@ -123,21 +125,38 @@ impl Tables {
         ensures fault { IfErr result (IsRouteFault (shape filter.now)) }
         ensures err { OnErr result (self.new ≡ self.old) }
     {
+        match self.intern_if_sound(filter)? {
+            None => Err(fault_of(self.alloc, filter)),
+            Some(number) => Ok(number),
+        }
+    }
+
+    /// The number of the filter's table, which is made where there is none yet; None where the filter isn't sound. Where
+    /// its fault lies isn't looked for.
+    pub fn intern_if_sound(&mut self, filter: &Filter) -> Result<Option<usize>, AllocError>
+        ensures number { IfOk result (λ o. IfSome o (Interns self.old self.new (shape filter.now))) }
+        ensures sound { IfOk result (λ o. IfSome o (λ _. IsSound (shape filter.now))) }
+        ensures unsound { IfOk result (λ o. IfNone o ((IsSound (shape filter.now) → ⊥) × (self.new ≡ self.old))) }
+        ensures err { OnErr result (self.new ≡ self.old) }
+    {
         let alloc = self.alloc;
         let text = Text {
             bytes: print(alloc, filter)?,
         };
         if let Some(number) = self.number_of(&text, filter) {
-            return Ok(number);
+            return Ok(Some(number));
         }
-        let table = Table::compile(alloc, filter)?;
-        Ok(self.add(text, table)?)
+        match Table::if_sound(alloc, filter)? {
+            None => Ok(None),
+            Some(table) => Ok(Some(self.add(text, table)?)),
+        }
     }
 
     // The number of the filter's table. The text is the filter's.
     fn number_of(&self, text: &Text, filter: &Filter) -> Option<usize>
         requires { text.now ≡ printed (shape filter.now) }
-        ensures { NumberOf self.now (shape filter.now) result }
+        ensures number { NumberOf self.now (shape filter.now) result }
+        ensures sound { IfSome result (λ _. IsSound (shape filter.now)) }
     {
         match self.numbers.get(text) {
             None => None,
@@ -152,7 +171,8 @@ impl Tables {
 
     // The number of the filter's table, by a look at each.
     fn find(&self, filter: &Filter) -> Option<usize>
-        ensures { NumberOf self.now (shape filter.now) result }
+        ensures number { NumberOf self.now (shape filter.now) result }
+        ensures sound { IfSome result (λ _. IsSound (shape filter.now)) }
     {
         for i in 0..self.tables.as_slice().len() {
             if same(self.tables[i].filter(), filter) {

@@ -6,3 +6,8 @@ pub mod Outcomes
 pub mod Places
 pub mod Told
 pub mod Fronts
+mod MadeTrees
+mod Sieves
+mod Fittings
+mod Empties
+mod Moves

@@ -4,6 +4,8 @@
 mod below;
 mod fault;
 mod laws;
+mod moving;
+mod sifting;
 
 pub use below::laid_below;
 pub use fault::LayFault;

@@ -16,5 +16,5 @@ pub use edits::{put_at, remove_at, taken_in};
 pub use found::{Found, Leaf, TreeFault};
 pub use join::{JoinFault, join_disjoint};
 pub use laws::together_law;
-pub use lookup::entry_at;
+pub use lookup::{entry_at, entry_in};
 pub use walk::Walk;

@@ -1,0 +1,5 @@
+pub mod Parts
+pub mod Hands
+pub mod Truth
+pub mod Faults
+pub mod Examples

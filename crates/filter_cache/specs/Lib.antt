@@ -1,0 +1,3 @@
+pub mod Memos
+pub mod Pairs
+pub mod Examples

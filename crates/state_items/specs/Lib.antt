@@ -1,0 +1,10 @@
+pub mod Fields
+pub mod Items
+pub mod Repos
+pub mod Changes
+pub mod Appending
+pub mod Imported
+pub mod ReadHeld
+pub mod KeptLaws
+pub mod Hands
+pub mod Examples

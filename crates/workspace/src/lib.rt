@@ -1,0 +1,12 @@
+//! What a filter becomes for a tree, by the workspace file in it.
+#![tactic(auto)]
+
+mod laws;
+mod listing;
+mod parts;
+mod place;
+mod resolving;
+
+pub use laws::resolve_law;
+pub use place::file_place;
+pub use resolving::{Resolved, resolve, resolve_leaf};
