@@ -10,3 +10,14 @@ pub mod StoredHistories
 pub mod Listed
 pub mod Exported
 pub mod WrittenCommits
+pub mod Goings
+pub mod Numbers
+pub mod ReadLines
+pub mod Heads
+pub mod Changing
+pub mod Building
+pub mod Marking
+pub mod Stepping
+pub mod Texts
+pub mod Arriving
+pub mod ReadingAgain

@@ -1,3 +1,4 @@
+pub mod Laws
 pub mod ExportTexts
 pub mod Histories
 pub mod Given

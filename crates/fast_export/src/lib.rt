@@ -6,8 +6,10 @@ mod commits;
 mod error;
 mod export;
 mod given;
+mod laws;
 mod lines;
 mod sending;
 
 pub use error::ExportError;
 pub use export::write_history;
+pub use laws::reading_again_law;
