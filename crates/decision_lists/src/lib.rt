@@ -9,7 +9,7 @@ mod index;
 mod indexed;
 mod operations;
 
-pub use backward::way_back;
+pub use backward::{back_from, way_back};
 pub use clashing::{any_clash, clashes_with_list};
 pub use entry::Entry;
 pub use hits::{RouteHit, locate, locate_origin};

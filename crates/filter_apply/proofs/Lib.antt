@@ -5,3 +5,7 @@ pub mod Cones
 pub mod Handing
 pub mod Deciding
 pub mod Placements
+pub mod Restricting
+pub mod Routing
+pub mod Truths
+pub mod Shows

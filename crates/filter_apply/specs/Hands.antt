@@ -38,3 +38,7 @@ IsShownObject f t = IsTreeMade (IsLeafOf t) (IsNamedIn f t)
 -- a tree of these leaves, whose paths are of components of their paths and of this path
 abbrev pub IsPlacedObject : Path → Flat → Object → Type 0
 IsPlacedObject p t = IsTreeMade (IsLeafOf t) (λ c. IsComponentOf t c ⊎ Contains p c)
+
+-- a tree of leaves of these two, whose paths are of components of their paths
+abbrev pub IsJoinedObject : Flat → Flat → Object → Type 0
+IsJoinedObject a b = IsTreeMade (λ x. IsLeafOf a x ⊎ IsLeafOf b x) (λ c. IsComponentOf a c ⊎ IsComponentOf b c)

@@ -220,3 +220,7 @@ kind-is false true e = absurd (true≢false e)
 
 pub sorted-tree : (S : List Object) → IsStore S → (n : Bytes) (t : Flat) → flat S n ≡ t → has Tree S n ≡ true → T (is_sorted path_cmp t)
 sorted-tree S s n t e h = subst (λ v. T (is_sorted path_cmp v)) e (is_tree S s n h).sorted
+
+pub leaves-as : (S : List Object) (r : Result Name LayFault) (o more : Path → Option Leaf) → ((p : Path) → o p ≡ more p) → IfOk r (λ n. HasLeaves S n.0 o) → IfOk r (λ n. HasLeaves S n.0 more)
+leaves-as S (Ok n) o more f h = record { held = h.held; leaves = λ p. h.leaves p ∙ f p }
+leaves-as S (Err e) o more f h = tt

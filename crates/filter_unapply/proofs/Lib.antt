@@ -11,3 +11,8 @@ mod Sieves
 mod Fittings
 mod Empties
 mod Moves
+mod Cellwise
+mod PartLists
+mod Leasts
+mod PathOrders
+mod BlockSteps

@@ -46,7 +46,7 @@ pub fn laid_below(
 }
 
 // The first path of a tree, in path order.
-fn first_path(alloc: Global, store: &Store, root: Name) -> Result<Option<Path>, AllocError>
+pub fn first_path(alloc: Global, store: &Store, root: Name) -> Result<Option<Path>, AllocError>
     requires { has Tree store.now root.0 ≡ true }
     ensures { IfOk result (λ path. path ≡ first_of (flat store.now root.0)) }
 {

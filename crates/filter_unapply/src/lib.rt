@@ -2,9 +2,12 @@
 #![tactic(auto)]
 
 mod below;
+mod blocking;
 mod fault;
 mod laws;
 mod moving;
+mod parts;
+mod routing;
 mod sifting;
 
 pub use below::laid_below;

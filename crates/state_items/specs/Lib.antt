@@ -8,3 +8,9 @@ pub mod ReadHeld
 pub mod KeptLaws
 pub mod Hands
 pub mod Examples
+pub mod Stops
+pub mod Arrivals
+pub mod KeptMaps
+pub mod Steps
+pub mod Readings
+pub mod Lending

@@ -1,0 +1,10 @@
+pub mod Projections
+pub mod ProjectionLaws
+pub mod StoredGraphs
+pub mod Grounds
+pub mod Filled
+pub mod Asked
+pub mod Choosing
+pub mod Made
+pub mod Turns
+pub mod Walks

@@ -1,0 +1,22 @@
+// What projections are made upon.
+use commit_graph::Graph;
+use commit_map::{CommitMap, Rule};
+use filter_cache::Memo;
+use filter_routes::Tables;
+use object_store::Store;
+
+/// What projections are made upon: commits of a store, which projections of them by one filter are kept, the tables of
+/// filters with what they were seen to show, and the rule by which merges are dropped.
+pub struct Ground {
+    /// The objects; projections add trees and commits.
+    pub store: Store,
+    /// The commits, which are in the store.
+    pub graph: Graph,
+    /// Kept projections by one filter and the rule.
+    pub map: CommitMap,
+    /// The tables of filters.
+    pub tables: Tables,
+    /// What the tables show of trees, by their numbers.
+    pub memo: Memo,
+    pub rule: Rule,
+}

@@ -1,0 +1,13 @@
+//! Projections of commits and histories, over what a state holds.
+#![tactic(auto)]
+
+mod choosing;
+mod ground;
+mod laws;
+mod made;
+mod seeing;
+mod turning;
+mod walking;
+
+pub use ground::Ground;
+pub use laws::{history_law, projection_law};
