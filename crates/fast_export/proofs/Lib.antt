@@ -21,3 +21,4 @@ pub mod Stepping
 pub mod Texts
 pub mod Arriving
 pub mod ReadingAgain
+pub mod StoredAgain

@@ -1,13 +1,14 @@
 -- Commits of a store, in the order in which they are exported.
-use Rattle.std.specs.Prelude.{◌≡◌, ◌&&◌, Bool, true, not, List, [], ◌∷◌, filter_map}
+use Rattle.std.specs.Prelude.{◌≡◌, ◌&&◌, Bool, true, not, List, [], ◌∷◌, filter_map, map}
 use Rattle.std.specs.List.{list_all}
 use Rattle.std.specs.Option.{option_map, option_map_or}
 use Rattle.git_objects.specs.Paths.{Bytes}
-use Rattle.git_objects.specs.Snapshots.{Snapshot}
+use Rattle.git_objects.specs.Snapshots.{Snapshot, snapshot_name}
 use Rattle.git_objects.specs.declared.kind.Kind.TheVariants.{Commit}
-use Rattle.object_store.specs.Objects.{Object, has}
+use Rattle.object_store.specs.Objects.{Object, IsStore, has}
 use Rattle.object_store.specs.StoredSnapshots.{commit_named, snapshot_of}
 use Rattle.fast_export.specs.ExportTexts.{is_among}
+use Rattle.fast_export.specs.Laws.{IsHistory}
 
 -- the commits of these names, with the trees that they stand for
 abbrev pub snapshots_at : List Object → List Bytes → List Snapshot
@@ -31,3 +32,11 @@ pub record IsHistoryIn (S : List Object) (ns : List Bytes) : Type 0 where
   pub held : list_all (has Commit S) ns ≡ true
   pub distinct : are_distinct ns ≡ true
   pub ordered : are_ordered S [] ns ≡ true
+
+-- the commits of these names are a history that can be read again, and have these names
+pub record IsHistoryOf (S : List Object) (ns : List Bytes) : Type 0 where
+  pub history : IsHistory [] (snapshots_at S ns)
+  pub names : map snapshot_name (snapshots_at S ns) ≡ ns
+
+abbrev pub StoredHistoryLaw : Type 0
+StoredHistoryLaw = (S : List Object) (ns : List Bytes) → IsStore S → IsHistoryIn S ns → IsHistoryOf S ns

@@ -12,4 +12,4 @@ mod sending;
 
 pub use error::ExportError;
 pub use export::write_history;
-pub use laws::reading_again_law;
+pub use laws::{reading_again_law, stored_history_law};

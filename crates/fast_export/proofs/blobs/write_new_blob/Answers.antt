@@ -39,13 +39,13 @@ unreachable-requires g c =
 pub returns-then-is_some-clause-put : goal.returns-then-is_some-clause-put
 returns-then-is_some-clause-put g c =
     let known = known_blob c.args.store.now c.args.marks.now [] c.args.leaf.mode c.args.leaf.name c.requires.marks c.args.leaf.is_leaf (sym c.is_module.ensures ∙ c.if-is_module.false) c.requires.leaf
-        (ap is_some (sym c.blob.ensures) ∙ sym c.is_some.ensures ∙ c.if-is_some.true) in
+    (ap is_some (sym c.blob.ensures) ∙ sym c.is_some.ensures ∙ c.if-is_some.true) in
     put_as _ _ _ _ _ _ _ (no_text (marks_in c.args.store.now c.args.marks.now) _ known) (put_idle _ _)
 
 pub returns-then-is_some-clause-marks : goal.returns-then-is_some-clause-marks
 returns-then-is_some-clause-marks g c =
     let known = known_blob c.args.store.now c.args.marks.now [] c.args.leaf.mode c.args.leaf.name c.requires.marks c.args.leaf.is_leaf (sym c.is_module.ensures ∙ c.if-is_module.false) c.requires.leaf
-        (ap is_some (sym c.blob.ensures) ∙ sym c.is_some.ensures ∙ c.if-is_some.true) in
+    (ap is_some (sym c.blob.ensures) ∙ sym c.is_some.ensures ∙ c.if-is_some.true) in
     sym (with_nothing (marks_in c.args.store.now c.args.marks.now) (one_leaf c.args.store.now c.args.leaf) known)
 
 pub returns-in_err-write_blob-in-Some-clause-put : goal.returns-in_err-write_blob-in-Some-clause-put
@@ -54,7 +54,7 @@ returns-in_err-write_blob-in-Some-clause-put g c =
     let blob = sym c.is_module.ensures ∙ c.if-is_module.false in
     let here = found S c.args.leaf.mode c.args.leaf.name.0 c.args.leaf.is_leaf blob c.requires.leaf c.in-Some.ensures.store in
     let new = new_blob S c.args.marks.now [] c.args.leaf.mode c.args.leaf.name c.requires.marks c.args.leaf.is_leaf blob c.requires.leaf
-        (ap is_some (sym c.blob.ensures) ∙ sym c.is_some.ensures ∙ c.if-is_some.false) in
+    (ap is_some (sym c.blob.ensures) ∙ sym c.is_some.ensures ∙ c.if-is_some.false) in
     put_err _ _ _ _ _ c.in_err-write_blob-in-Some.field-0.0 _ c.from_residual.ensures.1
     (put_as _ _ _ _ _ _ _ (one_text _ _ _ _ _ new c.next.ensures (body_is _ _ (c.in-Some.ensures.object ∙ here))) c.in_err-write_blob-in-Some.ensures)
 
@@ -64,7 +64,7 @@ returns-in_err-add_blob-in-Some-clause-put g c =
     let blob = sym c.is_module.ensures ∙ c.if-is_module.false in
     let here = found S c.args.leaf.mode c.args.leaf.name.0 c.args.leaf.is_leaf blob c.requires.leaf c.in-Some.ensures.store in
     let new = new_blob S c.args.marks.now [] c.args.leaf.mode c.args.leaf.name c.requires.marks c.args.leaf.is_leaf blob c.requires.leaf
-        (ap is_some (sym c.blob.ensures) ∙ sym c.is_some.ensures ∙ c.if-is_some.false) in
+    (ap is_some (sym c.blob.ensures) ∙ sym c.is_some.ensures ∙ c.if-is_some.false) in
     put_err _ _ _ _ _ _ _ c.from_residual-in_err-add_blob-in-Some.ensures.1
     (put_as _ _ _ _ _ _ _ (append-nil _ ∙ one_text _ _ _ _ _ new c.next.ensures (body_is _ _ (c.in-Some.ensures.object ∙ here))) (put_short _ _ _ _ _ _ [] c.in_ok-write_blob-in-Some.ensures))
 
@@ -74,7 +74,7 @@ returns-clause-put g c =
     let blob = sym c.is_module.ensures ∙ c.if-is_module.false in
     let here = found S c.args.leaf.mode c.args.leaf.name.0 c.args.leaf.is_leaf blob c.requires.leaf c.in-Some.ensures.store in
     let new = new_blob S c.args.marks.now [] c.args.leaf.mode c.args.leaf.name c.requires.marks c.args.leaf.is_leaf blob c.requires.leaf
-        (ap is_some (sym c.blob.ensures) ∙ sym c.is_some.ensures ∙ c.if-is_some.false) in
+    (ap is_some (sym c.blob.ensures) ∙ sym c.is_some.ensures ∙ c.if-is_some.false) in
     put_as _ _ _ _ _ _ _ (one_text _ _ _ _ _ new c.next.ensures (body_is _ _ (c.in-Some.ensures.object ∙ here))) c.in_ok-write_blob-in-Some.ensures
 
 pub returns-clause-marks : goal.returns-clause-marks
