@@ -3,6 +3,7 @@
 #![tactic(auto)]
 
 mod commands;
+mod exports;
 mod lexing;
 mod names;
 mod reading;
