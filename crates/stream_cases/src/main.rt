@@ -3,7 +3,6 @@
 #![tactic(auto)]
 
 mod commands;
-mod exports;
 mod lexing;
 mod names;
 mod reading;

@@ -52,8 +52,8 @@ fn add_given(
     }
 }
 
-/// What a stream gives that comes in pieces of at most so many bytes.
-pub fn replayed_by(alloc: Global, text: &[u8], most: usize) -> Result<String, Fault>
+// What a stream gives that comes in pieces of at most so many bytes.
+fn replayed_by(alloc: Global, text: &[u8], most: usize) -> Result<String, Fault>
     requires { 0 < most }
 {
     let mut source = MemSource::new(text.to_vec(alloc)?, most, Vec::new(alloc));

@@ -1,5 +1,5 @@
 // What lines of cases ask.
-use crate::{exports, lexing, names, reading, replays};
+use crate::{lexing, names, reading, replays};
 use case_lines::{Fault, Line, Texts, Word, read_line, said};
 use std::alloc::Global;
 
@@ -44,7 +44,6 @@ fn answer(alloc: Global, texts: &Texts, form: &str, words: &[Word]) -> Result<St
     match form {
         "stream" => reading::told(alloc, &texts.spelled(words)?),
         "more" => reading::told_before_the_end(alloc, &texts.spelled(words)?),
-        "export" => exports::exported(alloc, &texts.spelled(words)?),
         "replay" => replays::replayed(alloc, &texts.spelled(words)?),
         "lexer" => lexing::answer(alloc, texts, words),
         "lent" => lexing::lent(alloc, texts, words),
