@@ -1,0 +1,68 @@
+use Rattle.std.proofs.Common.{◌≡◌, ℕ, ◌++◌, List, [], ◌∷◌, codes, decimal, flat_map, length, map, ap, append_assoc}
+use Rattle.std.specs.Prelude.{if◌then◌else◌}
+use Rattle.git_objects.specs.Paths.{Bytes, is_nil}
+use Rattle.git_objects.specs.Commits.{Commit}
+use Rattle.object_store.specs.Objects.{Object}
+use Rattle.object_store.specs.StoredSnapshots.{snapshot_of}
+use Rattle.object_store.specs.Unfolding.{flat}
+use Rattle.fast_export.specs.ExportTexts.{commit_text, leaf_line, line, mark_line}
+use Rattle.fast_export.specs.Given.{Given, commit_mark, head_text, marks_in, parents_from}
+use Rattle.fast_export.proofs.ParentLines.{all_parents}
+use Rattle.fast_export.proofs.Sent.{put_as, put_before, put_behind, put_err, put_short, put_stop, put_then}
+use Rattle.fast_export.proofs.commits.write_made.Goals as goal
+
+letter_parts : (x a b d m f : Bytes) → ((((x ++ a) ++ b) ++ d) ++ m) ++ f ≡ x ++ ((a ++ b) ++ ((d ++ m) ++ f))
+letter_parts x a b d m f = simp append_assoc
+
+module _ (S : List Object) (refname : Bytes) (number : ℕ) (g : Given) (c : Commit) where
+  abbrev first : Bytes
+  first = (if is_nil c.parents then line (codes "reset ") refname else []) ++ line (codes "commit ") refname ++ mark_line (codes "mark ") number
+
+  abbrev leaves : Bytes
+  leaves = flat_map (leaf_line (marks_in S g).blobs) (flat S c.tree)
+
+  whole : ((((((head_text refname number c ++ c.letter.message) ++ 10 ∷ []) ++ parents_from (map commit_mark g.commits) 0 c.parents) ++ codes "deleteall\n") ++ leaves) ++ 10 ∷ []) ≡ commit_text refname number (marks_in S g) (snapshot_of S c)
+  whole =
+      (λ i. (((letter_parts first (line (codes "author ") c.letter.author) (line (codes "committer ") c.letter.committer) (line (codes "data ") (decimal (length c.letter.message))) c.letter.message (10 ∷ []) i
+      ++ all_parents (map commit_mark g.commits) c.parents i) ++ codes "deleteall\n") ++ leaves) ++ 10 ∷ [])
+
+pub returns-in_err-put : goal.returns-in_err-put
+returns-in_err-put g c =
+    put_err _ _ _ _ _ c.in_err-put.field-0.0 _ c.from_residual-in_err-put.ensures.1
+    (put_as _ _ _ _ _ _ _ (whole c.args.store.now c.args.refname.now c.args.number c.args.marks.now c.args.commit.now)
+    (put_stop _ _ _ [] _ _ _ _ (put_stop _ _ _ [] _ _ _ _ (put_stop _ _ _ [] _ _ _ _ (put_stop _ _ _ [] _ _ _ _ (put_stop _ _ _ _ _ _ _ _ (put_behind _ _ _ _ _ _ _ _ c.in_ok-add_head.ensures (put_as _ _ _ _ _ _ _ c.message.ensures c.in_err-put.ensures))))))))
+
+pub returns-in_err-push : goal.returns-in_err-push
+returns-in_err-push g c =
+    put_err _ _ _ _ _ _ _ c.from_residual-in_err-push.ensures.1
+    (put_as _ _ _ _ _ _ _ (whole c.args.store.now c.args.refname.now c.args.number c.args.marks.now c.args.commit.now)
+    (put_stop _ _ _ [] _ _ _ _ (put_stop _ _ _ [] _ _ _ _ (put_stop _ _ _ [] _ _ _ _ (put_stop _ _ _ [] _ _ _ _ (put_short _ _ _ _ [] _ _ (put_behind _ _ _ _ _ _ _ _ c.in_ok-add_head.ensures (put_as _ _ _ _ _ _ _ c.message.ensures c.in_ok-put.ensures))))))))
+
+pub returns-in_err-add_parents : goal.returns-in_err-add_parents
+returns-in_err-add_parents g c =
+    put_err _ _ _ _ _ _ _ c.from_residual-in_err-add_parents.ensures.1
+    (put_as _ _ _ _ _ _ _ (whole c.args.store.now c.args.refname.now c.args.number c.args.marks.now c.args.commit.now)
+    (put_stop _ _ _ [] _ _ _ _ (put_stop _ _ _ [] _ _ _ _ (put_stop _ _ _ [] _ _ _ _ (put_short _ _ _ _ [] _ _ (put_before _ _ _ _ _ _ _ c.in_ok-push.ensures.items (put_behind _ _ _ _ _ _ _ _ c.in_ok-add_head.ensures (put_as _ _ _ _ _ _ _ c.message.ensures c.in_ok-put.ensures))))))))
+
+pub returns-in_err-extend_from_slice : goal.returns-in_err-extend_from_slice
+returns-in_err-extend_from_slice g c =
+    put_err _ _ _ _ _ _ _ c.from_residual-in_err-extend_from_slice.ensures.1
+    (put_as _ _ _ _ _ _ _ (whole c.args.store.now c.args.refname.now c.args.number c.args.marks.now c.args.commit.now)
+    (put_stop _ _ _ [] _ _ _ _ (put_stop _ _ _ [] _ _ _ _ (put_short _ _ _ _ [] _ _ (put_before _ _ _ _ _ _ _ c.in_ok-add_parents.ensures (put_before _ _ _ _ _ _ _ c.in_ok-push.ensures.items (put_behind _ _ _ _ _ _ _ _ c.in_ok-add_head.ensures (put_as _ _ _ _ _ _ _ c.message.ensures c.in_ok-put.ensures))))))))
+
+pub returns-in_err-write_leaves : goal.returns-in_err-write_leaves
+returns-in_err-write_leaves g c =
+    put_err _ _ _ _ _ c.in_err-write_leaves.field-0.0 _ c.from_residual-in_err-write_leaves.ensures.1
+    (put_as _ _ _ _ _ _ _ (whole c.args.store.now c.args.refname.now c.args.number c.args.marks.now c.args.commit.now)
+    (put_stop _ _ _ _ _ _ _ _ (put_then _ _ _ _ _ _ _ _ _ (put_before _ _ _ _ _ _ _ c.in_ok-extend_from_slice.ensures.items (put_before _ _ _ _ _ _ _ c.in_ok-add_parents.ensures (put_before _ _ _ _ _ _ _ c.in_ok-push.ensures.items (put_behind _ _ _ _ _ _ _ _ c.in_ok-add_head.ensures (put_as _ _ _ _ _ _ _ c.message.ensures c.in_ok-put.ensures))))) (put_as _ _ _ _ _ _ _ (ap (λ n. flat_map (leaf_line (marks_in c.args.store.now c.args.marks.now).blobs) (flat c.args.store.now n)) c.tree.ensures) c.in_err-write_leaves.ensures))))
+
+pub returns-in_err-push-2 : goal.returns-in_err-push-2
+returns-in_err-push-2 g c =
+    put_err _ _ _ _ _ _ _ c.from_residual-in_err-push-2.ensures.1
+    (put_as _ _ _ _ _ _ _ (whole c.args.store.now c.args.refname.now c.args.number c.args.marks.now c.args.commit.now)
+    (put_short _ _ _ _ _ _ _ (put_then _ _ _ _ _ _ _ _ _ (put_before _ _ _ _ _ _ _ c.in_ok-extend_from_slice.ensures.items (put_before _ _ _ _ _ _ _ c.in_ok-add_parents.ensures (put_before _ _ _ _ _ _ _ c.in_ok-push.ensures.items (put_behind _ _ _ _ _ _ _ _ c.in_ok-add_head.ensures (put_as _ _ _ _ _ _ _ c.message.ensures c.in_ok-put.ensures))))) (put_as _ _ _ _ _ _ _ (ap (λ n. flat_map (leaf_line (marks_in c.args.store.now c.args.marks.now).blobs) (flat c.args.store.now n)) c.tree.ensures) c.in_ok-write_leaves.ensures))))
+
+pub returns : goal.returns
+returns g c =
+    put_as _ _ _ _ _ _ _ (whole c.args.store.now c.args.refname.now c.args.number c.args.marks.now c.args.commit.now)
+    (put_before _ _ _ _ _ _ _ c.in_ok-push-2.ensures.items (put_then _ _ _ _ _ _ _ _ _ (put_before _ _ _ _ _ _ _ c.in_ok-extend_from_slice.ensures.items (put_before _ _ _ _ _ _ _ c.in_ok-add_parents.ensures (put_before _ _ _ _ _ _ _ c.in_ok-push.ensures.items (put_behind _ _ _ _ _ _ _ _ c.in_ok-add_head.ensures (put_as _ _ _ _ _ _ _ c.message.ensures c.in_ok-put.ensures))))) (put_as _ _ _ _ _ _ _ (ap (λ n. flat_map (leaf_line (marks_in c.args.store.now c.args.marks.now).blobs) (flat c.args.store.now n)) c.tree.ensures) c.in_ok-write_leaves.ensures)))

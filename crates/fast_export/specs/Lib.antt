@@ -1,0 +1,7 @@
+pub mod Laws
+pub mod Examples
+pub mod ExportTexts
+pub mod Histories
+pub mod Given
+pub mod Sending
+pub mod Errors

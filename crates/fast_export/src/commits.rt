@@ -1,0 +1,163 @@
+// Commits, each with its whole tree.
+ghost use Rattle.std.specs.Prelude.{◌≡◌, ◌++◌, ◌∷◌, [], Bool, true, None, codes, decimal, flat_map, length, map, OnOk};
+ghost use Rattle.std.specs.Prelude.{if◌then◌else◌};
+ghost use Rattle.std.specs.Map.{lookup};
+ghost use Rattle.std.specs.Option.{unwrap_or};
+ghost use Rattle.git_objects.specs.Paths.{is_nil};
+ghost use Rattle.git_objects.specs.declared.kind.Kind.TheVariants.{Commit as CommitKind, Tree};
+ghost use Rattle.object_store.specs.Objects.{IsStore, has};
+ghost use Rattle.object_store.specs.StoredSnapshots.{snapshot_of};
+ghost use Rattle.object_store.specs.Unfolding.{flat};
+ghost use Rattle.fast_export.specs.ExportTexts.{commit_text, commits_text, leaf_line, line, mark_line, marks_behind};
+ghost use Rattle.fast_export.specs.Given.{AreHeldBlobs, commit_mark, commit_names, head_text, is_named, marks_in, parent_word, parents_from};
+ghost use Rattle.fast_export.specs.Histories.{snapshots_at};
+ghost use Rattle.fast_export.specs.Sending.{IsPut};
+
+use crate::ExportError;
+use crate::blobs::write_new_blobs;
+use crate::given::GivenMarks;
+use crate::lines::{add_data_line, add_leaf_line, add_line, add_mark_line};
+use crate::sending::{put, send_piece};
+use git_objects::{CommitView, Name};
+use object_store::Store;
+use path_names::RefName;
+use path_trees::Walk;
+use proj_io::Sink;
+use std::alloc::{AllocError, Global};
+
+// What stands in front of a commit's message.
+fn add_head(
+    out: &mut Vec<u8>,
+    refname: &RefName,
+    number: u64,
+    commit: &CommitView<'_>,
+) -> Result<(), AllocError>
+    ensures { OnOk result (out.new.items ≡ out.old.items ++ head_text refname.now number commit.now) }
+{
+    if commit.parent_count() == 0 {
+        add_line(out, b"reset ", refname.text())?;
+    }
+    add_line(out, b"commit ", refname.text())?;
+    add_mark_line(out, b"mark ", number)?;
+    add_line(out, b"author ", commit.author())?;
+    add_line(out, b"committer ", commit.committer())?;
+    add_data_line(out, commit.message().len())
+}
+
+// The line of a parent.
+fn add_parent(
+    out: &mut Vec<u8>,
+    marks: &GivenMarks,
+    i: usize,
+    parent: &Name,
+) -> Result<(), AllocError>
+    ensures { OnOk result (out.new.items ≡ out.old.items
+        ++ mark_line (parent_word i) (unwrap_or (lookup (is_named parent.now) marks.now.commits) 0)) }
+{
+    let word: &[u8] = if i == 0 { b"from " } else { b"merge " };
+    add_mark_line(out, word, marks.commit(parent).unwrap_or(0))
+}
+
+// The lines of a commit's parents.
+fn add_parents(
+    out: &mut Vec<u8>,
+    marks: &GivenMarks,
+    commit: &CommitView<'_>,
+) -> Result<(), AllocError>
+    ensures { OnOk result (out.new.items ≡ out.old.items
+        ++ parents_from (map commit_mark marks.now.commits) 0 commit.now.parents) }
+{
+    for i in 0..commit.parent_count() {
+        let Some(parent) = commit.parent(i) else {
+            unreachable!();
+        };
+        add_parent(out, marks, i, &parent)?;
+    }
+    Ok(())
+}
+
+// The lines that put the leaves of a tree.
+fn write_leaves<O: Sink>(
+    alloc: Global,
+    store: &Store,
+    tree: Name,
+    marks: &GivenMarks,
+    sink: &mut O,
+    kept: &mut Vec<u8>,
+) -> Result<(), ExportError>
+    requires store { IsStore store.now }
+    requires tree { has Tree store.now tree.0 ≡ true }
+    requires marks { AreHeldBlobs store.now marks.now }
+    ensures { IsPut O.tells O.written O.faults O.refusals sink.old sink.new
+        kept.old.items kept.new.items
+        (flat_map (leaf_line (marks_in store.now marks.now).blobs) (flat store.now tree.0)) result }
+{
+    let mut walk = Walk::new(alloc, store, tree)?;
+    'leaves: while walk.next()? {
+        add_leaf_line(alloc, kept, marks, walk.path(), walk.leaf())?;
+        send_piece(sink, kept)?;
+    }
+    Ok(())
+}
+
+// A commit, of which the blobs were written and the mark is given.
+fn write_made<O: Sink>(
+    alloc: Global,
+    store: &Store,
+    refname: &RefName,
+    number: u64,
+    commit: &CommitView<'_>,
+    marks: &GivenMarks,
+    sink: &mut O,
+    kept: &mut Vec<u8>,
+) -> Result<(), ExportError>
+    requires store { IsStore store.now }
+    requires tree { has Tree store.now commit.now.tree ≡ true }
+    requires marks { AreHeldBlobs store.now marks.now }
+    ensures { IsPut O.tells O.written O.faults O.refusals sink.old sink.new
+        kept.old.items kept.new.items
+        (commit_text refname.now number (marks_in store.now marks.now) (snapshot_of store.now commit.now)) result }
+{
+    add_head(kept, refname, number, commit)?;
+    put(sink, kept, commit.message())?;
+    kept.push(b'\n')?;
+    add_parents(kept, marks, commit)?;
+    kept.extend_from_slice(b"deleteall\n")?;
+    write_leaves(alloc, store, commit.tree(), marks, sink, kept)?;
+    kept.push(b'\n')?;
+    Ok(())
+}
+
+/// Writes a commit behind the new blobs of its tree.
+pub fn write_commit<O: Sink>(
+    alloc: Global,
+    store: &Store,
+    refname: &RefName,
+    name: &Name,
+    marks: &mut GivenMarks,
+    sink: &mut O,
+    kept: &mut Vec<u8>,
+) -> Result<(), ExportError>
+    requires commit { has CommitKind store.now name.now.0 ≡ true }
+    requires new { lookup (is_named name.now) marks.old.commits ≡ None }
+    requires marks { AreHeldBlobs store.now marks.old }
+    ensures put { IsPut O.tells O.written O.faults O.refusals sink.old sink.new
+        kept.old.items kept.new.items
+        (commits_text refname.now (marks_in store.now marks.old) (snapshots_at store.now (name.now.0 ∷ []))) result }
+    ensures marks { OnOk result (marks_in store.now marks.new
+        ≡ marks_behind (marks_in store.now marks.old) (snapshots_at store.now (name.now.0 ∷ []))) }
+    ensures held { OnOk result (AreHeldBlobs store.now marks.new) }
+    ensures names { OnOk result (commit_names marks.new ≡ commit_names marks.old ++ name.now ∷ []) }
+    ensures store { IsStore store.now }
+{
+    let Some(object) = store.get(name) else {
+        unreachable!();
+    };
+    let Some(commit) = CommitView::of(object.body) else {
+        unreachable!();
+    };
+    write_new_blobs(alloc, store, commit.tree(), marks, sink, kept)?;
+    let number = marks.next();
+    marks.add_commit(*name)?;
+    write_made(alloc, store, refname, number, &commit, marks, sink, kept)
+}

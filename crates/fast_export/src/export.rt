@@ -1,0 +1,84 @@
+// Histories, written to a sink.
+ghost use Rattle.std.specs.Prelude.{◌≡◌, ◌<◌, ◌≤◌, ◌↔◌, ◌-◌, ℕ, [], ◌++◌, ◌∷◌, codes, length, map, take, IfOk, IsErrOf, OnErr, OnOk};
+ghost use Rattle.std.specs.Io.KnownBytes.{Appends};
+ghost use Rattle.git_objects.specs.Parts.{name_bytes};
+ghost use Rattle.object_store.specs.Objects.{IsStore};
+ghost use Rattle.proj_io.specs.Counts.{Counts};
+ghost use Rattle.fast_export.specs.ExportTexts.{commits_text, export_text, line, mark_line, marks_behind, no_marks};
+ghost use Rattle.fast_export.specs.Histories.{IsHistoryIn, snapshots_at};
+ghost use Rattle.fast_export.specs.Sending.{IsPut, unit_of};
+
+use crate::ExportError;
+use crate::commits::write_commit;
+use crate::given::GivenMarks;
+use crate::lines::{add_line, add_mark_line};
+use crate::sending::{PIECE, send};
+use git_objects::Name;
+use object_store::Store;
+use path_names::RefName;
+use proj_io::Sink;
+use std::alloc::{AllocError, Global};
+
+// Writes commits behind one another, and gives the mark of the last.
+fn write_commits<O: Sink>(
+    alloc: Global,
+    store: &Store,
+    commits: &[Name],
+    refname: &RefName,
+    sink: &mut O,
+    kept: &mut Vec<u8>,
+) -> Result<u64, ExportError>
+    requires { IsHistoryIn store.now (map name_bytes commits.now) }
+    ensures put { IsPut O.tells O.written O.faults O.refusals sink.old sink.new kept.old.items kept.new.items
+        (commits_text refname.now no_marks (snapshots_at store.now (map name_bytes commits.now))) (unit_of result) }
+    ensures last { IfOk result (λ n.
+        n ≡ (marks_behind no_marks (snapshots_at store.now (map name_bytes commits.now))).next - 1) }
+    ensures store { 0 < length commits.now → OnOk result (IsStore store.now) }
+{
+    let mut marks = GivenMarks::new(alloc);
+    for name in commits {
+        write_commit(alloc, store, refname, name, &mut marks, sink, kept)?;
+    }
+    Ok(marks.next() - 1)
+}
+
+// The ref is set to the last commit.
+fn add_last(out: &mut Vec<u8>, refname: &RefName, number: u64) -> Result<(), AllocError>
+    ensures { OnOk result (out.new.items ≡ out.old.items
+        ++ (line (codes "reset ") refname.now ++ mark_line (codes "from ") number ++ 10 ∷ [])) }
+{
+    add_line(out, b"reset ", refname.text())?;
+    add_mark_line(out, b"from ", number)?;
+    out.push(b'\n')?;
+    Ok(())
+}
+
+/// Writes the stream of git-fast-import(1) that makes these commits on a ref: each with its whole tree, as git-fast-export(1)
+/// writes it with `--full-tree`, each blob once, in front of the first commit that has it, and at the end the ref, set to the
+/// last commit. For no commits nothing is written. The sink gets pieces of at least 32,768 bytes, but for the last one.
+///
+/// A commit comes once, and behind its parents. After an error the sink has a front of the text.
+pub fn write_history<O: Sink>(
+    alloc: Global,
+    store: &Store,
+    commits: &[Name],
+    refname: &RefName,
+    sink: &mut O,
+) -> Result<(), ExportError>
+    requires { IsHistoryIn store.now (map name_bytes commits.now) }
+    ensures text { OnOk result (Appends (O.written sink.old) (O.written sink.new)
+        (export_text (snapshots_at store.now (map name_bytes commits.now)) refname.now)) }
+    ensures front { OnErr result ((n : ℕ) × Appends (O.written sink.old) (O.written sink.new)
+        (take n (export_text (snapshots_at store.now (map name_bytes commits.now)) refname.now))) }
+    ensures told { O.tells sink.new ↔ O.tells sink.old }
+    ensures fault { Counts (O.faults sink.old) (O.faults sink.new) (IsErrOf result ExportError.Fault) }
+    ensures memory { O.refusals sink.old ≤ O.refusals sink.new }
+{
+    if commits.is_empty() {
+        return Ok(());
+    }
+    let mut kept = Vec::with_capacity(alloc, 2 * PIECE)?;
+    let last = write_commits(alloc, store, commits, refname, sink, &mut kept)?;
+    add_last(&mut kept, refname, last)?;
+    send(sink, &mut kept)
+}

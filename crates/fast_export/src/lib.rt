@@ -1,0 +1,15 @@
+//! Commits written as a stream of git-fast-import(1).
+#![tactic(auto)]
+
+mod blobs;
+mod commits;
+mod error;
+mod export;
+mod given;
+mod laws;
+mod lines;
+mod sending;
+
+pub use error::ExportError;
+pub use export::write_history;
+pub use laws::{reading_again_law, stored_history_law};
