@@ -16,3 +16,4 @@ mod Bodies
 mod TurnLemmas
 mod Filling
 mod Steps
+mod WalkLemmas
