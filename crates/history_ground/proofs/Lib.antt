@@ -17,3 +17,4 @@ mod TurnLemmas
 mod Filling
 mod Steps
 mod WalkLemmas
+mod ProjectLemmas

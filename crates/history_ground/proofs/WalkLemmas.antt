@@ -48,7 +48,7 @@ first_of (p ∷ ps) = p
 
 -- ---- names
 
-has-named : (g : Ground) (w : IsGround g) (p : ℕ) → p < length g.graph → has (commits_of g) (name_at g.graph p) ≡ true
+pub has-named : (g : Ground) (w : IsGround g) (p : ℕ) → p < length g.graph → has (commits_of g) (name_at g.graph p) ≡ true
 has-named g w p l =
     let r = row-at g.store g.graph w.graph p l in
     ap (has (commits_of g)) (name-is g.store g.graph w.graph p r.0 r.1)
