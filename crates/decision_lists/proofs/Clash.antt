@@ -113,7 +113,7 @@ fronts (c ∷ s) (d ∷ u) r r' e =
 below-covers : (s u v : Path) → u ≡ s ++ v → covers (below s) (below u) ≡ true
 below-covers s u v e = is_some-is (strip s u) v (ap (strip s) e ∙ strip-self s v)
 
-nested : (c d : Cone) (p r r' : Path) → tail c p ≡ Some r → tail d p ≡ Some r' → (covers c d ≡ true) ⊎ (covers d c ≡ true)
+pub nested : (c d : Cone) (p r r' : Path) → tail c p ≡ Some r → tail d p ≡ Some r' → (covers c d ≡ true) ⊎ (covers d c ≡ true)
 nested c (at u) p r r' e f = inl (is_some-is (tail c u) r (ap (tail c) (sym (at-is u p r' f)) ∙ e))
 nested (at s) (below u) p r r' e f = inr (is_some-is (tail (below u) s) r' (ap (tail (below u)) (sym (at-is s p r e)) ∙ f))
 nested (below s) (below u) p r r' e f =

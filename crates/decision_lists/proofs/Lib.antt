@@ -12,3 +12,4 @@ pub mod Making
 pub mod Testing
 pub mod Locating
 pub mod Indexing
+pub mod WaysBack

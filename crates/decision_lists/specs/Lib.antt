@@ -6,3 +6,4 @@ pub mod Lists
 pub mod Index
 pub mod Hits
 pub mod Examples
+pub mod Backward

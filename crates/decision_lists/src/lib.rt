@@ -1,6 +1,7 @@
 //! Decision lists over cones of paths: the first cone that has a path decides where the path goes.
 #![tactic(auto)]
 
+mod backward;
 mod clashing;
 mod entry;
 mod hits;
@@ -8,6 +9,7 @@ mod index;
 mod indexed;
 mod operations;
 
+pub use backward::{back_from, way_back};
 pub use clashing::{any_clash, clashes_with_list};
 pub use entry::Entry;
 pub use hits::{RouteHit, locate, locate_origin};

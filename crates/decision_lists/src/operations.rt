@@ -107,7 +107,7 @@ fn all_below(
 
 // The part of a cone that comes into the entry's cone when `target` takes the place of the cone's base, with where the
 // entry then sends it.
-fn part(
+pub fn part(
     alloc: Global,
     point: bool,
     base: &[Component],

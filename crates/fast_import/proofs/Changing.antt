@@ -19,17 +19,18 @@ use Rattle.stage_tree.specs.Edits as stage
 use Rattle.stage_tree.specs.declared.fault.StageFault.{StageFault}
 use Rattle.stage_tree.specs.declared.fault.StageFault.TheVariants as edits
 use Rattle.fast_import.specs.Made.{IsBlobAmong, IsRefusal, blob_object}
-use Rattle.fast_import.specs.Replays.{Base, Draft, Replay, blob_inline, blob_named, command_step, edited, few_files, given_bytes, inline_blob, is_fit, leaf_of, within_paths}
+use Rattle.fast_import.specs.Replays.{Base, Draft, Replay, blob_inline, blob_named, command_step, edited, few_files, given_bytes, inline_blob, leaf_of, within_paths}
+use Rattle.stream_reader.specs.Replayable.{is_fit}
 use Rattle.fast_import.specs.Replaying.{Replaying, fault_at}
 use Rattle.fast_import.specs.Standing.{Gives, IsBlobIn, IsBrought, IsChanged, IsDraftOf, IsGiven, IsLeafIn, IsRedrawn, IsReplayOf, IsStepped}
-use Rattle.fast_import.specs.declared.command.BlobRef.{BlobRef}
-use Rattle.fast_import.specs.declared.command.BlobRef.TheVariants as blobs
-use Rattle.fast_import.specs.declared.command.Change.{Change}
-use Rattle.fast_import.specs.declared.command.Change.TheVariants as changes
-use Rattle.fast_import.specs.declared.command.Command.TheVariants as commands
+use Rattle.stream_reader.specs.declared.command.BlobRef.{BlobRef}
+use Rattle.stream_reader.specs.declared.command.BlobRef.TheVariants as blobs
+use Rattle.stream_reader.specs.declared.command.Change.{Change}
+use Rattle.stream_reader.specs.declared.command.Change.TheVariants as changes
+use Rattle.stream_reader.specs.declared.command.Command.TheVariants as commands
 use Rattle.fast_import.specs.declared.draft.Draft.{Draft as DraftNames}
-use Rattle.fast_import.specs.declared.fault.StreamFault.{StreamFault}
-use Rattle.fast_import.specs.declared.fault.StreamFault.TheVariants.{OutOfMemory, Syntax, Unresolved}
+use Rattle.stream_reader.specs.declared.fault.StreamFault.{StreamFault}
+use Rattle.stream_reader.specs.declared.fault.StreamFault.TheVariants.{OutOfMemory, Syntax, Unresolved}
 use Rattle.fast_import.proofs.Committing.{draft_there, with_draft}
 use Rattle.fast_import.proofs.Growing.{replay-grown}
 use Rattle.fast_import.proofs.Putting.{fault_as}

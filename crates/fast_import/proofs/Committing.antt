@@ -20,12 +20,12 @@ use Rattle.fast_import.specs.Made.{IsMadeOf, IsPutFault}
 use Rattle.fast_import.specs.Replays.{Base, CommitMark, Draft, Replay, begun, command_step, commit_of, committed, entered, first_parent, tree_of, tree_upon, with_branch, with_mark, with_merges}
 use Rattle.fast_import.specs.Replaying.{Replaying, with_head}
 use Rattle.fast_import.specs.Standing.{IsDraftIn, IsDraftOf, IsEnded, IsGivenMark, IsReplayOf, IsStepped, IsTried}
-use Rattle.fast_import.specs.declared.command.Command.TheVariants as commands
-use Rattle.fast_import.specs.declared.command.CommitHead.{CommitHead}
+use Rattle.stream_reader.specs.declared.command.Command.TheVariants as commands
+use Rattle.stream_reader.specs.declared.command.CommitHead.{CommitHead}
 use Rattle.fast_import.specs.declared.draft.Draft.{Draft as DraftNames}
 use Rattle.fast_import.specs.declared.draft.Ended.{Ended}
-use Rattle.fast_import.specs.declared.fault.StreamFault.{StreamFault}
-use Rattle.fast_import.specs.declared.fault.StreamFault.TheVariants.{OutOfMemory, Syntax}
+use Rattle.stream_reader.specs.declared.fault.StreamFault.{StreamFault}
+use Rattle.stream_reader.specs.declared.fault.StreamFault.TheVariants.{OutOfMemory, Syntax}
 use Rattle.fast_import.specs.declared.marks.Marked.TheVariants as names
 use Rattle.fast_import.proofs.Growing.{replay-grown}
 use Rattle.fast_import.proofs.Knowing.{AreParents, first-parents, first-there, merges-there}

@@ -10,8 +10,8 @@ use Rattle.stage_tree.specs.declared.fault.StageFault.TheVariants as edits
 use Rattle.fast_import.specs.Replays.{Draft}
 use Rattle.fast_import.specs.Replaying.{fault_at}
 use Rattle.fast_import.specs.Standing.{IsRedrawn}
-use Rattle.fast_import.specs.declared.fault.StreamFault.{StreamFault}
-use Rattle.fast_import.specs.declared.fault.StreamFault.TheVariants.{OutOfMemory}
+use Rattle.stream_reader.specs.declared.fault.StreamFault.{StreamFault}
+use Rattle.stream_reader.specs.declared.fault.StreamFault.TheVariants.{OutOfMemory}
 
 pub edit_refused : (S : List Object) (after : Staged) (d : Draft) (left : Result Flat StageFault) (at : ℕ) (f : StageFault) (g : StreamFault) (result : Result (Unit {0}) StageFault) → IsEdited S after d.tree left result → result ≡ Err f → g ≡ fault_at at f
     → IsRedrawn S d (refused_by (fault_at at) left) (Err g)

@@ -27,7 +27,7 @@ use Rattle.fast_import.proofs.Growing.{all-grown}
 use Rattle.fast_import.proofs.Putting.{fault_as}
 use Rattle.git_objects.specs.Lists.{Each}
 use Rattle.fast_import.specs.declared.draft.Draft.{Draft as DraftNames}
-use Rattle.fast_import.specs.declared.fault.StreamFault.{StreamFault}
+use Rattle.stream_reader.specs.declared.fault.StreamFault.{StreamFault}
 
 -- ---- trees
 

@@ -23,10 +23,10 @@ use Rattle.fast_import.specs.Bases.{IsBaseIn, base_in}
 use Rattle.fast_import.specs.Replays.{Base, Replay, branch, first_parent, known, named_tree, one_more, said, target_name, tree_of, value_at, with_merges}
 use Rattle.fast_import.specs.Replaying.{Replaying}
 use Rattle.fast_import.specs.Standing.{AreCommitsIn, IsReplayOf}
-use Rattle.fast_import.specs.declared.command.CommitHead.{CommitHead}
-use Rattle.fast_import.specs.declared.commit_ref.CommitRef.{CommitRef}
-use Rattle.fast_import.specs.declared.fault.StreamFault.{StreamFault}
-use Rattle.fast_import.specs.declared.fault.StreamFault.TheVariants.{Limit, Unresolved}
+use Rattle.stream_reader.specs.declared.command.CommitHead.{CommitHead}
+use Rattle.stream_reader.specs.declared.commit_ref.CommitRef.{CommitRef}
+use Rattle.stream_reader.specs.declared.fault.StreamFault.{StreamFault}
+use Rattle.stream_reader.specs.declared.fault.StreamFault.TheVariants.{Limit, Unresolved}
 use Rattle.fast_import.specs.declared.replayed.Made.{Made}
 use Rattle.fast_import.proofs.Growing.{commit-has}
 use Rattle.fast_import.proofs.Resolving.{branch-is, value-append}

@@ -1,19 +1,3 @@
-pub mod Merging
-pub mod Combining
-pub mod Judging
-pub mod Composed
-pub mod Turning
-pub mod Lowering
-pub mod Commanding
-pub mod Iterating
-pub mod Reading
-pub mod Waiting
-pub mod Following
-pub mod SpelledLines
-pub mod SpelledHeads
-pub mod SpelledChanges
-pub mod SpelledTurns
-pub mod SpelledWhole
 pub mod Keeping
 pub mod Heading
 pub mod Resolving
@@ -26,6 +10,6 @@ pub mod Ending
 pub mod Committing
 pub mod KnownBlobs
 pub mod Changing
-pub mod Replayable
+pub mod Taking
 pub mod Running
 pub mod Stopping

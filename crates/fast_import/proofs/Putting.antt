@@ -20,7 +20,7 @@ use Rattle.object_store.proofs.Finding.{found_name}
 use Rattle.object_store.proofs.Growth.{clash_as}
 use Rattle.object_store.proofs.Held.{kind_is}
 use Rattle.fast_import.specs.Made.{IsPutFault}
-use Rattle.fast_import.specs.declared.fault.StreamFault.{StreamFault}
+use Rattle.stream_reader.specs.declared.fault.StreamFault.{StreamFault}
 
 pub fault_as : (made more : Object → Type 0) (S : List Object) (f : StreamFault) → ((o : Object) → made o → more o) → IsPutFault made S f → IsPutFault more S f
 fault_as made more S f g (inl h) = inl h

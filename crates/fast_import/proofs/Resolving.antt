@@ -20,11 +20,11 @@ use Rattle.fast_import.specs.Replays.{Base, Replay, branch, first_parent, named_
 use Rattle.fast_import.specs.Replaying.{Replaying, is_named, tree_made}
 use Rattle.fast_import.specs.Standing.{AreCommitsIn, IsReplayOf}
 use Rattle.fast_import.specs.declared.replayed.Made.{Made}
-use Rattle.fast_import.specs.declared.command.CommitHead.{CommitHead}
-use Rattle.fast_import.specs.declared.commit_ref.CommitRef.{CommitRef}
-use Rattle.fast_import.specs.declared.fault.StreamFault.{StreamFault}
-use Rattle.fast_import.specs.declared.commit_ref.Target.{Target}
-use Rattle.fast_import.specs.declared.commit_ref.Target.TheVariants as targets
+use Rattle.stream_reader.specs.declared.command.CommitHead.{CommitHead}
+use Rattle.stream_reader.specs.declared.commit_ref.CommitRef.{CommitRef}
+use Rattle.stream_reader.specs.declared.fault.StreamFault.{StreamFault}
+use Rattle.stream_reader.specs.declared.commit_ref.Target.{Target}
+use Rattle.stream_reader.specs.declared.commit_ref.Target.TheVariants as targets
 use Rattle.fast_import.proofs.Heading.{branch-heads}
 
 module _ (S : List Object) (v : Replaying) (r : Replay) (h : IsReplayOf S v r) where

@@ -1,5 +1,5 @@
 -- A stream so far: what its reader has told, and what came of it.
-use Rattle.std.proofs.Common.{◌≡◌, inl, inr, ℕ, true, false, List, [], ◌∷◌, ◌++◌, Option, Result, Ok, Err, refl, sym, ap, subst, ◌∙◌, append_assoc, append-nil}
+use Rattle.std.proofs.Common.{◌≡◌, inl, inr, ◌+◌, ◌≤◌, ℕ, true, false, List, [], ◌∷◌, ◌++◌, length, Option, Some, Result, Ok, Err, refl, sym, ap, subst, ◌∙◌, append_assoc, append-nil, arith, length-append}
 use Rattle.std.specs.Prelude.{IsOkAnd}
 use Rattle.std.specs.Io.KnownBytes.{Consumes, IsAtEnd}
 use Rattle.std.proofs.KnownBytes.{Consumes-nil, Consumes-trans}
@@ -11,14 +11,19 @@ use Rattle.object_store.proofs.Growth.{grown_as, grown_self, grown_then}
 use Rattle.stream_lex.specs.Lines.{Input}
 use Rattle.stream_lex.proofs.Passing.{grown_twice}
 use Rattle.fast_import.specs.Made.{IsMadeAt, IsMadeBy, IsMadeOn}
-use Rattle.fast_import.specs.Readers.{MayFollow, Reading, verdict_with}
+use Rattle.stream_lex.specs.Cutting.{grown}
+use Rattle.stream_reader.specs.Readers.{IsBefore, MayFollow, Reading, came, next_command, verdict_with}
+use Rattle.stream_reader.specs.Waited.{IsNear}
+use Rattle.stream_reader.proofs.Following.{later_told}
 use Rattle.fast_import.specs.Replays.{Base, Ran, Replay, also_tried, gone_on, nothing_yet, ran_by, step}
 use Rattle.fast_import.specs.Replaying.{Replaying}
 use Rattle.fast_import.specs.Standing.{IsReplayOf, IsStepped}
-use Rattle.fast_import.specs.Verdicts.{Verdict, start, stopped, verdict, weight, with_command}
+use Rattle.stream_reader.specs.Verdicts.{Verdict, start, stopped, verdict, weight, with_command}
+use Rattle.fast_import.specs.Waited.{waited, waited_from, waited_on, waited_told}
 use Rattle.fast_import.specs.Whole.{IsFed}
-use Rattle.fast_import.specs.declared.command.Placed.{Placed}
-use Rattle.fast_import.specs.declared.fault.StreamFault.{StreamFault}
+use Rattle.fast_import.proofs.Taking.{next_near, waited-is}
+use Rattle.stream_reader.specs.declared.command.Placed.{Placed}
+use Rattle.stream_reader.specs.declared.fault.StreamFault.{StreamFault}
 
 -- ---- commands in a row
 
@@ -84,6 +89,10 @@ made-behind base r s (q ∷ ps) p qs o e h = inr (by (step base r q) (λ t g. ma
 
 -- ---- a stream so far
 
+-- up to which place is read of what is left, where more follows and then the end
+abbrev pub waited_with : Base → Replay → Reading → Bytes → ℕ
+waited_with base r rd more = waited_from (step base) r rd.progress (grown more rd.input)
+
 -- S and before are the store and what the source had at first; T, now, rd and v are the store, the source, the reader and the
 -- replay as they are.
 pub record IsSoFar (base : Base) (S T : List Object) (before now : Option Bytes) (rd : Reading) (v : Replaying) : Type 0 where
@@ -96,6 +105,9 @@ pub record IsSoFar (base : Base) (S T : List Object) (before now : Option Bytes)
   pub same : (more : Bytes) → MayFollow rd more true → verdict start (taken ++ more) ≡ with_all told (verdict_with more rd)
   pub grown : IsGrownBy (IsMadeBy base nothing_yet told) S T
   pub at_end : rd.ended ≡ true → IsAtEnd now
+  pub came : came rd ≡ length taken
+  pub waited : (more : Bytes) → MayFollow rd more true → waited base (taken ++ more) ≡ waited_with base state rd more
+  pub near : (more : Bytes) → MayFollow rd more true → length taken ≤ waited_with base state rd more + 33488896
 
 pub nothing_so_far : (base : Base) (S : List Object) (before : Option Bytes) (v : Replaying) → IsStore S → IsReplayOf S v nothing_yet → IsSoFar base S S before before (record { progress = start; input = record { at = 0; rest = [] }; ended = false }) v
 nothing_so_far base S before v s h = record {
@@ -108,6 +120,9 @@ nothing_so_far base S before v s h = record {
   same = λ more m. refl;
   grown = grown_self (IsMadeBy base nothing_yet []) S s;
   at_end = λ e. cc;
+  came = refl;
+  waited = λ more m. refl;
+  near = λ more m. omega arith;
 }
 
 module _ (base : Base) (S T : List Object) (before now : Option Bytes) (old new : Reading) (v : Replaying) (h : IsSoFar base S T before now old v) where
@@ -117,12 +132,20 @@ module _ (base : Base) (S T : List Object) (before now : Option Bytes) (old new 
 
   -- ---- a command that is carried out
 
-  module _ (p : Placed) (ended : new.ended ≡ old.ended) (follows : (more : Bytes) → MayFollow old more true → verdict_with more old ≡ with_command p (verdict_with more new)) where
+  module _ (p : Placed) (told : next_command old ≡ Ok (record { command = Some p; progress = new.progress }, new.input)) (ended : new.ended ≡ old.ended) (came_same : came new ≡ came old) (follows : (more : Bytes) → MayFollow old more true → verdict_with more old ≡ with_command p (verdict_with more new)) where
     split : (more : Bytes) → MayFollow new more true → verdict start (h.taken ++ more) ≡ with_all (h.told ++ p ∷ []) (verdict_with more new)
     split more m =
         h.same more (may_before ended more m)
         ∙ ap (with_all h.told) (follows more (may_before ended more m))
         ∙ ap (λ (cs : List Placed). record { commands = cs; fault = (verdict_with more new).fault }) (sym (append_assoc h.told (p ∷ []) (verdict_with more new).commands))
+
+    -- what is left is read up to the same place
+    waited_new : (s : Replay) → step base h.state p ≡ Ok s → (more : Bytes) → MayFollow new more true → waited_with base h.state old more ≡ waited_with base s new more
+    waited_new s q more m =
+        waited-is (step base) h.state old.progress (grown more old.input)
+        ∙ ap (waited_told (waited_from (step base)) (step base) h.state)
+        (later_told old.progress old.input old.ended more (record { command = Some p; progress = new.progress }, new.input) (may_before ended more m) told)
+        ∙ ap (waited_on (waited_from (step base)) new.progress (grown more new.input)) q
 
     pub one_more : (R : List Object) (w : Replaying) → IsStepped base T R w h.state p (Ok tt) → IsSoFar base S R before now new w
     one_more R w k = by (step base h.state p) refl k.done
@@ -141,12 +164,22 @@ module _ (base : Base) (S T : List Object) (before now : Option Bytes) (old new 
               (grown_as (IsMadeBy base nothing_yet h.told) (IsMadeBy base nothing_yet (h.told ++ p ∷ [])) S T (made-front base nothing_yet h.told (p ∷ [])) h.grown)
               (grown_as (IsMadeAt h.state p.command) (IsMadeBy base nothing_yet (h.told ++ p ∷ [])) T R (λ o m. made-behind base nothing_yet h.state h.told p [] o h.run m) k.grown);
           at_end = λ e. h.at_end (sym ended ∙ e);
+          came = came_same ∙ h.came;
+          waited = λ more m. h.waited more (may_before ended more m) ∙ waited_new s q more m;
+          near = λ more m. subst (λ n. length h.taken ≤ n + 33488896) (waited_new s q more m) (h.near more (may_before ended more m));
         }
 
   -- ---- more of the stream
 
-  pub waiting : new.ended ≡ old.ended → ((more : Bytes) → MayFollow old more true → verdict_with more old ≡ verdict_with more new) → IsSoFar base S T before now new v
-  waiting ended follows = record {
+  -- where nothing was told
+  waited_still : IsBefore old new → (more : Bytes) → MayFollow new more true → waited_with base h.state old more ≡ waited_with base h.state new more
+  waited_still b more m =
+      waited-is (step base) h.state old.progress (grown more old.input)
+      ∙ ap (waited_told (waited_from (step base)) (step base) h.state) (b.same true more (may_before b.ended more m))
+      ∙ sym (waited-is (step base) h.state new.progress (grown more new.input))
+
+  waiting : IsBefore old new → ((more : Bytes) → MayFollow old more true → verdict_with more old ≡ verdict_with more new) → IsSoFar base S T before now new v
+  waiting b follows = let ended = b.ended in record {
     taken = h.taken;
     gone = h.gone;
     told = h.told;
@@ -156,10 +189,20 @@ module _ (base : Base) (S T : List Object) (before now : Option Bytes) (old new 
     same = λ more m. h.same more (may_before ended more m) ∙ ap (with_all h.told) (follows more (may_before ended more m));
     grown = h.grown;
     at_end = λ e. h.at_end (sym ended ∙ e);
+    came = b.came ∙ h.came;
+    waited = λ more m. h.waited more (may_before ended more m) ∙ waited_still b more m;
+    near = λ more m. subst (λ n. length h.taken ≤ n + 33488896) (waited_still b more m) (h.near more (may_before ended more m));
   }
 
-pub fed_more : (base : Base) (S T : List Object) (before now later : Option Bytes) (rd new : Reading) (v : Replaying) (most : ℕ) → rd.ended ≡ false → IsSoFar base S T before now rd v → IsFed now later rd new most → IsSoFar base S T before later new v
-fed_more base S T before now later rd new v most un h (inl p) = record {
+  -- where more is waited for, little has come
+  waiting_near : IsBefore old new → IsNear old → (more : Bytes) → MayFollow new more true → length h.taken ≤ waited_with base h.state new more + 16908290
+  waiting_near b n more m =
+      subst (λ k. length h.taken ≤ k + 16908290) (waited_still b more m)
+      (omega (arith, h.came, n more, next_near (step base) h.state old.progress (grown more old.input)))
+
+fed_more : (base : Base) (S T : List Object) (before now later : Option Bytes) (rd new : Reading) (v : Replaying) (most : ℕ) → most ≤ 65536 → rd.ended ≡ false → (h : IsSoFar base S T before now rd v) →
+    ((more : Bytes) → MayFollow rd more true → length h.taken ≤ waited_with base h.state rd more + 16908290) → IsFed now later rd new most → IsSoFar base S T before later new v
+fed_more base S T before now later rd new v most few un h n (inl p) = record {
   taken = h.taken ++ p.bytes;
   gone = Consumes-trans before now later h.taken p.bytes h.gone p.taken;
   told = h.told;
@@ -169,12 +212,20 @@ fed_more base S T before now later rd new v most un h (inl p) = record {
   same = λ more m.
       ap (verdict start) (append_assoc h.taken p.bytes more)
       ∙ h.same (p.bytes ++ more) (λ e. cc)
-      ∙ ap (λ (i : Input). with_all h.told (Rattle.fast_import.specs.Verdicts.verdict_from rd.progress i)) (sym (grown_twice p.bytes more rd.input))
+      ∙ ap (λ (i : Input). with_all h.told (Rattle.stream_reader.specs.Verdicts.verdict_from rd.progress i)) (sym (grown_twice p.bytes more rd.input))
       ∙ ap (λ (r : Reading). with_all h.told (verdict_with more r)) (sym p.now);
   grown = h.grown;
   at_end = λ e. let no : false ≡ true = ap (λ (r : Reading). r.ended) (sym p.now) ∙ e in cc;
+  came = omega (arith, ap came p.now, h.came, length-append rd.input.rest p.bytes, length-append h.taken p.bytes);
+  waited = λ more m. ap (waited base) (append_assoc h.taken p.bytes more) ∙ h.waited (p.bytes ++ more) (λ e. cc) ∙ fed_waited more;
+  near = λ more m. subst (λ k. length (h.taken ++ p.bytes) ≤ k + 33488896) (fed_waited more) (omega (arith, n (p.bytes ++ more) (λ e. cc), few, p.few, length-append h.taken p.bytes));
 }
-fed_more base S T before now later rd new v most un h (inr p) = record {
+  where
+    fed_waited : (more : Bytes) → waited_with base h.state rd (p.bytes ++ more) ≡ waited_with base h.state new more
+    fed_waited more =
+        ap (λ (i : Input). waited_from (step base) h.state rd.progress i) (sym (grown_twice p.bytes more rd.input))
+        ∙ ap (λ (r : Reading). waited_with base h.state r more) (sym p.now)
+fed_more base S T before now later rd new v most few un h n (inr p) = record {
   taken = h.taken;
   gone = subst (Consumes before later) (append-nil h.taken) (Consumes-trans before now later h.taken [] h.gone p.none);
   told = h.told;
@@ -184,4 +235,14 @@ fed_more base S T before now later rd new v most un h (inr p) = record {
   same = λ more m. h.same more (λ e. cc) ∙ ap (λ (r : Reading). with_all h.told (verdict_with more r)) (sym p.now);
   grown = h.grown;
   at_end = λ e. p.at_end;
+  came = ap came p.now ∙ h.came;
+  waited = λ more m. h.waited more (λ e. cc) ∙ ap (λ (r : Reading). waited_with base h.state r more) (sym p.now);
+  near = λ more m. subst (λ k. length h.taken ≤ k + 33488896) (ap (λ (r : Reading). waited_with base h.state r more) (sym p.now)) (h.near more (λ e. cc));
 }
+
+-- more was waited for, and then fed
+pub fed_waiting : (base : Base) (S T : List Object) (before now later : Option Bytes) (old rd new : Reading) (v : Replaying) (most : ℕ) → most ≤ 65536 → IsSoFar base S T before now old v → IsBefore old rd → IsNear old →
+    ((more : Bytes) → MayFollow old more true → verdict_with more old ≡ verdict_with more rd) → rd.ended ≡ false → IsFed now later rd new most → IsSoFar base S T before later new v
+unfolding waiting
+fed_waiting base S T before now later old rd new v most few h b n follows un fed =
+    fed_more base S T before now later rd new v most few un (waiting base S T before now old rd v h b follows) (waiting_near base S T before now old rd v h b n) fed

@@ -25,11 +25,11 @@ use Rattle.fast_import.specs.Made.{IsMadeAt, IsPutFault}
 use Rattle.fast_import.specs.Replays.{Base, Marked, BlobMark, CommitMark, Replay, command_step, said, step, with_branch, with_mark}
 use Rattle.fast_import.specs.Replaying.{Replaying, with_head, without_ref}
 use Rattle.fast_import.specs.Standing.{AreBlobsIn, AreCommitsIn, IsBlobIn, IsCommitIn, IsGivenMark, IsMarkIn, IsReplayOf, IsStepped, IsTried}
-use Rattle.fast_import.specs.declared.command.Command.TheVariants as commands
-use Rattle.fast_import.specs.declared.command.Placed.{Placed}
-use Rattle.fast_import.specs.declared.commit_ref.CommitRef.{CommitRef}
-use Rattle.fast_import.specs.declared.fault.StreamFault.{StreamFault}
-use Rattle.fast_import.specs.declared.fault.StreamFault.TheVariants.{OutOfMemory}
+use Rattle.stream_reader.specs.declared.command.Command.TheVariants as commands
+use Rattle.stream_reader.specs.declared.command.Placed.{Placed}
+use Rattle.stream_reader.specs.declared.commit_ref.CommitRef.{CommitRef}
+use Rattle.stream_reader.specs.declared.fault.StreamFault.{StreamFault}
+use Rattle.stream_reader.specs.declared.fault.StreamFault.TheVariants.{OutOfMemory}
 use Rattle.fast_import.specs.declared.marks.Marked.{Marked as MarkedName}
 use Rattle.fast_import.specs.declared.marks.Marked.TheVariants as names
 use Rattle.fast_import.specs.declared.replayed.Made.{Made}

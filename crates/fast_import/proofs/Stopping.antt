@@ -1,6 +1,7 @@
 -- How the replay of a whole stream ends.
-use Rattle.std.proofs.Common.{◌≡◌, ◌⊎◌, inl, inr, ◌+◌, ◌*◌, ◌-◌, ◌<◌, ◌≤◌, ℕ, Bool, true, false, cond, List, [], ◌∷◌, ◌++◌, length, Option, Some, None, Result, Ok, Err, IfSome, refl, sym, ap, subst, ◌∙◌, arith, length-append}
-use Rattle.std.specs.Prelude.{IsOkAnd}
+use Rattle.std.proofs.Common.{◌≡◌, ◌⊎◌, inl, inr, ◌+◌, ◌*◌, ◌-◌, ◌<◌, ◌≤◌, ℕ, Bool, true, false, cond, List, [], ◌∷◌, ◌++◌, length, Option, Some, None, Result, Ok, Err, IfSome, refl, sym, ap, subst, ◌∙◌, append_assoc, arith, length-append}
+use Rattle.std.specs.Prelude.{IsOkAnd, OnOk}
+use Rattle.std.proofs.KnownBytes.{Consumes-trans}
 use Rattle.std.specs.Option.{unwrap_or}
 use Rattle.std.specs.Io.KnownBytes.{Consumes, IsAtEnd}
 use Rattle.git_objects.specs.Paths.{Bytes}
@@ -8,30 +9,34 @@ use Rattle.git_objects.specs.declared.limits.TheConstants.{STREAM_BYTES}
 use Rattle.object_store.specs.Growth.{IsGrownBy}
 use Rattle.object_store.specs.Objects.{Object}
 use Rattle.object_store.proofs.Growth.{grown_as, grown_then}
-use Rattle.stream_lex.specs.Cutting.{IsTold}
+use Rattle.stream_lex.specs.Cutting.{IsTold, grown}
 use Rattle.stream_lex.specs.declared.stop.Wanted.{Wanted}
 use Rattle.stream_lex.specs.declared.stop.Stop.TheVariants.{More}
-use Rattle.fast_import.specs.Commands.{read_command}
+use Rattle.stream_reader.specs.Commands.{read_command}
 use Rattle.fast_import.specs.Made.{IsMadeAt, IsMadeBy, IsRefusal}
-use Rattle.fast_import.specs.Readers.{MayFollow, Reading, TellsNext, came, fed, left, verdict_with}
+use Rattle.stream_reader.specs.Readers.{MayFollow, Reading, TellsNext, came, fed, left, next_command, verdict_with}
+use Rattle.stream_reader.specs.Waited.{IsNear}
+use Rattle.stream_reader.proofs.Following.{later_told}
 use Rattle.fast_import.specs.Replays.{Base, Ran, Replay, Replayed, given_by, gone_on, nothing_yet, outcome_of, ran, ran_by, replay, step}
 use Rattle.fast_import.specs.Replaying.{Replaying}
 use Rattle.fast_import.specs.Standing.{IsReplayedOf, IsStepped}
-use Rattle.fast_import.specs.Verdicts.{Verdict, stopped, weight, with_command}
-use Rattle.fast_import.specs.Whole.{IsFed, IsMadeOfStream, IsStreamError, IsWhole}
-use Rattle.fast_import.specs.declared.command.Placed.{Placed}
-use Rattle.fast_import.specs.declared.fault.StreamFault.{StreamFault}
-use Rattle.fast_import.specs.declared.fault.StreamFault.TheVariants.{OutOfMemory}
-use Rattle.fast_import.specs.declared.progress.Phase.{Phase}
-use Rattle.fast_import.specs.declared.progress.Phase.TheVariants.{Between, InCommit, Finished}
-use Rattle.fast_import.specs.declared.progress.Progress.{Progress}
-use Rattle.fast_import.specs.declared.reader.Next.TheVariants as nexts
+use Rattle.stream_reader.specs.Verdicts.{Verdict, stopped, weight, with_command}
+use Rattle.fast_import.specs.Waited.{IsTaken, waited, waited_from, waited_told}
+use Rattle.fast_import.specs.Whole.{IsFed, IsGiven, IsMadeOfStream, IsStreamError, IsWhole}
+use Rattle.fast_import.proofs.Taking.{next_near, waited-is}
+use Rattle.stream_reader.specs.declared.command.Placed.{Placed}
+use Rattle.stream_reader.specs.declared.fault.StreamFault.{StreamFault}
+use Rattle.stream_reader.specs.declared.fault.StreamFault.TheVariants.{OutOfMemory}
+use Rattle.stream_reader.specs.declared.progress.Phase.{Phase}
+use Rattle.stream_reader.specs.declared.progress.Phase.TheVariants.{Between, InCommit, Finished}
+use Rattle.stream_reader.specs.declared.progress.Progress.{Progress}
+use Rattle.stream_reader.specs.declared.reader.Next.TheVariants as nexts
 use Rattle.fast_import.specs.declared.replayed.Replayed.{Replayed as ReplayedNames}
 use Rattle.fast_import.specs.declared.whole.ReplayError.{ReplayError}
 use Rattle.fast_import.specs.declared.whole.ReplayError.TheVariants.{ReadFault, Stream}
-use Rattle.fast_import.proofs.Commanding.{command-reader}
+use Rattle.stream_reader.proofs.Commanding.{command-reader}
 use Rattle.fast_import.proofs.Putting.{fault_as}
-use Rattle.fast_import.proofs.Running.{IsRunTo, IsSoFar, made-behind, made-front, run-on}
+use Rattle.fast_import.proofs.Running.{IsRunTo, IsSoFar, made-behind, made-front, run-on, waited_with}
 
 rest_none : (now : Option Bytes) → IsAtEnd now → unwrap_or now [] ≡ []
 rest_none None h = refl
@@ -41,6 +46,13 @@ told_all : (before now : Option Bytes) (taken : Bytes) → Consumes before now t
 told_all None now taken h = tt
 told_all (Some bs) None taken h = absurd h
 told_all (Some bs) (Some cs) taken h = h
+
+taken_by : {A E : Type 0} (base : Base) (before after : Option Bytes) (given : Bytes) → Consumes before after given → (result : Result A E) →
+    length given ≤ waited base (given ++ unwrap_or after []) + 33554432 → OnOk result (waited base (given ++ unwrap_or after []) ≤ length given) → IsTaken base before after result
+taken_by base None after given c result few least = tt
+taken_by base (Some bs) None given c result few least = absurd c
+taken_by base (Some bs) (Some cs) given c result few least =
+    subst (λ (all : Bytes). (g : Bytes) × Consumes (Some bs) (Some cs) g × (length g ≤ waited base all + 33554432) × OnOk result (waited base all ≤ length g)) (sym c) (given, c, few, least)
 
 module _ (base : Base) (S T : List Object) (before now : Option Bytes) (rd : Reading) (v : Replaying) (h : IsSoFar base S T before now rd v) where
   abbrev pub rest : Bytes
@@ -68,6 +80,33 @@ module _ (base : Base) (S T : List Object) (before now : Option Bytes) (rd : Rea
 
   pub grown_so_far : IsGrownBy (IsMadeOfStream base all) S T
   grown_so_far = grown_as (IsMadeBy base nothing_yet h.told) (IsMadeOfStream base all) S T made_so_far h.grown
+
+  -- ---- how much was given
+
+  waited_all : waited base all ≡ waited_with base h.state rd rest
+  waited_all = h.waited rest may_rest
+
+  pub taken_few : length h.taken ≤ waited base all + 33488896
+  taken_few = subst (λ n. length h.taken ≤ n + 33488896) (sym waited_all) (h.near rest may_rest)
+
+  pub taken_refused : (e : ReplayError) → IsTaken {A = ReplayedNames} base before now (Err e)
+  taken_refused e = taken_by {A = ReplayedNames} base before now h.taken h.gone (Err e) (omega (arith, taken_few)) tt
+
+  pub taken_given : (new : Reading) → next_command rd ≡ Ok (record { command = None; progress = new.progress }, new.input) → came new ≡ came rd → (g : ReplayedNames) → IsTaken {E = ReplayError} base before now (Ok g)
+  taken_given new told c g =
+      let here : waited base all ≡ new.input.at =
+      waited_all ∙ waited-is (step base) h.state rd.progress (grown rest rd.input)
+      ∙ ap (waited_told (waited_from (step base)) (step base) h.state) (later_told rd.progress rd.input rd.ended rest (record { command = None; progress = new.progress }, new.input) may_rest told) in
+      taken_by {E = ReplayError} base before now h.taken h.gone (Ok g) (omega (arith, taken_few)) (omega (arith, here, c, h.came))
+
+  -- the source fails, or there is no memory for what it gave
+  pub taken_feeding : IsNear rd → rd.ended ≡ false → (after : Option Bytes) → IsGiven now after 65536 → (e : ReplayError) → IsTaken {A = ReplayedNames} base before after (Err e)
+  taken_feeding n un after g e =
+      let more : Bytes = g.0 ++ unwrap_or after [] in
+      let far : waited base ((h.taken ++ g.0) ++ unwrap_or after []) ≡ waited_with base h.state rd more =
+      ap (waited base) (append_assoc h.taken g.0 (unwrap_or after [])) ∙ h.waited more (λ q. let no : ⊥ = cc in absurd no) in
+      taken_by {A = ReplayedNames} base before after (h.taken ++ g.0) (Consumes-trans before now after h.taken g.0 h.gone g.1) (Err e)
+      (omega (arith, far, n more, next_near (step base) h.state rd.progress (grown more rd.input), h.came, g.2, length-append h.taken g.0)) tt
 
   -- ---- the reader stops
 

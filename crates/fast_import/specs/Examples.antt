@@ -14,18 +14,19 @@ use Rattle.path_names.specs.Quoting.{unquote}
 use Rattle.path_names.specs.RefNames.{is_ref_name}
 use Rattle.path_names.specs.Words.{number}
 use Rattle.stream_lex.specs.Lines.{any_line, line_at, block_at}
-use Rattle.fast_import.specs.declared.command.Change.TheVariants.{Delete, Rename, Copy}
-use Rattle.fast_import.specs.declared.fault.StreamFault.TheVariants.{Syntax, Unresolved, NoSource}
-use Rattle.fast_import.specs.Words.{first_word, mark}
-use Rattle.fast_import.specs.Reading.{option_line, need_line}
-use Rattle.fast_import.specs.Names.{target}
-use Rattle.fast_import.specs.Blocks.{data_behind, blob_data, message_data}
-use Rattle.fast_import.specs.PathWords.{last_path, first_path, two_paths}
-use Rattle.fast_import.specs.Changes.{mode, dataref, modify_line, modify, change_line, change}
-use Rattle.fast_import.specs.Heads.{mark_lines, blob, people, ref_line, parents, head, reset}
-use Rattle.fast_import.specs.Commands.{command_line, turn, read_command}
-use Rattle.fast_import.specs.Verdicts.{verdict_from}
+use Rattle.stream_reader.specs.declared.command.Change.TheVariants.{Delete, Rename, Copy}
+use Rattle.stream_reader.specs.declared.fault.StreamFault.TheVariants.{Syntax, Unresolved, NoSource}
+use Rattle.stream_reader.specs.Words.{first_word, mark}
+use Rattle.stream_reader.specs.Reading.{option_line, need_line}
+use Rattle.stream_reader.specs.Names.{target}
+use Rattle.stream_reader.specs.Blocks.{data_behind, blob_data, message_data}
+use Rattle.stream_reader.specs.PathWords.{last_path, first_path, two_paths}
+use Rattle.stream_reader.specs.Changes.{mode, dataref, modify_line, modify, change_line, change}
+use Rattle.stream_reader.specs.Heads.{mark_lines, blob, people, ref_line, parents, head, reset}
+use Rattle.stream_reader.specs.Commands.{command_line, turn, read_command}
+use Rattle.stream_reader.specs.Verdicts.{verdict_from}
 use Rattle.fast_import.specs.Replays.{Base, edited, empty_base, nothing_yet, ran, replay}
+use Rattle.fast_import.specs.Waited.{waited, waited_from}
 
 abbrev main : Bytes
 main = codes "refs/heads/main"
@@ -176,6 +177,33 @@ cut_in_the_data = refl
 pub cut_in_the_message : replay empty_base (take 69 small_stream) ≡ Err (Syntax 58)
 unfolding put remove any_line line_at block_at option_line need_line first_word number mark target data_behind blob_data message_data last_path first_path two_paths path_of unquote is_ref_name is_ident mode dataref modify_line modify change_line change mark_lines blob people ref_line parents head reset command_line turn read_command verdict_from decode_pairs
 cut_in_the_message = refl
+
+-- ---- up to which place a stream is read
+
+-- without `done`: to its end
+pub read_to_its_end : waited empty_base (codes "blob\ndata 1\na\n# end\n") ≡ 20
+unfolding put remove any_line line_at block_at option_line need_line first_word number mark target data_behind blob_data message_data last_path first_path two_paths path_of unquote is_ref_name is_ident mode dataref modify_line modify change_line change mark_lines blob people ref_line parents head reset command_line turn read_command waited_from decode_pairs
+read_to_its_end = refl
+
+-- behind the line `done`
+pub read_to_done : waited empty_base (codes "blob\ndata 1\na\ndone\nblob\n") ≡ 19
+unfolding put remove any_line line_at block_at option_line need_line first_word number mark target data_behind blob_data message_data last_path first_path two_paths path_of unquote is_ref_name is_ident mode dataref modify_line modify change_line change mark_lines blob people ref_line parents head reset command_line turn read_command waited_from decode_pairs
+read_to_done = refl
+
+-- to the line that fits no place
+pub read_to_a_fault : waited empty_base (codes "blob\ndata 1\na\nwhat\nblob\n") ≡ 14
+unfolding put remove any_line line_at block_at option_line need_line first_word number mark target data_behind blob_data message_data last_path first_path two_paths path_of unquote is_ref_name is_ident mode dataref modify_line modify change_line change mark_lines blob people ref_line parents head reset command_line turn read_command waited_from decode_pairs
+read_to_a_fault = refl
+
+-- to the line behind the refused command that is no comment, an empty one here
+pub read_behind_a_refusal : waited empty_base (refused ++ codes "# a comment\n\nblob\n") ≡ 88
+unfolding put remove any_line line_at block_at option_line need_line first_word number mark target data_behind blob_data message_data last_path first_path two_paths path_of unquote is_ref_name is_ident mode dataref modify_line modify change_line change mark_lines blob people ref_line parents head reset command_line turn read_command waited_from decode_pairs
+read_behind_a_refusal = refl
+
+-- to the end, where only comments follow
+pub refused_at_the_end : waited empty_base (codes "reset refs/heads/side\nfrom :1\n# end\n") ≡ 36
+unfolding put remove any_line line_at block_at option_line need_line first_word number mark target data_behind blob_data message_data last_path first_path two_paths path_of unquote is_ref_name is_ident mode dataref modify_line modify change_line change mark_lines blob people ref_line parents head reset command_line turn read_command waited_from decode_pairs
+refused_at_the_end = refl
 
 -- ---- many kinds of lines
 

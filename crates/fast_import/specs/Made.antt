@@ -7,11 +7,11 @@ use Rattle.git_objects.specs.declared.kind.Kind.TheVariants as kinds
 use Rattle.object_store.specs.Growth.{IsClash}
 use Rattle.object_store.specs.Objects.{Object}
 use Rattle.object_store.specs.StoredSnapshots.{snapshot_object}
-use Rattle.fast_import.specs.declared.command.Command.{Command}
-use Rattle.fast_import.specs.declared.command.Command.TheVariants as commands
-use Rattle.fast_import.specs.declared.command.Placed.{Placed}
-use Rattle.fast_import.specs.declared.fault.StreamFault.{StreamFault}
-use Rattle.fast_import.specs.declared.fault.StreamFault.TheVariants.{Collision, OutOfMemory}
+use Rattle.stream_reader.specs.declared.command.Command.{Command}
+use Rattle.stream_reader.specs.declared.command.Command.TheVariants as commands
+use Rattle.stream_reader.specs.declared.command.Placed.{Placed}
+use Rattle.stream_reader.specs.declared.fault.StreamFault.{StreamFault}
+use Rattle.stream_reader.specs.declared.fault.StreamFault.TheVariants.{Collision, OutOfMemory}
 use Rattle.git_objects.specs.declared.name.Name.{Name}
 use Rattle.fast_import.specs.Replays.{Base, Draft, Replay, commit_of, inline_blob, step}
 

@@ -15,8 +15,8 @@ use Rattle.git_objects.specs.declared.quantity.Quantity.TheVariants.{Files, Path
 use Rattle.stage_tree.specs.declared.fault.StageFault.{StageFault}
 use Rattle.stage_tree.specs.declared.fault.StageFault.TheVariants as edits
 use Rattle.fast_import.specs.declared.draft.Draft.{Draft}
-use Rattle.fast_import.specs.declared.fault.StreamFault.{StreamFault}
-use Rattle.fast_import.specs.declared.fault.StreamFault.TheVariants.{Collision, Limit, NoSource, OutOfMemory}
+use Rattle.stream_reader.specs.declared.fault.StreamFault.{StreamFault}
+use Rattle.stream_reader.specs.declared.fault.StreamFault.TheVariants.{Collision, Limit, NoSource, OutOfMemory}
 use Rattle.fast_import.specs.declared.marks.Marked.{Marked}
 use Rattle.fast_import.specs.declared.replayed.Made.{Made}
 use Rattle.fast_import.specs.declared.replayed.Setting.{Setting}

@@ -1,5 +1,5 @@
 -- Replaying a stream upon what is there: the blobs, commits and heads that it gives, or its first fault.
-use Rattle.std.specs.Prelude.{ℕ, Bool, true, false, ◌==◌, nat_le, nat_lt, if◌then◌else◌, List, [], ◌∷◌, ◌++◌, length, map, filter_map, find, Option, Some, None, Result, Ok, Err}
+use Rattle.std.specs.Prelude.{ℕ, ◌==◌, nat_le, nat_lt, if◌then◌else◌, List, [], ◌∷◌, ◌++◌, length, map, filter_map, find, Option, Some, None, Result, Ok, Err}
 use Rattle.std.specs.Option.{is_some, option_and_then, option_map, option_or, option_to_list, unwrap_or}
 use Rattle.std.specs.List.{list_all}
 use Rattle.std.specs.FinMap.{find as find_entry, put as put_entry}
@@ -15,20 +15,20 @@ use Rattle.git_objects.specs.declared.mode.Mode.{Mode}
 use Rattle.git_objects.specs.declared.mode.Mode.TheVariants.{File, Exec, Link, Module, Dir}
 use Rattle.git_objects.specs.declared.limits.TheConstants.{PARENTS, PATH_BYTES, PATH_COMPONENTS, TREE_FILES}
 use Rattle.git_objects.specs.declared.quantity.Quantity.TheVariants.{PathDepth, PathBytes, Parents, Files}
-use Rattle.fast_import.specs.declared.command.Command.{Command}
-use Rattle.fast_import.specs.declared.command.Command.TheVariants as commands
-use Rattle.fast_import.specs.declared.command.CommitHead.{CommitHead}
-use Rattle.fast_import.specs.declared.command.Change.{Change}
-use Rattle.fast_import.specs.declared.command.Change.TheVariants as changes
-use Rattle.fast_import.specs.declared.command.BlobRef.{BlobRef}
-use Rattle.fast_import.specs.declared.command.BlobRef.TheVariants as blobs
-use Rattle.fast_import.specs.declared.command.Placed.{Placed}
-use Rattle.fast_import.specs.declared.commit_ref.CommitRef.{CommitRef}
-use Rattle.fast_import.specs.declared.commit_ref.Target.{Target}
-use Rattle.fast_import.specs.declared.commit_ref.Target.TheVariants as targets
-use Rattle.fast_import.specs.declared.fault.StreamFault.{StreamFault}
-use Rattle.fast_import.specs.declared.fault.StreamFault.TheVariants.{Syntax, Unresolved, NoSource, Limit}
-use Rattle.fast_import.specs.Verdicts.{start, verdict}
+use Rattle.stream_reader.specs.declared.command.Command.{Command}
+use Rattle.stream_reader.specs.declared.command.Command.TheVariants as commands
+use Rattle.stream_reader.specs.declared.command.CommitHead.{CommitHead}
+use Rattle.stream_reader.specs.declared.command.Change.{Change}
+use Rattle.stream_reader.specs.declared.command.Change.TheVariants as changes
+use Rattle.stream_reader.specs.declared.command.BlobRef.{BlobRef}
+use Rattle.stream_reader.specs.declared.command.BlobRef.TheVariants as blobs
+use Rattle.stream_reader.specs.declared.command.Placed.{Placed}
+use Rattle.stream_reader.specs.declared.commit_ref.CommitRef.{CommitRef}
+use Rattle.stream_reader.specs.declared.commit_ref.Target.{Target}
+use Rattle.stream_reader.specs.declared.commit_ref.Target.TheVariants as targets
+use Rattle.stream_reader.specs.declared.fault.StreamFault.{StreamFault}
+use Rattle.stream_reader.specs.declared.fault.StreamFault.TheVariants.{Syntax, Unresolved, NoSource, Limit}
+use Rattle.stream_reader.specs.Verdicts.{start, verdict}
 
 -- What is there before the stream: commits by their names, with their flat trees; refs with their commits; the contents of the
 -- known blobs.
@@ -196,17 +196,6 @@ blob_inline x = []
 abbrev pub inline_blob : Change → List Bytes
 inline_blob (changes.Modify m x p) = blob_inline x
 inline_blob c = []
-
--- what a reader tells: no change has a directory's mode, and a module is put by its digits alone
-abbrev pub is_fit : Mode → BlobRef → Bool
-is_fit Dir x = false
-is_fit Module (blobs.Digits n) = true
-is_fit Module x = false
-is_fit m x = true
-
-abbrev pub is_replayable : Command → Bool
-is_replayable (commands.Change (changes.Modify m x p)) = is_fit m x
-is_replayable c = true
 
 -- ---- one command
 

@@ -17,21 +17,19 @@ use Rattle.object_store.specs.StoredSnapshots.{snapshot_object}
 use Rattle.object_store.specs.Unfolding.{StandsFor}
 use Rattle.stage_tree.specs.Stages.{Shows}
 use Rattle.fast_import.specs.Made.{IsBlobAmong, IsMadeAt, IsPutFault, IsRefusal, blob_object}
-use Rattle.fast_import.specs.Replays.{Base, Marked, BlobMark, CommitMark, Draft, Replay, Replayed, blob_inline, commit_of, heads_of, inline_blob, is_replayable, step}
+use Rattle.fast_import.specs.Replays.{Base, Marked, BlobMark, CommitMark, Draft, Replay, Replayed, blob_inline, commit_of, heads_of, inline_blob, step}
 use Rattle.fast_import.specs.Replaying.{Replaying, setting_value}
 use Rattle.git_objects.specs.declared.mode.Mode.{Mode}
 use Rattle.git_objects.specs.declared.mode.Mode.TheVariants.{Module}
-use Rattle.fast_import.specs.declared.command.BlobRef.{BlobRef}
-use Rattle.fast_import.specs.declared.command.Change.{Change}
-use Rattle.fast_import.specs.declared.command.Placed.{Placed}
+use Rattle.stream_reader.specs.declared.command.BlobRef.{BlobRef}
+use Rattle.stream_reader.specs.declared.command.Change.{Change}
+use Rattle.stream_reader.specs.declared.command.Placed.{Placed}
 use Rattle.fast_import.specs.declared.draft.Draft.{Draft as DraftNames}
 use Rattle.fast_import.specs.declared.draft.Ended.{Ended}
-use Rattle.fast_import.specs.declared.fault.StreamFault.{StreamFault}
-use Rattle.fast_import.specs.declared.fault.StreamFault.TheVariants.{OutOfMemory}
+use Rattle.stream_reader.specs.declared.fault.StreamFault.{StreamFault}
+use Rattle.stream_reader.specs.declared.fault.StreamFault.TheVariants.{OutOfMemory}
 use Rattle.fast_import.specs.declared.marks.Marked.{Marked as MarkedName}
 use Rattle.fast_import.specs.declared.marks.Marked.TheVariants as marked
-use Rattle.fast_import.specs.declared.reader.Next.{Next}
-use Rattle.fast_import.specs.declared.reader.Next.TheVariants as nexts
 use Rattle.fast_import.specs.declared.replayed.Made.{Made}
 use Rattle.fast_import.specs.declared.replayed.Replayed.{Replayed as ReplayedNames}
 
@@ -155,10 +153,3 @@ pub record IsChanged (S S' : List Object) (after : Replaying) (r : Replay) (d : 
 pub record IsRedrawn (S : List Object) (d : Draft) (left : Result Flat StreamFault) (result : Result DraftNames StreamFault) : Type 0 where
   pub drawn : IfOk result (λ v. IsOkAnd left (λ t. IsDraftOf S v (record d { tree = t })))
   pub not_drawn : IfErr result (λ f. (left ≡ Err f) ⊎ (f ≡ OutOfMemory))
-
--- a command that is told is replayable
-abbrev pub IfTold : Result Next StreamFault → Type 0
-IfTold (Ok (nexts.Command p)) = is_replayable p.command ≡ true
-IfTold (Ok nexts.More) = Unit {0}
-IfTold (Ok nexts.Ended) = Unit {0}
-IfTold (Err f) = Unit {0}

@@ -5,7 +5,7 @@ use Rattle.git_objects.specs.Paths.{Bytes}
 use Rattle.object_store.specs.Growth.{IsGrownBy}
 use Rattle.object_store.specs.Objects.{Object}
 use Rattle.fast_import.specs.Made.{IsMadeBy, IsRefusal}
-use Rattle.fast_import.specs.Readers.{Reading, fed}
+use Rattle.stream_reader.specs.Readers.{Reading, fed}
 use Rattle.fast_import.specs.Replays.{Base, nothing_yet, ran, replay}
 use Rattle.fast_import.specs.Standing.{IsReplayedOf}
 use Rattle.fast_import.specs.declared.whole.ReplayError.{ReplayError}
@@ -19,6 +19,10 @@ pub record IsPiece (before after : Option Bytes) (old new : Reading) (most : ℕ
   pub few : length bytes ≤ most
   pub taken : Consumes before after bytes
   pub now : new ≡ fed bytes false old
+
+-- a source has given at most so many bytes
+abbrev pub IsGiven : Option Bytes → Option Bytes → ℕ → Type 0
+IsGiven before after most = (bytes : Bytes) × Consumes before after bytes × (length bytes ≤ most)
 
 -- or it was told that nothing more comes
 pub record IsEnd (before after : Option Bytes) (old new : Reading) : Type 0 where

@@ -36,7 +36,7 @@ pub trait Base {
 }
 
 /// Nothing is there before the stream.
-#[derive(Clone, Copy, Debug)]
+#[derive(Clone, Copy)]
 pub struct EmptyBase;
 
 impl Base for EmptyBase {

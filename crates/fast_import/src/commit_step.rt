@@ -13,8 +13,8 @@ ghost use Rattle.fast_import.specs.Replays.{Base as BaseOf, Draft as DraftOf, Re
 ghost use Rattle.fast_import.specs.Replays.{command_step, commit_of, entered, tree_upon};
 ghost use Rattle.fast_import.specs.Replaying.{tree_fault};
 ghost use Rattle.fast_import.specs.Standing.{IsDraftOf, IsEnded, IsReplayOf, IsStepped, IsTried};
-ghost use Rattle.fast_import.specs.declared.command.Command.TheVariants.{Commit, CommitEnd};
-ghost use Rattle.fast_import.specs.declared.fault.StreamFault.TheVariants.{OutOfMemory};
+ghost use Rattle.stream_reader.specs.declared.command.Command.TheVariants.{Commit, CommitEnd};
+ghost use Rattle.stream_reader.specs.declared.fault.StreamFault.TheVariants.{OutOfMemory};
 
 use crate::draft::{Draft, Ended};
 use crate::marks::Marked;

@@ -3,14 +3,14 @@ use git_objects::Name;
 use path_names::RefName;
 
 /// A commit that was made, and its tree.
-#[derive(Clone, Copy, Debug, PartialEq, Eq)]
+#[derive(Clone, Copy, PartialEq, Eq)]
 pub struct Made {
     pub name: Name,
     pub tree: Name,
 }
 
 /// A ref, and the commit that it is to name.
-#[derive(Debug, Drop)]
+#[derive(Drop)]
 pub struct Setting {
     pub refname: RefName,
     pub head: Name,
@@ -18,7 +18,7 @@ pub struct Setting {
 
 /// What a stream gives: the names of its blobs and its commits in order, and the heads that it has set, in the byte
 /// order of the refs.
-#[derive(Debug, Drop)]
+#[derive(Drop)]
 pub struct Replayed {
     pub blobs: Vec<Name>,
     pub commits: Vec<Made>,

@@ -3,11 +3,11 @@ ghost use Rattle.std.specs.Prelude.{◌≡◌, ℕ, true, OnOk, IfErr, List};
 ghost use Rattle.object_store.specs.Objects.{Object};
 ghost use Rattle.fast_import.specs.Bases.{IsBaseIn, base_in};
 ghost use Rattle.fast_import.specs.Replays.{Base as BaseOf, Replay as ReplayOf, command_step};
-ghost use Rattle.fast_import.specs.Replays.{is_replayable};
+ghost use Rattle.stream_reader.specs.Replayable.{is_replayable};
 ghost use Rattle.fast_import.specs.Replaying.{with_head};
 ghost use Rattle.fast_import.specs.Standing.{IsBrought, IsGivenMark, IsReplayOf, IsStepped, IsTried};
-ghost use Rattle.fast_import.specs.declared.command.Command.TheVariants.{Blob, Reset};
-ghost use Rattle.fast_import.specs.declared.fault.StreamFault.TheVariants.{OutOfMemory};
+ghost use Rattle.stream_reader.specs.declared.command.Command.TheVariants.{Blob, Reset};
+ghost use Rattle.stream_reader.specs.declared.fault.StreamFault.TheVariants.{OutOfMemory};
 
 use crate::marks::Marked;
 use crate::puts::put_object;

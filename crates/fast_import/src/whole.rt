@@ -1,11 +1,12 @@
 // The replay of a whole stream.
 ghost use Rattle.std.specs.Prelude.{◌≡◌, ◌⊎◌, ◌<◌, ◌≤◌, ◌↔◌, ℕ, List, false, length, IfErr, IfOk, IfSome, IsErrOf};
-ghost use Rattle.std.specs.Prelude.{OnOk};
+ghost use Rattle.std.specs.Prelude.{OnErr, OnOk};
 ghost use Rattle.git_objects.specs.declared.limits.TheConstants.{STREAM_BYTES};
 ghost use Rattle.proj_io.specs.Counts.{Counts};
 ghost use Rattle.fast_import.specs.Bases.{IsBaseIn, base_in};
-ghost use Rattle.fast_import.specs.Whole.{IsFed, IsWhole};
-ghost use Rattle.fast_import.specs.declared.fault.StreamFault.TheVariants.{OutOfMemory};
+ghost use Rattle.fast_import.specs.Waited.{IsTaken};
+ghost use Rattle.fast_import.specs.Whole.{IsFed, IsGiven, IsWhole};
+ghost use Rattle.stream_reader.specs.declared.fault.StreamFault.TheVariants.{OutOfMemory};
 
 use crate::{Base, Next, Reader, Replay, Replayed, StreamFault};
 use git_objects::Name;
@@ -34,6 +35,8 @@ pub fn replay_all<S: Source, B: Base>(
     requires { IsBaseIn store.old (B.commits base.now) (B.refs base.now) (B.blobs base.now) }
     ensures stream { (all : List ℕ) × IfSome (S.left input.old) (λ bytes. bytes ≡ all) × IsWhole
         (base_in store.old (B.commits base.now) (B.refs base.now) (B.blobs base.now)) store.old store.new all result }
+    ensures taken { IsTaken (base_in store.old (B.commits base.now) (B.refs base.now) (B.blobs base.now))
+        (S.left input.old) (S.left input.new) result }
     ensures few { IfOk result (λ g. length g.commits.items ≤ STREAM_BYTES) }
     ensures told { S.tells input.new ↔ S.tells input.old }
     ensures cause { Counts (S.faults input.old) (S.faults input.new) (IsErrOf result ReplayError.ReadFault) }
@@ -55,6 +58,8 @@ fn replay_by<S: Source, B: Base>(
     requires few { length piece.old ≤ 65536 }
     ensures stream { (all : List ℕ) × IfSome (S.left input.old) (λ bytes. bytes ≡ all) × IsWhole
         (base_in store.old (B.commits base.now) (B.refs base.now) (B.blobs base.now)) store.old store.new all result }
+    ensures taken { IsTaken (base_in store.old (B.commits base.now) (B.refs base.now) (B.blobs base.now))
+        (S.left input.old) (S.left input.new) result }
     ensures few { IfOk result (λ g. length g.commits.items ≤ STREAM_BYTES) }
     ensures told { S.tells input.new ↔ S.tells input.old }
     ensures cause { Counts (S.faults input.old) (S.faults input.new) (IsErrOf result ReplayError.ReadFault) }
@@ -89,6 +94,7 @@ fn feed_on<S: Source>(
     requires room { 0 < length piece.old }
     ensures fed { OnOk result (IsFed (S.left input.old) (S.left input.new) reader.old reader.new (length piece.old)) }
     ensures err { IfErr result (λ e. (e ≡ ReplayError.ReadFault) ⊎ (e ≡ ReplayError.Stream OutOfMemory)) }
+    ensures given { OnErr result (IsGiven (S.left input.old) (S.left input.new) (length piece.old)) }
     ensures told { S.tells input.new ↔ S.tells input.old }
     ensures cause { Counts (S.faults input.old) (S.faults input.new) (IsErrOf result ReplayError.ReadFault) }
 {

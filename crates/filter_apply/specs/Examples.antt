@@ -4,7 +4,7 @@ use Rattle.git_objects.specs.Paths.{Bytes, Path}
 use Rattle.git_objects.specs.Trees.{Leaf, FileLeaf, Flat, standing}
 use Rattle.decision_lists.specs.Entries.{Entry, at, below}
 use Rattle.filter_text.specs.Filters.{exclude, join, chain, sub, onto, dir, no_more, more}
-use Rattle.filter_apply.specs.Parts.{place_of, decides, rests_of, part_of}
+use Rattle.filter_apply.specs.Parts.{decides, rests_of, part_of}
 use Rattle.filter_apply.specs.Hands.{parts_in}
 
 abbrev a : Bytes
@@ -66,8 +66,11 @@ no_directory_for_a_file = refl
 abbrev rest : List Entry
 rest = (below (a ∷ []), None) ∷ (at (e ∷ []), None) ∷ (below [], Some []) ∷ []
 
-pub an_earlier_entry_decides : place_of rest (a ∷ c ∷ []) ≡ Some 0
+pub an_earlier_entry_decides : decides rest 0 (a ∷ c ∷ []) ≡ true
 an_earlier_entry_decides = refl
+
+pub and_no_later_one : decides rest 2 (a ∷ c ∷ []) ≡ false
+and_no_later_one = refl
 
 pub the_last_entry_decides : decides rest 2 (b ∷ c ∷ []) ≡ true
 the_last_entry_decides = refl

@@ -1,6 +1,6 @@
 -- The trees that a call makes.
 use Rattle.std.specs.Prelude.{List, [], ◌++◌, ◌⊎◌, Contains}
-use Rattle.git_objects.specs.Paths.{Bytes}
+use Rattle.git_objects.specs.Paths.{Bytes, Path}
 use Rattle.git_objects.specs.Trees.{Flat}
 use Rattle.object_store.specs.Objects.{Object}
 use Rattle.object_store.specs.Hands.{IsTreeMade, IsLeafOf, IsComponentOf}
@@ -34,3 +34,11 @@ IsPartObject t = IsTreeMade (IsLeafOf t) (IsComponentOf t)
 -- the same, with components of the filter's paths too
 abbrev pub IsShownObject : Filter → Flat → Object → Type 0
 IsShownObject f t = IsTreeMade (IsLeafOf t) (IsNamedIn f t)
+
+-- a tree of these leaves, whose paths are of components of their paths and of this path
+abbrev pub IsPlacedObject : Path → Flat → Object → Type 0
+IsPlacedObject p t = IsTreeMade (IsLeafOf t) (λ c. IsComponentOf t c ⊎ Contains p c)
+
+-- a tree of leaves of these two, whose paths are of components of their paths
+abbrev pub IsJoinedObject : Flat → Flat → Object → Type 0
+IsJoinedObject a b = IsTreeMade (λ x. IsLeafOf a x ⊎ IsLeafOf b x) (λ c. IsComponentOf a c ⊎ IsComponentOf b c)

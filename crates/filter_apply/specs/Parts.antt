@@ -1,26 +1,23 @@
 -- What one entry of a decision list has of a tree.
-use Rattle.std.specs.Prelude.{ℕ, suc, Bool, true, false, nat_eq, if◌then◌else◌, List, [], ◌∷◌, ◌++◌, Option, Some, None, is_some, filter, slice_get}
-use Rattle.std.specs.Option.{option_map}
+use Rattle.std.specs.Prelude.{ℕ, zero, suc, Bool, true, false, not, ◌&&◌, List, [], ◌∷◌, ◌++◌, Option, Some, None, is_some, filter, slice_get}
 use Rattle.git_objects.specs.Paths.{Path}
 use Rattle.git_objects.specs.Trees.{Flat, Node, rests, standing}
-use Rattle.decision_lists.specs.Entries.{Entry, base, tail}
+use Rattle.decision_lists.specs.Entries.{Cone, at, below, Entry, base, tail}
 
--- the place of the first entry whose cone has the path: the one that decides for it
-abbrev pub place_of : List Entry → Path → Option ℕ
-place_of [] p = None
-place_of (e ∷ es) p = (if is_some (tail e.0 p) then Some 0 else option_map suc (place_of es p))
-
-abbrev pub is_at : ℕ → Option ℕ → Bool
-is_at i None = false
-is_at i (Some j) = nat_eq j i
-
--- whether the entry at i decides for the path
+-- whether the entry at i decides for the path: its cone has it, and no earlier one does
 abbrev pub decides : List Entry → ℕ → Path → Bool
-decides es i p = is_at i (place_of es p)
+decides [] i p = false
+decides (e ∷ es) zero p = is_some (tail e.0 p)
+decides (e ∷ es) (suc i) p = not (is_some (tail e.0 p)) && decides es i p
 
 abbrev pub base_in : Option Entry → Path
 base_in None = []
 base_in (Some e) = base e.0
+
+-- all below a path, and no single one
+abbrev pub is_wide : Cone → Bool
+is_wide (at s) = false
+is_wide (below s) = true
 
 -- what stands at a place, by the rests of its paths; nothing, where nothing does
 abbrev pub rests_of : Option Node → Flat
@@ -32,3 +29,8 @@ rests_of (Some n) = rests n
 -- it has of a tree that is shown.
 abbrev pub part_of : List Entry → ℕ → Path → Flat → Flat
 part_of es i s t = filter (λ e. decides es i (base_in (slice_get es i) ++ e.0)) (rests_of (standing t s))
+
+-- whether it is all below a path, and no single one
+abbrev pub is_below : Option Entry → Bool
+is_below None = false
+is_below (Some e) = is_wide e.0

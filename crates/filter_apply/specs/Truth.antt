@@ -1,9 +1,10 @@
 -- Memos that hold what tables show.
-use Rattle.std.specs.Prelude.{◌≡◌, ℕ, ◌<◌, List, length, ◌++◌, slice_get, Some, Contains, true}
+use Rattle.std.specs.Prelude.{◌≡◌, ℕ, ◌+◌, ◌<◌, ◌≤◌, ⊤, List, length, ◌++◌, slice_get, Some, Contains, true}
 use Rattle.git_objects.specs.Paths.{Bytes}
 use Rattle.git_objects.specs.declared.kind.Kind.TheVariants.{Tree}
 use Rattle.object_store.specs.Objects.{Object, IsStore, has}
 use Rattle.object_store.specs.Unfolding.{flat, StandsFor}
+use Rattle.filter_text.specs.Filters.{Filter, nop, sub, onto, dir, file, exclude, join, chain, workspace}
 use Rattle.filter_text.specs.Shapes.{shape}
 use Rattle.filter_routes.specs.Lenses.{seen_through}
 use Rattle.filter_routes.specs.Origins.{lens_of}
@@ -37,3 +38,15 @@ abbrev pub StaysTrueLaw : Type 0
 StaysTrueLaw = (newer S : List Object) (tables : List Table) (id : ℕ) (table : Table) (memo memo' : Memo) →
     IsStore (newer ++ S) → slice_get tables id ≡ Some table → AreTrueFor S tables memo → IsTrueFor (newer ++ S) table id memo' → KeepsOthers id memo memo' →
     AreTrueFor (newer ++ S) tables memo'
+
+-- a directory that is taken off, put on or kept takes as many steps as it has components, at most
+abbrev pub IsPaid : Filter → ℕ → ℕ → Type 0
+IsPaid nop old new = ⊤
+IsPaid (sub a) old new = new ≤ old + length a
+IsPaid (onto a) old new = new ≤ old + length a
+IsPaid (dir a) old new = new ≤ old + length a
+IsPaid (file a) old new = ⊤
+IsPaid (exclude f) old new = ⊤
+IsPaid (join fs) old new = ⊤
+IsPaid (chain fs) old new = ⊤
+IsPaid (workspace a) old new = ⊤

@@ -2,5 +2,16 @@
 #![tactic(auto)]
 
 mod fault;
+mod holes;
+mod laws;
+mod parts;
+mod placing;
+mod routes;
+mod showing;
+mod standing;
 
 pub use fault::ApplyError;
+pub use laws::stays_true_law;
+pub use parts::part;
+pub use placing::placed;
+pub use showing::shown;

@@ -9,6 +9,7 @@ use Rattle.filter_text.specs.declared.filter.Filter as code
 use Rattle.decision_lists.specs.Cells.{any_clash, cells}
 use Rattle.decision_lists.specs.Entries.{Entry}
 use Rattle.filter_routes.specs.Soundness.{Clash}
+use Rattle.filter_routes.specs.FaultTests.{branches_of}
 use Rattle.filter_routes.specs.Lists.{IsListOf}
 use Rattle.filter_routes.specs.Faults.{Piece, nodes, nodes_all, member, PairAt, IsBefore}
 use Rattle.filter_routes.specs.Searching.{AreListsOf, ClashBehind, clash_of, clash_at, FirstClash, NoPairAt, FirstPairOf, NoPair, FirstPair, Refused, Searched}
@@ -37,7 +38,7 @@ get-before (x ∷ xs) ys (suc p) (suc k) v w e l h = get-before xs ys p k v w e 
 abbrev pub IsClear : Piece → Type 0
 IsClear v = (fs : Filters) → v ≡ (false, join fs) → NoPairAt fs
 
-no-pair-none : NoPair []
+pub no-pair-none : NoPair []
 no-pair-none k fs e = absurd (none-some (false, join fs) e)
 
 pub no-pair-more : (v : Piece) (vs : List Piece) → IsClear v → NoPair vs → NoPair (v ∷ vs)
@@ -54,7 +55,7 @@ no-pair-app (v ∷ xs) ys h k = no-pair-more v (xs ++ ys) (no-pair-head v xs h) 
 no-pair-one : (v : Piece) → IsClear v → NoPair (v ∷ [])
 no-pair-one v c = no-pair-more v [] c no-pair-none
 
-inside-clear : (f : Filter) → IsClear (true, f)
+pub inside-clear : (f : Filter) → IsClear (true, f)
 inside-clear f fs e = absurd (true≢false (ap (λ (v : Piece). v.0) e))
 
 abbrev pub is_list : Filter → Bool
@@ -68,18 +69,7 @@ is_list (join fs) = true
 is_list (chain fs) = false
 is_list (workspace a) = false
 
-abbrev pub branches_of : Filter → Filters
-branches_of nop = no_more
-branches_of (sub a) = no_more
-branches_of (onto a) = no_more
-branches_of (dir a) = no_more
-branches_of (file a) = no_more
-branches_of (exclude f) = no_more
-branches_of (join fs) = fs
-branches_of (chain fs) = no_more
-branches_of (workspace a) = no_more
-
-other-clear : (f : Filter) → is_list f ≡ false → IsClear (false, f)
+pub other-clear : (f : Filter) → is_list f ≡ false → IsClear (false, f)
 other-clear f h fs e = absurd (true≢false (sym (ap (λ (v : Piece). is_list v.1) e) ∙ h))
 
 -- of fewer than two branches no two clash
@@ -114,7 +104,7 @@ mutual
 none-before : (vs : List Piece) (k : ℕ) (fs : Filters) → k < 0 → slice_get vs k ≡ Some (false, join fs) → NoPairAt fs
 none-before vs k fs l e = absurd (omega (arith, l))
 
-found-here : (n a b : ℕ) (fs : Filters) (vs : List Piece) → PairAt fs a b → ((c d : ℕ) → IsBefore c d a b → PairAt fs c d → ⊥)
+pub found-here : (n a b : ℕ) (fs : Filters) (vs : List Piece) → PairAt fs a b → ((c d : ℕ) → IsBefore c d a b → PairAt fs c d → ⊥)
     → FirstPair n ((false, join fs) ∷ vs) n a b
 found-here n a b fs vs p q =
     record {
@@ -132,7 +122,7 @@ lists-more : (v : Piece) (vs : List Piece) (p : ℕ) → IsClear v → ((k : ℕ
 lists-more v vs p c h zero fs l e = c fs (same_Some v (false, join fs) e)
 lists-more v vs p c h (suc k) fs l e = h k fs (omega (arith, l)) e
 
-found-more : (n m a b : ℕ) (v : Piece) (vs : List Piece) → IsClear v → FirstPair (n + 1) vs m a b → FirstPair n (v ∷ vs) m a b
+pub found-more : (n m a b : ℕ) (v : Piece) (vs : List Piece) → IsClear v → FirstPair (n + 1) vs m a b → FirstPair n (v ∷ vs) m a b
 found-more n m a b v vs c t =
     record {
       place = suc t.place;

@@ -13,3 +13,4 @@ pub mod Interning
 pub mod Carried
 pub mod TreeEntries
 pub mod SeenTrees
+pub mod FaultsTold

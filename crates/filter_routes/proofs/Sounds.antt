@@ -11,7 +11,8 @@ use Rattle.filter_routes.specs.RouteFaults.{IsRouteFault}
 use Rattle.filter_routes.specs.Searching.{NoPairAt, NoPair, Refused}
 use Rattle.filter_routes.specs.declared.fault.RouteFault.{RouteFault}
 use Rattle.filter_routes.specs.declared.fault.RouteFault.TheVariants.{NotKeeping, Overlap, OutOfMemory}
-use Rattle.filter_routes.proofs.Finding.{branches_of, get-front, list-clear, no-pair-app, no-pair-more, searched-dir, searched-exclude, searched-file, searched-none, searched-nop, searched-onto, searched-sub, searched-workspace}
+use Rattle.filter_routes.proofs.Finding.{get-front, list-clear, no-pair-app, no-pair-more, searched-dir, searched-exclude, searched-file, searched-none, searched-nop, searched-onto, searched-sub, searched-workspace}
+use Rattle.filter_routes.specs.FaultTests.{branches_of}
 
 -- each piece may stand where it does
 abbrev pub AllKeep : List Piece → Type 0

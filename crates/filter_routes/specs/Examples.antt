@@ -11,6 +11,7 @@ use Rattle.filter_routes.specs.Origins.{origin, lens_of}
 use Rattle.filter_routes.specs.Soundness.{Clash}
 use Rattle.filter_routes.specs.SoundTests.{is_sound}
 use Rattle.filter_routes.specs.Faults.{Piece, nodes, keeps, IsBefore}
+use Rattle.filter_routes.specs.FaultTests.{fault}
 use Rattle.filter_routes.specs.RouteFaults.{IsRouteFault}
 use Rattle.filter_routes.specs.declared.fault.RouteFault.TheVariants.{NotKeeping, Overlap}
 
@@ -183,3 +184,28 @@ two_fronts_overlap = record {
     smallest : (c d : ℕ) → IsBefore c d 0 1 → c < d → ⊥
     smallest c d (inl l) o = omega (arith, l)
     smallest c d (inr l) o = omega (arith, l.0, l.1, o)
+
+-- ---- the test that tells the first fault
+
+pub told_of_a_sub : fault (exclude (sub a)) ≡ Some (NotKeeping 1)
+unfolding fault
+told_of_a_sub = refl
+
+pub told_of_two_fronts : fault (join (two (sub a) (sub b))) ≡ Some (Overlap 0 0 1)
+unfolding fault
+told_of_two_fronts = refl
+
+-- `:[::a,::a/]`
+pub told_of_a_file_and_its_directory : fault (join (two (file a) (dir a))) ≡ Some (Overlap 0 0 1)
+unfolding fault
+told_of_a_file_and_its_directory = refl
+
+-- `:exclude[:exclude[::a]]`, and what doesn't keep comes before what overlaps
+pub told_of_an_exclude_first : fault (join (two (join (two (sub a) (sub b))) (exclude (exclude (file a))))) ≡ Some (NotKeeping 5)
+unfolding fault
+told_of_an_exclude_first = refl
+
+-- `:[x=:/a,y=:/b]`
+pub told_of_no_fault : fault (join (two (chain (two (sub a) (onto x))) (chain (two (sub b) (onto y))))) ≡ None
+unfolding fault
+told_of_no_fault = refl

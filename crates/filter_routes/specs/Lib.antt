@@ -12,3 +12,4 @@ pub mod Lenses
 pub mod Origins
 pub mod SoundTests
 pub mod Examples
+pub mod FaultTests

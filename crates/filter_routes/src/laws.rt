@@ -1,5 +1,6 @@
 // What soundness is for.
 ghost use Rattle.filter_routes.specs.Laws.{FaultLaw, RouteLaw, TablesLaw};
+ghost use Rattle.filter_routes.specs.FaultTests.{FaultTestLaw};
 ghost use Rattle.filter_routes.specs.Lenses.{SeenLaw};
 ghost use Rattle.filter_routes.specs.Origins.{LensLaw};
 ghost use Rattle.filter_routes.specs.SoundTests.{SoundTestLaw};
@@ -28,6 +29,11 @@ pub fn lens_law()
 /// The test of soundness by decision lists says exactly which filters are sound.
 pub fn sound_test_law()
     ensures { SoundTestLaw }
+{}
+
+/// The test that tells the first fault of a filter by decision lists is exact.
+pub fn fault_test_law()
+    ensures { FaultTestLaw }
 {}
 
 /// What is seen of a tree through a lens is a tree, and has at each path the leaf of the path's origin.

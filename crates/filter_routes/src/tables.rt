@@ -135,6 +135,7 @@ impl Tables {
     /// its fault lies isn't looked for.
     pub fn intern_if_sound(&mut self, filter: &Filter) -> Result<Option<usize>, AllocError>
         ensures number { IfOk result (λ o. IfSome o (Interns self.old self.new (shape filter.now))) }
+        ensures sound { IfOk result (λ o. IfSome o (λ _. IsSound (shape filter.now))) }
         ensures unsound { IfOk result (λ o. IfNone o ((IsSound (shape filter.now) → ⊥) × (self.new ≡ self.old))) }
         ensures err { OnErr result (self.new ≡ self.old) }
     {
@@ -154,7 +155,8 @@ impl Tables {
     // The number of the filter's table. The text is the filter's.
     fn number_of(&self, text: &Text, filter: &Filter) -> Option<usize>
         requires { text.now ≡ printed (shape filter.now) }
-        ensures { NumberOf self.now (shape filter.now) result }
+        ensures number { NumberOf self.now (shape filter.now) result }
+        ensures sound { IfSome result (λ _. IsSound (shape filter.now)) }
     {
         match self.numbers.get(text) {
             None => None,
@@ -169,7 +171,8 @@ impl Tables {
 
     // The number of the filter's table, by a look at each.
     fn find(&self, filter: &Filter) -> Option<usize>
-        ensures { NumberOf self.now (shape filter.now) result }
+        ensures number { NumberOf self.now (shape filter.now) result }
+        ensures sound { IfSome result (λ _. IsSound (shape filter.now)) }
     {
         for i in 0..self.tables.as_slice().len() {
             if same(self.tables[i].filter(), filter) {

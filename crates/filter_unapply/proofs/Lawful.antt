@@ -15,7 +15,7 @@ use Rattle.filter_routes.specs.Lenses.{Lens, IsLens, carried, seen_through}
 use Rattle.filter_unapply.proofs.Firsts.{first-none, none-first, blocked-none, is_free}
 use Rattle.filter_routes.proofs.TreeEntries.{each_entry}
 use Rattle.filter_routes.proofs.SeenTrees.{at-seen, seen-paths, seen-sorted, seen_from}
-use Rattle.filter_unapply.specs.Laying.{hidden, pre, first_path, first_lost, is_other, is_blocked, first_blocked, LaidTree, laid_from, laid}
+use Rattle.filter_unapply.specs.Laying.{hidden, pre, first_path, first_lost, is_other, is_blocked, first_blocked, LaidTree, laid_from, laid_through}
 use Rattle.filter_routes.proofs.Carried.{nowhere, same_on_paths, all-carried, all-filter, sorted-carried, first_none, IsBack, at-carried}
 use Rattle.filter_unapply.proofs.HiddenLeaves.{sorted-hidden, at-hidden}
 
@@ -146,10 +146,10 @@ module _ (f : Lens) (is : IsLens f) where
 
   -- ---- the laws
 
-  pub parts : (t n u : Flat) → laid f t n ≡ LaidTree u → (first_lost f n ≡ None) × (first_blocked f (pre f t n) ≡ None) × (pre f t n ≡ u)
+  pub parts : (t n u : Flat) → laid_through f t n ≡ LaidTree u → (first_lost f n ≡ None) × (first_blocked f (pre f t n) ≡ None) × (pre f t n ≡ u)
   parts t n u e = laid_parts (first_lost f n) (first_blocked f (pre f t n)) (pre f t n) u e
 
-  pub laid-tree : (t n u : Flat) → IsTree t → IsTree n → laid f t n ≡ LaidTree u → IsTree u
+  pub laid-tree : (t n u : Flat) → IsTree t → IsTree n → laid_through f t n ≡ LaidTree u → IsTree u
   laid-tree t n u h g e = let r = parts t n u e in subst IsTree r.2 (pre-tree t n h g r.1)
 
   shown_at : (t n : Flat) → IsTree n → first_lost f n ≡ None → (q : Path) → is_path q ≡ true → at_rest (pre f t n) (f.origin q) ≡ at n q
@@ -168,10 +168,10 @@ module _ (f : Lens) (is : IsLens f) where
       same_on_paths (seen_through f (pre f t n)) n (seen-sorted f is (pre f t n)) g.sorted (seen-paths f is (pre f t n) (pre-paths t n h.paths g.paths)) g.paths
       (λ q v. at-seen f is (pre f t n) (pre-paths t n h.paths g.paths) q v ∙ shown_at t n g l q v)
 
-  pub shown-laid : (t n u : Flat) → IsTree t → IsTree n → laid f t n ≡ LaidTree u → seen_through f u ≡ n
+  pub shown-laid : (t n u : Flat) → IsTree t → IsTree n → laid_through f t n ≡ LaidTree u → seen_through f u ≡ n
   shown-laid t n u h g e = let r = parts t n u e in ap (seen_through f) (sym r.2) ∙ shown-pre t n h g r.0
 
-  pub kept-laid : (t n u : Flat) → IsTree t → IsTree n → laid f t n ≡ LaidTree u → (p : Path) → f.image p ≡ None → at u p ≡ at t p
+  pub kept-laid : (t n u : Flat) → IsTree t → IsTree n → laid_through f t n ≡ LaidTree u → (p : Path) → f.image p ≡ None → at u p ≡ at t p
   kept-laid t n u h g e p i =
       let r = parts t n u e in
       ap (λ (w : Flat). at w p) (sym r.2)
@@ -198,7 +198,7 @@ module _ (f : Lens) (is : IsLens f) where
   shown-held : (t : Flat) → IsTree t → Each (λ d. is_some (f.origin d.0) ≡ true) (seen_through f t)
   shown-held t h = each_entry (λ d. is_some (f.origin d.0) ≡ true) (seen_through f t) (seen-sorted f is t) (λ d e. let r = seen_from f is t h d.0 d.1 e in ap is_some (is.image_origin r.0 d.0 r.1 r.2))
 
-  pub laid-shown : (t : Flat) → IsTree t → laid f t (seen_through f t) ≡ LaidTree t
+  pub laid-shown : (t : Flat) → IsTree t → laid_through f t (seen_through f t) ≡ LaidTree t
   laid-shown t h =
       let same = pre-shown t h in
       (λ i. laid_from (none_lost f (seen_through f t) (shown-held t h) i) (first_blocked f (same i)) (same i))
@@ -206,7 +206,7 @@ module _ (f : Lens) (is : IsLens f) where
 
   -- ---- laying again
 
-  hidden-laid : (t n u : Flat) → IsTree t → IsTree n → laid f t n ≡ LaidTree u → hidden f u ≡ hidden f t
+  hidden-laid : (t n u : Flat) → IsTree t → IsTree n → laid_through f t n ≡ LaidTree u → hidden f u ≡ hidden f t
   hidden-laid t n u h g e =
       let w = laid-tree t n u h g e in
       same_on_paths (hidden f u) (hidden f t) (sorted-hidden f u w.sorted) (sorted-hidden f t h.sorted)
@@ -217,6 +217,6 @@ module _ (f : Lens) (is : IsLens f) where
       by p None i = kept-laid t n u h g e p i
       by p (Some q) i = refl
 
-  pub laid-again : (t n u m : Flat) → IsTree t → IsTree n → laid f t n ≡ LaidTree u → laid f u m ≡ laid f t m
+  pub laid-again : (t n u m : Flat) → IsTree t → IsTree n → laid_through f t n ≡ LaidTree u → laid_through f u m ≡ laid_through f t m
   laid-again t n u m h g e =
       ap (λ k. laid_from (first_lost f m) (first_blocked f (carried f.origin m k)) (carried f.origin m k)) (hidden-laid t n u h g e)

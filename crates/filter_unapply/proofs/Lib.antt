@@ -6,3 +6,13 @@ pub mod Outcomes
 pub mod Places
 pub mod Told
 pub mod Fronts
+mod MadeTrees
+mod Sieves
+mod Fittings
+mod Empties
+mod Moves
+mod Cellwise
+mod PartLists
+mod Leasts
+mod PathOrders
+mod BlockSteps

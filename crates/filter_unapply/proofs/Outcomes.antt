@@ -7,7 +7,7 @@ use Rattle.git_objects.specs.Paths.{Path, same_path, comparable}
 use Rattle.git_objects.specs.Trees.{Leaf, Flat, at, IsTree}
 use Rattle.git_objects.proofs.Order.{path_decides}
 use Rattle.filter_routes.specs.Lenses.{Lens}
-use Rattle.filter_unapply.specs.Laying.{hidden, pre, first_path, first_lost, is_other, is_blocked, first_blocked, NotHeld, Blocked, LaidTree, laid_from, laid}
+use Rattle.filter_unapply.specs.Laying.{hidden, pre, first_path, first_lost, is_other, is_blocked, first_blocked, NotHeld, Blocked, LaidTree, laid_from, laid_through}
 use Rattle.filter_unapply.specs.Laws.{IsFirst, IsLost, IsBlock}
 use Rattle.filter_routes.proofs.TreeEntries.{each_entry}
 use Rattle.filter_unapply.proofs.Firsts.{first-none, first-passes, first-first, is_stopped}
@@ -51,7 +51,7 @@ blocked_of None (Some b) u p q e = let x : b.0 ≡ p = cc in let y : b.1 ≡ q =
 blocked_of None None u p q e = cc
 
 module _ (f : Lens) where
-  pub first-lost : (t n : Flat) (q : Path) → IsTree n → laid f t n ≡ NotHeld q → IsFirst (IsLost f n) q
+  pub first-lost : (t n : Flat) (q : Path) → IsTree n → laid_through f t n ≡ NotHeld q → IsFirst (IsLost f n) q
   first-lost t n q h e =
       let l = lost_of (first_lost f n) (first_blocked f (pre f t n)) (pre f t n) q e in
       let r = first-passes (λ p. is_none (f.origin p)) n q l in
@@ -60,13 +60,13 @@ module _ (f : Lens) where
         first = λ p g. let x = leaf_of (at n p) g.0 in first-first (λ p. is_none (f.origin p)) n h.sorted q l p x.0 x.1 (ap is_none g.1);
       }
 
-  pub none-is_lost : (t n : Flat) (p q : Path) → laid f t n ≡ Blocked p q → (s : Path) → IsLost f n s → ⊥
+  pub none-is_lost : (t n : Flat) (p q : Path) → laid_through f t n ≡ Blocked p q → (s : Path) → IsLost f n s → ⊥
   none-is_lost t n p q e s g =
       let b = blocked_of (first_lost f n) (first_blocked f (pre f t n)) (pre f t n) p q e in
       let x = leaf_of (at n s) g.0 in
       true≢false (sym (ap is_none g.1) ∙ first-none (λ p. is_none (f.origin p)) n b.0 s x.0 x.1)
 
-  module _ (t n : Flat) (p q : Path) (h : IsTree t) (e : laid f t n ≡ Blocked p q) where
+  module _ (t n : Flat) (p q : Path) (h : IsTree t) (e : laid_through f t n ≡ Blocked p q) where
     abbrev u : Flat
     u = pre f t n
 
@@ -109,7 +109,7 @@ module _ (f : Lens) where
       first = λ s b. let x = leaf_of (at u s) b.by in first-first (is_other p) u (sorted-carried f.origin n (hidden f t) (sorted-hidden f t h.sorted)) q stopped.1 s x.0 x.1 (other_test p s b.comparable b.other);
     }
 
-  pub else-tree : (t n : Flat) → IsTree n → ((s : Path) → IsLost f n s → ⊥) → IsTree (pre f t n) → laid f t n ≡ LaidTree (pre f t n)
+  pub else-tree : (t n : Flat) → IsTree n → ((s : Path) → IsLost f n s → ⊥) → IsTree (pre f t n) → laid_through f t n ≡ LaidTree (pre f t n)
   else-tree t n h is g =
       (λ i. laid_from (none_lost f n (each_entry (λ d. is_some (f.origin d.0) ≡ true) n h.sorted by) i) (free f (pre f t n) g i) (pre f t n))
     where

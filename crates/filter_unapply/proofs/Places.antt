@@ -17,7 +17,7 @@ use Rattle.git_objects.proofs.Under.{cmp_rests, rest_short}
 use Rattle.path_trees.proofs.Editing.{front_comparable}
 use Rattle.filter_routes.specs.Lenses.{Lens, IsLens, carried}
 use Rattle.filter_unapply.specs.Laying.{below}
-use Rattle.filter_unapply.specs.Laying.{hidden, pre, first_path, first_lost, is_other, is_blocked, first_blocked, Blocked, LaidTree, laid_from, laid}
+use Rattle.filter_unapply.specs.Laying.{hidden, pre, first_path, first_lost, is_other, is_blocked, first_blocked, Blocked, LaidTree, laid_from, laid_through}
 use Rattle.filter_unapply.specs.Stored.{IsInWay}
 use Rattle.filter_routes.proofs.TreeEntries.{each_entry, not_before, not_before_itself}
 use Rattle.filter_unapply.proofs.Firsts.{none-first, first-at, blocked-none, blocked-some}
@@ -118,7 +118,7 @@ none_seen f u h =
       | false ↦ λ k. refl
     ] g
 
-empty_laid : (f : Lens) (t : Flat) → laid f t [] ≡ LaidTree (hidden f t)
+empty_laid : (f : Lens) (t : Flat) → laid_through f t [] ≡ LaidTree (hidden f t)
 empty_laid f t = ap (λ b. laid_from None b (hidden f t)) (none_seen f (hidden f t) (all_kept (λ d. is_none (f.image d.0)) t))
 
 all_unseen : (a : Path) (t : Flat) → under t a ≡ [] → hidden (below a) t ≡ t
@@ -186,13 +186,13 @@ tree_stands t a u e = by (at t a) (under t a) e
 
 -- ---- the empty tree is laid
 
-pub emptied_directory : (t : Flat) (a : Path) (u : Flat) → IsTree t → standing t a ≡ Some (TreeNode u) → laid (below a) t [] ≡ LaidTree (remove t a)
+pub emptied_directory : (t : Flat) (a : Path) (u : Flat) → IsTree t → standing t a ≡ Some (TreeNode u) → laid_through (below a) t [] ≡ LaidTree (remove t a)
 emptied_directory t a u h e = empty_laid (below a) t ∙ ap LaidTree (unseen_remove a t h (tree_stands t a u e))
 
-pub emptied_leaf : (t : Flat) (a : Path) (x : Leaf) → IsTree t → standing t a ≡ Some (LeafNode x) → laid (below a) t [] ≡ LaidTree t
+pub emptied_leaf : (t : Flat) (a : Path) (x : Leaf) → IsTree t → standing t a ≡ Some (LeafNode x) → laid_through (below a) t [] ≡ LaidTree t
 emptied_leaf t a x h e = empty_laid (below a) t ∙ ap LaidTree (all_unseen a t (leaf_under t a x h (leaf_stands t a x e)))
 
-pub emptied_nothing : (t : Flat) (a : Path) → standing t a ≡ None → laid (below a) t [] ≡ LaidTree t
+pub emptied_nothing : (t : Flat) (a : Path) → standing t a ≡ None → laid_through (below a) t [] ≡ LaidTree t
 emptied_nothing t a e = empty_laid (below a) t ∙ ap LaidTree (all_unseen a t (nothing_stands t a e).1)
 
 -- ---- a tree is laid
@@ -231,7 +231,7 @@ pre_put : (a : Path) (t n : Flat) → IsTree t → ((q r : Path) → q ++ r ≡ 
 unfolding put
 pre_put a t n h clear = carried_behind a n (hidden (below a) t) ∙ ap (put_all a n) (unseen_without a t h clear)
 
-pub laid_put : (a : Path) (t n : Flat) → is_path a ≡ true → IsTree t → IsTree n → ((q r : Path) → q ++ r ≡ a → at t q ≡ None) → laid (below a) t n ≡ LaidTree (put t a (TreeNode n))
+pub laid_put : (a : Path) (t n : Flat) → is_path a ≡ true → IsTree t → IsTree n → ((q r : Path) → q ++ r ≡ a → at t q ≡ None) → laid_through (below a) t n ≡ LaidTree (put t a (TreeNode n))
 laid_put a t n v h g clear =
     let same = pre_put a t n h clear in
     (λ i. laid_from (none_lost_below a n i) (first_blocked (below a) (same i)) (same i))
@@ -339,5 +339,5 @@ module _ (a : Path) (v : is_path a ≡ true) (t : Flat) (h : IsTree t) (e : Path
       first-at (is_blocked f u) u top e.1 (pre-sorted f lens t (e ∷ n) h.sorted) (each_entry (λ d. is_blocked f u d.0 ≡ true → is_lt (path_cmp d.0 top) ≡ false) u (pre-sorted f lens t (e ∷ n) h.sorted) in_order) at_top
       (λ i. is_some (top_image i) && is_some (other_way i))
 
-  pub laid_blocked : laid (below a) t (e ∷ n) ≡ Blocked top q
+  pub laid_blocked : laid_through (below a) t (e ∷ n) ≡ Blocked top q
   laid_blocked = λ i. laid_from (none_lost_below a (e ∷ n) i) (blocked-some f u top q first_way other_way i) u

@@ -22,7 +22,7 @@ use Rattle.path_trees.specs.declared.found.TreeFault.TheVariants.{Collision, Out
 use Rattle.path_trees.proofs.Grown.{joined_in}
 use Rattle.path_trees.proofs.Trees.{stored_tree}
 use Rattle.filter_unapply.specs.Laying.{below}
-use Rattle.filter_unapply.specs.Laying.{Laid, Blocked, LaidTree, laid}
+use Rattle.filter_unapply.specs.Laying.{Laid, Blocked, LaidTree, laid_through}
 use Rattle.filter_unapply.specs.Stored.{IsLaidTree, IsLaidBody, IsLayFault, IsInWay, fault_of, first_of}
 use Rattle.filter_unapply.specs.declared.fault.LayFault.{LayFault}
 use Rattle.filter_unapply.proofs.Places.{emptied_directory, emptied_leaf, emptied_nothing, laid_blocked}
@@ -67,13 +67,13 @@ module _ (S : List Object) (s : IsStore S) (n : Bytes) (h : has Tree S n ≡ tru
   -- ---- the empty tree
 
   module _ (a : Path) where
-    pub nothing_there : None ≡ standing (flat S n) a → laid (below a) (flat S n) [] ≡ LaidTree (flat S n)
+    pub nothing_there : None ≡ standing (flat S n) a → laid_through (below a) (flat S n) [] ≡ LaidTree (flat S n)
     nothing_there e = emptied_nothing (flat S n) a (sym e)
 
-    pub leaf_there : (f : Found) → is_dir f.mode ≡ false → Some (node S f) ≡ standing (flat S n) a → laid (below a) (flat S n) [] ≡ LaidTree (flat S n)
+    pub leaf_there : (f : Found) → is_dir f.mode ≡ false → Some (node S f) ≡ standing (flat S n) a → laid_through (below a) (flat S n) [] ≡ LaidTree (flat S n)
     leaf_there f i e = let x = leaf_node S f.mode f.name.0 i in emptied_leaf (flat S n) a x.0 is_tree (sym e ∙ ap Some x.1)
 
-    pub directory_there : (f : Found) → is_dir f.mode ≡ true → Some (node S f) ≡ standing (flat S n) a → laid (below a) (flat S n) [] ≡ LaidTree (remove (flat S n) a)
+    pub directory_there : (f : Found) → is_dir f.mode ≡ true → Some (node S f) ≡ standing (flat S n) a → laid_through (below a) (flat S n) [] ≡ LaidTree (remove (flat S n) a)
     directory_there f i e = emptied_directory (flat S n) a (flat S f.name.0) is_tree (sym e ∙ ap Some (dir_node S f.mode f.name.0 i))
 
   -- ---- a tree with a first path
@@ -109,6 +109,6 @@ empty_first [] e = refl
 empty_first (d ∷ n) e = cc
 
 -- the first path has no place
-pub first_in_way : (a : Path) (t n : Flat) (p q : Path) → is_path a ≡ true → IsTree t → IsTree n → first_of n ≡ Some p → IsInWay t a q → laid (below a) t n ≡ Blocked (a ++ p) q
+pub first_in_way : (a : Path) (t n : Flat) (p q : Path) → is_path a ≡ true → IsTree t → IsTree n → first_of n ≡ Some p → IsInWay t a q → laid_through (below a) t n ≡ Blocked (a ++ p) q
 first_in_way a t [] p q v h g e w = cc
 first_in_way a t (d ∷ n) p q v h g e w = let same : d.0 ≡ p = cc in laid_blocked a v t h d n g q w ∙ ap (λ (r : Path). Blocked (a ++ r) q) same

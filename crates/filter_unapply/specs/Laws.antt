@@ -5,7 +5,7 @@ use Rattle.git_objects.specs.Paths.{Path, is_path, path_cmp, comparable}
 use Rattle.git_objects.specs.Trees.{Flat, IsTree, at, under}
 use Rattle.filter_routes.specs.Lenses.{Lens, IsLens, seen_through}
 use Rattle.filter_unapply.specs.Laying.{below}
-use Rattle.filter_unapply.specs.Laying.{pre, laid, NotHeld, Blocked, LaidTree}
+use Rattle.filter_unapply.specs.Laying.{pre, laid_through, NotHeld, Blocked, LaidTree}
 
 -- a path with a leaf
 abbrev pub HasLeaf : Flat → Path → Type 0
@@ -31,32 +31,32 @@ pub record IsBlock (f : Lens) (u : Flat) (p q : Path) : Type 0 where
 -- When each answer comes: NotHeld at the first path that no path is shown as, otherwise Blocked at the first path from
 -- what is laid that is comparable with another, and otherwise the tree.
 pub record OutcomeLaw : Type 0 where
-  pub not_held : (f : Lens) (t n : Flat) (q : Path) → IsTree n → laid f t n ≡ NotHeld q → IsFirst (IsLost f n) q
-  pub blocked : (f : Lens) (t n : Flat) (p q : Path) → IsTree t → laid f t n ≡ Blocked p q → IsFirst (λ r. (s : Path) × IsBlock f (pre f t n) r s) p
-  pub by : (f : Lens) (t n : Flat) (p q : Path) → IsTree t → laid f t n ≡ Blocked p q → IsFirst (IsBlock f (pre f t n) p) q
-  pub held : (f : Lens) (t n : Flat) (p q : Path) → laid f t n ≡ Blocked p q → (s : Path) → IsLost f n s → ⊥
-  pub tree : (f : Lens) (t n : Flat) → IsTree n → ((s : Path) → IsLost f n s → ⊥) → IsTree (pre f t n) → laid f t n ≡ LaidTree (pre f t n)
+  pub not_held : (f : Lens) (t n : Flat) (q : Path) → IsTree n → laid_through f t n ≡ NotHeld q → IsFirst (IsLost f n) q
+  pub blocked : (f : Lens) (t n : Flat) (p q : Path) → IsTree t → laid_through f t n ≡ Blocked p q → IsFirst (λ r. (s : Path) × IsBlock f (pre f t n) r s) p
+  pub by : (f : Lens) (t n : Flat) (p q : Path) → IsTree t → laid_through f t n ≡ Blocked p q → IsFirst (IsBlock f (pre f t n) p) q
+  pub held : (f : Lens) (t n : Flat) (p q : Path) → laid_through f t n ≡ Blocked p q → (s : Path) → IsLost f n s → ⊥
+  pub tree : (f : Lens) (t n : Flat) → IsTree n → ((s : Path) → IsLost f n s → ⊥) → IsTree (pre f t n) → laid_through f t n ≡ LaidTree (pre f t n)
 
 -- what is laid is a tree, and is shown again exactly
 pub record ShownAgainLaw : Type 0 where
-  pub tree : (f : Lens) (t n u : Flat) → IsLens f → IsTree t → IsTree n → laid f t n ≡ LaidTree u → IsTree u
-  pub shown_again : (f : Lens) (t n u : Flat) → IsLens f → IsTree t → IsTree n → laid f t n ≡ LaidTree u → seen_through f u ≡ n
+  pub tree : (f : Lens) (t n u : Flat) → IsLens f → IsTree t → IsTree n → laid_through f t n ≡ LaidTree u → IsTree u
+  pub shown_again : (f : Lens) (t n u : Flat) → IsLens f → IsTree t → IsTree n → laid_through f t n ≡ LaidTree u → seen_through f u ≡ n
 
 -- what is shown of a tree is a tree, and laying it gives the tree back
 pub record GivenBackLaw : Type 0 where
   pub tree : (f : Lens) (t : Flat) → IsLens f → IsTree t → IsTree (seen_through f t)
-  pub given_back : (f : Lens) (t : Flat) → IsLens f → IsTree t → laid f t (seen_through f t) ≡ LaidTree t
+  pub given_back : (f : Lens) (t : Flat) → IsLens f → IsTree t → laid_through f t (seen_through f t) ≡ LaidTree t
 
 -- each path without an image keeps what it had
 abbrev pub UnseenLaw : Type 0
-UnseenLaw = (f : Lens) (t n u : Flat) → IsLens f → IsTree t → IsTree n → laid f t n ≡ LaidTree u → (p : Path) → f.image p ≡ None → at u p ≡ at t p
+UnseenLaw = (f : Lens) (t n u : Flat) → IsLens f → IsTree t → IsTree n → laid_through f t n ≡ LaidTree u → (p : Path) → f.image p ≡ None → at u p ≡ at t p
 
 -- laying again forgets what was laid first
 abbrev pub LaidAgainLaw : Type 0
-LaidAgainLaw = (f : Lens) (t n u m : Flat) → IsLens f → IsTree t → IsTree n → laid f t n ≡ LaidTree u → IsTree m → laid f u m ≡ laid f t m
+LaidAgainLaw = (f : Lens) (t n u m : Flat) → IsLens f → IsTree t → IsTree n → laid_through f t n ≡ LaidTree u → IsTree m → laid_through f u m ≡ laid_through f t m
 
 -- the filter `:/a` is a lens, shows what lies below a, and holds every tree
 pub record BelowLaw : Type 0 where
   pub lens : (a : Path) → is_path a ≡ true → IsLens (below a)
   pub shows : (a : Path) (t : Flat) → IsTree t → seen_through (below a) t ≡ under t a
-  pub holds : (a : Path) (t n : Flat) (q : Path) → laid (below a) t n ≡ NotHeld q → ⊥
+  pub holds : (a : Path) (t n : Flat) (q : Path) → laid_through (below a) t n ≡ NotHeld q → ⊥

@@ -52,5 +52,5 @@ laid_from None (Some b) u = Blocked b.0 b.1
 laid_from None None u = LaidTree u
 
 -- n laid into t: in the place of all that f shows of t
-abbrev pub laid : Lens → Flat → Flat → Laid
-laid f t n = laid_from (first_lost f n) (first_blocked f (pre f t n)) (pre f t n)
+abbrev pub laid_through : Lens → Flat → Flat → Laid
+laid_through f t n = laid_from (first_lost f n) (first_blocked f (pre f t n)) (pre f t n)

@@ -1,4 +1,10 @@
 pub mod Laying
 pub mod Stored
 pub mod Laws
+pub mod Sifted
+pub mod Parts
+pub mod Blocks
+pub mod Moved
+pub mod Routed
+pub mod Hands
 pub mod Rows

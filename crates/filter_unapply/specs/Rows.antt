@@ -4,7 +4,7 @@ use Rattle.git_objects.specs.Paths.{Bytes, Path, same_path}
 use Rattle.git_objects.specs.Trees.{Leaf, FileLeaf, rest_below}
 use Rattle.filter_routes.specs.Lenses.{Lens, seen_through}
 use Rattle.filter_unapply.specs.Laying.{below}
-use Rattle.filter_unapply.specs.Laying.{pre, laid, NotHeld, Blocked, LaidTree}
+use Rattle.filter_unapply.specs.Laying.{pre, laid_through, NotHeld, Blocked, LaidTree}
 
 abbrev a : Bytes
 a = codes "a"
@@ -46,24 +46,24 @@ pub itself_not_shown : seen_through (below (a ∷ [])) ((a ∷ [], leaf) ∷ [])
 itself_not_shown = refl
 
 -- what was there and isn't pushed goes, and all else stays
-pub others_stay : laid (below (a ∷ [])) ((text ∷ [], leaf) ∷ (a ∷ f ∷ [], leaf) ∷ (b ∷ c ∷ [], leaf) ∷ []) ((g ∷ [], other) ∷ []) ≡ LaidTree ((text ∷ [], leaf) ∷ (a ∷ g ∷ [], other) ∷ (b ∷ c ∷ [], leaf) ∷ [])
+pub others_stay : laid_through (below (a ∷ [])) ((text ∷ [], leaf) ∷ (a ∷ f ∷ [], leaf) ∷ (b ∷ c ∷ [], leaf) ∷ []) ((g ∷ [], other) ∷ []) ≡ LaidTree ((text ∷ [], leaf) ∷ (a ∷ g ∷ [], other) ∷ (b ∷ c ∷ [], leaf) ∷ [])
 others_stay = refl
 
-pub new_directory : laid (below (b ∷ [])) ((a ∷ f ∷ [], leaf) ∷ []) ((x ∷ [], other) ∷ []) ≡ LaidTree ((a ∷ f ∷ [], leaf) ∷ (b ∷ x ∷ [], other) ∷ [])
+pub new_directory : laid_through (below (b ∷ [])) ((a ∷ f ∷ [], leaf) ∷ []) ((x ∷ [], other) ∷ []) ≡ LaidTree ((a ∷ f ∷ [], leaf) ∷ (b ∷ x ∷ [], other) ∷ [])
 new_directory = refl
 
-pub emptied : laid (below (a ∷ [])) ((a ∷ f ∷ [], leaf) ∷ (b ∷ c ∷ [], leaf) ∷ []) [] ≡ LaidTree ((b ∷ c ∷ [], leaf) ∷ [])
+pub emptied : laid_through (below (a ∷ [])) ((a ∷ f ∷ [], leaf) ∷ (b ∷ c ∷ [], leaf) ∷ []) [] ≡ LaidTree ((b ∷ c ∷ [], leaf) ∷ [])
 emptied = refl
 
 -- nothing can lie below a leaf
-pub leaf_at_place : laid (below (a ∷ f ∷ [])) ((a ∷ f ∷ [], leaf) ∷ []) ((x ∷ [], other) ∷ (y ∷ [], other) ∷ []) ≡ Blocked (a ∷ f ∷ x ∷ []) (a ∷ f ∷ [])
+pub leaf_at_place : laid_through (below (a ∷ f ∷ [])) ((a ∷ f ∷ [], leaf) ∷ []) ((x ∷ [], other) ∷ (y ∷ [], other) ∷ []) ≡ Blocked (a ∷ f ∷ x ∷ []) (a ∷ f ∷ [])
 leaf_at_place = refl
 
-pub leaf_on_way : laid (below (a ∷ f ∷ [])) ((a ∷ [], leaf) ∷ []) ((x ∷ [], other) ∷ []) ≡ Blocked (a ∷ f ∷ x ∷ []) (a ∷ [])
+pub leaf_on_way : laid_through (below (a ∷ f ∷ [])) ((a ∷ [], leaf) ∷ []) ((x ∷ [], other) ∷ []) ≡ Blocked (a ∷ f ∷ x ∷ []) (a ∷ [])
 leaf_on_way = refl
 
 -- but the empty tree asks for no place, and a leaf at the place is no path below it
-pub leaf_stays : laid (below (a ∷ f ∷ [])) ((a ∷ f ∷ [], leaf) ∷ []) [] ≡ LaidTree ((a ∷ f ∷ [], leaf) ∷ [])
+pub leaf_stays : laid_through (below (a ∷ f ∷ [])) ((a ∷ f ∷ [], leaf) ∷ []) [] ≡ LaidTree ((a ∷ f ∷ [], leaf) ∷ [])
 leaf_stays = refl
 
 -- ---- other lenses
@@ -73,14 +73,14 @@ abbrev inside : Path → Lens
 inside p = record { image = λ q. cond (is_some (rest_below p q)) (Some q) None; origin = λ q. cond (is_some (rest_below p q)) (Some q) None }
 
 -- the first path that isn't shown at all
-pub not_held : laid (inside (b ∷ [])) [] ((a ∷ [], leaf) ∷ (b ∷ x ∷ [], leaf) ∷ (c ∷ [], leaf) ∷ []) ≡ NotHeld (a ∷ [])
+pub not_held : laid_through (inside (b ∷ [])) [] ((a ∷ [], leaf) ∷ (b ∷ x ∷ [], leaf) ∷ (c ∷ [], leaf) ∷ []) ≡ NotHeld (a ∷ [])
 not_held = refl
 
 -- before any that has no place
-pub held_first : laid (inside (b ∷ [])) ((b ∷ [], leaf) ∷ []) ((b ∷ x ∷ [], leaf) ∷ (c ∷ [], leaf) ∷ []) ≡ NotHeld (c ∷ [])
+pub held_first : laid_through (inside (b ∷ [])) ((b ∷ [], leaf) ∷ []) ((b ∷ x ∷ [], leaf) ∷ (c ∷ [], leaf) ∷ []) ≡ NotHeld (c ∷ [])
 held_first = refl
 
-pub then_blocked : laid (inside (b ∷ [])) ((b ∷ [], leaf) ∷ []) ((b ∷ x ∷ [], leaf) ∷ []) ≡ Blocked (b ∷ x ∷ []) (b ∷ [])
+pub then_blocked : laid_through (inside (b ∷ [])) ((b ∷ [], leaf) ∷ []) ((b ∷ x ∷ [], leaf) ∷ []) ≡ Blocked (b ∷ x ∷ []) (b ∷ [])
 then_blocked = refl
 
 -- a as x, and a/b as y
@@ -91,11 +91,11 @@ abbrev two : Lens
 two = record { image = renamed; origin = λ q. cond (same_path q (x ∷ [])) (Some (a ∷ [])) (cond (same_path q (y ∷ [])) (Some (a ∷ b ∷ [])) None) }
 
 -- two files that are shown side by side, and are the file and the directory of one name
-pub by_each_other : laid two [] ((x ∷ [], leaf) ∷ (y ∷ [], leaf) ∷ []) ≡ Blocked (a ∷ []) (a ∷ b ∷ [])
+pub by_each_other : laid_through two [] ((x ∷ [], leaf) ∷ (y ∷ [], leaf) ∷ []) ≡ Blocked (a ∷ []) (a ∷ b ∷ [])
 by_each_other = refl
 
 -- the first path of the tree that is laid, and the first that stands in its way
-pub first_way : laid two ((a ∷ c ∷ [], leaf) ∷ (a ∷ g ∷ [], leaf) ∷ []) ((x ∷ [], leaf) ∷ []) ≡ Blocked (a ∷ []) (a ∷ c ∷ [])
+pub first_way : laid_through two ((a ∷ c ∷ [], leaf) ∷ (a ∷ g ∷ [], leaf) ∷ []) ((x ∷ [], leaf) ∷ []) ≡ Blocked (a ∷ []) (a ∷ c ∷ [])
 first_way = refl
 
 pub kept_pre : pre two ((a ∷ c ∷ [], leaf) ∷ []) ((x ∷ [], other) ∷ []) ≡ (a ∷ [], other) ∷ (a ∷ c ∷ [], leaf) ∷ []

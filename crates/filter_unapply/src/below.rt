@@ -6,7 +6,7 @@ ghost use Rattle.git_objects.specs.declared.kind.Kind.TheVariants.{Tree};
 ghost use Rattle.object_store.specs.Objects.{has};
 ghost use Rattle.object_store.specs.Unfolding.{flat};
 ghost use Rattle.path_trees.specs.Made.{IsGrown};
-ghost use Rattle.filter_unapply.specs.Laying.{laid};
+ghost use Rattle.filter_unapply.specs.Laying.{laid_through};
 ghost use Rattle.filter_unapply.specs.Laying.{below};
 ghost use Rattle.filter_unapply.specs.Stored.{IsLaidBody, IsLaidTree, IsLayFault, IsLeafInWay, first_of};
 
@@ -30,12 +30,12 @@ pub fn laid_below(
     requires base { has Tree store.old base.0 ≡ true }
     requires pushed { has Tree store.old pushed.0 ≡ true }
     ensures ok { IfOk result (IsLaidTree store.new
-        (laid (below place.now) (flat store.old base.0) (flat store.old pushed.0))) }
+        (laid_through (below place.now) (flat store.old base.0) (flat store.old pushed.0))) }
     ensures err { IfErr result (IsLayFault
-        (laid (below place.now) (flat store.old base.0) (flat store.old pushed.0)) place.now
+        (laid_through (below place.now) (flat store.old base.0) (flat store.old pushed.0)) place.now
         store.new) }
     ensures store { IsGrown (IsLaidBody
-        (laid (below place.now) (flat store.old base.0) (flat store.old pushed.0)) place.now)
+        (laid_through (below place.now) (flat store.old base.0) (flat store.old pushed.0)) place.now)
         store.old store.new }
 {
     let _ = store.get(&base);
@@ -46,7 +46,7 @@ pub fn laid_below(
 }
 
 // The first path of a tree, in path order.
-fn first_path(alloc: Global, store: &Store, root: Name) -> Result<Option<Path>, AllocError>
+pub fn first_path(alloc: Global, store: &Store, root: Name) -> Result<Option<Path>, AllocError>
     requires { has Tree store.now root.0 ≡ true }
     ensures { IfOk result (λ path. path ≡ first_of (flat store.now root.0)) }
 {
@@ -61,11 +61,11 @@ fn first_path(alloc: Global, store: &Store, root: Name) -> Result<Option<Path>, 
 fn emptied(alloc: Global, store: &mut Store, place: &Path, base: Name) -> Result<Name, LayFault>
     requires { has Tree store.old base.0 ≡ true }
     ensures ok { IfOk result (IsLaidTree store.new
-        (laid (below place.now) (flat store.old base.0) [])) }
+        (laid_through (below place.now) (flat store.old base.0) [])) }
     ensures err { IfErr result (IsLayFault
-        (laid (below place.now) (flat store.old base.0) []) place.now store.new) }
+        (laid_through (below place.now) (flat store.old base.0) []) place.now store.new) }
     ensures store { IsGrown (IsLaidBody
-        (laid (below place.now) (flat store.old base.0) []) place.now)
+        (laid_through (below place.now) (flat store.old base.0) []) place.now)
         store.old store.new }
 {
     let _ = store.get(&base);
@@ -88,12 +88,12 @@ fn replaced(
     requires pushed { has Tree store.old pushed.0 ≡ true }
     requires first { first_of (flat store.old pushed.0) ≡ Some first.now }
     ensures ok { IfOk result (IsLaidTree store.new
-        (laid (below place.now) (flat store.old base.0) (flat store.old pushed.0))) }
+        (laid_through (below place.now) (flat store.old base.0) (flat store.old pushed.0))) }
     ensures err { IfErr result (IsLayFault
-        (laid (below place.now) (flat store.old base.0) (flat store.old pushed.0)) place.now
+        (laid_through (below place.now) (flat store.old base.0) (flat store.old pushed.0)) place.now
         store.new) }
     ensures store { IsGrown (IsLaidBody
-        (laid (below place.now) (flat store.old base.0) (flat store.old pushed.0)) place.now)
+        (laid_through (below place.now) (flat store.old base.0) (flat store.old pushed.0)) place.now)
         store.old store.new }
 {
     let _ = store.get(&base);

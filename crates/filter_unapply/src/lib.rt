@@ -2,8 +2,13 @@
 #![tactic(auto)]
 
 mod below;
+mod blocking;
 mod fault;
 mod laws;
+mod moving;
+mod parts;
+mod routing;
+mod sifting;
 
 pub use below::laid_below;
 pub use fault::LayFault;

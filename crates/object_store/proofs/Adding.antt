@@ -13,7 +13,7 @@ use Rattle.object_store.specs.Objects.{Object, object_name, find_named, has_name
 use Rattle.object_store.specs.Places.{arrived_objects, placed, placed_objects, IsPlaced, ArePlaced, AreSized, HoldsStore}
 use Rattle.object_store.specs.Sizes.{sizes}
 use Rattle.object_store.specs.Unfolding.{body_flat}
-use Rattle.object_store.specs.declared.store.Place.{Place}
+use Rattle.object_store.specs.declared.shelf.Place.{Place}
 use Rattle.object_store.specs.declared.store.TreeStats.{TreeStats}
 use Rattle.object_store.proofs.Finding.{found_name, nothing-placed}
 use Rattle.object_store.proofs.Sizes.{flat-new, sized-newer, sized-push}
@@ -25,7 +25,7 @@ part-append arena more at len h =
     let b : (at + len) - at ≤ length (drop at arena) = omega (arith, length-drop at arena) in
     ap (take ((at + len) - at)) (drop-append-le at arena more a) ∙ take-append-le ((at + len) - at) (drop at arena) more b
 
-placed-append : (arena more : Bytes) (p : Place) → p.at + p.len ≤ length arena → placed (arena ++ more) p ≡ placed arena p
+pub placed-append : (arena more : Bytes) (p : Place) → p.at + p.len ≤ length arena → placed (arena ++ more) p ≡ placed arena p
 placed-append arena more p h = ap (λ (b : Bytes). record { kind = p.kind; body = b }) (part-append arena more p.at p.len h)
 
 pub objects-append : (arena more : Bytes) (es : List (Name × Place)) → ArePlaced arena es → arrived_objects (arena ++ more) es ≡ arrived_objects arena es
@@ -38,11 +38,11 @@ IsPlaced-append arena more e h = record {
   named = ap object_name (placed-append arena more e.1 h.within) ∙ h.named;
 }
 
-ArePlaced-append : (arena more : Bytes) (es : List (Name × Place)) → ArePlaced arena es → ArePlaced (arena ++ more) es
+pub ArePlaced-append : (arena more : Bytes) (es : List (Name × Place)) → ArePlaced arena es → ArePlaced (arena ++ more) es
 ArePlaced-append arena more [] h = tt
 ArePlaced-append arena more (e ∷ es) h = (IsPlaced-append arena more e h.0, ArePlaced-append arena more es h.1)
 
-ArePlaced-push : (arena : Bytes) (es : List (Name × Place)) (e : Name × Place) → ArePlaced arena es → IsPlaced arena e → ArePlaced arena (es ++ e ∷ [])
+pub ArePlaced-push : (arena : Bytes) (es : List (Name × Place)) (e : Name × Place) → ArePlaced arena es → IsPlaced arena e → ArePlaced arena (es ++ e ∷ [])
 ArePlaced-push arena [] e h g = (g, tt)
 ArePlaced-push arena (d ∷ es) e h g = (h.0, ArePlaced-push arena es e h.1 g)
 

@@ -4,7 +4,6 @@ use Rattle.std.specs.Cmp.{first_so, second_so}
 use Rattle.std.specs.Option.{is_none, unwrap_or}
 use Rattle.std.proofs.lemmas.Bool.{or_right, not-false}
 use Rattle.git_objects.specs.Paths.{Bytes, is_nil}
-use Rattle.git_objects.specs.Names.{name}
 use Rattle.git_objects.specs.Bodies.{tree_entries}
 use Rattle.git_objects.specs.declared.entry.Entry.{Entry}
 use Rattle.git_objects.specs.declared.kind.Kind.{Kind}

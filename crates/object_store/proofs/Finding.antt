@@ -15,7 +15,7 @@ use Rattle.git_objects.proofs.Basics.{same_bytes-back}
 use Rattle.git_objects.proofs.Maps.{first_some}
 use Rattle.object_store.specs.Objects.{Object, object_name, same_kind, find_named, has, has_name, body_of, IsStore}
 use Rattle.object_store.specs.Places.{arrived_objects, placed, placed_objects, ArePlaced, HoldsStore}
-use Rattle.object_store.specs.declared.store.Place.{Place}
+use Rattle.object_store.specs.declared.shelf.Place.{Place}
 use Rattle.object_store.proofs.Held.{has_name-from}
 
 -- no two have one name

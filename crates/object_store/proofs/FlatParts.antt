@@ -3,7 +3,6 @@ use Rattle.std.proofs.Common.{◌≡◌, true, false, cond, ◌||◌, List, [], 
 use Rattle.std.specs.Cmp.{first_so}
 use Rattle.git_objects.specs.Paths.{Bytes}
 use Rattle.git_objects.specs.Trees.{Flat, rests}
-use Rattle.git_objects.specs.Names.{name}
 use Rattle.git_objects.specs.declared.entry.Entry.{Entry}
 use Rattle.git_objects.specs.declared.kind.Kind.TheVariants.{Blob, Tree}
 use Rattle.git_objects.specs.declared.mode.Mode.{Mode}

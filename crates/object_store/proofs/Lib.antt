@@ -12,3 +12,4 @@ pub mod Children
 pub mod FlatParts
 pub mod StoredCommits
 pub mod Growth
+pub mod Pieces

@@ -8,7 +8,6 @@ use Rattle.git_objects.specs.Lists.{Each}
 use Rattle.object_store.specs.Objects.{Object, object_name, same_kind, is_named, find_named, has, has_name, body_of, IsStore}
 use Rattle.object_store.proofs.Held.{named_name, kind_is}
 use Rattle.object_store.proofs.Finding.{has-found}
-use Rattle.git_objects.specs.Names.{name}
 
 -- they are found under their names
 abbrev pub AreIn : List Object → List Object → Type 0

@@ -74,3 +74,17 @@ module _ (S : List Object) (k : Kind) (b : Bytes) (fine : None ≡ option_map er
 
   pub same_objects : Some true ≡ option_map (same_object k b) (find_named S (name k b)) → S ≡ with_object S k b
   same_objects h = sym (ap (λ t. cond t S (record { kind = k; body = b } ∷ S)) (found_name S (name k b) ∙ (same_answer (find_named S (name k b)) h).1))
+
+  -- nothing is held under the name
+  no_object : (o : Option Object) → None ≡ option_map (same_object k b) o → o ≡ None
+  no_object None h = refl
+  no_object (Some o) h = cc
+
+  pub new_refusal : find_named S (name k b) ≡ None → refusal S k b ≡ None
+  new_refusal h = refusal_is ∙ ap (collision k b) h
+
+  pub new_objects : find_named S (name k b) ≡ None → record { kind = k; body = b } ∷ S ≡ with_object S k b
+  new_objects h = sym (ap (λ t. cond t S (record { kind = k; body = b } ∷ S)) (found_name S (name k b) ∙ ap is_some h))
+
+  pub is_new_object : None ≡ option_map (same_object k b) (find_named S (name k b)) → find_named S (name k b) ≡ None
+  is_new_object h = no_object (find_named S (name k b)) h

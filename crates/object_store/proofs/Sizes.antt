@@ -1,5 +1,5 @@
 -- Sizes of trees, from those of their parts.
-use Rattle.std.proofs.Common.{◌≡◌, ◌+◌, ◌-◌, ◌≤◌, ◌&&◌, ◌||◌, true, false, cond, not, eqb, T, List, [], ◌∷◌, ◌++◌, drop, length, max, reverse, Option, Some, None, refl, sym, ap, ◌∙◌, arith, length-append, true≢false}
+use Rattle.std.proofs.Common.{◌≡◌, ◌+◌, ◌-◌, ◌≤◌, ◌&&◌, ◌||◌, true, false, cond, not, eqb, T, List, [], ◌∷◌, ◌++◌, drop, length, max, Option, Some, None, refl, sym, ap, ◌∙◌, arith, length-append, true≢false}
 use Rattle.std.specs.Prelude.{slice_get}
 use Rattle.std.specs.List.{list_all, slice_range}
 use Rattle.std.specs.Map.{lookup}
@@ -20,9 +20,9 @@ use Rattle.git_objects.specs.declared.name.Name.{Name}
 use Rattle.git_objects.proofs.Basics.{second, same_bytes-self}
 use Rattle.object_store.specs.Objects.{Object, object_name, same_kind, is_named, has, has_name, has_child, body_of, missing_entry}
 use Rattle.object_store.specs.Unfolding.{below, joined, flat, entry_flat, body_flat}
-use Rattle.object_store.specs.Places.{is_full_tree, arrived_objects, placed, placed_objects, AreSized, HoldsStore}
+use Rattle.object_store.specs.Places.{is_full_tree, placed, placed_objects, AreSized, HoldsStore}
 use Rattle.object_store.specs.Sizes.{longest, held_number, sizes, stats_of, leaf_sizes, sizes_below, sizes_joined}
-use Rattle.object_store.specs.declared.store.Place.{Place}
+use Rattle.object_store.specs.declared.shelf.Place.{Place}
 use Rattle.object_store.specs.declared.store.TreeStats.{TreeStats}
 use Rattle.object_store.proofs.Unfolding.{IsFull, flat_good}
 use Rattle.object_store.proofs.Finding.{find-places, place-within, has-found, full-found, nil_test, and-false}

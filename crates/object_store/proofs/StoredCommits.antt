@@ -1,5 +1,5 @@
 -- Commits of a store.
-use Rattle.std.proofs.Common.{◌≡◌, true, false, cond, ◌&&◌, ◌||◌, List, [], ◌∷◌, None, Some, refl, sym, ap, ◌∙◌, true≢false, ℕ, zero, suc, ◌<◌, Bool, ◌+◌, map, length, get_or, drop, add-one, arith}
+use Rattle.std.proofs.Common.{◌≡◌, true, false, cond, ◌&&◌, ◌||◌, List, [], ◌∷◌, None, Some, refl, sym, ap, ◌∙◌, true≢false}
 use Rattle.std.specs.Cmp.{first_so, second_so}
 use Rattle.std.specs.Option.{is_none, option_map_or}
 use Rattle.git_objects.specs.Paths.{Bytes, is_bytes}
@@ -14,10 +14,6 @@ use Rattle.object_store.proofs.Held.{named_kind}
 use Rattle.object_store.specs.StoredSnapshots.{commit_named}
 use Rattle.object_store.proofs.Parts.{found-has}
 use Rattle.std.proofs.lemmas.Bool.{or_right}
-use Rattle.std.proofs.Math.Seq.{drop-cons}
-use Rattle.std.specs.List.{list_all}
-use Rattle.git_objects.specs.Parts.{name_bytes}
-use Rattle.git_objects.specs.declared.name.Name.{Name}
 
 -- a commit's body is read, and its tree and its parents are held
 pub record IsHeldCommit (S : List Object) (b : Bytes) : Type 0 where

@@ -2,7 +2,7 @@
 use Rattle.std.specs.Prelude.{◌≡◌, List, ◌++◌, Contains, Some}
 use Rattle.git_objects.specs.Paths.{Bytes}
 use Rattle.git_objects.specs.declared.kind.Kind.{Kind}
-use Rattle.object_store.specs.Objects.{Object, IsStore, has, find_named}
+use Rattle.object_store.specs.Objects.{Object, IsStore, find_named}
 use Rattle.object_store.specs.Puts.{Collides, collision}
 
 -- the old objects, and new ones in front of them, each of a kind

@@ -5,6 +5,8 @@ pub mod Laws
 pub mod Errors
 pub mod Sizes
 pub mod Places
+pub mod Judgements
+pub mod Filling
 pub mod Rows
 pub mod TreeObjects
 pub mod StoredSnapshots

@@ -1,5 +1,5 @@
 -- How a store holds its objects: the bodies one behind the other, and the place of each.
-use Rattle.std.specs.Prelude.{◌≡◌, ◌+◌, ◌≤◌, Bool, not, ◌&&◌, ◌==◌, List, [], ◌∷◌, map, length, reverse}
+use Rattle.std.specs.Prelude.{◌≡◌, ◌+◌, ◌≤◌, ⊤, ℕ, Bool, true, not, ◌&&◌, ◌==◌, List, [], ◌∷◌, map, length, reverse}
 use Rattle.std.specs.List.{slice_range}
 use Rattle.git_objects.specs.Paths.{Bytes}
 use Rattle.git_objects.specs.declared.kind.Kind.TheVariants.{Tree}
@@ -7,7 +7,7 @@ use Rattle.git_objects.specs.declared.name.Name.{Name}
 use Rattle.object_store.specs.Objects.{Object, object_name, same_kind, IsStore}
 use Rattle.object_store.specs.Unfolding.{flat}
 use Rattle.object_store.specs.Sizes.{sizes}
-use Rattle.object_store.specs.declared.store.Place.{Place}
+use Rattle.object_store.specs.declared.shelf.Place.{Place}
 
 -- the object at a place
 abbrev pub placed : Bytes → Place → Object
@@ -43,3 +43,22 @@ pub record HoldsStore (arena : Bytes) (places : List (Name × Place)) : Type 0 w
   pub placed : ArePlaced arena places
   pub store : IsStore (placed_objects arena places)
   pub sized : AreSized (placed_objects arena places) places
+
+-- ---- a store that is filled
+
+-- the objects, the piece that stands behind them in the arena, and whether it may still be written: no object was put since it began
+pub record Intake : Type 0 where
+  pub objects : List Object
+  pub piece : Bytes
+  pub is_open : Bool
+
+-- each place ends at most there
+abbrev pub AreBelow : ℕ → List (Name × Place) → Type 0
+AreBelow end [] = ⊤
+AreBelow end (e ∷ es) = (e.1.at + e.1.len ≤ end) × AreBelow end es
+
+-- a store in the arena, and a place from which the piece stands, above all objects while the piece may be written
+pub record HoldsIntake (arena : Bytes) (places : List (Name × Place)) (from : ℕ) (is_open : Bool) : Type 0 where
+  pub store : HoldsStore arena places
+  pub within : from ≤ length arena
+  pub below : is_open ≡ true → AreBelow from places

@@ -125,7 +125,7 @@ module _ (S : List Object) (s : IsStore S) where
 
 -- ---- along a path
 
-standing_down : (t : Flat) (c : Bytes) (rest : Path) → is_nil rest ≡ false → standing t (c ∷ rest) ≡ standing (under t (c ∷ [])) rest
+pub standing_down : (t : Flat) (c : Bytes) (rest : Path) → is_nil rest ≡ false → standing t (c ∷ rest) ≡ standing (under t (c ∷ [])) rest
 standing_down t c [] h = absurd (true≢false h)
 standing_down t c (d ∷ r) h = λ i. option_or (option_map LeafNode (sym (at-under t (c ∷ []) d r) i)) (if_full (under_cons t c (d ∷ r) i))
 
@@ -204,7 +204,7 @@ front_prefix [] r = refl
 front_prefix (c ∷ q) r = ap (λ b. (b && is_prefix q (q ++ r)) || (b && is_prefix (q ++ r) q)) (same_bytes-self c) ∙ front_prefix q r
 
 -- nothing is below a leaf
-leaf_under : (t : Flat) (q : Path) (x : Leaf) → IsTree t → at t q ≡ Some x → under t q ≡ []
+pub leaf_under : (t : Flat) (q : Path) (x : Leaf) → IsTree t → at t q ≡ Some x → under t q ≡ []
 leaf_under t q x h e = same_flat (under t q) [] (under-tree t q h).sorted tt by
   where
     nowhere : (d : Bytes) (s : Path) (o : Option Leaf) → at t (q ++ d ∷ s) ≡ o → o ≡ None
@@ -227,7 +227,7 @@ clear_way t p h e q c r path = by (at t q) refl
     by None g = refl
     by (Some x) g = absurd (true≢false (sym (ap is_none (ap (standing t) (sym path) ∙ standing_none t q c r h (leaf_under t q x h g))) ∙ e))
 
-nothing_at : (o : Option Leaf) (t : Flat) → option_or (option_map LeafNode o) (if_full t) ≡ None → (o ≡ None) × (t ≡ [])
+pub nothing_at : (o : Option Leaf) (t : Flat) → option_or (option_map LeafNode o) (if_full t) ≡ None → (o ≡ None) × (t ≡ [])
 nothing_at None [] e = (refl, refl)
 nothing_at None (d ∷ t) e = cc
 nothing_at (Some x) t e = cc

@@ -12,6 +12,7 @@ mod pairs;
 mod rebuild;
 mod walk;
 
+pub use clash::first_clash;
 pub use edits::{put_at, remove_at, taken_in};
 pub use found::{Found, Leaf, TreeFault};
 pub use join::{JoinFault, join_disjoint};

@@ -4,6 +4,8 @@
 #[cfg(test)]
 mod calls;
 #[cfg(test)]
+mod damaged;
+#[cfg(test)]
 mod serving;
 #[cfg(test)]
 mod stops;

@@ -8,20 +8,20 @@ use std::test::Fail;
 
 // What a call answers and writes, and the disk then.
 #[derive(Drop)]
-struct Answer {
-    status: u8,
-    out: MemSink,
-    err: MemSink,
-    disk: MemDisk,
+pub(crate) struct Answer {
+    pub(crate) status: u8,
+    pub(crate) out: MemSink,
+    pub(crate) err: MemSink,
+    pub(crate) disk: MemDisk,
 }
 
 impl Answer {
-    fn is(&self, status: u8, out: &[u8], err: &[u8]) -> bool {
+    pub(crate) fn is(&self, status: u8, out: &[u8], err: &[u8]) -> bool {
         self.status == status && self.out.bytes() == out && self.err.bytes() == err
     }
 }
 
-fn served(
+pub(crate) fn served(
     alloc: Global,
     disk: MemDisk,
     words: &[&str],
@@ -39,7 +39,7 @@ fn served(
     })
 }
 
-fn disk_of(alloc: Global, bytes: &[u8]) -> Result<MemDisk, AllocError> {
+pub(crate) fn disk_of(alloc: Global, bytes: &[u8]) -> Result<MemDisk, AllocError> {
     Ok(MemDisk::new(alloc, bytes.to_vec(alloc)?, Vec::new(alloc)))
 }
 

@@ -1,8 +1,8 @@
 -- What a reader tells.
 use Rattle.std.specs.Prelude.{Bool, true, false, Option, Some, None, Result, Ok, Err}
-use Rattle.fast_import.specs.declared.fault.StreamFault.{StreamFault}
-use Rattle.fast_import.specs.declared.reader.Next.{Next}
-use Rattle.fast_import.specs.declared.reader.Next.TheVariants as nexts
+use Rattle.stream_reader.specs.declared.fault.StreamFault.{StreamFault}
+use Rattle.stream_reader.specs.declared.reader.Next.{Next}
+use Rattle.stream_reader.specs.declared.reader.Next.TheVariants as nexts
 
 -- whether it is a command; none of a fault
 abbrev pub is_command : Result Next StreamFault → Option Bool

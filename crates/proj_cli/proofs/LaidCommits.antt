@@ -9,7 +9,7 @@ use Rattle.git_objects.specs.declared.name.Name.{Name}
 use Rattle.object_store.specs.Objects.{Object, has}
 use Rattle.object_store.specs.Unfolding.{flat}
 use Rattle.path_trees.specs.Made.{IsGrown, IsCollision}
-use Rattle.filter_unapply.specs.Laying.{below, Laid, first_blocked, first_lost, laid, pre}
+use Rattle.filter_unapply.specs.Laying.{below, Laid, first_blocked, first_lost, laid_through, pre}
 use Rattle.filter_unapply.specs.Laying as laying
 use Rattle.filter_unapply.specs.Stored.{IsLaidBody, IsLaidTree, IsLayFault}
 use Rattle.filter_unapply.specs.declared.fault.LayFault.{LayFault}
@@ -29,14 +29,14 @@ use Rattle.small_streams.proofs.Files.{all_made, clash_name}
 use Rattle.object_store.proofs.Growth.{clash_as, grown_as, grown_then, has-grown}
 
 -- a filter of one place holds every path
-pub never-lost : (a : Path) (t n : Flat) (q : Path) → laid (below a) t n ≡ laying.NotHeld q → ⊥
+pub never-lost : (a : Path) (t n : Flat) (q : Path) → laid_through (below a) t n ≡ laying.NotHeld q → ⊥
 never-lost a t n q e =
     let lost : None ≡ Some q = sym (none_lost_below a n) ∙ lost_of (first_lost (below a) n) (first_blocked (below a) (pre (below a) t n)) (pre (below a) t n) q e in
     none-some q lost
 
 -- so no refusal tells of one that isn't held
-pub never-told : (S : List Object) (a : Path) (t n : Flat) (e : LayFault) (q : Path) → e ≡ NotHeldThere q → IsLayFault (laid (below a) t n) a S e → ⊥
-never-told S a t n e q same h = never-lost a t n q (subst (IsLayFault (laid (below a) t n) a S) same h)
+pub never-told : (S : List Object) (a : Path) (t n : Flat) (e : LayFault) (q : Path) → e ≡ NotHeldThere q → IsLayFault (laid_through (below a) t n) a S e → ⊥
+never-told S a t n e q same h = never-lost a t n q (subst (IsLayFault (laid_through (below a) t n) a S) same h)
 
 pub laid-held : (T : List Object) (l : Laid) (n : Name) → IsLaidTree T l n → has Tree T n.0 ≡ true
 laid-held T (laying.LaidTree u) n h = h.held

@@ -13,7 +13,7 @@ use Rattle.git_objects.specs.declared.name.Name.{Name}
 use Rattle.object_store.specs.Objects.{Object, IsStore, body_of, has}
 use Rattle.object_store.specs.TreeObjects.{leaf_objects}
 use Rattle.filter_routes.specs.Lenses.{Lens, carried, entered}
-use Rattle.filter_unapply.specs.Laying.{LaidTree, first_blocked, first_lost, laid, laid_from, pre, hidden}
+use Rattle.filter_unapply.specs.Laying.{LaidTree, first_blocked, first_lost, laid_through, laid_from, pre, hidden}
 use Rattle.object_store.specs.Fits.{is_known}
 use Rattle.repo_state.specs.Changes.{commit_fits}
 use Rattle.object_store.specs.StoredSnapshots.{commit_named}
@@ -49,7 +49,7 @@ module _ (H : List Object) (blobs : List Bytes) where
   known-carried to (e ∷ s) t h g = known-entered (to e.0) e.1 (carried to s t) (first_so _ _ h) (known-carried to s t (second_so (list_all (is_known H blobs) (leaf_objects e.1)) _ h) g)
 
   -- the leaves of what is laid are those of the two trees
-  known-laid : (f : Lens) (t n u : Flat) → laid f t n ≡ LaidTree u → are_known H blobs t ≡ true → are_known H blobs n ≡ true → are_known H blobs u ≡ true
+  known-laid : (f : Lens) (t n u : Flat) → laid_through f t n ≡ LaidTree u → are_known H blobs t ≡ true → are_known H blobs n ≡ true → are_known H blobs u ≡ true
   known-laid f t n u e h g =
       subst (λ v. are_known H blobs v ≡ true) (laid_is (first_lost f n) (first_blocked f (pre f t n)) (pre f t n) u e)
       (known-carried f.origin n (hidden f t) g (known-filter H blobs (λ x. is_none (f.image x.0)) t h))

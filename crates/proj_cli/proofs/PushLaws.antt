@@ -13,7 +13,7 @@ use Rattle.git_objects.specs.declared.kind.Kind.TheVariants.{Tree, Commit as Com
 use Rattle.object_store.specs.Objects.{Object, IsStore, has}
 use Rattle.object_store.specs.Unfolding.{flat}
 use Rattle.object_store.proofs.Unfolding.{unfolding_law}
-use Rattle.filter_unapply.specs.Laying.{below, LaidTree, laid}
+use Rattle.filter_unapply.specs.Laying.{below, LaidTree, laid_through}
 use Rattle.filter_unapply.proofs.Lawful.{kept-laid, laid-tree, shown-laid}
 use Rattle.filter_unapply.proofs.Rests.{below-lens, shows-under}
 use Rattle.repo_state.specs.Items.{Held}
@@ -107,7 +107,7 @@ pub record IsLaidAt (place : Path) (t n u : Flat) : Type 0 where
   pub shown : under u place ≡ n
   pub kept : (p : Path) → rest_below place p ≡ None → at u p ≡ at t p
 
-pub laid-at : (place : Path) (t n u : Flat) → is_path place ≡ true → IsTree t → IsTree n → laid (below place) t n ≡ LaidTree u → IsLaidAt place t n u
+pub laid-at : (place : Path) (t n u : Flat) → is_path place ≡ true → IsTree t → IsTree n → laid_through (below place) t n ≡ LaidTree u → IsLaidAt place t n u
 laid-at place t n u v h g e =
     let lens = below-lens place v in
     record {

@@ -13,7 +13,7 @@ use Rattle.object_store.specs.Objects.{Object, has}
 use Rattle.object_store.specs.Unfolding.{flat, StandsFor}
 use Rattle.object_store.proofs.Unfolding.{unfolding_law}
 use Rattle.filter_routes.specs.Lenses.{Lens}
-use Rattle.filter_unapply.specs.Laying.{below, Laid, laid}
+use Rattle.filter_unapply.specs.Laying.{below, Laid, laid_through}
 use Rattle.filter_unapply.specs.Laying as laying
 use Rattle.git_objects.specs.Snapshots.{snapshot_name}
 use Rattle.small_streams.specs.Streams.{Change, Small}
@@ -57,7 +57,7 @@ module _ (f : Lens) (start : push.Start) (s : Small) where
   made_in = IsMadeIn start.shown s.changes
 
   abbrev made_laid : Object → Type 0
-  made_laid = IsLaidMade start s.head.letter (laid f start.tree (pushed_commit start s).tree)
+  made_laid = IsLaidMade start s.head.letter (laid_through f start.tree (pushed_commit start s).tree)
 
   abbrev all : Object → Type 0
   all = IsPushMade f start s
@@ -69,15 +69,15 @@ module _ (f : Lens) (start : push.Start) (s : Small) where
   all_grown S T R g h = grown_then all S T R (pushed_grown S T g) (grown_as made_laid all T R (λ o m. inr m) h)
 
   module _ (small : are_small (trees_within start.shown s.changes) ≡ true) where
-    asked : judged f start s ≡ cond (same_bytes (tree_name (pushed_commit start s).tree) (tree_name start.shown)) push.NoChange (by_laid start s.head.letter (laid f start.tree (pushed_commit start s).tree))
+    asked : judged f start s ≡ cond (same_bytes (tree_name (pushed_commit start s).tree) (tree_name start.shown)) push.NoChange (by_laid start s.head.letter (laid_through f start.tree (pushed_commit start s).tree))
     asked =
-        ap (λ b. cond (not b) push.TooLarge (cond (same_bytes (tree_name (pushed_commit start s).tree) (tree_name start.shown)) push.NoChange (by_laid start s.head.letter (laid f start.tree (pushed_commit start s).tree)))) small
+        ap (λ b. cond (not b) push.TooLarge (cond (same_bytes (tree_name (pushed_commit start s).tree) (tree_name start.shown)) push.NoChange (by_laid start s.head.letter (laid_through f start.tree (pushed_commit start s).tree)))) small
 
     module _ (differs : same_bytes (tree_name (pushed_commit start s).tree) (tree_name start.shown) ≡ false) where
-      laid_next : (l : Laid) → laid f start.tree (pushed_commit start s).tree ≡ l → judged f start s ≡ by_laid start s.head.letter l
-      laid_next l e = asked ∙ ap (λ b. cond b push.NoChange (by_laid start s.head.letter (laid f start.tree (pushed_commit start s).tree))) differs ∙ ap (by_laid start s.head.letter) e
+      laid_next : (l : Laid) → laid_through f start.tree (pushed_commit start s).tree ≡ l → judged f start s ≡ by_laid start s.head.letter l
+      laid_next l e = asked ∙ ap (λ b. cond b push.NoChange (by_laid start s.head.letter (laid_through f start.tree (pushed_commit start s).tree))) differs ∙ ap (by_laid start s.head.letter) e
 
-      lay_fault : (R : List Object) (e : PushFault) → IsLaidFault R start s.head.letter (laid f start.tree (pushed_commit start s).tree) e → IsPushFault R f start s e
+      lay_fault : (R : List Object) (e : PushFault) → IsLaidFault R start s.head.letter (laid_through f start.tree (pushed_commit start s).tree) e → IsPushFault R f start s e
       lay_fault R TooLarge (t, e, g) = laid_next (laying.LaidTree t) e ∙ ap (λ b. cond b (push.Accepted (push.original_commit start s.head.letter t)) push.TooLarge) g
       lay_fault R NoChange h = absurd h
       lay_fault R (Blocked p q) h = laid_next (laying.Blocked p q) h
@@ -99,10 +99,10 @@ module _ (S T : List Object) (place : Path) (start : Start) (s : Small) (shown t
   from = start_value S place start
 
   abbrev becomes : Laid
-  becomes = laid (below place) from.tree (pushed_commit from s).tree
+  becomes = laid_through (below place) from.tree (pushed_commit from s).tree
 
   abbrev there : Laid
-  there = laid (below place) (flat T start.tree.0) (flat T tree.0)
+  there = laid_through (below place) (flat T start.tree.0) (flat T tree.0)
 
   start_same : start_value T place start ≡ from
   start_same = λ i. record {
@@ -113,7 +113,7 @@ module _ (S T : List Object) (place : Path) (start : Start) (s : Small) (shown t
   }
 
   laid_same : there ≡ becomes
-  laid_same = λ i. laid (below place) (flat-grown S T start.tree.0 trees.grown trees.old i) (trees.after.map i)
+  laid_same = λ i. laid_through (below place) (flat-grown S T start.tree.0 trees.grown trees.old i) (trees.after.map i)
 
   -- names tell trees apart
   shown_named : tree_name from.shown ≡ shown.0

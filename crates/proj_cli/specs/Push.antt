@@ -8,7 +8,7 @@ use Rattle.git_objects.specs.Commits.{Letter}
 use Rattle.object_store.specs.Objects.{Object}
 use Rattle.filter_routes.specs.Lenses.{Lens}
 use Rattle.filter_unapply.specs.Laying as laying
-use Rattle.filter_unapply.specs.Laying.{Laid, laid}
+use Rattle.filter_unapply.specs.Laying.{Laid, laid_through}
 use Rattle.object_store.specs.Fits.{tree_fits}
 use Rattle.object_store.specs.StoredSnapshots.{snapshot_object}
 use Rattle.git_objects.specs.Snapshots.{Snapshot}
@@ -68,7 +68,7 @@ abbrev pub judged : Lens → Start → Small → Verdict
 judged f start s =
     cond (not (are_small (trees_within start.shown s.changes))) TooLarge
     (cond (same_bytes (tree_name (pushed_commit start s).tree) (tree_name start.shown)) NoChange
-    (by_laid start s.head.letter (laid f start.tree (pushed_commit start s).tree)))
+    (by_laid start s.head.letter (laid_through f start.tree (pushed_commit start s).tree)))
 
 -- on a ref, through a lens
 abbrev pub verdict : Lens → Bytes → Start → Small → Verdict
@@ -85,4 +85,4 @@ IsLaidMade start letter l o = ⊥
 
 -- one of these, a blob that is pushed, or a directory of what is shown or of the pushed tree as it is made
 abbrev pub IsPushMade : Lens → Start → Small → Object → Type 0
-IsPushMade f start s o = IsMadeIn start.shown s.changes o ⊎ IsLaidMade start s.head.letter (laid f start.tree (pushed_commit start s).tree) o
+IsPushMade f start s o = IsMadeIn start.shown s.changes o ⊎ IsLaidMade start s.head.letter (laid_through f start.tree (pushed_commit start s).tree) o

@@ -7,7 +7,7 @@ use Rattle.git_objects.specs.Paths.{Bytes}
 use Rattle.git_objects.specs.Trees.{Flat, FileLeaf, put, under}
 use Rattle.git_objects.specs.Names.{name, body, line}
 use Rattle.git_objects.specs.Commits.{Letter}
-use Rattle.filter_unapply.specs.Laying.{below, laid}
+use Rattle.filter_unapply.specs.Laying.{below, laid_through}
 use Rattle.repo_state.specs.Items.{nothing}
 use Rattle.proj_cli.specs.Push.{Start, OtherRef, NotAtHead, NoChange, Blocked, Accepted, by_laid, judged, pushed_commit, verdict}
 use Rattle.proj_cli.specs.Step.{Room, done, push_line, push_made, push_smalls, refused}
@@ -73,7 +73,7 @@ upon_one_where_none_is = refl
 -- ---- what it makes
 
 -- the file goes to its place, and what isn't shown stays
-pub pushed_file : by_laid start letter (laid (below (a ∷ [])) tree (pushed_commit start (upon_ones ((g ∷ [], codes "4") ∷ []))).tree)
+pub pushed_file : by_laid start letter (laid_through (below (a ∷ [])) tree (pushed_commit start (upon_ones ((g ∷ [], codes "4") ∷ []))).tree)
     ≡ Accepted (record {
       tree = (a ∷ f ∷ [], FileLeaf (codes "1")) ∷ (a ∷ g ∷ [], FileLeaf (codes "4")) ∷ (x ∷ [], FileLeaf (codes "3")) ∷ [];
       parents = zeros ∷ [];
@@ -89,7 +89,7 @@ unfolding put
 pushed_is = refl
 
 -- a file in the place of a directory that is pushed
-pub in_the_way : by_laid start_anew letter (laid (below (x ∷ [])) tree (pushed_commit start_anew (upon_nothing ((f ∷ [], codes "4") ∷ []))).tree) ≡ Blocked (x ∷ f ∷ []) (x ∷ [])
+pub in_the_way : by_laid start_anew letter (laid_through (below (x ∷ [])) tree (pushed_commit start_anew (upon_nothing ((f ∷ [], codes "4") ∷ []))).tree) ≡ Blocked (x ∷ f ∷ []) (x ∷ [])
 unfolding put
 in_the_way = refl
 

@@ -11,7 +11,7 @@ use Rattle.object_store.specs.Unfolding.{flat}
 use Rattle.repo_state.specs.Loads.{IsStored, Stored}
 use Rattle.filter_routes.specs.Lenses.{Lens}
 use Rattle.filter_unapply.specs.Laying as laying
-use Rattle.filter_unapply.specs.Laying.{Laid, laid}
+use Rattle.filter_unapply.specs.Laying.{Laid, laid_through}
 use Rattle.object_store.specs.Fits.{tree_fits}
 use Rattle.git_objects.specs.Snapshots.{snapshot_name}
 use Rattle.repo_state.specs.Commits.{setting}
@@ -70,7 +70,7 @@ pub record IsAccepted (S : List Object) (f : Lens) (start : push.Start) (s : Sma
   pub small : are_small (trees_within start.shown s.changes) ≡ true
   pub differs : same_bytes (tree_name (pushed_commit start s).tree) (tree_name start.shown) ≡ false
   pub is_tree : IsTree (pushed_commit start s).tree
-  pub original : IsOriginal S start s.head.letter (laid f start.tree (pushed_commit start s).tree) r.original
+  pub original : IsOriginal S start s.head.letter (laid_through f start.tree (pushed_commit start s).tree) r.original
   pub pushed : r.pushed.0 ≡ snapshot_name (pushed_commit start s)
   pub blobs : AreBlobs S r.blobs.items (contents_in s.changes)
 

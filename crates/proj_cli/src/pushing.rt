@@ -6,7 +6,7 @@ ghost use Rattle.git_objects.specs.Trees.{under};
 ghost use Rattle.git_objects.specs.declared.kind.Kind.TheVariants.{Commit, Tree};
 ghost use Rattle.object_store.specs.Objects.{has, IsStore};
 ghost use Rattle.object_store.specs.Unfolding.{flat, StandsFor};
-ghost use Rattle.filter_unapply.specs.Laying.{laid, below};
+ghost use Rattle.filter_unapply.specs.Laying.{laid_through, below};
 ghost use Rattle.object_store.specs.Fits.{tree_fits};
 ghost use Rattle.proj_cli.specs.Push.{IsLaidMade, IsPushMade};
 ghost use Rattle.proj_cli.specs.Pushes.{IsAccepted, IsCommitFault, IsLaidFault, IsOriginal, IsPushFault, fault_of};
@@ -215,12 +215,12 @@ fn lay(
     requires tree { has Tree store.old start.now.tree.0 ≡ true }
     requires pushed { has Tree store.old pushed.0 ≡ true }
     requires head { has Commit store.old start.now.head.0 ≡ true }
-    ensures ok { let l = laid (below place.now) (flat store.old start.now.tree.0) (flat store.old pushed.0) in
+    ensures ok { let l = laid_through (below place.now) (flat store.old start.now.tree.0) (flat store.old pushed.0) in
         IfOk result (IsOriginal store.new (start_value store.old place.now start.now) (head_value head.now).letter l) }
-    ensures err { let l = laid (below place.now) (flat store.old start.now.tree.0) (flat store.old pushed.0) in
+    ensures err { let l = laid_through (below place.now) (flat store.old start.now.tree.0) (flat store.old pushed.0) in
         IfErr result (IsLaidFault store.new (start_value store.old place.now start.now)
         (head_value head.now).letter l) }
-    ensures store { let l = laid (below place.now) (flat store.old start.now.tree.0) (flat store.old pushed.0) in
+    ensures store { let l = laid_through (below place.now) (flat store.old start.now.tree.0) (flat store.old pushed.0) in
         IsGrownBy (IsLaidMade (start_value store.old place.now start.now)
         (head_value head.now).letter l) store.old store.new }
 {

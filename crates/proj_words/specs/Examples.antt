@@ -10,8 +10,8 @@ use Rattle.git_objects.specs.declared.quantity.Quantity.TheVariants as limits
 use Rattle.path_names.specs.Quoting.{quote, quoted_byte}
 use Rattle.path_names.specs.RefNames.{is_ref_name}
 use Rattle.path_names.specs.Words.{number}
-use Rattle.fast_import.specs.declared.fault.Feature.TheVariants as features
-use Rattle.fast_import.specs.declared.fault.StreamFault.TheVariants as streams
+use Rattle.stream_reader.specs.declared.fault.Feature.TheVariants as features
+use Rattle.stream_reader.specs.declared.fault.StreamFault.TheVariants as streams
 use Rattle.filter_text.specs.declared.filter.FilterFault.TheVariants as texts
 use Rattle.filter_routes.specs.declared.fault.RouteFault.TheVariants as routes
 use Rattle.proj_words.specs.Words.{Import, Project, Push, Export, Name, Batch, Trial, Unknown}

@@ -1,7 +1,7 @@
 -- The outcomes of faults that lower crates tell.
 use Rattle.std.specs.Prelude.{Some}
-use Rattle.fast_import.specs.declared.fault.StreamFault.{StreamFault}
-use Rattle.fast_import.specs.declared.fault.StreamFault.TheVariants as streams
+use Rattle.stream_reader.specs.declared.fault.StreamFault.{StreamFault}
+use Rattle.stream_reader.specs.declared.fault.StreamFault.TheVariants as streams
 use Rattle.filter_text.specs.declared.filter.FilterFault.{FilterFault as TextFault}
 use Rattle.filter_text.specs.declared.filter.FilterFault.TheVariants as texts
 use Rattle.filter_routes.specs.declared.fault.RouteFault.{RouteFault}

@@ -6,8 +6,8 @@ use Rattle.git_objects.specs.declared.name.Name.{Name}
 use Rattle.git_objects.specs.declared.quantity.Quantity.{Quantity}
 use Rattle.git_objects.specs.declared.quantity.Quantity.TheVariants as limits
 use Rattle.path_names.specs.Quoting.{quote}
-use Rattle.fast_import.specs.declared.fault.Feature.{Feature}
-use Rattle.fast_import.specs.declared.fault.Feature.TheVariants as features
+use Rattle.stream_reader.specs.declared.fault.Feature.{Feature}
+use Rattle.stream_reader.specs.declared.fault.Feature.TheVariants as features
 use Rattle.proj_words.specs.declared.outcome.FilterWhat.{FilterWhat}
 use Rattle.proj_words.specs.declared.outcome.FilterWhat.TheVariants as filters
 use Rattle.proj_words.specs.declared.outcome.Outcome.{Outcome}

@@ -4,7 +4,7 @@ ghost use Rattle.proj_words.specs.Faults.{filter_outcome, route_outcome, stream_
 ghost use Rattle.proj_words.specs.declared.outcome.Outcome.TheVariants.{OutOfMemory};
 
 use crate::{FilterWhat, Outcome};
-use fast_import::StreamFault;
+use stream_reader::StreamFault;
 use filter_routes::RouteFault;
 use filter_text::FilterFault;
 use std::alloc::AllocError;

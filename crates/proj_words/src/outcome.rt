@@ -2,7 +2,7 @@
 ghost use Rattle.std.specs.Prelude.{◌≡◌};
 ghost use Rattle.proj_words.specs.Outcomes.{code_of};
 
-use fast_import::Feature;
+use stream_reader::Feature;
 use git_objects::{Name, Quantity};
 use path_names::{Path, RefName};
 

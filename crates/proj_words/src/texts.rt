@@ -5,7 +5,7 @@ ghost use Rattle.proj_words.specs.Outcomes.{is_plain, text_of, words_of};
 ghost use Rattle.proj_words.specs.Outcomes.{feature_words, filter_words, limit_words, name_words, path_words};
 
 use crate::{FilterWhat, Outcome};
-use fast_import::Feature;
+use stream_reader::Feature;
 use git_objects::{Name, Quantity};
 use itoa::Buffer;
 use path_names::{Path, quote};

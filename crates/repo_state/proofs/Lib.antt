@@ -24,3 +24,8 @@ pub mod TreeLaw
 pub mod Walks
 pub mod CommitNames
 pub mod Counting
+pub mod EditLeaves
+pub mod Replaying
+pub mod ImportsKept
+pub mod ReadCommands
+pub mod Making

@@ -8,6 +8,7 @@ mod count;
 mod cursor;
 mod draft;
 mod item;
+mod laws;
 mod loading;
 mod objects;
 mod ref_fields;
@@ -17,4 +18,5 @@ mod walk;
 
 pub use commit::{Batch, CommitError, Setting};
 pub use count::count_batch;
+pub use laws::{import_kept_law, made_law, reader_law, replayed_law};
 pub use state::{LoadError, State};

@@ -4,4 +4,13 @@ pub mod Repos
 pub mod Changes
 pub mod Appending
 pub mod Imported
+pub mod ReadHeld
 pub mod KeptLaws
+pub mod Hands
+pub mod Examples
+pub mod Stops
+pub mod Arrivals
+pub mod KeptMaps
+pub mod Steps
+pub mod Readings
+pub mod Lending

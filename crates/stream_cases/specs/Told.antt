@@ -1,8 +1,8 @@
 -- What follows what a reader tells.
 use Rattle.std.specs.Prelude.{Bool, true, false, Option, Some, None, Result, Ok, Err}
-use Rattle.fast_import.specs.declared.fault.StreamFault.{StreamFault}
-use Rattle.fast_import.specs.declared.reader.Next.{Next}
-use Rattle.fast_import.specs.declared.reader.Next.TheVariants as nexts
+use Rattle.stream_reader.specs.declared.fault.StreamFault.{StreamFault}
+use Rattle.stream_reader.specs.declared.reader.Next.{Next}
+use Rattle.stream_reader.specs.declared.reader.Next.TheVariants as nexts
 
 -- behind a command the next one; else whether more must come
 abbrev pub what_follows : Result Next StreamFault → Option Bool

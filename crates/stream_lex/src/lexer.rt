@@ -13,7 +13,7 @@ use std::alloc::{AllocError, Global};
 use std::marker::Model;
 
 /// What `Lexer::line` tells.
-#[derive(Debug, Drop)]
+#[derive(Drop)]
 pub enum LineAnswer {
     /// A line without its LF, and the place of its first byte in the stream.
     Line { at: u64, bytes: Bytes },
@@ -24,7 +24,7 @@ pub enum LineAnswer {
 }
 
 /// What `Lexer::block` tells.
-#[derive(Debug, Drop)]
+#[derive(Drop)]
 pub enum BlockAnswer {
     /// So many bytes as were asked for.
     Block(Bytes),
@@ -56,7 +56,7 @@ impl From<LimitFault> for LexFault {
 }
 
 /// Keeps what was fed and isn't handed out.
-#[derive(Debug, Drop)]
+#[derive(Drop)]
 pub struct Lexer {
     // the bytes from the place `base` on, of which `used` are handed out
     bytes: Vec<u8>,

@@ -1,2 +1,6 @@
-pub mod Resolving
-pub mod Resolved
+pub mod Usable
+pub mod Cleared
+pub mod Splits
+pub mod Lists
+pub mod Sources
+pub mod Readable

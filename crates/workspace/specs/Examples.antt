@@ -1,10 +1,10 @@
 -- Worked examples.
-use Rattle.std.specs.Prelude.{◌≡◌, refl, true, false, List, [], ◌∷◌, ◌++◌, codes, Option, Some, None}
+use Rattle.std.specs.Prelude.{◌≡◌, refl, true, false, [], ◌∷◌, ◌++◌, codes, Option, Some, None}
 use Rattle.git_objects.specs.Paths.{Bytes, Path}
 use Rattle.git_objects.specs.Trees.{Leaf, FileLeaf, ExecLeaf, LinkLeaf, ModuleLeaf, Flat}
 use Rattle.path_names.specs.PathTexts.{path_of}
 use Rattle.path_names.specs.Quoting.{unquote}
-use Rattle.filter_text.specs.Filters.{Filter, Filters, nop, sub, onto, dir, file, exclude, join, chain, workspace, no_more, more, only}
+use Rattle.filter_text.specs.Filters.{Filter, Filters, sub, onto, dir, file, exclude, join, chain, workspace, no_more, more, only}
 use Rattle.filter_text.specs.Texts.{name_at, kept_name_at, target_at}
 use Rattle.filter_text.specs.Reading.{word_at, pieces_at, list_at}
 use Rattle.filter_text.specs.Items.{items, members}

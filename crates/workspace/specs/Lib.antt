@@ -1,3 +1,4 @@
 pub mod Workspaces
 pub mod Laws
+pub mod Views
 pub mod Examples

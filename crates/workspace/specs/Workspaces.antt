@@ -104,6 +104,10 @@ leaf_items w x = unwrap_or (option_and_then (readable_items w) x) []
 abbrev pub is_unreadable : Path → Option Leaf → Bool
 is_unreadable w x = option_map_or (λ l. is_none (readable_items w l)) x false
 
+-- whether there is a leaf at the workspace place that gives no items; false for a filter without a workspace
+abbrev pub has_unreadable : Filter → Option Leaf → Bool
+has_unreadable f x = option_map_or (λ s. is_unreadable s.directory x) (split f) false
+
 -- ---- resolving
 
 -- the filter with a list in the workspace's place

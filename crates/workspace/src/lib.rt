@@ -2,5 +2,11 @@
 #![tactic(auto)]
 
 mod laws;
+mod listing;
+mod parts;
+mod place;
+mod resolving;
 
 pub use laws::resolve_law;
+pub use place::file_place;
+pub use resolving::{Resolved, resolve, resolve_leaf};

@@ -1,5 +1,5 @@
 use Rattle.std.proofs.Common.{ap}
-use Rattle.fast_import.specs.declared.command.CommitHead.{CommitHead}
+use Rattle.stream_reader.specs.declared.command.CommitHead.{CommitHead}
 use Rattle.fast_import.proofs.Ending.{commit_fault, commit_grown, commit_in, parents_there, tree_clash, tree_grown}
 use Rattle.fast_import.proofs.commit_step.end_of.Goals as goal
 

@@ -1,13 +1,15 @@
-use Rattle.std.proofs.Common.{◌≡◌, ◌<◌, ◌≤◌, Ok, Err, sym, subst, ap, arith}
+use Rattle.std.proofs.Common.{◌≡◌, ◌<◌, ◌≤◌, Ok, Err, sym, subst, ap, arith, ◌∙◌}
 use Rattle.git_objects.specs.declared.limits.TheConstants.{STREAM_BYTES}
 use Rattle.fast_import.specs.Bases.{base_in}
-use Rattle.fast_import.specs.Readers.{Follows, OnMore, Reading, TellsNext, came}
+use Rattle.stream_reader.specs.Readers.{Follows, OnMore, Reading, TellsNext, came}
+use Rattle.stream_reader.specs.Waited.{IsNear}
 use Rattle.fast_import.specs.Replays.{Base}
+use Rattle.fast_import.specs.declared.whole.ReplayError.TheVariants.{Stream}
 use Rattle.fast_import.specs.Standing.{IsStepped}
-use Rattle.fast_import.specs.declared.reader.Next.{Next}
+use Rattle.stream_reader.specs.declared.reader.Next.{Next}
 use Rattle.fast_import.proofs.Growing.{base-grown, is_base-grown}
-use Rattle.fast_import.proofs.Running.{IsSoFar, fed_more, nothing_so_far, one_more, waiting}
-use Rattle.fast_import.proofs.Stopping.{ahead, ahead_fed, all, all_given, all_told, feeding_refused, more_open, reading_refused, step_refused, within_fed}
+use Rattle.fast_import.proofs.Running.{IsSoFar, fed_waiting, nothing_so_far, one_more}
+use Rattle.fast_import.proofs.Stopping.{ahead, ahead_fed, all, all_given, all_told, feeding_refused, more_open, reading_refused, step_refused, taken_feeding, taken_given, taken_refused, within_fed}
 use Rattle.fast_import.proofs.whole.replay_by.Goals as goal
 
 pub stream-init : goal.stream-init
@@ -58,7 +60,7 @@ stream-preserved-in-Ok g c =
     let p = c.in-Ok-Command.placed in
     let t = subst (λ (n : Next). TellsNext (Ok n) c.stream.reader c.next.new.self) c.in-Ok-Command.field-0-is c.in-Ok-Command.ensures.told in
     record {
-      so_far = one_more (base_in c.args.store.now (g.B.Base.commits c.args.base.now) (g.B.Base.refs c.args.base.now) (g.B.Base.blobs c.args.base.now)) c.args.store.now c.stream.store (g.S.Source.left c.args.input.now) (g.S.Source.left c.stream.input) c.stream.reader c.next.new.self c.stream.replay h p t.1
+      so_far = one_more (base_in c.args.store.now (g.B.Base.commits c.args.base.now) (g.B.Base.refs c.args.base.now) (g.B.Base.blobs c.args.base.now)) c.args.store.now c.stream.store (g.S.Source.left c.args.input.now) (g.S.Source.left c.stream.input) c.stream.reader c.next.new.self c.stream.replay h p t.0 t.1 c.in-Ok-Command.ensures.came
           (subst (λ (n : Next). Follows (Ok n) c.stream.reader c.next.new.self) c.in-Ok-Command.field-0-is c.in-Ok-Command.ensures.follows)
           c.step.new.store c.step.new.self
           (subst (λ (x : Base). IsStepped x c.stream.store c.step.new.store c.step.new.self h.state p (Ok c.in-Ok.field-0)) (base-grown c.args.store.now c.stream.store h.grown (g.B.Base.commits c.args.base.now) (g.B.Base.refs c.args.base.now) (g.B.Base.blobs c.args.base.now) c.requires.base) (c.in-Ok.ensures h.state h.stands));
@@ -92,10 +94,37 @@ stream-preserved g c =
     let t = subst (λ (n : Next). TellsNext (Ok n) c.stream.reader c.next.new.self) c.in-Ok-More.field-0-is c.in-Ok-More.ensures.told in
     let w = subst (λ (n : Next). OnMore (Ok n) (came c.stream.reader ≤ STREAM_BYTES)) c.in-Ok-More.field-0-is c.in-Ok-More.ensures.more in
     record {
-      so_far = fed_more (base_in c.args.store.now (g.B.Base.commits c.args.base.now) (g.B.Base.refs c.args.base.now) (g.B.Base.blobs c.args.base.now)) c.args.store.now c.stream.store (g.S.Source.left c.args.input.now) (g.S.Source.left c.stream.input) (g.S.Source.left c.feed_on.new.input) c.next.new.self c.feed_on.new.reader c.stream.replay _ (more_open c.stream.reader c.next.new.self t)
-          (waiting (base_in c.args.store.now (g.B.Base.commits c.args.base.now) (g.B.Base.refs c.args.base.now) (g.B.Base.blobs c.args.base.now)) c.args.store.now c.stream.store (g.S.Source.left c.args.input.now) (g.S.Source.left c.stream.input) c.stream.reader c.next.new.self c.stream.replay h t.1.ended (subst (λ (n : Next). Follows (Ok n) c.stream.reader c.next.new.self) c.in-Ok-More.field-0-is c.in-Ok-More.ensures.follows))
-          c.in-Ok-feed_on.ensures.fed;
+      so_far = fed_waiting (base_in c.args.store.now (g.B.Base.commits c.args.base.now) (g.B.Base.refs c.args.base.now) (g.B.Base.blobs c.args.base.now)) c.args.store.now c.stream.store (g.S.Source.left c.args.input.now) (g.S.Source.left c.stream.input) (g.S.Source.left c.feed_on.new.input) c.stream.reader c.next.new.self c.feed_on.new.reader c.stream.replay _ (omega (arith, c.requires.few, c.stream.auto.piece)) h t.1
+          (subst (λ (n : Next). OnMore (Ok n) (IsNear c.stream.reader)) c.in-Ok-More.field-0-is c.in-Ok-More.ensures.near)
+          (subst (λ (n : Next). Follows (Ok n) c.stream.reader c.next.new.self) c.in-Ok-More.field-0-is c.in-Ok-More.ensures.follows)
+          (more_open c.stream.reader c.next.new.self t) c.in-Ok-feed_on.ensures.fed;
       told = (λ x. c.stream.invariant.told.0 (c.in-Ok-feed_on.ensures.told.0 x), λ x. c.in-Ok-feed_on.ensures.told.1 (c.stream.invariant.told.1 x));
       later = omega (arith, c.stream.invariant.later, c.in-Ok-feed_on.ensures.cause.later);
       within = within_fed (g.S.Source.left c.stream.input) (g.S.Source.left c.feed_on.new.input) c.next.new.self c.feed_on.new.reader _ (omega (arith, w, c.in-Ok-More.ensures.came)) c.in-Ok-feed_on.ensures.fed (omega (arith, c.requires.few, c.stream.auto.piece));
     }
+
+-- ---- how much was given
+
+pub returns-in-Err-clause-taken : goal.returns-in-Err-clause-taken
+returns-in-Err-clause-taken g c =
+    let h = c.stream.invariant.so_far in
+    taken_refused (base_in c.args.store.now (g.B.Base.commits c.args.base.now) (g.B.Base.refs c.args.base.now) (g.B.Base.blobs c.args.base.now)) c.args.store.now c.stream.store (g.S.Source.left c.args.input.now) (g.S.Source.left c.stream.input) c.stream.reader c.stream.replay h (Stream c.in-Err.fault)
+
+pub returns-in-Ok-Ended-clause-taken : goal.returns-in-Ok-Ended-clause-taken
+returns-in-Ok-Ended-clause-taken g c =
+    let h = c.stream.invariant.so_far in
+    let t = subst (λ (n : Next). TellsNext (Ok n) c.stream.reader c.next.new.self) c.in-Ok-Ended.field-0-is c.in-Ok-Ended.ensures.told in
+    taken_given (base_in c.args.store.now (g.B.Base.commits c.args.base.now) (g.B.Base.refs c.args.base.now) (g.B.Base.blobs c.args.base.now)) c.args.store.now c.stream.store (g.S.Source.left c.args.input.now) (g.S.Source.left c.stream.input) c.stream.reader c.stream.replay h c.next.new.self t.0 c.in-Ok-Ended.ensures.came c.finish.result
+
+pub returns-in-Err-step-clause-taken : goal.returns-in-Err-step-clause-taken
+returns-in-Err-step-clause-taken g c =
+    let h = c.stream.invariant.so_far in
+    taken_refused (base_in c.args.store.now (g.B.Base.commits c.args.base.now) (g.B.Base.refs c.args.base.now) (g.B.Base.blobs c.args.base.now)) c.args.store.now c.stream.store (g.S.Source.left c.args.input.now) (g.S.Source.left c.stream.input) c.stream.reader c.stream.replay h (Stream c.in-Err-step.fault)
+
+pub returns-in-Err-feed_on-clause-taken : goal.returns-in-Err-feed_on-clause-taken
+returns-in-Err-feed_on-clause-taken g c =
+    let h = c.stream.invariant.so_far in
+    let t = subst (λ (n : Next). TellsNext (Ok n) c.stream.reader c.next.new.self) c.in-Ok-More.field-0-is c.in-Ok-More.ensures.told in
+    taken_feeding (base_in c.args.store.now (g.B.Base.commits c.args.base.now) (g.B.Base.refs c.args.base.now) (g.B.Base.blobs c.args.base.now)) c.args.store.now c.stream.store (g.S.Source.left c.args.input.now) (g.S.Source.left c.stream.input) c.stream.reader c.stream.replay h (subst (λ (n : Next). OnMore (Ok n) (IsNear c.stream.reader)) c.in-Ok-More.field-0-is c.in-Ok-More.ensures.near)
+    (sym t.1.ended ∙ more_open c.stream.reader c.next.new.self t) (g.S.Source.left c.feed_on.new.input)
+    (c.in-Err-feed_on.ensures.given.0, c.in-Err-feed_on.ensures.given.1, omega (arith, c.in-Err-feed_on.ensures.given.2, c.requires.few, c.stream.auto.piece)) c.in-Err-feed_on.error

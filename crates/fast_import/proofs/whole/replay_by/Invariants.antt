@@ -1,7 +1,7 @@
 use Rattle.std.proofs.Common.{◌+◌, ◌≤◌, ◌↔◌}
 use Rattle.git_objects.specs.declared.limits.TheConstants.{STREAM_BYTES}
 use Rattle.fast_import.specs.Bases.{base_in}
-use Rattle.fast_import.specs.Readers.{came}
+use Rattle.stream_reader.specs.Readers.{came}
 use Rattle.fast_import.proofs.Running.{IsSoFar}
 use Rattle.fast_import.proofs.Stopping.{ahead}
 use Rattle.fast_import.proofs.whole.replay_by.Given as goal

@@ -2,7 +2,7 @@ use Rattle.std.proofs.Common.{◌∙◌, ap, sym, subst}
 use Rattle.git_objects.specs.Paths.{Path}
 use Rattle.git_objects.specs.Trees.{TreeNode, put}
 use Rattle.object_store.specs.Unfolding.{flat}
-use Rattle.filter_unapply.specs.Laying.{laid, Blocked}
+use Rattle.filter_unapply.specs.Laying.{laid_through, Blocked}
 use Rattle.filter_unapply.specs.Laying.{below}
 use Rattle.filter_unapply.specs.Stored.{IsLeafInWay}
 use Rattle.filter_unapply.proofs.Places.{laid_put}
@@ -26,7 +26,7 @@ returns-in_err-put_at-clause-err c =
     let t = flat S c.args.base.0 in
     let n = flat S c.args.pushed.0 in
     let way = subst (IsLeafInWay t c.args.place.now) c.in_default.is c.in_ok-by.ensures.leaf in
-    told_err (laid (below c.args.place.now) t n) c.args.place.now (put t c.args.place.now (TreeNode n))
+    told_err (laid_through (below c.args.place.now) t n) c.args.place.now (put t c.args.place.now (TreeNode n))
     (laid_put c.args.place.now t n c.leaf_in_way.ensures.path (is_tree S c.get.ensures.store c.args.base.0 c.requires.base) (is_tree S c.get.ensures.store c.args.pushed.0 c.requires.pushed) way)
     c.put_at.new.store c.from_residual-in_err-put_at.result c.in_err-put_at.field-0.0 c.from_residual-in_err-put_at.ensures.1 c.in_err-put_at.ensures.err
 
@@ -36,7 +36,7 @@ returns-in_err-put_at-clause-store c =
     let t = flat S c.args.base.0 in
     let n = flat S c.args.pushed.0 in
     let way = subst (IsLeafInWay t c.args.place.now) c.in_default.is c.in_ok-by.ensures.leaf in
-    told_grown (laid (below c.args.place.now) t n) c.args.place.now (put t c.args.place.now (TreeNode n))
+    told_grown (laid_through (below c.args.place.now) t n) c.args.place.now (put t c.args.place.now (TreeNode n))
     (laid_put c.args.place.now t n c.leaf_in_way.ensures.path (is_tree S c.get.ensures.store c.args.base.0 c.requires.base) (is_tree S c.get.ensures.store c.args.pushed.0 c.requires.pushed) way)
     c.put_at.new.store S c.put_at.ensures.store
 
@@ -46,7 +46,7 @@ returns-clause-ok c =
     let t = flat S c.args.base.0 in
     let n = flat S c.args.pushed.0 in
     let way = subst (IsLeafInWay t c.args.place.now) c.in_default.is c.in_ok-by.ensures.leaf in
-    told_tree (laid (below c.args.place.now) t n) c.args.place.now (put t c.args.place.now (TreeNode n))
+    told_tree (laid_through (below c.args.place.now) t n) c.args.place.now (put t c.args.place.now (TreeNode n))
     (laid_put c.args.place.now t n c.leaf_in_way.ensures.path (is_tree S c.get.ensures.store c.args.base.0 c.requires.base) (is_tree S c.get.ensures.store c.args.pushed.0 c.requires.pushed) way)
     c.put_at.new.store c.in_ok-put_at.field-0 c.in_ok-put_at.ensures.ok
 
@@ -56,6 +56,6 @@ returns-clause-store c =
     let t = flat S c.args.base.0 in
     let n = flat S c.args.pushed.0 in
     let way = subst (IsLeafInWay t c.args.place.now) c.in_default.is c.in_ok-by.ensures.leaf in
-    told_grown (laid (below c.args.place.now) t n) c.args.place.now (put t c.args.place.now (TreeNode n))
+    told_grown (laid_through (below c.args.place.now) t n) c.args.place.now (put t c.args.place.now (TreeNode n))
     (laid_put c.args.place.now t n c.leaf_in_way.ensures.path (is_tree S c.get.ensures.store c.args.base.0 c.requires.base) (is_tree S c.get.ensures.store c.args.pushed.0 c.requires.pushed) way)
     c.put_at.new.store S c.put_at.ensures.store

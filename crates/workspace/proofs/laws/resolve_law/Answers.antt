@@ -1,4 +1,4 @@
-use Rattle.workspace.proofs.Resolved.{the_law}
+use Rattle.workspace.proofs.Cleared.{the_law}
 use Rattle.workspace.proofs.laws.resolve_law.Goals as goal
 
 pub returns : goal.returns

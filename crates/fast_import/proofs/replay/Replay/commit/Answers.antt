@@ -4,7 +4,7 @@ use Rattle.git_objects.specs.Parts.{name_bytes}
 use Rattle.fast_import.specs.Bases.{base_in}
 use Rattle.fast_import.specs.Replays.{with_merges}
 use Rattle.fast_import.specs.Replaying.{Replaying}
-use Rattle.fast_import.specs.declared.commit_ref.CommitRef.{CommitRef}
+use Rattle.stream_reader.specs.declared.commit_ref.CommitRef.{CommitRef}
 use Rattle.fast_import.proofs.Committing.{commit_begun}
 use Rattle.fast_import.proofs.replay.Replay.commit.Goals as goal
 

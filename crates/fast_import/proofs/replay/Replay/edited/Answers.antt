@@ -3,9 +3,9 @@ use Rattle.git_objects.specs.Trees.{Flat}
 use Rattle.fast_import.specs.Bases.{base_in}
 use Rattle.fast_import.specs.Replays.{edited}
 use Rattle.fast_import.specs.Standing.{IsChanged, IsRedrawn}
-use Rattle.fast_import.specs.declared.command.Change.{Change}
-use Rattle.fast_import.specs.declared.command.Change.TheVariants as changes
-use Rattle.fast_import.specs.declared.fault.StreamFault.{StreamFault}
+use Rattle.stream_reader.specs.declared.command.Change.{Change}
+use Rattle.stream_reader.specs.declared.command.Change.TheVariants as changes
+use Rattle.stream_reader.specs.declared.fault.StreamFault.{StreamFault}
 use Rattle.fast_import.proofs.Changing.{copy_is, redrawn_changed, rename_is}
 use Rattle.fast_import.proofs.replay.Replay.edited.Goals as goal
 

@@ -1,10 +1,11 @@
 use Rattle.std.proofs.Common.{◌≡◌, true, refl, sym, subst}
 use Rattle.git_objects.specs.Paths.{Bytes}
 use Rattle.fast_import.specs.Bases.{base_in}
-use Rattle.fast_import.specs.Replays.{given_bytes, is_fit}
+use Rattle.fast_import.specs.Replays.{given_bytes}
+use Rattle.stream_reader.specs.Replayable.{is_fit}
 use Rattle.fast_import.specs.Standing.{IsBrought, IsGiven}
-use Rattle.fast_import.specs.declared.command.BlobRef.{BlobRef}
-use Rattle.fast_import.specs.declared.command.BlobRef.TheVariants.{Digits, Mark}
+use Rattle.stream_reader.specs.declared.command.BlobRef.{BlobRef}
+use Rattle.stream_reader.specs.declared.command.BlobRef.TheVariants.{Digits, Mark}
 use Rattle.fast_import.proofs.Changing.{gives_given, inline_given}
 use Rattle.fast_import.proofs.replay.Replay.given.Goals as goal
 

@@ -1,8 +1,8 @@
 use Rattle.std.proofs.Common.{sym, subst}
 use Rattle.fast_import.specs.Bases.{base_in}
 use Rattle.fast_import.specs.Standing.{IsStepped}
-use Rattle.fast_import.specs.declared.command.Command.{Command}
-use Rattle.fast_import.specs.declared.command.Command.TheVariants as commands
+use Rattle.stream_reader.specs.declared.command.Command.{Command}
+use Rattle.stream_reader.specs.declared.command.Command.TheVariants as commands
 use Rattle.fast_import.proofs.Stepping.{tried_stepped}
 use Rattle.fast_import.proofs.replay.Replay.step.Goals as goal
 

@@ -5,12 +5,13 @@ use Rattle.filter_text.specs.Filters.{same_filter}
 use Rattle.filter_text.specs.Shapes.{shape}
 use Rattle.filter_text.proofs.Equals.{filter-equal}
 use Rattle.filter_routes.specs.Interned.{HasAt}
+use Rattle.filter_routes.specs.Soundness.{IsSound}
 use Rattle.std.proofs.lemmas.Option.{slice_get-get_or}
 use Rattle.filter_routes.proofs.Interning.{other-at, none-behind}
 use Rattle.filter_routes.proofs.tables.Tables.find.Goals as goal
 
-pub returns-then-same : goal.returns-then-same
-returns-then-same c =
+pub returns-then-same-clause-number : goal.returns-then-same-clause-number
+returns-then-same-clause-number c =
     let ts = c.self.inside.tables.items in
     let i = c.loop-i.i in
     let t = c.index.result.now in
@@ -33,8 +34,13 @@ loop-i-preserved c =
     (other-at c.args.self.now i t f (ap (λ xs. slice_get xs i) (sym c.self.view_is) ∙ slice_get-get_or ts i t l ∙ ap Some (sym c.index.ensures))
     (ap (λ g. same_filter (shape g) f) (sym c.filter.ensures.filter) ∙ sym c.same.ensures.test ∙ c.if-same.false))
 
-pub returns : goal.returns
-returns c =
+pub returns-clause-number : goal.returns-clause-number
+returns-clause-number c =
     let f = shape c.args.filter.now in
     let l : length c.args.self.now ≤ c.loop-i.i = omega (arith, ap length (c.as_slice-i-end.ensures.value ∙ c.self.view_is)) in
     none-behind c.args.self.now f c.loop-i.i l c.loop-i.invariant
+
+pub returns-then-same-clause-sound : goal.returns-then-same-clause-sound
+returns-then-same-clause-sound c =
+    let f = shape c.args.filter.now in
+    subst IsSound (ap shape (sym c.filter.ensures.filter) ∙ filter-equal (shape c.filter.result.now) f (sym c.same.ensures.test ∙ c.if-same.true)) c.filter.ensures.sound

@@ -3,15 +3,12 @@ use Rattle.std.specs.Bool.{if◌then◌else◌}
 use Rattle.indexmap.proofs.CallerLemmas.{insert_entry-new}
 use Rattle.git_objects.specs.Paths.{Bytes, same_bytes}
 use Rattle.git_objects.specs.declared.name.Name.{Name}
-use Rattle.git_objects.proofs.Basics.{bytes_fit}
 use Rattle.object_store.specs.Objects.{Object, find_named, is_body}
-use Rattle.object_store.specs.Puts.{of_body}
 use Rattle.object_store.specs.Places.{placed_objects, HoldsStore}
 use Rattle.object_store.specs.Sizes.{sizes}
 use Rattle.object_store.specs.Unfolding.{body_flat}
-use Rattle.object_store.specs.declared.store.Place.{Place}
+use Rattle.object_store.specs.declared.shelf.Place.{Place}
 use Rattle.object_store.proofs.Finding.{nothing-placed}
-use Rattle.object_store.proofs.Putting.{fits}
 use Rattle.object_store.proofs.Adding.{new_place, held-added, objects-added, from_ok}
 use Rattle.object_store.proofs.store.Store.add.Goals as goal
 
@@ -45,7 +42,7 @@ module _ (c : goal.Else-prove) where
   not_held = ap (λ (S : List Object). find_named S c.args.key.0) old_is ∙ c.requires.new
 
   whole : is_body old c.args.kind c.args.body.now ≡ true
-  whole = fits old c.args.kind c.args.body.now (ap (λ (S : List Object). of_body S c.args.kind c.args.body.now None) old_is ∙ c.requires.body) (bytes_fit _ c.type_inv.body)
+  whole = ap (λ (S : List Object). is_body S c.args.kind c.args.body.now) old_is ∙ c.requires.body
 
   abbrev place : Place
   place = new_place c.args.kind c.args.key arena c.args.body.now c.args.stats places

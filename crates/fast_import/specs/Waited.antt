@@ -1,0 +1,54 @@
+-- How far a stream is read before it is known what becomes of it.
+use Rattle.std.specs.Prelude.{◌+◌, ◌≤◌, ℕ, zero, suc, true, length, OnOk, IfSome, Option, Some, None, Result, Ok, Err}
+use Rattle.std.specs.Io.KnownBytes.{Consumes}
+use Rattle.git_objects.specs.Paths.{Bytes}
+use Rattle.stream_lex.specs.Cutting.{place}
+use Rattle.stream_lex.specs.Lines.{Input}
+use Rattle.stream_lex.specs.declared.stop.Stop.TheVariants as stops
+use Rattle.stream_reader.specs.Commands.{Told, read_command}
+use Rattle.stream_reader.specs.Reading.{Read}
+use Rattle.stream_reader.specs.Verdicts.{from_start, size, start}
+use Rattle.stream_reader.specs.Waited.{awaited, fault_place}
+use Rattle.stream_reader.specs.declared.command.Placed.{Placed}
+use Rattle.stream_reader.specs.declared.fault.StreamFault.{StreamFault}
+use Rattle.stream_reader.specs.declared.progress.Progress.{Progress}
+use Rattle.fast_import.specs.Replays.{Base, Replay, nothing_yet, step}
+
+-- what one command makes of a replay
+abbrev pub Step : Type 0
+Step = Replay → Placed → Result Replay StreamFault
+
+-- behind a command, or where it is refused
+abbrev pub waited_on : (Replay → Progress → Input → ℕ) → Progress → Input → Result Replay StreamFault → ℕ
+waited_on next p i (Ok r) = next r p i
+waited_on next p i (Err f) = awaited p.phase i
+
+abbrev pub waited_behind : (Replay → Progress → Input → ℕ) → Step → Replay → Option Placed → Progress → Input → ℕ
+waited_behind next one r (Some c) p i = waited_on next p i (one r c)
+waited_behind next one r None p i = i.at
+
+abbrev pub waited_told : (Replay → Progress → Input → ℕ) → Step → Replay → Read Told → ℕ
+waited_told next one r (Ok x) = waited_behind next one r x.0.command x.0.progress x.1
+waited_told next one r (Err (stops.Fault f)) = fault_place f
+waited_told next one r (Err (stops.More w)) = place w
+
+-- of at most n commands
+abbrev pub waited_within : ℕ → Step → Replay → Progress → Input → ℕ
+waited_within zero one r p i = i.at
+waited_within (suc n) one r p i = waited_told (waited_within n one) one r (read_command p true i)
+
+-- of what is left
+unfoldable pub waited_from : Step → Replay → Progress → Input → ℕ
+waited_from one r p i = waited_within (size p i + 1) one r p i
+
+-- The place up to which a stream has to be read: of a fault of reading, its place; of a command that is refused, the place of
+-- the next line behind it that is no comment, or the input's length where there is none; else the place behind the line
+-- `done`, or the input's length where there is no such line.
+abbrev pub waited : Base → Bytes → ℕ
+waited base all = waited_from (step base) nothing_yet start (from_start all)
+
+-- A source that tells has given at most 2^25 bytes behind that place, and no fewer than up to it where the stream was
+-- replayed.
+abbrev pub IsTaken : {A E : Type 0} → Base → Option Bytes → Option Bytes → Result A E → Type 0
+IsTaken base before after result =
+    IfSome before (λ all. (given : Bytes) × Consumes before after given × (length given ≤ waited base all + 33554432) × OnOk result (waited base all ≤ length given))

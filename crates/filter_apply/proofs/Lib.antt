@@ -1,0 +1,11 @@
+pub mod Places
+pub mod Members
+pub mod Overs
+pub mod Cones
+pub mod Handing
+pub mod Deciding
+pub mod Placements
+pub mod Restricting
+pub mod Routing
+pub mod Truths
+pub mod Shows

@@ -1,0 +1,1 @@
+use Rattle.filter_apply.proofs.showing.made.Goals as goal

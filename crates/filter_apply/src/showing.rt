@@ -1,0 +1,83 @@
+// What a table shows of a tree.
+ghost use Rattle.std.specs.Prelude.{◌≡◌, true, IfOk, IfErr, IfSome, Ok};
+ghost use Rattle.git_objects.specs.declared.kind.Kind.TheVariants.{Tree};
+ghost use Rattle.object_store.specs.Growth.{IsGrownBy};
+ghost use Rattle.object_store.specs.Objects.{has};
+ghost use Rattle.object_store.specs.Unfolding.{flat, StandsFor};
+ghost use Rattle.filter_text.specs.Shapes.{shape};
+ghost use Rattle.filter_routes.specs.Lenses.{seen_through};
+ghost use Rattle.filter_routes.specs.Origins.{lens_of};
+ghost use Rattle.filter_cache.specs.Memos.{found};
+ghost use Rattle.filter_apply.specs.Faults.{IsApplyFault};
+ghost use Rattle.filter_apply.specs.Hands.{IsShownObject};
+ghost use Rattle.filter_apply.specs.Truth.{IsPaid, IsTrueFor, KeepsOthers};
+
+use crate::ApplyError;
+use crate::routes::shown_between;
+use filter_cache::Memo;
+use filter_routes::Table;
+use git_objects::{Name, Steps};
+use object_store::Store;
+use path_trees::taken_in;
+use std::alloc::Global;
+use std::sync::ledger::Ledger;
+
+// What the table shows of a tree, made from the tree.
+fn made<L: Ledger>(
+    alloc: Global,
+    store: &mut Store,
+    table: &Table,
+    root: Name,
+    steps: &mut Steps<L>,
+) -> Result<Name, ApplyError>
+    requires root { has Tree store.old root.0 ≡ true }
+    ensures ok { IfOk result (λ n. StandsFor store.new n.0
+        (seen_through (lens_of (shape table.now.filter)) (flat store.old root.0))) }
+    ensures err { IfErr result (IsApplyFault (IsShownObject (shape table.now.filter) (flat store.old root.0)) store.new) }
+    ensures store { IsGrownBy (IsShownObject (shape table.now.filter) (flat store.old root.0)) store.old store.new }
+    ensures few { IsPaid (shape table.now.filter) steps.old steps.new }
+{
+    // The store is looked at so that the proof has what each store keeps.
+    let _ = store.get(&root);
+    let count = table.entries().len();
+    if count > 0 {
+        if let Some(name) = shown_between(alloc, store, table, 0, count, root, steps)? {
+            return Ok(name);
+        }
+    }
+    Ok(taken_in(store, &[])?)
+}
+
+/// The tree that the table shows of the tree `root`. The memo is asked before anything is read, and then has the pair.
+/// A table's number `id` is its own among all tables that the memo is used with. A step is one body of a directory that
+/// is looked up on the way to what an entry shows or leaves out; what edits and joins read is not counted.
+pub fn shown<L: Ledger>(
+    alloc: Global,
+    store: &mut Store,
+    table: &Table,
+    id: usize,
+    root: Name,
+    memo: &mut Memo,
+    steps: &mut Steps<L>,
+) -> Result<Name, ApplyError>
+    requires root { has Tree store.old root.0 ≡ true }
+    requires memo { IsTrueFor store.old table.now id memo.old }
+    ensures ok { IfOk result (λ n. StandsFor store.new n.0
+        (seen_through (lens_of (shape table.now.filter)) (flat store.old root.0))) }
+    ensures err { IfErr result (IsApplyFault (IsShownObject (shape table.now.filter) (flat store.old root.0)) store.new) }
+    ensures store { IsGrownBy (IsShownObject (shape table.now.filter) (flat store.old root.0)) store.old store.new }
+    ensures true_now { IsTrueFor store.new table.now id memo.new }
+    ensures others { KeepsOthers id memo.old memo.new }
+    ensures kept_hit { IfSome (found (id, root.0) memo.old.entries)
+        (λ n. (result ≡ Ok (record { 0 = n })) × (steps.new ≡ steps.old)) }
+    ensures few { IsPaid (shape table.now.filter) steps.old steps.new }
+{
+    // The store is looked at so that the proof has what each store keeps.
+    let _ = store.get(&root);
+    if let Some(name) = memo.get(id, &root) {
+        return Ok(name);
+    }
+    let name = made(alloc, store, table, root, steps)?;
+    memo.put(id, root, name);
+    Ok(name)
+}

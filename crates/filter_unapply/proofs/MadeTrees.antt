@@ -1,0 +1,98 @@
+-- Trees that calls make, as objects of a hand.
+use Rattle.std.proofs.Common.{◌≡◌, zero, suc, arith, true, false, cond, List, [], ◌∷◌, ◌++◌, Option, Some, None, Contains, Result, Ok, Err, refl, sym, ap, subst, ◌∙◌}
+use Rattle.std.specs.Prelude.{IfErr}
+use Rattle.std.specs.Result.{IsErrAnd}
+use Rattle.git_objects.specs.Paths.{Bytes, Path}
+use Rattle.git_objects.specs.Trees.{Leaf, Flat, IsTree, at, under}
+use Rattle.git_objects.specs.Names.{name, body}
+use Rattle.git_objects.specs.declared.kind.Kind.TheVariants.{Tree}
+use Rattle.git_objects.specs.declared.name.Name.{Name}
+use Rattle.object_store.specs.Objects.{Object, IsStore, find_named}
+use Rattle.object_store.specs.Puts.{Collides, collision, same_object}
+use Rattle.object_store.specs.Growth.{IsGrownBy, IsClash}
+use Rattle.object_store.proofs.Growth.{clash_as, grown_as}
+use Rattle.path_trees.specs.Made.{AreMade, IsGrown, IsOnWay, IsCollision, IsTreeFault}
+use Rattle.path_trees.specs.declared.found.TreeFault.{TreeFault}
+use Rattle.path_trees.specs.declared.found.TreeFault.TheVariants.{Collision as TreeCollision, OutOfMemory as TreeOutOfMemory}
+use Rattle.filter_unapply.specs.Hands.{IsMadeOf, IsFaultOf}
+use Rattle.filter_unapply.specs.Stored.{fault_of}
+use Rattle.filter_unapply.specs.declared.fault.LayFault.{LayFault}
+use Rattle.filter_unapply.specs.declared.fault.LayFault.TheVariants.{NotHeld, Blocked, Collision, OutOfMemory}
+
+-- ---- trees of some bodies
+
+all_made : (made : Bytes → Type 0) (os : List Object) (o : Object) → AreMade made os → Contains os o → (o.kind ≡ Tree) × made o.body
+all_made made [] o h m = absurd (omega (arith, m.1))
+all_made made (x ∷ os) o h (zero, l, e) = subst (λ (y : Object). (y.kind ≡ Tree) × made y.body) e (h.0, h.1)
+all_made made (x ∷ os) o h (suc i, l, e) = all_made made os o h.2 (i, omega (arith, l), e)
+
+-- a collision is told by the object's own name
+collides_at : (b n : Bytes) (o : Option Object) → collision Tree b o ≡ Some (Collides n) → name Tree b ≡ n
+collides_at b n None e = cc
+collides_at b n (Some x) e =
+    elim (same_object Tree b x) as (λ t. cond t None (Some (Collides (name Tree b))) ≡ Some (Collides n) → name Tree b ≡ n) [ true ↦ λ g. cc | false ↦ λ g. cc ] e
+
+clash_name : (R : List Object) (n b : Bytes) → collision Tree b (find_named R (name Tree b)) ≡ Some (Collides n) → collision Tree b (find_named R n) ≡ Some (Collides n)
+clash_name R n b e = subst (λ (m : Bytes). collision Tree b (find_named R m) ≡ Some (Collides n)) (collides_at b n (find_named R (name Tree b)) e) e
+
+module _ (made : Bytes → Type 0) (more : Object → Type 0) (f : (o : Object) → o.kind ≡ Tree → made o.body → more o) where
+  pub grown-by : (S T : List Object) → IsGrown made S T → IsGrownBy more S T
+  grown-by S T g = record {
+    store = g.store;
+    newer = g.newer;
+    above = g.above;
+    all = λ o m. let h = all_made made g.newer o g.trees m in f o h.0 h.1;
+  }
+
+  pub grown-trees : (S T : List Object) → IsStore T → (newer : List Object) → newer ++ S ≡ T → AreMade made newer → IsGrownBy more S T
+  grown-trees S T s newer e g = record { store = s; newer = newer; above = e; all = λ o m. let h = all_made made newer o g m in f o h.0 h.1 }
+
+  pub clash-by : (S : List Object) (n : Bytes) → IsCollision made S n → IsClash more S n
+  clash-by S n h = record {
+    object = record { kind = Tree; body = h.body };
+    is_made = f (record { kind = Tree; body = h.body }) refl h.is_made;
+    held = clash_name S n h.body h.held;
+  }
+
+  pub fault-by : (S : List Object) (e : TreeFault) → IsTreeFault made S e → IsFaultOf more S (fault_of e)
+  fault-by S (TreeCollision n) h = clash-by S n.0 h
+  fault-by S TreeOutOfMemory h = tt
+
+  pub err-by : {A : Type 0} (S : List Object) (r : Result A LayFault) (e : TreeFault) → IsErrAnd r (λ x. x ≡ fault_of e) → IsTreeFault made S e → IfErr r (IsFaultOf more S)
+  err-by S (Ok n) e f h = tt
+  err-by S (Err x) e f h = subst (IsFaultOf more S) (sym f) (fault-by S e h)
+
+-- ---- a wider hand
+
+module _ (made more : Object → Type 0) (f : (o : Object) → made o → more o) where
+  pub fault-as : (S : List Object) (e : LayFault) → IsFaultOf made S e → IsFaultOf more S e
+  fault-as S (NotHeld q) h = h
+  fault-as S (Blocked p q) h = h
+  fault-as S (Collision n) h = clash_as made more S n.0 f h
+  fault-as S OutOfMemory h = h
+
+  pub err-as : {A : Type 0} (S : List Object) (r : Result A LayFault) → IfErr r (IsFaultOf made S) → IfErr r (IsFaultOf more S)
+  err-as S (Ok n) h = tt
+  err-as S (Err e) h = fault-as S e h
+
+pub known-as : (known more : Path → Leaf → Type 0) → ((p : Path) (x : Leaf) → known p x → more p x) → (o : Object) → IsMadeOf known o → IsMadeOf more o
+known-as known more f o h = record { tree = h.tree; above = h.above; is_tree = h.is_tree; all_known = λ p x e. f p x (h.all_known p x e); is_object = h.is_object }
+
+-- ---- directories on the way to a path
+
+module _ (known : Path → Leaf → Type 0) (t : Flat) (g : IsTree t) (h : (p : Path) (x : Leaf) → at t p ≡ Some x → known p x) where
+  pub directory-made : (above : Path) (o : Object) → o.kind ≡ Tree → body (under t above) ≡ o.body → IsMadeOf known o
+  directory-made above o k e = record { tree = t; above = above; is_tree = g; all_known = h; is_object = λ i. record { kind = k i; body = sym e i } }
+
+  pub way-made : (p : Path) (o : Object) → o.kind ≡ Tree → IsOnWay t p o.body → IsMadeOf known o
+  way-made p o k w = directory-made w.above o k w.body
+
+-- ---- a fault that is handed on
+
+pub err-again : {A : Type 0} (made more : Object → Type 0) → ((o : Object) → made o → more o) → (S : List Object) (r : Result A LayFault) (e : LayFault) → IsErrAnd r (λ x. x ≡ e) → IsFaultOf made S e → IfErr r (IsFaultOf more S)
+err-again made more f S (Ok n) e g h = tt
+err-again made more f S (Err x) e g h = fault-as made more f S x (subst (IsFaultOf made S) (sym g) h)
+
+-- a tree is known by its leaves, whatever store it is read from
+pub same-known : (t u : Flat) → t ≡ u → (o : Object) → IsMadeOf (λ p x. at t p ≡ Some x) o → IsMadeOf (λ p x. at u p ≡ Some x) o
+same-known t u e = known-as (λ p x. at t p ≡ Some x) (λ p x. at u p ≡ Some x) (λ p x i. ap (λ (v : Flat). at v p) (sym e) ∙ i)

@@ -1,0 +1,59 @@
+use Rattle.std.proofs.Common.{◌⊎◌, subst}
+use Rattle.object_store.specs.Unfolding.{flat}
+use Rattle.path_trees.specs.Clashes.{IsShared}
+use Rattle.path_trees.specs.Joins.{IsJoinFault}
+use Rattle.filter_unapply.specs.Hands.{IsIn, IsMadeOf}
+use Rattle.filter_unapply.proofs.MadeTrees.{clash-by, grown-by}
+use Rattle.filter_unapply.proofs.PartLists.{none-clash, pair-leaves, shared-made}
+use Rattle.filter_unapply.proofs.Told.{is_tree}
+use Rattle.filter_unapply.proofs.parts.pair.Goals as goal
+
+pub returns-in-Ok-clause-ok : goal.returns-in-Ok-clause-ok
+returns-in-Ok-clause-ok c =
+    let S = c.args.store.now in
+    let a = flat S c.args.a.0 in
+    let b = flat S c.args.b.0 in
+    let h = is_tree S c.get.ensures.store c.args.a.0 c.requires.first in
+    let g = is_tree S c.get.ensures.store c.args.b.0 c.requires.second in
+    let none = none-clash c.in_ok-first_clash.field-0 a b c.in_ok-first_clash.ensures c.if-is_some.ensures in
+    pair-leaves a b h g none c.join_disjoint.new.store c.in-Ok.name.0 c.in-Ok.ensures.ok.1
+
+pub returns-in-Ok-clause-store : goal.returns-in-Ok-clause-store
+returns-in-Ok-clause-store c =
+    let S = c.args.store.now in
+    let a = flat S c.args.a.0 in
+    let b = flat S c.args.b.0 in
+    let h = is_tree S c.get.ensures.store c.args.a.0 c.requires.first in
+    let g = is_tree S c.get.ensures.store c.args.b.0 c.requires.second in
+    let none = none-clash c.in_ok-first_clash.field-0 a b c.in_ok-first_clash.ensures c.if-is_some.ensures in
+    grown-by (IsShared a b) (IsMadeOf (λ p x. IsIn a p x ⊎ IsIn b p x)) (shared-made a b h g none) S c.join_disjoint.new.store c.join_disjoint.ensures.store
+
+pub returns-in-Err-Collision-clause-err : goal.returns-in-Err-Collision-clause-err
+returns-in-Err-Collision-clause-err c =
+    let S = c.args.store.now in
+    let a = flat S c.args.a.0 in
+    let b = flat S c.args.b.0 in
+    let h = is_tree S c.get.ensures.store c.args.a.0 c.requires.first in
+    let g = is_tree S c.get.ensures.store c.args.b.0 c.requires.second in
+    let none = none-clash c.in_ok-first_clash.field-0 a b c.in_ok-first_clash.ensures c.if-is_some.ensures in
+    clash-by (IsShared a b) (IsMadeOf (λ p x. IsIn a p x ⊎ IsIn b p x)) (shared-made a b h g none) c.join_disjoint.new.store c.in-Err-Collision.name.0 (subst (IsJoinFault a b S c.join_disjoint.new.store) c.in-Err-Collision.field-0-is c.in-Err-Collision.ensures.err).1
+
+pub returns-in-Err-Collision-clause-store : goal.returns-in-Err-Collision-clause-store
+returns-in-Err-Collision-clause-store c =
+    let S = c.args.store.now in
+    let a = flat S c.args.a.0 in
+    let b = flat S c.args.b.0 in
+    let h = is_tree S c.get.ensures.store c.args.a.0 c.requires.first in
+    let g = is_tree S c.get.ensures.store c.args.b.0 c.requires.second in
+    let none = none-clash c.in_ok-first_clash.field-0 a b c.in_ok-first_clash.ensures c.if-is_some.ensures in
+    grown-by (IsShared a b) (IsMadeOf (λ p x. IsIn a p x ⊎ IsIn b p x)) (shared-made a b h g none) S c.join_disjoint.new.store c.join_disjoint.ensures.store
+
+pub returns-clause-store : goal.returns-clause-store
+returns-clause-store c =
+    let S = c.args.store.now in
+    let a = flat S c.args.a.0 in
+    let b = flat S c.args.b.0 in
+    let h = is_tree S c.get.ensures.store c.args.a.0 c.requires.first in
+    let g = is_tree S c.get.ensures.store c.args.b.0 c.requires.second in
+    let none = none-clash c.in_ok-first_clash.field-0 a b c.in_ok-first_clash.ensures c.if-is_some.ensures in
+    grown-by (IsShared a b) (IsMadeOf (λ p x. IsIn a p x ⊎ IsIn b p x)) (shared-made a b h g none) S c.join_disjoint.new.store c.join_disjoint.ensures.store

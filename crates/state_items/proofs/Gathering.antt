@@ -1,0 +1,1 @@
+-- What is gathered of items.

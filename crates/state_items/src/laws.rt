@@ -1,0 +1,36 @@
+// Laws of the definitions.
+ghost use Rattle.state_items.specs.Appending.{AppendLaw};
+ghost use Rattle.state_items.specs.Hands.{HandLaw};
+ghost use Rattle.state_items.specs.Imported.{ChangeLaw, ImportedLaw};
+ghost use Rattle.state_items.specs.KeptLaws.{KeptLaw, Projecting};
+ghost use Rattle.state_items.specs.ReadHeld.{ReadLaw};
+
+/// An addition that passes no limit is read back behind the items, and no items are Kept.
+pub fn append_law()
+    ensures { AppendLaw }
+{}
+
+/// Blobs and commits that are brought are in the new state, each once, and all else stays.
+pub fn imported_law()
+    ensures { ImportedLaw }
+{}
+
+/// A change that brings whole commits, within the limits of objects, may be added.
+pub fn change_law()
+    ensures { ChangeLaw }
+{}
+
+/// Kept items stay Kept behind each addition.
+pub fn kept_law()
+    ensures { (project : Projecting) → KeptLaw project }
+{}
+
+/// Whatever whole commits of known blobs bring is in hand.
+pub fn hand_law()
+    ensures { HandLaw }
+{}
+
+/// What items hold is sound, and of items that are bytes the objects are a store.
+pub fn read_law()
+    ensures { ReadLaw }
+{}

@@ -1,0 +1,16 @@
+pub mod Words
+pub mod Reading
+pub mod Names
+pub mod Blocks
+pub mod PathWords
+pub mod Changes
+pub mod Heads
+pub mod Commands
+pub mod Verdicts
+pub mod Views
+pub mod Readers
+pub mod Replayable
+pub mod Waited
+pub mod Spelling
+pub mod Laws
+pub mod Rows

@@ -1,0 +1,84 @@
+// Trees of leaves that a line names.
+ghost use Rattle.std.specs.Prelude.{◌≡◌};
+ghost use Rattle.object_store.specs.Objects.{has};
+
+use case_lines::{Fault, Texts, Word, path_of};
+use git_objects::{Kind, Mode, Name};
+use object_store::Store;
+use path_names::Path;
+use path_trees::{Found, put_at};
+use std::alloc::Global;
+
+/// Whether an object of that kind has the name.
+pub fn is_held(store: &Store, kind: Kind, name: &Name) -> bool
+    ensures { result ≡ has kind store.now name.now.0 }
+{
+    match store.get(name) {
+        None => false,
+        Some(object) => object.kind == kind,
+    }
+}
+
+fn put(store: &mut Store, kind: Kind, body: &[u8]) -> Result<Name, Fault> {
+    store.put_slice(kind, body).ok().ok_or(Fault::BadLine)
+}
+
+fn mode_of(word: &Word) -> Result<Mode, Fault> {
+    match word.text() {
+        "file" => Ok(Mode::File),
+        "exec" => Ok(Mode::Exec),
+        "link" => Ok(Mode::Link),
+        _ => Err(Fault::BadLine),
+    }
+}
+
+// Puts a leaf with the blob of that name into a tree.
+fn with_leaf(
+    alloc: Global,
+    store: &mut Store,
+    root: Name,
+    path: &Path,
+    found: Found,
+) -> Result<Name, Fault> {
+    if !is_held(store, Kind::Tree, &root) || !is_held(store, Kind::Blob, &found.name) {
+        return Err(Fault::BadLine);
+    }
+    if found.mode.is_dir() {
+        return Err(Fault::BadLine);
+    }
+    let put = put_at(alloc, store, root, path, found);
+    put.ok().ok_or(Fault::BadLine)
+}
+
+// Puts the leaf of three words, mode, path and text, into a tree.
+fn grown(
+    alloc: Global,
+    texts: &Texts,
+    store: &mut Store,
+    root: Name,
+    words: &[Word],
+) -> Result<Name, Fault> {
+    let [mode, path, text] = words else {
+        return Err(Fault::BadLine);
+    };
+    let found = Found {
+        mode: mode_of(mode)?,
+        name: put(store, Kind::Blob, &texts.word(text)?)?,
+    };
+    let path = path_of(alloc, texts, path)?;
+    with_leaf(alloc, store, root, &path, found)
+}
+
+/// The tree of leaves of three words each: mode, path and text.
+pub fn tree(
+    alloc: Global,
+    texts: &Texts,
+    store: &mut Store,
+    words: &[Word],
+) -> Result<Name, Fault> {
+    let mut root = put(store, Kind::Tree, b"")?;
+    for leaf in words.chunks(3) {
+        root = grown(alloc, texts, store, root, leaf)?;
+    }
+    Ok(root)
+}
