@@ -79,8 +79,7 @@ stack-start g w p l e = (l, named-itself g w p l, e, (λ i d b. absurd (omega (a
 
 pub stack-below : (g h : Ground) (w : IsGround g) (n : Bytes) (p q : ℕ) (ps : List ℕ) → h.graph ≡ g.graph → IsBelow h p q → IsStack g n h.map (p ∷ ps) → IsStack g n h.map (q ∷ p ∷ ps)
 stack-below g h w n p q ps e b s =
-    let l : q < length g.graph = let x = b.before in let y = s.0 in omega (arith, x, y) in
-    (
+    let l : q < length g.graph = let x = b.before in let y = s.0 in omega (arith, x, y) in (
       l,
       reached-named g w n p q s.0 (subst (λ (rows : List Row). Reaches rows p q) e b.reached) s.1,
       ap (λ (rows : List Row). kept_at (name_at rows q) h.map) (sym e) ∙ b.lacked,

@@ -45,7 +45,10 @@ impl Asked {
         ensures map { ground.new.map ≡ ground.old.map }
     {
         if file_place(alloc, filter)?.is_some() {
-            return Ok(Asked { table: None, last: None });
+            return Ok(Asked {
+                table: None,
+                last: None,
+            });
         }
         let number = resolve(alloc, &ground.store, filter, root, &mut ground.tables)?;
         Ok(Asked {

@@ -34,8 +34,10 @@ fn settle<L: Ledger>(
 ) -> Result<(), AllocError>
     requires place { place < length ground.old.graph }
     requires lacked { kept_at (name_at ground.old.graph place) ground.old.map ≡ None }
-    ensures ok { OnOk result (ground.new ≡ record ground.old { map
-        = ground.old.map ++ (name_at ground.old.graph place, option_map shown_value shown) ∷ [] }) }
+    ensures ok { OnOk result (ground.new ≡ record ground.old {
+      map
+          = ground.old.map ++ (name_at ground.old.graph place, option_map shown_value shown) ∷ [];
+    }) }
     ensures step { OnOk result (steps.new ≡ steps.old + 1) }
     ensures err { OnErr result ((ground.new ≡ ground.old) × (steps.new ≡ steps.old)) }
 {
