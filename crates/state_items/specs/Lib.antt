@@ -7,6 +7,7 @@ pub mod Imported
 pub mod KeptLaws
 pub mod Stops
 pub mod Arrivals
+pub mod HeldObjects
 pub mod KeptMaps
 pub mod Steps
 pub mod Readings
