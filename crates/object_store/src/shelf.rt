@@ -1,5 +1,5 @@
 // Bodies in one arena, with their places: what a store reads when it looks up or judges an object.
-ghost use Rattle.std.specs.Prelude.{◌≡◌, ◌⊎◌, ◌+◌, ◌≤◌, ◌∷◌, [], length, IfOk, IfErr, IfSome, MatchResult, OnOk, OnErr, None};
+ghost use Rattle.std.specs.Prelude.{◌≡◌, ◌+◌, ◌≤◌, length, IfOk, IfSome, MatchResult, None};
 ghost use Rattle.std.specs.Prelude.{true, is_some};
 ghost use Rattle.std.specs.Option.{option_map};
 ghost use Rattle.std.specs.Result.{result_err};
@@ -10,8 +10,8 @@ ghost use Rattle.git_objects.specs.CommitBodies.{commit_from};
 ghost use Rattle.git_objects.specs.Views.{entry_value};
 ghost use Rattle.git_objects.specs.declared.kind.Kind.TheVariants.{Blob};
 ghost use Rattle.object_store.specs.Objects.{body_of, find_named, has, has_child, missing_entry, missing_of_commit};
-ghost use Rattle.object_store.specs.Objects.{missing_parent, IsStore};
-ghost use Rattle.object_store.specs.Puts.{if_missing, of_body, of_commit, of_tree, refusal, same_object, with_object};
+ghost use Rattle.object_store.specs.Objects.{IsStore};
+ghost use Rattle.object_store.specs.Puts.{if_missing, of_body, of_commit, of_tree, refusal, same_object};
 ghost use Rattle.object_store.specs.Errors.{object_value, refusal_told, error_of};
 ghost use Rattle.object_store.specs.Places.{is_full_tree, placed};
 ghost use Rattle.object_store.specs.Sizes.{leaf_sizes, sizes, stats_of};

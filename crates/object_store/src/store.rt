@@ -1,21 +1,14 @@
 // A store of objects.
-ghost use Rattle.std.specs.Prelude.{◌≡◌, ◌⊎◌, ◌+◌, ◌≤◌, ◌∷◌, [], length, IfOk, IfErr, IfSome, OnOk, OnErr, None};
-ghost use Rattle.std.specs.Prelude.{true, is_some};
+ghost use Rattle.std.specs.Prelude.{◌≡◌, ◌⊎◌, ◌∷◌, [], length, IfOk, IfErr, OnOk, OnErr, None};
+ghost use Rattle.std.specs.Prelude.{true};
 ghost use Rattle.std.specs.Option.{option_map};
-ghost use Rattle.std.specs.Result.{result_err};
 ghost use Rattle.git_objects.specs.Names.{name};
-ghost use Rattle.git_objects.specs.Parts.{name_bytes};
-ghost use Rattle.git_objects.specs.Bodies.{tree_entries};
-ghost use Rattle.git_objects.specs.CommitBodies.{commit_from};
-ghost use Rattle.git_objects.specs.Views.{entry_value};
-ghost use Rattle.git_objects.specs.declared.kind.Kind.TheVariants.{Blob};
 ghost use Rattle.object_store.specs.Objects.{find_named, is_body};
-ghost use Rattle.object_store.specs.Objects.{missing_parent, IsStore};
-ghost use Rattle.object_store.specs.Puts.{if_missing, of_body, of_commit, of_tree, refusal, same_object, with_object};
-ghost use Rattle.object_store.specs.Errors.{object_value, refusal_told, error_of};
-ghost use Rattle.object_store.specs.Places.{is_full_tree, placed};
-ghost use Rattle.object_store.specs.Sizes.{leaf_sizes, sizes, stats_of};
-ghost use Rattle.object_store.specs.Unfolding.{below, body_flat, entry_flat, flat, joined};
+ghost use Rattle.object_store.specs.Objects.{IsStore};
+ghost use Rattle.object_store.specs.Puts.{refusal, with_object};
+ghost use Rattle.object_store.specs.Errors.{object_value, refusal_told};
+ghost use Rattle.object_store.specs.Sizes.{sizes, stats_of};
+ghost use Rattle.object_store.specs.Unfolding.{below, body_flat};
 
 use crate::shelf::{Judged, Place, Shelf};
 use git_objects::{Kind, Name};

@@ -1,8 +1,8 @@
 -- The commits and the blobs of a store, by their names.
-use Rattle.std.proofs.Common.{◌≡◌, ◌+◌, ℕ, suc, Bool, true, false, cond, ◌&&◌, ◌||◌, List, [], ◌∷◌, ◌++◌, length, map, filter, position, Option, Some, None, refl, sym, ap, subst, ◌∙◌, arith, length-append, true≢false, not, one-add}
+use Rattle.std.proofs.Common.{◌≡◌, ◌+◌, ◌<◌, ℕ, suc, Bool, true, false, cond, ◌&&◌, ◌||◌, List, [], ◌∷◌, ◌++◌, length, map, filter, position, Option, Some, None, All, refl, sym, ap, subst, ◌∙◌, arith, length-append, true≢false, not, one-add}
 use Rattle.std.specs.Prelude.{nat_lt}
 use Rattle.std.specs.List.{list_all, list_any, position_or_len}
-use Rattle.std.specs.Option.{is_some}
+use Rattle.std.specs.Option.{is_some, unwrap_or}
 use Rattle.std.proofs.lemmas.Bool.{false_from_ne_true}
 use Rattle.std.proofs.lemmas.Bool.Decides.{nat_tests}
 use Rattle.std.proofs.lemmas.List.{map-append}
@@ -23,8 +23,11 @@ use Rattle.object_store.specs.Objects.{Object, same_kind, has, has_name, is_body
 use Rattle.object_store.specs.Fits.{is_commit}
 use Rattle.object_store.proofs.Held.{has_name-from}
 use Rattle.object_store.proofs.StoredCommits.{commit-held}
-use Rattle.commit_graph.specs.Graphs.{Row, place_of}
-use Rattle.state_items.specs.Arrivals.{AreHeld, blobs_of, commit_row, rows_of, with_blob_name, with_commit, with_row, HasParents}
+use Rattle.commit_graph.specs.Graphs.{Row, IsGraph, place_of}
+use Rattle.commit_graph.proofs.Places.{graph-nil, graph-push}
+use borrow.Author.Tests.{ltb-true}
+use Rattle.std.proofs.lemmas.List.Elements.{All-nil, All-cons}
+use Rattle.state_items.specs.Arrivals.{AreHeld, blobs_of, commit_row, place_in, rows_of, with_blob_name, with_commit, with_row, HasParents}
 use Rattle.state_items.proofs.Naming.{any-map, or-back, or-false}
 
 -- ---- places
@@ -151,3 +154,32 @@ blob-more keys after key k b e n new h =
     ∙ map-append name_bytes keys (key ∷ [])
     ∙ ap (λ (m : Bytes). map name_bytes keys ++ m ∷ []) (n ∙ ap (λ (j : Kind). name j b) e)
     ∙ ap (λ (j : Kind). with_blob_name (map name_bytes keys) j b) (sym e)
+
+-- ---- a graph
+
+place-below : (n : Bytes) (rows : List Row) → is_some (place_of n rows) ≡ true → place_in rows n < length rows
+place-below n rows h = by (nat_lt (position_or_len (λ (r : Row). same_bytes r.name n) rows) (length rows)) refl h
+  where
+    by : (b : Bool) → nat_lt (position_or_len (λ (r : Row). same_bytes r.name n) rows) (length rows) ≡ b
+        → is_some (cond b (Some (position_or_len (λ (r : Row). same_bytes r.name n) rows)) None) ≡ true
+        → unwrap_or (cond b (Some (position_or_len (λ (r : Row). same_bytes r.name n) rows)) None) 0 < length rows
+    by true e g = ltb-true _ _ e
+    by false e g = absurd (true≢false (sym g))
+
+places-below : (S : List Object) → IsStore S → (ps : List Bytes) → Each (λ p. has CommitKind S p ≡ true) ps → All (λ p. p < length (rows_of S)) (map (place_in (rows_of S)) ps)
+places-below S s [] h = All-nil (λ p. p < length (rows_of S))
+places-below S s (p ∷ ps) h = All-cons (λ p. p < length (rows_of S)) (place_in (rows_of S) p) (map (place_in (rows_of S)) ps) (place-below p (rows_of S) (place-there p S s ∙ h.0)) (places-below S s ps h.1)
+
+graph-step : (S : List Object) (k : Kind) (b : Bytes) → IsStore S → is_body S k b ≡ true → has_name S (name k b) ≡ false → IsGraph (rows_of S) → IsGraph (with_row (rows_of S) k b)
+graph-step S Blob b s w f g = g
+graph-step S Tree b s w f g = g
+graph-step S CommitKind b s w f g =
+    let c = commit-held S b w in
+    subst (λ (o : Option Commit). IsGraph (with_commit (rows_of S) (name CommitKind b) o)) (sym c.read)
+    (graph-push (rows_of S) (commit_row (rows_of S) (name CommitKind b) c.commit) g (place-fresh (name CommitKind b) S s f) (places-below S s c.commit.parents c.parents))
+
+-- the commits of a store are a graph
+pub rows-graph : (S : List Object) → IsStore S → IsGraph (rows_of S)
+unfolding rows_of
+rows-graph [] s = graph-nil
+rows-graph (o ∷ S) s = graph-step S o.kind o.body s.2 s.0 s.1 (rows-graph S s.2)

@@ -12,6 +12,7 @@ pub mod Canonical
 pub mod Examples
 pub mod Stops
 pub mod Arrivals
+pub mod HeldObjects
 pub mod KeptMaps
 pub mod Steps
 pub mod Readings

@@ -1,8 +1,8 @@
 // The objects of an item.
-ghost use Rattle.std.specs.Prelude.{◌≡◌, ◌<◌, ◌≤◌, ◌+◌, ◌^◌, ◌&&◌, ◌⊎◌, ◌++◌, ◌∷◌, [], ℕ, List, None, Some, Ok, Err, true};
+ghost use Rattle.std.specs.Prelude.{◌≡◌, ◌<◌, ◌≤◌, ◌+◌, ◌^◌, ◌&&◌, ◌++◌, ◌∷◌, [], ℕ, List, None, Some, Ok, Err, true};
 ghost use Rattle.std.specs.Prelude.{false, length, take, drop, map, nat_le, IfErr, IfOk, OnOk, MatchResult, All};
 ghost use Rattle.std.specs.List.{list_all};
-ghost use Rattle.std.specs.Option.{is_some, option_map_or};
+ghost use Rattle.std.specs.Option.{is_some};
 ghost use Rattle.git_objects.specs.declared.limits.TheConstants.{COMMITS, MESSAGE_BYTES, OBJECTS, TREE_DEPTH};
 ghost use Rattle.git_objects.specs.declared.limits.TheConstants.{TREE_FILES, TREE_PATH_BYTES};
 ghost use Rattle.git_objects.specs.Names.{name};
@@ -13,7 +13,8 @@ ghost use Rattle.object_store.specs.Fits.{body_fits, tree_fits};
 ghost use Rattle.object_store.specs.Objects.{Object, has, has_name, IsStore};
 ghost use Rattle.object_store.specs.Puts.{refusal};
 ghost use Rattle.object_store.specs.Unfolding.{flat};
-ghost use Rattle.state_items.specs.Arrivals.{AreHeld, AreNamed, HasArrived, HasParents, more_commits, place_in, with_blob_name};
+ghost use Rattle.state_items.specs.HeldObjects.{HoldsObjects};
+ghost use Rattle.state_items.specs.Arrivals.{AreNamed, HasArrived, HasParents, more_commits, place_in, with_blob_name};
 ghost use Rattle.state_items.specs.Arrivals.{with_row};
 ghost use Rattle.state_items.specs.Items.{kind_field, kind_of, object_field, objects_field, take_object};
 ghost use Rattle.state_items.specs.Steps.{body_field, put_fault};
@@ -221,7 +222,7 @@ fn has_room(objects: usize, commits: u32) -> bool
 
 impl Objects {
     pub(crate) fn new(alloc: Global) -> Objects
-        ensures held { AreHeld result.incoming.objects result.names.keys result.graph result.blobs.keys }
+        ensures held { HoldsObjects result }
         ensures objects { result.incoming ≡ record { objects = []; piece = []; is_open = true } }
     {
         Objects {
@@ -267,13 +268,12 @@ impl Objects {
     // Takes in one object more, whose body stands in the item.
     fn take(&mut self, alloc: Global, part: Part) -> Result<(), ItemFault>
         requires within { part.at + part.len ≤ length self.old.incoming.piece }
-        requires held { AreHeld self.old.incoming.objects self.old.names.keys self.old.graph self.old.blobs.keys }
+        requires held { HoldsObjects self.old }
         ensures object { let S = self.old.incoming.objects in
             let b = take part.len (drop part.at self.old.incoming.piece) in MatchResult result
             (λ _. take_object S part.kind b part.at (refusal S part.kind b) ≡ Ok self.new.incoming.objects)
             (λ stop. IsStop stop (take_object S part.kind b part.at (refusal S part.kind b))) }
-        ensures held { OnOk result (AreHeld self.new.incoming.objects self.new.names.keys self.new.graph
-            self.new.blobs.keys) }
+        ensures held { OnOk result (HoldsObjects self.new) }
         ensures piece { self.new.incoming.piece ≡ self.old.incoming.piece }
         ensures commits { OnOk result ((n : List ℕ) → has Kind.Commit self.old.incoming.objects n ≡ true →
             has Kind.Commit self.new.incoming.objects n ≡ true) }
@@ -291,14 +291,13 @@ impl Objects {
     // Reads the object that begins at a place of the item, and says where it ends.
     fn read_one(&mut self, alloc: Global, at: usize) -> Result<usize, ItemFault>
         requires within { at ≤ length self.old.incoming.piece }
-        requires held { AreHeld self.old.incoming.objects self.old.names.keys self.old.graph self.old.blobs.keys }
+        requires held { HoldsObjects self.old }
         ensures object { MatchResult result
             (λ end. object_field self.old.incoming.objects (spot_at at self.old.incoming.piece)
             ≡ Ok (self.new.incoming.objects, spot_at end self.old.incoming.piece))
             (λ stop. IsStop stop (object_field self.old.incoming.objects (spot_at at self.old.incoming.piece))) }
         ensures within { IfOk result (λ end. end ≤ length self.old.incoming.piece) }
-        ensures held { OnOk result (AreHeld self.new.incoming.objects self.new.names.keys self.new.graph
-            self.new.blobs.keys) }
+        ensures held { OnOk result (HoldsObjects self.new) }
         ensures piece { self.new.incoming.piece ≡ self.old.incoming.piece }
         ensures commits { OnOk result ((n : List ℕ) → has Kind.Commit self.old.incoming.objects n ≡ true →
             has Kind.Commit self.new.incoming.objects n ≡ true) }
@@ -311,15 +310,14 @@ impl Objects {
     /// Reads the objects of an item from a place on, so many as it says, and says where they end. Each is named once.
     pub(crate) fn read(&mut self, alloc: Global, at: usize, count: u32) -> Result<usize, ItemFault>
         requires within { at ≤ length self.old.incoming.piece }
-        requires held { AreHeld self.old.incoming.objects self.old.names.keys self.old.graph self.old.blobs.keys }
+        requires held { HoldsObjects self.old }
         ensures objects { MatchResult result
             (λ end. objects_field count self.old.incoming.objects (spot_at at self.old.incoming.piece)
             ≡ Ok (self.new.incoming.objects, spot_at end self.old.incoming.piece))
             (λ stop. IsStop stop (objects_field count self.old.incoming.objects
             (spot_at at self.old.incoming.piece))) }
         ensures within { IfOk result (λ end. end ≤ length self.old.incoming.piece) }
-        ensures held { OnOk result (AreHeld self.new.incoming.objects self.new.names.keys self.new.graph
-            self.new.blobs.keys) }
+        ensures held { OnOk result (HoldsObjects self.new) }
         ensures piece { self.new.incoming.piece ≡ self.old.incoming.piece }
         ensures commits { OnOk result ((n : List ℕ) → has Kind.Commit self.old.incoming.objects n ≡ true →
             has Kind.Commit self.new.incoming.objects n ≡ true) }

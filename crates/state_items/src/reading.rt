@@ -5,7 +5,7 @@ ghost use Rattle.std.specs.Borrow.{sem};
 ghost use Rattle.git_objects.specs.Parts.{name_bytes};
 ghost use Rattle.ref_store.specs.Refs.{AreDistinct};
 ghost use Rattle.commit_map.specs.Rules.{rule_number};
-ghost use Rattle.state_items.specs.Arrivals.{AreHeld};
+ghost use Rattle.state_items.specs.HeldObjects.{HoldsObjects};
 ghost use Rattle.state_items.specs.Changes.{with_refs};
 ghost use Rattle.state_items.specs.Fields.{number, start};
 ghost use Rattle.state_items.specs.Items.{Held, item_kind, item_kind_field, nothing, read_item};
@@ -171,8 +171,7 @@ fn read_change(
     at: usize,
 ) -> Result<(), ItemFault>
     requires within { at ≤ length objects.old.incoming.piece }
-    requires held { AreHeld objects.old.incoming.objects objects.old.names.keys objects.old.graph
-        objects.old.blobs.keys }
+    requires held { HoldsObjects objects.old }
     requires heads { are_heads objects.old.incoming.objects (with_refs [] refs.old) ≡ true }
     requires distinct { AreDistinct refs.old }
     ensures change { MatchResult result
@@ -180,8 +179,7 @@ fn read_change(
         (spot_at at objects.old.incoming.piece) ≡ Ok (objects.new.incoming.objects, with_refs [] refs.new))
         (λ stop. IsStop stop (objects_step objects.old.incoming.objects (with_refs [] refs.old)
         (spot_at at objects.old.incoming.piece))) }
-    ensures held { OnOk result (AreHeld objects.new.incoming.objects objects.new.names.keys objects.new.graph
-        objects.new.blobs.keys) }
+    ensures held { OnOk result (HoldsObjects objects.new) }
     ensures heads { OnOk result (are_heads objects.new.incoming.objects (with_refs [] refs.new) ≡ true) }
     ensures distinct { OnOk result (AreDistinct refs.new) }
 {
@@ -249,8 +247,7 @@ fn read_part(
     rule: &mut Rule,
 ) -> Result<(), ItemFault>
     requires within { at ≤ length objects.old.incoming.piece }
-    requires held { AreHeld objects.old.incoming.objects objects.old.names.keys objects.old.graph
-        objects.old.blobs.keys }
+    requires held { HoldsObjects objects.old }
     requires heads { are_heads objects.old.incoming.objects (with_refs [] refs.old) ≡ true }
     requires distinct { AreDistinct refs.old }
     ensures part { let p = parts_of objects.old.incoming.objects refs.old kept.old (rule_number rule.old) in
@@ -258,8 +255,7 @@ fn read_part(
         (λ _. part_step p (kind_value kind) (spot_at at objects.old.incoming.piece)
         ≡ Ok (parts_of objects.new.incoming.objects refs.new kept.new (rule_number rule.new)))
         (λ stop. IsStop stop (part_step p (kind_value kind) (spot_at at objects.old.incoming.piece))) }
-    ensures held { OnOk result (AreHeld objects.new.incoming.objects objects.new.names.keys objects.new.graph
-        objects.new.blobs.keys) }
+    ensures held { OnOk result (HoldsObjects objects.new) }
     ensures heads { OnOk result (are_heads objects.new.incoming.objects (with_refs [] refs.new) ≡ true) }
     ensures distinct { OnOk result (AreDistinct refs.new) }
 {
@@ -283,8 +279,7 @@ fn read_parts(
     kept: &mut KeptMaps,
     rule: &mut Rule,
 ) -> Result<(), ItemFault>
-    requires held { AreHeld objects.old.incoming.objects objects.old.names.keys objects.old.graph
-        objects.old.blobs.keys }
+    requires held { HoldsObjects objects.old }
     requires heads { are_heads objects.old.incoming.objects (with_refs [] refs.old) ≡ true }
     requires distinct { AreDistinct refs.old }
     ensures parts { let p = parts_of objects.old.incoming.objects refs.old kept.old (rule_number rule.old) in
@@ -292,8 +287,7 @@ fn read_parts(
         (λ _. item_step p objects.old.incoming.piece
         ≡ Ok (parts_of objects.new.incoming.objects refs.new kept.new (rule_number rule.new)))
         (λ stop. IsStop stop (item_step p objects.old.incoming.piece)) }
-    ensures held { OnOk result (AreHeld objects.new.incoming.objects objects.new.names.keys objects.new.graph
-        objects.new.blobs.keys) }
+    ensures held { OnOk result (HoldsObjects objects.new) }
     ensures heads { OnOk result (are_heads objects.new.incoming.objects (with_refs [] refs.new) ≡ true) }
     ensures distinct { OnOk result (AreDistinct refs.new) }
 {
