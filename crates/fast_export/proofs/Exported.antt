@@ -1,5 +1,5 @@
 -- The whole text of a history.
-use Rattle.std.proofs.Common.{◌≡◌, ℕ, zero, suc, ◌+◌, ◌-◌, ◌<◌, Bool, true, false, List, [], ◌∷◌, ◌++◌, length, map, take, Option, Some, None, Result, Ok, Err, refl, sym, ap, subst, ◌∙◌, append_assoc, append-nil, arith}
+use Rattle.std.proofs.Common.{◌≡◌, ℕ, suc, ◌-◌, ◌<◌, true, false, List, [], ◌∷◌, ◌++◌, length, map, take, Option, Result, Ok, Err, refl, sym, ap, subst, ◌∙◌, append_assoc, append-nil, arith}
 use Rattle.std.specs.Prelude.{codes, IsErrAnd, OnOk, OnErr, ◌==◌}
 use Rattle.std.specs.List.{list_all, cons_option}
 use Rattle.std.specs.Option.{option_map}
@@ -16,8 +16,8 @@ use Rattle.object_store.specs.Objects.{Object, IsStore, has}
 use Rattle.object_store.specs.StoredSnapshots.{snapshot_of}
 use Rattle.object_store.proofs.StoredCommits.{stored-commit}
 use Rattle.fast_export.specs.ExportTexts.{commits_text, export_text, line, mark_line, marks_behind, no_marks}
-use Rattle.fast_export.specs.Histories.{IsHistoryIn, snapshots_at}
-use Rattle.fast_export.specs.Sending.{IsPut, IsSent, IsFront, unit_of}
+use Rattle.fast_export.specs.Histories.{snapshots_at}
+use Rattle.fast_export.specs.Sending.{IsPut, unit_of}
 use Rattle.fast_export.specs.declared.error.ExportError.{ExportError}
 
 -- ---- texts

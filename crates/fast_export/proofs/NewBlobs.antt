@@ -1,5 +1,5 @@
 -- The new blobs of a tree, leaf by leaf.
-use Rattle.std.proofs.Common.{◌≡◌, ℕ, suc, ◌+◌, Bool, true, false, cond, not, ◌||◌, List, [], ◌∷◌, ◌++◌, length, map, Option, Some, None, refl, sym, ap, ◌∙◌, subst, append_assoc, append-nil, length-append, add_assoc, true≢false, arith}
+use Rattle.std.proofs.Common.{◌≡◌, ℕ, suc, ◌+◌, Bool, true, false, ◌||◌, List, [], ◌∷◌, ◌++◌, length, map, Some, refl, sym, ap, ◌∙◌, subst, append_assoc, append-nil, length-append, true≢false, arith}
 use Rattle.std.specs.Prelude.{if◌then◌else◌, filter_map, flat_map}
 use Rattle.std.specs.List.{enumerate_from, cons_option}
 use Rattle.std.specs.Option.{is_some}
@@ -11,7 +11,7 @@ use Rattle.std.proofs.lemmas.List.Folds.{list_any-append}
 use Rattle.std.proofs.lemmas.Grind.{flat_map-append}
 use Rattle.git_objects.specs.Lists.{Each}
 use Rattle.git_objects.specs.Paths.{Bytes, Path, same_bytes}
-use Rattle.git_objects.specs.Trees.{Leaf, FileLeaf, ExecLeaf, LinkLeaf, ModuleLeaf, Flat}
+use Rattle.git_objects.specs.Trees.{Leaf, Flat}
 use Rattle.git_objects.specs.Entries.{is_dir}
 use Rattle.git_objects.specs.declared.kind.Kind.TheVariants.{Blob}
 use Rattle.git_objects.specs.declared.mode.Mode.{Mode}

@@ -7,8 +7,7 @@ use Rattle.std.specs.Fmt.{decimal}
 use Rattle.std.specs.Cmp.{first_so, second_so}
 use Rattle.git_objects.specs.Paths.{Bytes, same_bytes}
 use Rattle.git_objects.specs.declared.quantity.Quantity.{Quantity}
-use Rattle.git_objects.specs.Trees.{IsTree, Flat}
-use Rattle.git_objects.specs.Idents.{is_ident}
+use Rattle.git_objects.specs.Trees.{Flat}
 use Rattle.git_objects.specs.Lists.{Each}
 use Rattle.git_objects.proofs.Basics.{same_bytes-self}
 use Rattle.git_objects.proofs.IdentSpelling.{not-false}

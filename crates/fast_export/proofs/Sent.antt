@@ -1,16 +1,16 @@
 -- Texts that are put one behind the other.
-use Rattle.std.proofs.Common.{◌≡◌, ℕ, ◌+◌, ◌≤◌, List, [], ◌∷◌, ◌++◌, length, take, min, Option, Result, Ok, Err, refl, sym, ap, subst, ◌∙◌, append_assoc, append-nil, arith}
-use Rattle.std.specs.Prelude.{IsErrAnd, IsErrOf, OnErr, OnOk}
+use Rattle.std.proofs.Common.{◌≡◌, ℕ, ◌+◌, [], ◌++◌, length, take, min, Option, Result, Ok, Err, refl, sym, ap, subst, ◌∙◌, append_assoc, append-nil, arith}
+use Rattle.std.specs.Prelude.{IsErrAnd, OnOk}
 use Rattle.std.specs.Io.KnownBytes.{Appends}
 use Rattle.std.proofs.KnownBytes.{Appends-nil, Appends-trans}
-use Rattle.std.proofs.Math.Seq.{take-append-add, take-length}
-use Rattle.std.proofs.lemmas.List.{take-append-le, length-take, take-take}
+use Rattle.std.proofs.Math.Seq.{take-append-add}
+use Rattle.std.proofs.lemmas.List.{take-append-le}
 use Rattle.std.proofs.lemmas.Grind.{common_steps}
 use Rattle.git_objects.specs.Paths.{Bytes}
 use Rattle.proj_io.specs.Counts.{Counts}
 use Rattle.fast_export.specs.Sending.{IsSent, IsFront, IsPut}
 use Rattle.fast_export.specs.declared.error.ExportError.{ExportError}
-use Rattle.fast_export.specs.declared.error.ExportError.TheVariants.{Fault, OutOfMemory}
+use Rattle.fast_export.specs.declared.error.ExportError.TheVariants.{OutOfMemory}
 
 pub whenever : {A E : Type 0} (r : Result A E) (P : Type 0) → P → OnOk r P
 whenever (Ok x) P h = h

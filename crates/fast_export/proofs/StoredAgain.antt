@@ -1,20 +1,19 @@
 -- Commits of a store are a history.
-use Rattle.std.proofs.Common.{◌≡◌, Bool, true, List, [], ◌∷◌, map, Option, Some, refl, sym, ap, subst, ◌∙◌}
+use Rattle.std.proofs.Common.{◌≡◌, true, List, [], ◌∷◌, map, Option, refl, sym, ap, subst, ◌∙◌}
 use Rattle.std.specs.List.{list_all, cons_option}
 use Rattle.std.specs.Option.{option_map, option_map_or}
 use Rattle.std.specs.Cmp.{first_so, second_so}
 use Rattle.git_objects.specs.Paths.{Bytes}
 use Rattle.git_objects.specs.Commits.{Commit}
-use Rattle.git_objects.specs.Snapshots.{Snapshot, snapshot_name}
+use Rattle.git_objects.specs.Snapshots.{snapshot_name}
 use Rattle.git_objects.specs.declared.kind.Kind.TheVariants.{Commit as CommitKind}
 use Rattle.object_store.specs.Objects.{Object, IsStore, has}
 use Rattle.object_store.specs.StoredSnapshots.{snapshot_of}
-use Rattle.object_store.specs.Unfolding.{flat}
 use Rattle.object_store.proofs.Parts.{find-has}
 use Rattle.object_store.proofs.StoredCommits.{stored-commit}
 use Rattle.object_store.proofs.Unfolding.{unfolding_law}
 use Rattle.fast_export.specs.ExportTexts.{is_among}
-use Rattle.fast_export.specs.Histories.{IsHistoryIn, IsHistoryOf, StoredHistoryLaw, are_ordered, snapshots_at}
+use Rattle.fast_export.specs.Histories.{StoredHistoryLaw, are_ordered, snapshots_at}
 use Rattle.fast_export.specs.Laws.{IsHistory}
 use Rattle.fast_export.proofs.StoredHistories.{IsStoredCommit, told_commit}
 

@@ -1,11 +1,11 @@
 -- Commits of a store under their names.
-use Rattle.std.proofs.Common.{◌≡◌, ℕ, ◌+◌, Bool, true, false, List, [], ◌∷◌, ◌++◌, length, map, Option, Some, None, refl, sym, ap, subst, ◌∙◌, ◌-◌, append_assoc, append-nil, length-append, arith}
+use Rattle.std.proofs.Common.{◌≡◌, ℕ, ◌+◌, true, List, [], ◌∷◌, ◌++◌, length, Option, Some, refl, sym, ap, subst, ◌∙◌, ◌-◌, append_assoc, append-nil, length-append, arith}
 use Rattle.std.specs.Option.{option_map}
 use Rattle.std.specs.List.{cons_option}
 use Rattle.std.proofs.lemmas.List.{map-append}
 use Rattle.std.proofs.lemmas.List.Elements.{filter_map-append}
 use Rattle.git_objects.specs.Paths.{Bytes}
-use Rattle.git_objects.specs.Commits.{Commit, commit_body, commit_name}
+use Rattle.git_objects.specs.Commits.{Commit, commit_name}
 use Rattle.git_objects.specs.CommitBodies.{commit_from, IsCommitBody}
 use Rattle.git_objects.specs.Names.{name}
 use Rattle.git_objects.specs.Snapshots.{Snapshot, snapshot_name}
@@ -15,7 +15,6 @@ use Rattle.git_objects.proofs.CommitReading.{commit_law}
 use Rattle.object_store.specs.Objects.{Object, IsStore, body_of, find_named, has}
 use Rattle.object_store.specs.StoredSnapshots.{commit_named, snapshot_of}
 use Rattle.object_store.proofs.Held.{body_named}
-use Rattle.object_store.proofs.Parts.{find-has}
 use Rattle.object_store.proofs.StoredCommits.{commit-told, stored-commit}
 use Rattle.object_store.proofs.Unfolding.{unfolding_law}
 use Rattle.object_store.specs.Unfolding.{flat}

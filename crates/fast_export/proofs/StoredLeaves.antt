@@ -1,18 +1,15 @@
 -- The leaves of a stored tree: the store has each blob, under its name.
-use Rattle.std.proofs.Common.{◌≡◌, Bool, true, false, cond, ◌||◌, List, [], ◌∷◌, ◌++◌, map, Option, Some, None, refl, sym, ap, subst, ◌∙◌, true≢false}
+use Rattle.std.proofs.Common.{◌≡◌, true, false, cond, ◌||◌, List, [], ◌∷◌, ◌++◌, refl, sym, ap, ◌∙◌, true≢false}
 use Rattle.std.specs.Cmp.{first_so}
-use Rattle.std.specs.Option.{unwrap_or}
 use Rattle.git_objects.specs.Lists.{Each}
-use Rattle.git_objects.specs.Paths.{Bytes, Path}
+use Rattle.git_objects.specs.Paths.{Bytes}
 use Rattle.git_objects.specs.Trees.{Leaf, FileLeaf, ExecLeaf, LinkLeaf, ModuleLeaf, Flat, rests}
 use Rattle.git_objects.specs.Names.{name, leaf_mode, leaf_name}
-use Rattle.git_objects.specs.Bodies.{tree_entries}
-use Rattle.git_objects.specs.Entries.{is_dir}
 use Rattle.git_objects.specs.declared.entry.Entry.{Entry}
 use Rattle.git_objects.specs.declared.kind.Kind.TheVariants.{Blob, Tree}
 use Rattle.git_objects.specs.declared.mode.Mode.{Mode}
 use Rattle.git_objects.specs.declared.mode.Mode.TheVariants.{File, Exec, Link, Module, Dir}
-use Rattle.object_store.specs.Objects.{Object, IsStore, body_of, has, has_child, is_named, is_body, HasChildren}
+use Rattle.object_store.specs.Objects.{Object, IsStore, body_of, has, has_child, is_named, HasChildren}
 use Rattle.object_store.specs.Unfolding.{flat, below, joined, node_of}
 use Rattle.object_store.proofs.Held.{body_named}
 use Rattle.object_store.proofs.Children.{older-has, object-children, listed}

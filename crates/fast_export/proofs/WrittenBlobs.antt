@@ -1,12 +1,10 @@
 -- How far the blobs of a tree are written.
-use Rattle.std.proofs.Common.{◌≡◌, ℕ, true, false, List, [], ◌∷◌, ◌++◌, Bool, Option, Some, None, Result, Ok, Err, flat_map, length, refl, sym, ap, subst, ◌∙◌, append_assoc, append-nil, ◌<◌, arith}
-use Rattle.std.specs.Option.{option_map, is_some}
-use Rattle.git_objects.specs.Lists.{Each}
+use Rattle.std.proofs.Common.{◌≡◌, ℕ, true, false, List, [], ◌∷◌, ◌++◌, Bool, Option, Some, None, Ok, Err, flat_map, refl, sym, ap, subst, ◌∙◌, append_assoc, append-nil}
+use Rattle.std.specs.Option.{option_map}
 use Rattle.git_objects.specs.Paths.{Bytes, Path}
 use Rattle.git_objects.specs.Trees.{Leaf, Flat}
 use Rattle.git_objects.specs.Names.{leaf_mode, leaf_name}
 use Rattle.git_objects.specs.declared.kind.Kind.TheVariants.{Blob, Tree}
-use Rattle.git_objects.specs.declared.name.Name.{Name}
 use Rattle.object_store.specs.Objects.{Object, IsStore, body_of, has, has_child}
 use Rattle.object_store.specs.Unfolding.{flat}
 use Rattle.path_trees.specs.Walked.{Walked, IsStep, leaf_of}

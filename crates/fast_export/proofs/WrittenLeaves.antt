@@ -1,11 +1,11 @@
 -- How far the lines of a tree's leaves are written.
-use Rattle.std.proofs.Common.{◌≡◌, ℕ, true, false, List, [], ◌∷◌, ◌++◌, Option, Some, None, Result, Ok, Err, flat_map, map, refl, sym, ap, ◌∙◌, append-nil}
+use Rattle.std.proofs.Common.{◌≡◌, ℕ, true, false, List, [], ◌∷◌, ◌++◌, Option, Some, None, Result, Ok, Err, flat_map, refl, sym, ap, ◌∙◌, append-nil}
 use Rattle.std.specs.Prelude.{unwrap_or}
 use Rattle.std.specs.Map.{lookup}
 use Rattle.std.specs.Option.{option_map}
 use Rattle.std.proofs.lemmas.Grind.{flat_map-append}
 use Rattle.git_objects.specs.Paths.{Bytes, Path}
-use Rattle.git_objects.specs.Trees.{Leaf, FileLeaf, ExecLeaf, LinkLeaf, ModuleLeaf, Flat}
+use Rattle.git_objects.specs.Trees.{Leaf, Flat}
 use Rattle.git_objects.specs.Entries.{is_dir}
 use Rattle.git_objects.specs.declared.kind.Kind.TheVariants.{Blob, Tree}
 use Rattle.git_objects.specs.declared.mode.Mode.{Mode}
@@ -16,8 +16,8 @@ use Rattle.object_store.specs.Unfolding.{flat}
 use Rattle.path_trees.specs.Walked.{Walked, leaf_of}
 use Rattle.path_trees.specs.declared.found.Leaf.{Leaf as FoundLeaf}
 use Rattle.std.proofs.Common.{true≢false}
-use Rattle.fast_export.specs.ExportTexts.{leaf_line, mark_of}
-use Rattle.fast_export.specs.Given.{Given, AreHeldBlobs, blob_mark, data_ref, is_named, marks_in, modify_line}
+use Rattle.fast_export.specs.ExportTexts.{leaf_line}
+use Rattle.fast_export.specs.Given.{Given, AreHeldBlobs, data_ref, is_named, marks_in, modify_line}
 use Rattle.fast_export.specs.Sending.{IsPut}
 use Rattle.fast_export.specs.declared.error.ExportError.{ExportError}
 use Rattle.fast_export.specs.declared.error.ExportError.TheVariants.{OutOfMemory}

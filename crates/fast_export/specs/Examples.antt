@@ -1,12 +1,12 @@
 -- Worked examples of the text.
-use Rattle.std.specs.Prelude.{◌≡◌, ◌++◌, [], ◌∷◌, List, replicate, codes, refl}
+use Rattle.std.specs.Prelude.{◌≡◌, [], ◌∷◌, replicate, codes, refl}
 use Rattle.std.specs.Fmt.{digits}
 use Rattle.hex.specs.Hex.{encode_with}
 use Rattle.git_objects.specs.Paths.{Bytes}
 use Rattle.git_objects.specs.Trees.{FileLeaf, ExecLeaf, LinkLeaf, ModuleLeaf}
-use Rattle.git_objects.specs.Snapshots.{Snapshot, snapshot_name}
+use Rattle.git_objects.specs.Snapshots.{Snapshot}
 use Rattle.path_names.specs.Quoting.{quote, quoted_byte}
-use Rattle.fast_export.specs.ExportTexts.{Marks, commit_text, export_text, new_blobs, no_marks, marks_after}
+use Rattle.fast_export.specs.ExportTexts.{commit_text, export_text, new_blobs, no_marks}
 
 abbrev main : Bytes
 main = codes "refs/heads/main"

@@ -1,8 +1,8 @@
 -- The marks that the code has given, by the names of blobs and commits.
-use Rattle.std.specs.Prelude.{◌≡◌, ℕ, ◌+◌, Bool, true, false, if◌then◌else◌, ◌==◌, decimal, List, [], ◌∷◌, ◌++◌, length, map, flat_map, codes}
+use Rattle.std.specs.Prelude.{◌≡◌, ℕ, ◌+◌, Bool, true, false, if◌then◌else◌, ◌==◌, decimal, List, [], ◌∷◌, ◌++◌, length, map, codes}
 use Rattle.git_objects.specs.Lists.{Each}
 use Rattle.git_objects.specs.Paths.{Bytes, Path, is_nil, same_bytes, text}
-use Rattle.git_objects.specs.Trees.{Leaf, Flat}
+use Rattle.git_objects.specs.Trees.{Flat}
 use Rattle.git_objects.specs.Names.{mode_text}
 use Rattle.git_objects.specs.Commits.{Commit, hex}
 use Rattle.git_objects.specs.declared.kind.Kind.TheVariants.{Blob}
@@ -13,7 +13,7 @@ use Rattle.object_store.specs.Objects.{Object, body_of, has}
 use Rattle.path_names.specs.Quoting.{quote}
 use Rattle.path_trees.specs.Walked.{leaf_of}
 use Rattle.path_trees.specs.declared.found.Leaf.{Leaf as FoundLeaf}
-use Rattle.fast_export.specs.ExportTexts.{Marks, line, mark_line, mark_of, new_blobs, parent_lines}
+use Rattle.fast_export.specs.ExportTexts.{Marks, line, mark_line, mark_of, new_blobs}
 
 pub record Given : Type 0 where
   pub blobs : List (Name × ℕ)

@@ -1,4 +1,4 @@
-use Rattle.std.proofs.Common.{◌≡◌, ℕ, ◌∙◌, ◌++◌, [], ◌∷◌, codes, decimal, length, sym, ap, append_assoc}
+use Rattle.std.proofs.Common.{◌≡◌, ℕ, ◌∙◌, ◌++◌, [], ◌∷◌, codes, decimal, length, ap, append_assoc}
 use Rattle.git_objects.specs.Paths.{Bytes}
 use Rattle.fast_export.specs.ExportTexts.{blob_text, line, mark_line}
 use Rattle.fast_export.proofs.Sent.{put_as, put_before, put_behind, put_err, put_short, put_stop}

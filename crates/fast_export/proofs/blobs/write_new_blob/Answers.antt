@@ -1,4 +1,4 @@
-use Rattle.std.proofs.Common.{◌≡◌, ℕ, ◌∙◌, ◌++◌, [], ◌∷◌, List, Option, Some, None, flat_map, sym, ap, append-nil, true, false}
+use Rattle.std.proofs.Common.{◌≡◌, ℕ, ◌∙◌, [], ◌∷◌, List, Some, None, flat_map, sym, ap, append-nil, true, false}
 use Rattle.std.specs.Option.{is_some}
 use Rattle.git_objects.specs.Paths.{Bytes}
 use Rattle.git_objects.specs.Entries.{is_dir}
@@ -6,10 +6,10 @@ use Rattle.git_objects.specs.declared.kind.Kind.TheVariants.{Blob}
 use Rattle.git_objects.specs.declared.mode.Mode.{Mode}
 use Rattle.object_store.specs.Objects.{Object, IsStore, body_of, find_named, has_child}
 use Rattle.object_store.proofs.Parts.{find-has}
-use Rattle.fast_export.specs.ExportTexts.{Marks, blob_text, new_blobs}
+use Rattle.fast_export.specs.ExportTexts.{Marks, blob_text}
 use Rattle.fast_export.specs.Given.{is_module, marks_in, one_leaf}
-use Rattle.fast_export.proofs.NewBlobs.{blob_given, blob_held, known_blob, leaf_blob, module_blob, new_blob, with_nothing}
-use Rattle.fast_export.proofs.Sent.{put_as, put_err, put_idle, put_short, put_stop}
+use Rattle.fast_export.proofs.NewBlobs.{blob_given, known_blob, leaf_blob, new_blob, with_nothing}
+use Rattle.fast_export.proofs.Sent.{put_as, put_err, put_idle, put_short}
 use Rattle.fast_export.proofs.blobs.write_new_blob.Goals as goal
 
 -- nothing is written

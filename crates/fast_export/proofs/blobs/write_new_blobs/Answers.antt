@@ -1,5 +1,4 @@
-use Rattle.std.proofs.Common.{◌∙◌, sym, []}
-use Rattle.git_objects.specs.declared.name.Name.{Name}
+use Rattle.std.proofs.Common.{[]}
 use Rattle.fast_export.proofs.Sent.{put_err}
 use Rattle.fast_export.proofs.WrittenBlobs.{leaf_here, less_written, more_written, none_written, short_written, stepped}
 use Rattle.fast_export.proofs.blobs.write_new_blobs.Goals as goal

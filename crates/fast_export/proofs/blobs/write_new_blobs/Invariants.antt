@@ -1,7 +1,6 @@
 use Rattle.std.proofs.Common.{length}
 use Rattle.git_objects.specs.Trees.{Flat}
 use Rattle.object_store.specs.Unfolding.{flat}
-use Rattle.object_store.specs.Objects.{IsStore}
 use Rattle.fast_export.proofs.WrittenBlobs.{AreWritten}
 use Rattle.fast_export.proofs.blobs.write_new_blobs.Given as goal
 

@@ -1,4 +1,4 @@
-use Rattle.std.proofs.Common.{◌≡◌, ◌≤◌, ◌∙◌, length, sym, subst, ℕ}
+use Rattle.std.proofs.Common.{◌≤◌, subst, ℕ}
 use Rattle.fast_export.proofs.ParentLines.{parent_added, parents_added}
 use Rattle.fast_export.proofs.commits.add_parents.Goals as goal
 

@@ -1,7 +1,5 @@
-use Rattle.std.proofs.Common.{◌≡◌, ◌∙◌, ◌++◌, List, sym, ap, Some, None, true}
+use Rattle.std.proofs.Common.{◌≡◌, ◌∙◌, List, sym, ap, Some, None, true}
 use Rattle.git_objects.specs.Paths.{Bytes}
-use Rattle.git_objects.specs.Commits.{Commit}
-use Rattle.git_objects.specs.CommitBodies.{commit_from}
 use Rattle.git_objects.specs.declared.kind.Kind.TheVariants.{Commit as CommitKind, Tree}
 use Rattle.object_store.specs.Objects.{Object, IsStore, find_named, has}
 use Rattle.object_store.specs.Unfolding.{flat}
@@ -9,7 +7,7 @@ use Rattle.object_store.proofs.Parts.{find-has}
 use Rattle.object_store.proofs.StoredCommits.{commit-read}
 use Rattle.fast_export.specs.Given.{marks_in, with_blobs}
 use Rattle.fast_export.proofs.Sent.{put_as, put_err, put_short, put_stop, put_then, whenever}
-use Rattle.fast_export.proofs.StoredHistories.{IsStoredCommit, commit_begun, commit_put, marks_put, told_commit}
+use Rattle.fast_export.proofs.StoredHistories.{commit_begun, commit_put, marks_put, told_commit}
 use Rattle.fast_export.proofs.WrittenBlobs.{blobs_text}
 use Rattle.fast_export.proofs.commits.write_commit.Goals as goal
 

@@ -1,11 +1,11 @@
-use Rattle.std.proofs.Common.{◌≡◌, ℕ, ◌∙◌, ◌++◌, List, [], ◌∷◌, codes, decimal, flat_map, length, map, sym, ap, append_assoc}
+use Rattle.std.proofs.Common.{◌≡◌, ℕ, ◌++◌, List, [], ◌∷◌, codes, decimal, flat_map, length, map, ap, append_assoc}
 use Rattle.std.specs.Prelude.{if◌then◌else◌}
 use Rattle.git_objects.specs.Paths.{Bytes, is_nil}
 use Rattle.git_objects.specs.Commits.{Commit}
 use Rattle.object_store.specs.Objects.{Object}
 use Rattle.object_store.specs.StoredSnapshots.{snapshot_of}
 use Rattle.object_store.specs.Unfolding.{flat}
-use Rattle.fast_export.specs.ExportTexts.{commit_text, leaf_line, letter_lines, line, mark_line, parent_lines}
+use Rattle.fast_export.specs.ExportTexts.{commit_text, leaf_line, line, mark_line}
 use Rattle.fast_export.specs.Given.{Given, commit_mark, head_text, marks_in, parents_from}
 use Rattle.fast_export.proofs.ParentLines.{all_parents}
 use Rattle.fast_export.proofs.Sent.{put_as, put_before, put_behind, put_err, put_short, put_stop, put_then}

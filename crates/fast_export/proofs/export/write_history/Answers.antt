@@ -1,9 +1,7 @@
-use Rattle.std.proofs.Common.{◌≡◌, ℕ, ◌<◌, ◌∙◌, ◌++◌, [], length, map, sym, ap, subst, arith, append-nil, append_assoc}
+use Rattle.std.proofs.Common.{◌∙◌, [], length, map, sym, subst, append-nil}
 use Rattle.std.specs.Io.KnownBytes.{Appends}
 use Rattle.std.proofs.KnownBytes.{Appends-nil}
-use Rattle.git_objects.specs.Paths.{Bytes}
 use Rattle.git_objects.specs.Parts.{name_bytes}
-use Rattle.fast_export.specs.ExportTexts.{export_text}
 use Rattle.fast_export.specs.Histories.{snapshots_at}
 use Rattle.fast_export.proofs.Exported.{empty_text, front_of, not_empty, rest_text, text_of, whole_text}
 use Rattle.fast_export.proofs.Sent.{put_as, put_before, put_err, put_short, put_stop, put_then}

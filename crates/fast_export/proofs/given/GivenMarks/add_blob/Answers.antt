@@ -1,4 +1,4 @@
-use Rattle.std.proofs.Common.{ap, ◌∙◌}
+use Rattle.std.proofs.Common.{ap}
 use Rattle.fast_export.specs.Given.{Given}
 use Rattle.fast_export.proofs.Giving.{entry_added}
 use Rattle.fast_export.proofs.given.GivenMarks.add_blob.Goals as goal
