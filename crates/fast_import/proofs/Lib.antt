@@ -11,5 +11,6 @@ pub mod Committing
 pub mod KnownBlobs
 pub mod Changing
 pub mod Taking
+pub mod Ended
 pub mod Running
 pub mod Stopping

@@ -1,18 +1,21 @@
 -- How far a stream is read before it is known what becomes of it.
-use Rattle.std.specs.Prelude.{◌+◌, ◌≤◌, ℕ, zero, suc, true, length, OnOk, IfSome, Option, Some, None, Result, Ok, Err}
+use Rattle.std.specs.Prelude.{◌≡◌, Bool, false, ◌+◌, ◌≤◌, ℕ, zero, suc, true, length, OnOk, IfSome, Option, Some, None, Result, Ok, Err}
 use Rattle.std.specs.Io.KnownBytes.{Consumes}
+use Rattle.git_objects.specs.Lists.{Each}
 use Rattle.git_objects.specs.Paths.{Bytes}
 use Rattle.stream_lex.specs.Cutting.{place}
 use Rattle.stream_lex.specs.Lines.{Input}
 use Rattle.stream_lex.specs.declared.stop.Stop.TheVariants as stops
 use Rattle.stream_reader.specs.Commands.{Told, read_command}
 use Rattle.stream_reader.specs.Reading.{Read}
-use Rattle.stream_reader.specs.Verdicts.{from_start, size, start}
+use Rattle.stream_reader.specs.Verdicts.{from_start, size, start, verdict}
 use Rattle.stream_reader.specs.Waited.{awaited, fault_place}
+use Rattle.stream_reader.specs.declared.command.Command.{Command}
+use Rattle.stream_reader.specs.declared.command.Command.TheVariants as commands
 use Rattle.stream_reader.specs.declared.command.Placed.{Placed}
 use Rattle.stream_reader.specs.declared.fault.StreamFault.{StreamFault}
 use Rattle.stream_reader.specs.declared.progress.Progress.{Progress}
-use Rattle.fast_import.specs.Replays.{Base, Replay, nothing_yet, step}
+use Rattle.fast_import.specs.Replays.{Base, Replay, Replayed, nothing_yet, replay, step}
 
 -- what one command makes of a replay
 abbrev pub Step : Type 0
@@ -52,3 +55,13 @@ waited base all = waited_from (step base) nothing_yet start (from_start all)
 abbrev pub IsTaken : {A E : Type 0} → Base → Option Bytes → Option Bytes → Result A E → Type 0
 IsTaken base before after result =
     IfSome before (λ all. (given : Bytes) × Consumes before after given × (length given ≤ waited base all + 33554432) × OnOk result (waited base all ≤ length given))
+
+abbrev pub is_done : Command → Bool
+is_done commands.Done = true
+is_done c = false
+
+-- A stream that is replayed is read to its end where it has no command `done`.
+abbrev pub WaitedLaw : Type 0
+WaitedLaw =
+    (base : Base) (all : Bytes) (g : Replayed) → replay base all ≡ Ok g → Each (λ p. is_done p.command ≡ false) (verdict start all).commands →
+    waited base all ≡ length all

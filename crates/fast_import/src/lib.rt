@@ -9,6 +9,7 @@ mod commit_step;
 mod commits;
 mod draft;
 mod edits;
+mod laws;
 mod marks;
 mod parents;
 mod puts;
@@ -18,6 +19,7 @@ mod steps;
 mod whole;
 
 pub use base::{Base, EmptyBase};
+pub use laws::waited_law;
 pub use replay::Replay;
 pub use replayed::{Made, Replayed, Setting};
 pub use stream_reader::{

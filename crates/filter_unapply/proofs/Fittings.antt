@@ -24,7 +24,8 @@ use Rattle.object_store.specs.Unfolding.{flat, StandsFor}
 use Rattle.path_trees.specs.Standing.{node}
 use Rattle.path_trees.specs.declared.found.Found.{Found}
 use Rattle.decision_lists.specs.Entries.{Cone, Entry, cone_of, at as at_cone, below as below_cone, decide, run, tail}
-use Rattle.filter_unapply.specs.Hands.{HasLeaves, IsMadeOf}
+use Rattle.filter_unapply.specs.StoredLeaves.{HasLeaves}
+use Rattle.filter_unapply.specs.Hands.{IsMadeOf}
 use Rattle.filter_unapply.specs.Sifted.{IsAbsent, IsFitting, asked, chosen, put_back, sifted, stays, taken_out}
 use Rattle.filter_unapply.proofs.Places.{leaf_stands}
 use Rattle.filter_unapply.proofs.Sieves.{back-directory, back-leaf, directory-absent, leaf-absent, nothing-absent, out-directory, out-leaf}

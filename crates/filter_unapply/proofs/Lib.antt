@@ -16,3 +16,6 @@ mod PartLists
 mod Leasts
 mod PathOrders
 mod BlockSteps
+mod HandTrees
+mod Lays
+mod Nears

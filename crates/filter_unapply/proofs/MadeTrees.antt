@@ -2,7 +2,9 @@
 use Rattle.std.proofs.Common.{◌≡◌, zero, suc, arith, true, false, cond, List, [], ◌∷◌, ◌++◌, Option, Some, None, Contains, Result, Ok, Err, refl, sym, ap, subst, ◌∙◌}
 use Rattle.std.specs.Prelude.{IfErr}
 use Rattle.std.specs.Result.{IsErrAnd}
-use Rattle.git_objects.specs.Paths.{Bytes, Path}
+use Rattle.git_objects.specs.Paths.{Bytes, Path, is_path}
+use Rattle.git_objects.proofs.Pointwise.{all_at, from-T}
+use Rattle.filter_unapply.specs.Laying.{Laid}
 use Rattle.git_objects.specs.Trees.{Leaf, Flat, IsTree, at, under}
 use Rattle.git_objects.specs.Names.{name, body}
 use Rattle.git_objects.specs.declared.kind.Kind.TheVariants.{Tree}
@@ -14,7 +16,7 @@ use Rattle.object_store.proofs.Growth.{clash_as, grown_as}
 use Rattle.path_trees.specs.Made.{AreMade, IsGrown, IsOnWay, IsCollision, IsTreeFault}
 use Rattle.path_trees.specs.declared.found.TreeFault.{TreeFault}
 use Rattle.path_trees.specs.declared.found.TreeFault.TheVariants.{Collision as TreeCollision, OutOfMemory as TreeOutOfMemory}
-use Rattle.filter_unapply.specs.Hands.{IsMadeOf, IsFaultOf}
+use Rattle.filter_unapply.specs.Hands.{IsFaultBy, IsFaultOf, IsMadeOf}
 use Rattle.filter_unapply.specs.Stored.{fault_of}
 use Rattle.filter_unapply.specs.declared.fault.LayFault.{LayFault}
 use Rattle.filter_unapply.specs.declared.fault.LayFault.TheVariants.{NotHeld, Blocked, Collision, OutOfMemory}
@@ -77,6 +79,27 @@ module _ (made more : Object → Type 0) (f : (o : Object) → made o → more o
 
 pub known-as : (known more : Path → Leaf → Type 0) → ((p : Path) (x : Leaf) → known p x → more p x) → (o : Object) → IsMadeOf known o → IsMadeOf more o
 known-as known more f o h = record { tree = h.tree; above = h.above; is_tree = h.is_tree; all_known = λ p x e. f p x (h.all_known p x e); is_object = h.is_object }
+
+-- each path of a tree is a path
+pub path-known : (known more : Path → Leaf → Type 0) → ((p : Path) (x : Leaf) → is_path p ≡ true → known p x → more p x) → (o : Object) → IsMadeOf known o → IsMadeOf more o
+path-known known more f o h = record {
+  tree = h.tree;
+  above = h.above;
+  is_tree = h.is_tree;
+  all_known = λ p x e. f p x (from-T (is_path p) (all_at is_path h.tree p x h.is_tree.paths e)) (h.all_known p x e);
+  is_object = h.is_object;
+}
+
+-- a fault of a hand tells a collision with an object of it
+pub fault-told : (l : Laid) (made more : Object → Type 0) → ((o : Object) → made o → more o) → (S : List Object) (e : LayFault) → IsFaultOf made S e → IsFaultBy l more S e
+fault-told l made more f S (NotHeld q) h = absurd h
+fault-told l made more f S (Blocked p q) h = absurd h
+fault-told l made more f S (Collision n) h = clash_as made more S n.0 f h
+fault-told l made more f S OutOfMemory h = h
+
+pub err-told : {A : Type 0} (l : Laid) (made more : Object → Type 0) → ((o : Object) → made o → more o) → (S : List Object) (r : Result A LayFault) (e : LayFault) → IsErrAnd r (λ x. x ≡ e) → IsFaultOf made S e → IfErr r (IsFaultBy l more S)
+err-told l made more f S (Ok n) e g h = tt
+err-told l made more f S (Err x) e g h = fault-told l made more f S x (subst (IsFaultOf made S) (sym g) h)
 
 -- ---- directories on the way to a path
 

@@ -29,7 +29,8 @@ use Rattle.decision_lists.specs.Entries.{cone_of, decide, tail}
 use Rattle.decision_lists.specs.Fronts.{strip, proper, whole}
 use Rattle.decision_lists.specs.Lists.{Solid}
 use Rattle.decision_lists.proofs.Strip.{strip-is, strip-self}
-use Rattle.filter_unapply.specs.Hands.{HasLeaves, IsMadeOf}
+use Rattle.filter_unapply.specs.StoredLeaves.{HasLeaves}
+use Rattle.filter_unapply.specs.Hands.{IsMadeOf}
 use Rattle.filter_unapply.specs.Moved.{IsHeldAt, IsHolding, fits, moved}
 use Rattle.filter_unapply.specs.Sifted.{IsAbsent, IsFitting}
 use Rattle.filter_unapply.specs.Stored.{first_of}

@@ -19,7 +19,8 @@ use Rattle.path_trees.proofs.Together.{together_law}
 use Rattle.decision_lists.specs.Backward.{route_cells}
 use Rattle.decision_lists.specs.Cells.{cells}
 use Rattle.decision_lists.specs.Entries.{Entry}
-use Rattle.filter_unapply.specs.Hands.{HasLeaves, IsIn, IsMadeOf}
+use Rattle.filter_unapply.specs.StoredLeaves.{HasLeaves}
+use Rattle.filter_unapply.specs.Hands.{IsIn, IsMadeOf}
 use Rattle.filter_unapply.specs.Parts.{AreApart, AreParts, IsNear, any_at, with_parts}
 use Rattle.filter_unapply.specs.Routed.{IsTakenOrIn, forward, taken}
 use Rattle.filter_unapply.proofs.Cellwise.{forward-whole, route-alone, taken-more}

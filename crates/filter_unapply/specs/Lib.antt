@@ -1,6 +1,7 @@
 pub mod Laying
 pub mod Stored
 pub mod Laws
+pub mod StoredLeaves
 pub mod Sifted
 pub mod Parts
 pub mod Blocks

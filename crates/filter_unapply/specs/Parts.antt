@@ -9,7 +9,7 @@ use Rattle.git_objects.specs.declared.name.Name.{Name}
 use Rattle.object_store.specs.Objects.{Object, has}
 use Rattle.object_store.specs.Unfolding.{flat}
 use Rattle.path_trees.specs.Clashes.{clash}
-use Rattle.filter_unapply.specs.Hands.{HasLeaves}
+use Rattle.filter_unapply.specs.StoredLeaves.{HasLeaves}
 
 -- the leaf that the first of these trees with the path has there
 abbrev pub any_at : List Object → List Name → Path → Option Leaf

@@ -5,7 +5,7 @@ use Rattle.git_objects.specs.Paths.{Path}
 use Rattle.git_objects.specs.Trees.{Leaf, Flat, at}
 use Rattle.decision_lists.specs.Entries.{Entry, decide, tail}
 use Rattle.decision_lists.specs.Fronts.{or_else}
-use Rattle.decision_lists.specs.Cells.{Cell, is_free, origin}
+use Rattle.decision_lists.specs.Cells.{Cell, cells, is_free, origin}
 
 -- the image of a path that the cell has
 abbrev pub image_by : Cell → Path → Option Path
@@ -27,3 +27,7 @@ unplaced ks n = filter (λ e. is_none (origin ks e.0)) n
 -- a leaf of the pushed tree, at its own path or at one that takes it by these cells
 abbrev pub IsTakenOrIn : List Cell → Flat → Path → Leaf → Type 0
 IsTakenOrIn ks n p x = (at n p ≡ Some x) ⊎ (taken ks n p ≡ Some x)
+
+-- a leaf of a tree, or one that a pushed tree has or gives by the list's cells
+abbrev pub IsOfBoth : List Entry → Flat → Flat → Path → Leaf → Type 0
+IsOfBoth es t n p x = (at t p ≡ Some x) ⊎ IsTakenOrIn (cells [] es) n p x

@@ -5,6 +5,7 @@ mod below;
 mod blocking;
 mod fault;
 mod laws;
+mod laying;
 mod moving;
 mod parts;
 mod routing;
@@ -12,6 +13,7 @@ mod sifting;
 
 pub use below::laid_below;
 pub use fault::LayFault;
+pub use laying::laid;
 pub use laws::{
     below_law, given_back_law, laid_again_law, outcome_law, shown_again_law, unseen_law,
 };

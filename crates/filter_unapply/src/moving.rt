@@ -8,7 +8,8 @@ ghost use Rattle.object_store.specs.Objects.{IsStore, has};
 ghost use Rattle.object_store.specs.Unfolding.{flat, StandsFor};
 ghost use Rattle.decision_lists.specs.Entries.{cone_of, tail};
 ghost use Rattle.decision_lists.specs.Lists.{Solid};
-ghost use Rattle.filter_unapply.specs.Hands.{HasLeaves, IsFaultOf, IsMadeOf};
+ghost use Rattle.filter_unapply.specs.StoredLeaves.{HasLeaves};
+ghost use Rattle.filter_unapply.specs.Hands.{IsFaultOf, IsMadeOf};
 ghost use Rattle.filter_unapply.specs.Moved.{IsHeldAt, moved};
 
 use crate::LayFault;

@@ -10,7 +10,8 @@ ghost use Rattle.decision_lists.specs.Cells.{cells, cells_at};
 ghost use Rattle.decision_lists.specs.Lists.{Fine, Solid};
 ghost use Rattle.decision_lists.specs.Entries.{cone_of};
 ghost use Rattle.decision_lists.specs.Operations.{heads};
-ghost use Rattle.filter_unapply.specs.Hands.{HasLeaves, IsFaultOf, IsIn, IsMadeOf};
+ghost use Rattle.filter_unapply.specs.StoredLeaves.{HasLeaves};
+ghost use Rattle.filter_unapply.specs.Hands.{IsFaultOf, IsIn, IsMadeOf};
 ghost use Rattle.filter_unapply.specs.Routed.{IsTakenOrIn, taken, unplaced};
 
 use crate::LayFault;

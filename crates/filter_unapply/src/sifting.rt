@@ -7,7 +7,8 @@ ghost use Rattle.object_store.specs.Growth.{IsGrownBy, IsOnly};
 ghost use Rattle.object_store.specs.Objects.{IsStore, has};
 ghost use Rattle.object_store.specs.Unfolding.{flat, StandsFor};
 ghost use Rattle.decision_lists.specs.Entries.{cone_of};
-ghost use Rattle.filter_unapply.specs.Hands.{HasLeaves, IsFaultOf, IsIn, IsMadeOf};
+ghost use Rattle.filter_unapply.specs.StoredLeaves.{HasLeaves};
+ghost use Rattle.filter_unapply.specs.Hands.{IsFaultOf, IsIn, IsMadeOf};
 ghost use Rattle.filter_unapply.specs.Sifted.{IsFitting, asked, put_back, sifted, taken_out};
 
 use crate::LayFault;

@@ -60,7 +60,7 @@ module _ {made : Object → Type 0} (S T : List Object) (g : IsGrownBy made S T)
   pub graph-grown : (rows : List Row) → IsGraphIn S rows → IsGraphIn T rows
   graph-grown rows w = record { store = g.store; graph = w.graph; each = λ i r e. row-grown rows r (w.each i r e) }
 
-  snapshot-grown : (rows : List Row) (r : Row) → IsRowIn S rows r → snapshot_named T r.name ≡ snapshot_named S r.name
+  pub snapshot-grown : (rows : List Row) (r : Row) → IsRowIn S rows r → snapshot_named T r.name ≡ snapshot_named S r.name
   snapshot-grown rows r w =
       ap (option_map (snapshot_of T)) (commit-grown r.name w.held ∙ w.named)
       ∙ ap Some (let tree : flat T w.commit.tree ≡ flat S w.commit.tree = ap (flat T) w.tree ∙ flat-grown S T r.tree g w.tree_held ∙ ap (flat S) (sym w.tree) in λ i. record { tree = tree i; parents = w.commit.parents; letter = w.commit.letter })

@@ -16,3 +16,5 @@ mod Bodies
 mod TurnLemmas
 mod Filling
 mod Steps
+mod WalkLemmas
+mod ProjectLemmas

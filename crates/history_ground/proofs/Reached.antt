@@ -194,9 +194,10 @@ module _ (S : List Object) (rows : List Row) (g : IsGraphIn S rows) where
           → Each (IsReached h (suc k)) (cond (is_wanted ws c) (c ∷ []) [] ++ reached (older S rows g k) (cond (is_wanted ws c) (c.parents ++ ws) ws))
       by r e c a true q rest =
           let u = itself r e c a q in
-          subst (λ b. Each (IsReached h (suc k)) (cond b (c ∷ []) [] ++ reached (older S rows g k) (cond b (c.parents ++ ws) ws))) (sym q)
-          ((k, omega arith, name-is S rows g k r e ∙ sym a.name, u),
-          each-map (IsReached h k) (IsReached h (suc k)) (reached-further h k) (reached (older S rows g k) (c.parents ++ ws)) (rest (c.parents ++ ws) (parents r e c a u)))
+          subst (λ b. Each (IsReached h (suc k)) (cond b (c ∷ []) [] ++ reached (older S rows g k) (cond b (c.parents ++ ws) ws))) (sym q) (
+            (k, omega arith, name-is S rows g k r e ∙ sym a.name, u),
+            each-map (IsReached h k) (IsReached h (suc k)) (reached-further h k) (reached (older S rows g k) (c.parents ++ ws)) (rest (c.parents ++ ws) (parents r e c a u)),
+          )
       by r e c a false q rest =
           subst (λ b. Each (IsReached h (suc k)) (cond b (c ∷ []) [] ++ reached (older S rows g k) (cond b (c.parents ++ ws) ws))) (sym q)
           (each-map (IsReached h k) (IsReached h (suc k)) (reached-further h k) (reached (older S rows g k) ws) (rest ws (λ i s d b y. f i s d (omega (arith, b)) y)))

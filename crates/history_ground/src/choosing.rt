@@ -94,7 +94,11 @@ fn is_member(before: &[Shown], shown: &Shown) -> bool
 }
 
 // The projections of the parents, each once.
-pub(crate) fn members(alloc: Global, ground: &Ground, parents: &[u32]) -> Result<Vec<Shown>, AllocError>
+pub(crate) fn members(
+    alloc: Global,
+    ground: &Ground,
+    parents: &[u32],
+) -> Result<Vec<Shown>, AllocError>
     requires { All (λ p. p < length ground.now.graph) parents.now }
     ensures members { IfOk result (λ ms. map shown_value ms.items ≡ members ground.now.map (names_at ground.now.graph parents.now)) }
     ensures few { IfOk result (λ ms. length ms.items ≤ length parents.now) }

@@ -11,3 +11,4 @@ mod walking;
 
 pub use ground::Ground;
 pub use laws::{history_law, projection_law};
+pub use walking::project_to;

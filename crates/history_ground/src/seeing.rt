@@ -21,6 +21,7 @@ use std::sync::ledger::{Blank, Ledger};
 use workspace::{file_place, resolve};
 
 // What a walk knows of a filter.
+#[derive(Drop)]
 pub(crate) struct Asked {
     // The table of the filter for every tree, where that is one.
     pub(crate) table: Option<usize>,
@@ -44,7 +45,10 @@ impl Asked {
         ensures map { ground.new.map ≡ ground.old.map }
     {
         if file_place(alloc, filter)?.is_some() {
-            return Ok(Asked { table: None, last: None });
+            return Ok(Asked {
+                table: None,
+                last: None,
+            });
         }
         let number = resolve(alloc, &ground.store, filter, root, &mut ground.tables)?;
         Ok(Asked {

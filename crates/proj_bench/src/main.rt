@@ -10,7 +10,6 @@ mod replays;
 mod routes;
 mod streams;
 mod trees;
-mod workspaces;
 
 use proj_io::StdSource;
 use std::alloc::{AllocError, Global};
@@ -19,10 +18,10 @@ use std::rt::Clock;
 use std::{env, io};
 
 const USAGE: &str =
-    "all, replay, or objects, graph, trees, streams, routes or workspaces, a mode, and a number";
+    "all, replay, or objects, graph, trees, streams or routes, a mode, and a number";
 
 // A small run of each kind of work, for `all`: the bench, the mode, and two numbers.
-const SMALL: [(&str, &str, u32, u32); 9] = [
+const SMALL: [(&str, &str, u32, u32); 8] = [
     ("objects", "sha1", 300, 0),
     ("objects", "store", 300, 0),
     ("graph", "count", 1000, 0),
@@ -31,7 +30,6 @@ const SMALL: [(&str, &str, u32, u32); 9] = [
     ("streams", "changes", 300, 0),
     ("routes", "dirs", 20, 0),
     ("routes", "common-items", 10, 0),
-    ("workspaces", "distinct-items", 10, 0),
 ];
 
 // Does the work once, and says what came of it. None: no such bench or mode.
@@ -61,7 +59,6 @@ fn untimed(
         "trees" => trees::answer(alloc, mode, count, numbers.1),
         "streams" => streams::answer(alloc, mode, u64::from(count)),
         "routes" => routes::answer(alloc, mode, count as usize),
-        "workspaces" => workspaces::answer(alloc, mode, count as usize),
         _ => Ok(None),
     }
 }

@@ -1,8 +1,8 @@
 -- Items stay Kept behind what a stream of sound commands gives.
 use Rattle.std.proofs.Common.{List, ◌++◌, All, Option}
 use Rattle.object_store.specs.Objects.{IsStore}
-use Rattle.fast_import.specs.declared.command.Placed.{Placed}
-use Rattle.fast_import.specs.declared.fault.StreamFault.{StreamFault}
+use Rattle.stream_reader.specs.declared.command.Placed.{Placed}
+use Rattle.stream_reader.specs.declared.fault.StreamFault.{StreamFault}
 use Rattle.state_items.specs.Items.{Held}
 use Rattle.state_items.specs.Changes.{objects_of}
 use Rattle.state_items.specs.Imported.{AreApart, IsBrought}

@@ -29,3 +29,7 @@ pub mod Replaying
 pub mod ImportsKept
 pub mod ReadCommands
 pub mod Making
+pub mod SmallEdits
+pub mod SmallReplaying
+pub mod StreamsKept
+pub mod StoredReplaying

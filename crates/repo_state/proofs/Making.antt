@@ -1,8 +1,7 @@
 -- The objects that a replay brings.
-use Rattle.std.proofs.Common.{◌≡◌, ℕ, Bool, true, false, List, [], ◌∷◌, ◌++◌, map, All, Contains, Option, None, Some, Result, Ok, Err, inl, inr, refl, sym, ap, subst, ◌∙◌, true≢false}
+use Rattle.std.proofs.Common.{◌≡◌, ℕ, true, List, [], ◌∷◌, ◌++◌, map, All, Contains, Option, None, Some, Ok, Err, inl, inr, refl, sym, subst, true≢false}
 use Rattle.std.specs.Prelude.{◌⊎◌}
 use Rattle.std.specs.Cmp.{first_so, second_so}
-use Rattle.std.specs.Cmp.Lexicographic.{bytes_decides}
 use Rattle.std.specs.List.{flat_map, list_all, list_any}
 use Rattle.std.specs.Option.{option_to_list}
 use Rattle.std.proofs.lemmas.List.Elements.{All-contains}
@@ -15,25 +14,25 @@ use Rattle.object_store.specs.Objects.{Object, IsStore}
 use Rattle.object_store.specs.StoredSnapshots.{snapshot_object}
 use Rattle.object_store.specs.TreeObjects.{leaf_objects, tree_objects}
 use Rattle.fast_import.specs.Made.{IsMadeAt, IsMadeBy, IsMadeOf, IsMadeOn, blob_object, tree_object}
-use Rattle.fast_import.specs.Replays.{Base, BlobMark, CommitMark, Draft, Marked, Replay, begun, blob_inline, commit_of, committed, command_step, edited, first_parent, gone_on, inline_blob, nothing_yet, ran_by, said, step, with_branch, with_mark, with_merges}
-use Rattle.fast_import.specs.declared.command.Change.{Change}
-use Rattle.fast_import.specs.declared.command.Command.{Command}
-use Rattle.fast_import.specs.declared.command.Command.TheVariants as commands
-use Rattle.fast_import.specs.declared.command.CommitHead.{CommitHead}
-use Rattle.fast_import.specs.declared.command.Placed.{Placed}
-use Rattle.fast_import.specs.declared.fault.StreamFault.{StreamFault}
-use Rattle.fast_import.specs.declared.fault.StreamFault.TheVariants.{Syntax}
+use Rattle.fast_import.specs.Replays.{Base, BlobMark, CommitMark, Draft, Marked, Replay, begun, commit_of, committed, command_step, edited, first_parent, gone_on, inline_blob, nothing_yet, ran_by, said, step, with_branch, with_mark, with_merges}
+use Rattle.stream_reader.specs.declared.command.Command.{Command}
+use Rattle.stream_reader.specs.declared.command.Command.TheVariants as commands
+use Rattle.stream_reader.specs.declared.command.CommitHead.{CommitHead}
+use Rattle.stream_reader.specs.declared.command.Placed.{Placed}
+use Rattle.stream_reader.specs.declared.fault.StreamFault.{StreamFault}
+use Rattle.stream_reader.specs.declared.fault.StreamFault.TheVariants.{Syntax}
 use Rattle.state_items.specs.Items.{Held}
 use Rattle.state_items.specs.Repos.{repo}
 use Rattle.state_items.specs.Changes.{commit_objects, objects_of}
-use Rattle.state_items.specs.Imported.{AreWhole, IsWhole, has_leaves}
+use Rattle.state_items.specs.Imported.{AreWhole, has_leaves}
 use Rattle.state_items.proofs.Imports.{any-cases}
 use Rattle.state_items.proofs.InHand.{any-member, known-held}
 use Rattle.state_items.proofs.ReadObjects.{ok-same, value-of}
 use Rattle.state_items.proofs.TreeParts.{all-each, each-map, each-member, tree-each}
 use Rattle.state_items.proofs.TreesHeld.{each-both}
+use Rattle.state_items.proofs.Twices.{clash-twice}
 use Rattle.repo_state.specs.Bases.{base_of}
-use Rattle.repo_state.specs.MadeObjects.{IsHeldOrMade, MadeLaw}
+use Rattle.repo_state.specs.MadeObjects.{ClashLaw, IsHeldOrMade, MadeLaw}
 use Rattle.repo_state.specs.Replayed.{end_of}
 use Rattle.repo_state.specs.SoundCommands.{IsSound}
 use Rattle.repo_state.proofs.Replaying.{refuse-value, replayed-law}
@@ -146,3 +145,6 @@ module _ (h : Held) (ps : List Placed) (end : Option StreamFault) (s : IsStore h
 
 pub made-law : MadeLaw
 made-law h ps end s v o m = All-contains (IsHeldOrMade h ps) _ o (all-each (IsHeldOrMade h ps) _ (all-hand h ps end s v)) m
+
+pub clash-law : ClashLaw
+clash-law h ps S n g c = clash-twice (IsMadeBy (base_of h) nothing_yet ps) h.objects S n g c

@@ -7,7 +7,7 @@ use Rattle.std.specs.List.{list_all, starts_with}
 use Rattle.std.specs.Option.{option_map}
 use Rattle.std.proofs.lemmas.List.{length-take-le}
 use Rattle.std.proofs.lemmas.List.Elements.{All-cons, All-nil}
-use Rattle.git_objects.specs.Paths.{Bytes, Path, is_bytes, is_component, is_nil, is_path, same_bytes}
+use Rattle.git_objects.specs.Paths.{Bytes, Path, is_component, is_nil, is_path, same_bytes}
 use Rattle.git_objects.specs.Idents.{cut_at, is_ident}
 use Rattle.git_objects.specs.Bodies.{is_name}
 use Rattle.git_objects.specs.CommitBodies.{digits_name, strip}
@@ -31,34 +31,35 @@ use Rattle.stream_lex.specs.Lines.{Input, Lex, Line, any_line, behind, block_at,
 use Rattle.stream_lex.specs.declared.stop.Stop.{Stop}
 use Rattle.stream_lex.specs.declared.stop.Stop.TheVariants as stops
 use Rattle.stream_lex.specs.declared.stop.LimitFault.TheVariants.{LongLine, StreamTooLong}
-use Rattle.fast_import.specs.Reading.{Judged, Read, Reader, fault, lifted, line_behind, line_text, must, need_line, option_line, or_fault}
-use Rattle.fast_import.specs.Names.{ident, refname, some_name}
-use Rattle.fast_import.specs.Words.{first_word, mark}
-use Rattle.fast_import.specs.Blocks.{blob_data, block_in, count, data_behind, message_behind, message_data, sized_block, whole_block}
-use Rattle.fast_import.specs.PathWords.{behind_quote, first_path, is_quoted, last_path, path_at, path_by, two_paths, unquoted_at}
-use Rattle.fast_import.specs.Changes.{ChangeLine, ModifyIs, DeleteIs, RenameIs, CopyIs, DeleteAllIs, NotesAre, EmptyIs, NoChange, blob_ref, change, change_line, data_part, dataref, fitting, mode, modify, modify_line}
-use Rattle.fast_import.specs.Heads.{author_in, author_or, blob, committer_by, committer_of, head, head_of, if_some, mark_in, mark_lines, merges, merges_max, more_merges, parents, people, ref_in, ref_line, reset, said}
-use Rattle.fast_import.specs.Commands.{CommandLine, EmptyLine, BlobLine, CommitLine, ResetLine, IdleLine, WantsDone, DoneLine, RefusedLine, OtherLine, Told, Turn, between, between_at, by_event, changed, command_line, command_within, gives, in_commit_at, read_command, turn, turn_in, turn_on}
-use Rattle.fast_import.specs.Verdicts.{from_start, go_on, verdict, verdict_from, verdict_within}
-use Rattle.fast_import.specs.declared.command.BlobRef.{BlobRef}
-use Rattle.fast_import.specs.declared.command.BlobRef.TheVariants as blobs
-use Rattle.fast_import.specs.declared.command.Change.{Change}
-use Rattle.fast_import.specs.declared.command.Change.TheVariants as changes
-use Rattle.fast_import.specs.declared.command.Command.{Command}
-use Rattle.fast_import.specs.declared.command.Command.TheVariants as commands
-use Rattle.fast_import.specs.declared.command.Placed.{Placed}
-use Rattle.fast_import.specs.declared.commit_ref.CommitRef.{CommitRef}
-use Rattle.fast_import.specs.declared.fault.Feature.TheVariants as features
-use Rattle.fast_import.specs.declared.fault.StreamFault.{StreamFault}
-use Rattle.fast_import.specs.declared.fault.StreamFault.TheVariants.{BadPath, Limit, Syntax, Unsupported}
-use Rattle.fast_import.specs.declared.modify.DataRef.{DataRef}
-use Rattle.fast_import.specs.declared.modify.DataRef.TheVariants as datas
-use Rattle.fast_import.specs.declared.modify.ModifyLine.{ModifyLine}
-use Rattle.fast_import.specs.declared.progress.Event.{Event}
-use Rattle.fast_import.specs.declared.progress.Event.TheVariants.{Gives, Skips, Ends}
-use Rattle.fast_import.specs.declared.progress.Phase.{Phase}
-use Rattle.fast_import.specs.declared.progress.Phase.TheVariants.{Between, InCommit, Finished}
-use Rattle.fast_import.specs.declared.progress.Progress.{Progress}
+use Rattle.stream_reader.specs.Reading.{Judged, Read, Reader, fault, lifted, line_behind, line_text, must, need_line, option_line, or_fault}
+use Rattle.stream_reader.specs.Names.{ident, refname, some_name}
+use Rattle.stream_reader.specs.Words.{first_word, mark}
+use Rattle.stream_reader.specs.Blocks.{blob_data, block_in, count, data_behind, message_behind, message_data, sized_block, whole_block}
+use Rattle.stream_reader.specs.PathWords.{behind_quote, first_path, is_quoted, last_path, path_at, path_by, two_paths, unquoted_at}
+use Rattle.stream_reader.specs.Changes.{ChangeLine, ModifyIs, DeleteIs, RenameIs, CopyIs, DeleteAllIs, NotesAre, EmptyIs, NoChange, blob_ref, change, change_line, data_part, dataref, fitting, mode, modify, modify_line}
+use Rattle.stream_reader.specs.Heads.{author_in, author_or, blob, committer_by, committer_of, head, head_of, if_some, mark_in, mark_lines, merges, merges_max, more_merges, parents, people, ref_in, ref_line, reset, said}
+use Rattle.stream_reader.specs.Commands.{CommandLine, EmptyLine, BlobLine, CommitLine, ResetLine, IdleLine, WantsDone, DoneLine, RefusedLine, OtherLine, Told, Turn, between, between_at, by_event, changed, command_line, command_within, gives, in_commit_at, read_command, turn, turn_in, turn_on}
+use Rattle.stream_reader.specs.Verdicts.{from_start, go_on, verdict, verdict_from, verdict_within}
+use Rattle.stream_reader.specs.declared.command.BlobRef.{BlobRef}
+use Rattle.stream_reader.specs.declared.command.BlobRef.TheVariants as blobs
+use Rattle.stream_reader.specs.declared.command.Change.{Change}
+use Rattle.stream_reader.specs.declared.command.Change.TheVariants as changes
+use Rattle.stream_reader.specs.declared.command.Command.{Command}
+use Rattle.stream_reader.specs.declared.command.Command.TheVariants as commands
+use Rattle.stream_reader.specs.declared.command.Placed.{Placed}
+use Rattle.stream_reader.specs.declared.commit_ref.CommitRef.{CommitRef}
+use Rattle.stream_reader.specs.declared.fault.Feature.TheVariants as features
+use Rattle.stream_reader.specs.declared.fault.StreamFault.{StreamFault}
+use Rattle.stream_reader.specs.declared.fault.StreamFault.TheVariants.{BadPath, Limit, Syntax, Unsupported}
+use Rattle.stream_reader.specs.declared.modify.DataRef.{DataRef}
+use Rattle.stream_reader.specs.declared.modify.DataRef.TheVariants as datas
+use Rattle.stream_reader.specs.declared.modify.ModifyLine.{ModifyLine}
+use Rattle.stream_reader.specs.declared.progress.Event.{Event}
+use Rattle.stream_reader.specs.declared.progress.Event.TheVariants.{Gives, Skips, Ends}
+use Rattle.stream_reader.specs.declared.progress.Phase.{Phase}
+use Rattle.stream_reader.specs.declared.progress.Phase.TheVariants.{Between, InCommit, Finished}
+use Rattle.stream_reader.specs.declared.progress.Progress.{Progress}
+use Rattle.state_items.proofs.ByteLists.{AreBytes, drop-bytes, take-bytes}
 use Rattle.repo_state.specs.SoundCommands.{IsSoundBlob, IsSoundChange}
 use Rattle.repo_state.specs.SmallCommands.{IsRead, IsShortPath, IsSmallBlob, IsSmallChange, ReaderLaw}
 
@@ -82,19 +83,6 @@ value_if P true x y h g = h refl
 value_if P false x y h g = g refl
 
 -- ---- bytes
-
-abbrev AreBytes : Bytes → Type 0
-AreBytes b = is_bytes b ≡ true
-
-take-bytes : (n : ℕ) (b : Bytes) → AreBytes b → AreBytes (take n b)
-take-bytes zero b h = refl
-take-bytes (suc n) [] h = refl
-take-bytes (suc n) (x ∷ b) h = and_both (first_so _ _ h) (take-bytes n b (second_so (nat_lt x 256) _ h))
-
-drop-bytes : (n : ℕ) (b : Bytes) → AreBytes b → AreBytes (drop n b)
-drop-bytes zero b h = h
-drop-bytes (suc n) [] h = refl
-drop-bytes (suc n) (x ∷ b) h = drop-bytes n b (second_so (nat_lt x 256) _ h)
 
 abbrev IfBytes : Option Bytes → Type 0
 IfBytes None = Unit {0}
@@ -674,15 +662,15 @@ command-read p ended i f = command-within (length i.rest + 1) p ended i f
 abbrev AreRead : List Placed → Type 0
 AreRead cs = All (λ c. IsRead c.command) cs
 
-told-read : (later : Progress → Input → Rattle.fast_import.specs.Verdicts.Verdict) (o : Option Placed) (p : Progress) (i : Input) → IfPlaced o → AreRead (later p i).commands → AreRead (Rattle.fast_import.specs.Verdicts.told_then later o p i).commands
+told-read : (later : Progress → Input → Rattle.stream_reader.specs.Verdicts.Verdict) (o : Option Placed) (p : Progress) (i : Input) → IfPlaced o → AreRead (later p i).commands → AreRead (Rattle.stream_reader.specs.Verdicts.told_then later o p i).commands
 told-read later None p i h g = All-nil (λ c. IsRead c.command)
 told-read later (Some c) p i h g = All-cons (λ c. IsRead c.command) c (later p i).commands h g
 
-halted-read : (e : Stop StreamFault) → AreRead (Rattle.fast_import.specs.Verdicts.halted e).commands
+halted-read : (e : Stop StreamFault) → AreRead (Rattle.stream_reader.specs.Verdicts.halted e).commands
 halted-read (stops.Fault f) = All-nil (λ c. IsRead c.command)
 halted-read (stops.More w) = All-nil (λ c. IsRead c.command)
 
-go-read : (later : Progress → Input → Rattle.fast_import.specs.Verdicts.Verdict) (r : Read Told) → OnRead IsReadTold r → ((p : Progress) (i : Input) → Fine i → AreRead (later p i).commands) → AreRead (go_on later r).commands
+go-read : (later : Progress → Input → Rattle.stream_reader.specs.Verdicts.Verdict) (r : Read Told) → OnRead IsReadTold r → ((p : Progress) (i : Input) → Fine i → AreRead (later p i).commands) → AreRead (go_on later r).commands
 go-read later (Ok x) h g = told-read later x.0.command x.0.progress x.1 h.0 (g x.0.progress x.1 h.1)
 go-read later (Err e) h g = halted-read e
 

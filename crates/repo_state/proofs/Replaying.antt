@@ -29,17 +29,17 @@ use Rattle.git_objects.proofs.Pointwise.{IsNode, from-T, leaf_at, put-tree, remo
 use Rattle.git_objects.proofs.Under.{under-tree}
 use Rattle.path_names.specs.RefNames.{is_ref_name}
 use Rattle.object_store.specs.Objects.{IsStore}
-use Rattle.fast_import.specs.declared.command.Command.{Command}
-use Rattle.fast_import.specs.declared.command.Command.TheVariants as commands
-use Rattle.fast_import.specs.declared.command.CommitHead.{CommitHead}
-use Rattle.fast_import.specs.declared.command.Change.{Change}
-use Rattle.fast_import.specs.declared.command.Change.TheVariants as changes
-use Rattle.fast_import.specs.declared.command.BlobRef.{BlobRef}
-use Rattle.fast_import.specs.declared.command.BlobRef.TheVariants as blobs
-use Rattle.fast_import.specs.declared.command.Placed.{Placed}
-use Rattle.fast_import.specs.declared.commit_ref.CommitRef.{CommitRef}
-use Rattle.fast_import.specs.declared.fault.StreamFault.{StreamFault}
-use Rattle.fast_import.specs.declared.fault.StreamFault.TheVariants.{Syntax, Unresolved, NoSource, Limit}
+use Rattle.stream_reader.specs.declared.command.Command.{Command}
+use Rattle.stream_reader.specs.declared.command.Command.TheVariants as commands
+use Rattle.stream_reader.specs.declared.command.CommitHead.{CommitHead}
+use Rattle.stream_reader.specs.declared.command.Change.{Change}
+use Rattle.stream_reader.specs.declared.command.Change.TheVariants as changes
+use Rattle.stream_reader.specs.declared.command.BlobRef.{BlobRef}
+use Rattle.stream_reader.specs.declared.command.BlobRef.TheVariants as blobs
+use Rattle.stream_reader.specs.declared.command.Placed.{Placed}
+use Rattle.stream_reader.specs.declared.commit_ref.CommitRef.{CommitRef}
+use Rattle.stream_reader.specs.declared.fault.StreamFault.{StreamFault}
+use Rattle.stream_reader.specs.declared.fault.StreamFault.TheVariants.{Syntax, Unresolved, NoSource, Limit}
 use Rattle.git_objects.specs.declared.quantity.Quantity.TheVariants.{Files, Parents}
 use Rattle.git_objects.specs.Refs.{bytes_cmp}
 use Rattle.git_objects.specs.Snapshots.{Snapshot, snapshot_commit, snapshot_name}
@@ -55,9 +55,7 @@ use Rattle.git_objects.specs.declared.name.Name.{Name}
 use Rattle.state_items.proofs.Bringing.{T-from, any-back}
 use Rattle.repo_state.proofs.EditLeaves.{IsGood, held-bytes, held-trees, is_in, leaf_in, leaves-below, leaves-more, leaves-put, leaves-remove}
 use Rattle.state_items.proofs.Imports.{any-cases, any-front}
-use Rattle.state_items.proofs.ReadEntries.{must-hold}
-use Rattle.state_items.proofs.ReadObjects.{ok-same}
-use Rattle.state_items.proofs.ReadObjects.{value-of}
+use Rattle.state_items.proofs.ReadObjects.{must-hold, ok-same, value-of}
 use Rattle.state_items.proofs.TreesAdded.{bytes-both}
 use Rattle.state_items.proofs.TreesHeld.{each-both}
 
@@ -112,7 +110,7 @@ any-reverse p (x ∷ xs) h =
     ] refl h
 
 -- the trees that a name may have
-value-each : (P : Flat → Type 0) (n : Bytes) (es : List (Bytes × Flat)) (t : Flat) → Each (λ e. P e.1) es → value_at n es ≡ Some t → P t
+pub value-each : (P : Flat → Type 0) (n : Bytes) (es : List (Bytes × Flat)) (t : Flat) → Each (λ e. P e.1) es → value_at n es ≡ Some t → P t
 value-each P n [] t h e = let no-tree : None ≡ Some t = e in cc
 value-each P n (d ∷ es) t h e =
     elim (same_bytes d.0 n) as (λ b. (if b then Some d.1 else value_at n es) ≡ Some t → P t) [
@@ -123,7 +121,7 @@ value-each P n (d ∷ es) t h e =
     some-same : (x y : Flat) → Some x ≡ Some y → x ≡ y
     some-same x y e = cc
 
-each-named : (P : Flat → Type 0) (cs : List Snapshot) → Each (λ c. P c.tree) cs → Each (λ e. P e.1) (map named_tree cs)
+pub each-named : (P : Flat → Type 0) (cs : List Snapshot) → Each (λ c. P c.tree) cs → Each (λ e. P e.1) (map named_tree cs)
 each-named P [] h = tt
 each-named P (c ∷ cs) h = (h.0, each-named P cs h.1)
 
@@ -252,7 +250,7 @@ remove-good pool t p g = (remove-tree t p g.0, leaves-remove (leaf_in pool) t p 
 empty-good : (pool : List Bytes) → IsGood pool []
 empty-good pool = (record { sorted = tt; paths = tt; leaves = tt; apart = tt }, refl)
 
-few-same : (at : ℕ) (t u : Flat) → few_files at t ≡ Ok u → t ≡ u
+pub few-same : (at : ℕ) (t u : Flat) → few_files at t ≡ Ok u → t ≡ u
 few-same at t u e =
     elim (nat_le (length t) (2 ^ 20)) as (λ b. (if b then Ok t else Err (Limit at Files)) ≡ Ok u → t ≡ u) [
       | true ↦ λ k. ok-same t u k

@@ -2,14 +2,14 @@
 use Rattle.std.specs.Prelude.{◌≡◌, ⊤, true, nat_le, length, All}
 use Rattle.git_objects.specs.Paths.{Bytes, Path, is_bytes, text}
 use Rattle.git_objects.specs.declared.limits.TheConstants.{BLOB_BYTES, MESSAGE_BYTES, PATH_BYTES, PATH_COMPONENTS}
-use Rattle.fast_import.specs.Verdicts.{verdict}
-use Rattle.fast_import.specs.declared.command.Command.{Command}
-use Rattle.fast_import.specs.declared.command.Command.TheVariants as commands
-use Rattle.fast_import.specs.declared.command.Change.{Change}
-use Rattle.fast_import.specs.declared.command.Change.TheVariants as changes
-use Rattle.fast_import.specs.declared.command.BlobRef.{BlobRef}
-use Rattle.fast_import.specs.declared.command.BlobRef.TheVariants as blobs
-use Rattle.fast_import.specs.declared.progress.Progress.{Progress}
+use Rattle.stream_reader.specs.Verdicts.{verdict}
+use Rattle.stream_reader.specs.declared.command.Command.{Command}
+use Rattle.stream_reader.specs.declared.command.Command.TheVariants as commands
+use Rattle.stream_reader.specs.declared.command.Change.{Change}
+use Rattle.stream_reader.specs.declared.command.Change.TheVariants as changes
+use Rattle.stream_reader.specs.declared.command.BlobRef.{BlobRef}
+use Rattle.stream_reader.specs.declared.command.BlobRef.TheVariants as blobs
+use Rattle.stream_reader.specs.declared.progress.Progress.{Progress}
 use Rattle.repo_state.specs.SoundCommands.{IsSound}
 
 abbrev pub IsShortBlob : Bytes → Type 0
@@ -47,4 +47,5 @@ pub record IsRead (c : Command) : Type 0 where
 
 -- Each command that a stream of bytes spells, up to its first fault or to its end.
 abbrev pub ReaderLaw : Type 0
-ReaderLaw = (p : Progress) (input : Bytes) → is_bytes input ≡ true → All (λ c. IsRead c.command) (verdict p input).commands
+ReaderLaw = (p : Progress) (input : Bytes) → is_bytes input ≡ true
+    → All (λ c. IsRead c.command) (verdict p input).commands

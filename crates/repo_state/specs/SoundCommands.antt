@@ -6,13 +6,13 @@ use Rattle.git_objects.specs.Bodies.{is_name}
 use Rattle.git_objects.specs.declared.mode.Mode.{Mode}
 use Rattle.git_objects.specs.declared.mode.Mode.TheVariants.{File, Exec, Link, Module, Dir}
 use Rattle.path_names.specs.RefNames.{is_ref_name}
-use Rattle.fast_import.specs.declared.command.Command.{Command}
-use Rattle.fast_import.specs.declared.command.Command.TheVariants as commands
-use Rattle.fast_import.specs.declared.command.CommitHead.{CommitHead}
-use Rattle.fast_import.specs.declared.command.Change.{Change}
-use Rattle.fast_import.specs.declared.command.Change.TheVariants as changes
-use Rattle.fast_import.specs.declared.command.BlobRef.{BlobRef}
-use Rattle.fast_import.specs.declared.command.BlobRef.TheVariants as blobs
+use Rattle.stream_reader.specs.declared.command.Command.{Command}
+use Rattle.stream_reader.specs.declared.command.Command.TheVariants as commands
+use Rattle.stream_reader.specs.declared.command.CommitHead.{CommitHead}
+use Rattle.stream_reader.specs.declared.command.Change.{Change}
+use Rattle.stream_reader.specs.declared.command.Change.TheVariants as changes
+use Rattle.stream_reader.specs.declared.command.BlobRef.{BlobRef}
+use Rattle.stream_reader.specs.declared.command.BlobRef.TheVariants as blobs
 
 abbrev pub IsSoundFile : BlobRef → Type 0
 IsSoundFile (blobs.Inline b) = is_bytes b ≡ true

@@ -1,8 +1,10 @@
 // Laws of what a stream brings.
 ghost use Rattle.state_items.specs.KeptLaws.{Projecting};
-ghost use Rattle.repo_state.specs.MadeObjects.{MadeLaw};
+ghost use Rattle.repo_state.specs.MadeObjects.{ClashLaw, MadeLaw};
 ghost use Rattle.repo_state.specs.Replayed.{ImportKeptLaw, ReplayedLaw};
 ghost use Rattle.repo_state.specs.SmallCommands.{ReaderLaw};
+ghost use Rattle.repo_state.specs.SmallReplays.{SmallLaw, StreamKeptLaw};
+ghost use Rattle.repo_state.specs.StoredReplays.{StoredReplayLaw};
 
 /// A replay of sound commands gives whole commits of known blobs, and refs to commits that are there.
 pub fn replayed_law()
@@ -22,4 +24,24 @@ pub fn reader_law()
 /// What a stream of sound commands gives is made of objects that are held and of those that its commands bring.
 pub fn made_law()
     ensures { MadeLaw }
+{}
+
+/// Small commands upon commits whose trees are within the limits give blobs and commits within the limits of objects.
+pub fn small_law()
+    ensures { SmallLaw }
+{}
+
+/// A stream of bytes keeps items Kept, where no two objects have one name and the state passes no limit.
+pub fn stream_kept_law()
+    ensures { (project : Projecting) → StreamKeptLaw project }
+{}
+
+/// A clash in a store that a stream has filled is of two objects that are held or that its commands bring.
+pub fn clash_law()
+    ensures { ClashLaw }
+{}
+
+/// A store has what the code's names stand for over it.
+pub fn stored_replay_law()
+    ensures { StoredReplayLaw }
 {}

@@ -18,5 +18,8 @@ mod walk;
 
 pub use commit::{Batch, CommitError, Setting};
 pub use count::count_batch;
-pub use laws::{import_kept_law, made_law, reader_law, replayed_law};
+pub use laws::{
+    clash_law, import_kept_law, made_law, reader_law, replayed_law, small_law, stored_replay_law,
+    stream_kept_law,
+};
 pub use state::{LoadError, State};

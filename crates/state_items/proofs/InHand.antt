@@ -21,6 +21,7 @@ use Rattle.state_items.specs.Hands.{IsInHand, HandLaw, HeldObject, BlobRead, Com
 use Rattle.state_items.proofs.Imports.{any-cases}
 use Rattle.state_items.proofs.TreeParts.{all-each, below-made, each-map, each-member, tree-each}
 use Rattle.state_items.proofs.TreesHeld.{each-both}
+use Rattle.state_items.proofs.Twices.{once-same}
 
 -- what a list has by a test it has as a member
 pub any-member : (b : Bytes) (xs : List Bytes) → list_any (same_bytes b) xs ≡ true → Contains xs b
@@ -87,5 +88,5 @@ module _ (h : Held) (bs : List Bytes) (cs : List Snapshot) where
 pub hand-law : HandLaw
 hand-law = record {
   in_hand = λ h bs cs w l o m. in-hand h bs cs w l o m;
-  apart = λ h bs cs w l f o d m n e. f o d (in-hand h bs cs w l o m) (in-hand h bs cs w l d n) e;
+  apart = λ h bs cs w l f o d m n e. once-same (IsInHand h bs cs) f o d (in-hand h bs cs w l o m) (in-hand h bs cs w l d n) e;
 }

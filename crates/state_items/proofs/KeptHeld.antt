@@ -1,5 +1,5 @@
 -- What is held of kept projections, by a filter's text and a rule.
-use Rattle.std.proofs.Common.{◌≡◌, ◌&&◌, ◌||◌, ℕ, zero, suc, Bool, true, false, not, cond, List, [], ◌∷◌, ◌++◌, map, Option, Some, None, Result, Ok, Err, refl, sym, ap, subst, ◌∙◌, append-nil, append_assoc, true≢false, eq-eqb}
+use Rattle.std.proofs.Common.{◌≡◌, ◌&&◌, ◌||◌, ℕ, zero, suc, Bool, true, false, not, cond, List, [], ◌∷◌, ◌++◌, map, Option, Some, Result, Ok, Err, refl, sym, ap, subst, ◌∙◌, append-nil, append_assoc, true≢false, eq-eqb}
 use Rattle.std.specs.Prelude.{filter, ◌==◌}
 use Rattle.std.specs.List.{list_any}
 use Rattle.std.specs.Option.{is_none}
@@ -13,11 +13,11 @@ use Rattle.git_objects.specs.Results.{◌>>=◌, must}
 use Rattle.git_objects.specs.declared.kind.Kind.TheVariants.{Commit}
 use Rattle.object_store.specs.Objects.{Object, has}
 use Rattle.commit_map.specs.Shown.{Entries, Shown, kept_at}
-use Rattle.state_items.specs.Fields.{Spot, Fault, BrokenAt, Read, field}
+use Rattle.state_items.specs.Fields.{Spot, Fault, BrokenAt, field}
 use Rattle.state_items.specs.Items.{Kept, entries_field, entry_field, is_of, is_rule, result_field}
 use Rattle.state_items.specs.Changes.{entry_of}
 use Rattle.state_items.specs.KeptMaps.{RuleMaps, AreKept, entries_at, entries_for, is_for, with_map_by}
-use Rattle.state_items.specs.Steps.{entries_step, entry_step, original_field}
+use Rattle.state_items.specs.Steps.{entries_step, entry_step}
 use Rattle.state_items.proofs.MapsKept.{entries-set}
 
 -- ---- results that agree
@@ -143,8 +143,12 @@ module _ (text : Bytes) (rule : ℕ) where
       shown x =
           match-then (λ (r q : Option Shown × Spot). r ≡ q) (IsOneMore es) (result_field x.1) (result_field x.1) (λ r. Ok (es ++ (x.0, r.0) ∷ [], r.1)) (λ r. Ok (record { filter = text; rule = rule; original = x.0; result = r.0 }, r.1))
           (match-same (result_field x.1))
-          (λ r q e. record { behind = ap (λ (p : Option Shown × Spot). p.1) e; entry = (x.0, r.0); mapped = refl;
-            held = ap (λ (p : Option Shown × Spot). record { filter = text; rule = rule; original = x.0; result = p.0 }) (sym e) })
+          (λ r q e. record {
+            behind = ap (λ (p : Option Shown × Spot). p.1) e;
+            entry = (x.0, r.0);
+            mapped = refl;
+            held = ap (λ (p : Option Shown × Spot). record { filter = text; rule = rule; original = x.0; result = p.0 }) (sym e);
+          })
 
       judged : (x : Bytes × Spot) → Matches (IsOneMore es)
           ((must (BrokenAt s.at) (has Commit S x.0 && is_none (kept_at x.0 es)) >>= λ _. Ok x) >>= λ n. result_field n.1 >>= λ r. Ok (es ++ (n.0, r.0) ∷ [], r.1))

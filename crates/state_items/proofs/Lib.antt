@@ -16,7 +16,10 @@ pub mod ItemReads
 pub mod Appended
 pub mod Kepts
 pub mod TreeParts
+pub mod Twices
 pub mod InHand
+pub mod TreesStored
+pub mod Canonicals
 pub mod Stopping
 pub mod Spots
 pub mod Naming
@@ -33,3 +36,4 @@ pub mod KeptRead
 pub mod KeptHeld
 pub mod ItemSteps
 pub mod Gathering
+pub mod ChangeLengths

@@ -1,7 +1,6 @@
 -- The names of objects, and what is taken in.
-use Rattle.std.proofs.Common.{◌≡◌, ◌+◌, ◌^◌, ℕ, suc, Bool, true, false, not, cond, ◌&&◌, ◌||◌, List, [], ◌∷◌, ◌++◌, map, length, reverse, None, Some, Result, Ok, Err, refl, sym, ap, subst, ◌∙◌, true≢false, arith, ◌<◌, lit<}
+use Rattle.std.proofs.Common.{◌≡◌, ◌+◌, ◌^◌, ℕ, suc, Bool, true, false, not, cond, ◌&&◌, ◌||◌, List, [], ◌∷◌, ◌++◌, map, length, reverse, None, Some, Result, Ok, Err, refl, sym, ap, ◌∙◌, arith, ◌<◌, lit<}
 use Rattle.std.proofs.lemmas.Bool.Decides.{nat_tests}
-use borrow.Author.Tests.{leb-true}
 use Rattle.std.specs.Prelude.{nat_le, filter}
 use Rattle.std.specs.List.{list_any}
 use Rattle.std.specs.Option.{unwrap_or}
@@ -16,7 +15,7 @@ use Rattle.git_objects.specs.declared.kind.Kind.{Kind}
 use Rattle.git_objects.specs.declared.kind.Kind.TheVariants.{Blob, Tree, Commit}
 use Rattle.git_objects.specs.declared.name.Name.{Name}
 use Rattle.git_objects.proofs.Basics.{same_bytes-back, same_bytes-self}
-use Rattle.object_store.specs.Objects.{Object, object_name, has, has_name, is_named, body_of, IsStore}
+use Rattle.object_store.specs.Objects.{Object, object_name, has, has_name, is_named, body_of}
 use Rattle.object_store.specs.Puts.{refusal}
 use Rattle.object_store.specs.Unfolding.{joined, flat}
 use Rattle.object_store.specs.Sizes.{longest, held_number, sizes, stats_of}

@@ -1,5 +1,5 @@
 -- The places of parents, one after another.
-use Rattle.std.proofs.Common.{◌≡◌, ◌+◌, ◌<◌, ℕ, zero, suc, Bool, true, false, ◌&&◌, List, [], ◌∷◌, ◌++◌, map, take, length, slice_get, Option, Some, None, All, refl, sym, ap, subst, ◌∙◌, add-one, true≢false}
+use Rattle.std.proofs.Common.{◌≡◌, ◌+◌, ◌<◌, ℕ, zero, suc, Bool, true, List, [], ◌∷◌, ◌++◌, map, take, slice_get, Option, Some, None, All, sym, ap, subst, ◌∙◌, add-one, true≢false}
 use Rattle.std.specs.List.{list_all}
 use Rattle.std.specs.Option.{is_some, unwrap_or}
 use Rattle.std.specs.Cmp.{first_so, second_so}

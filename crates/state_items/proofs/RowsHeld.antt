@@ -1,8 +1,8 @@
 -- The commits and the blobs of a store, by their names.
-use Rattle.std.proofs.Common.{◌≡◌, ◌+◌, ◌<◌, ◌≤◌, ◌^◌, ℕ, suc, Bool, true, false, cond, ◌&&◌, ◌||◌, List, [], ◌∷◌, ◌++◌, length, map, filter, slice_get, position, Option, Some, None, All, refl, sym, ap, subst, ◌∙◌, arith, length-append, true≢false, not, one-add}
+use Rattle.std.proofs.Common.{◌≡◌, ◌+◌, ℕ, suc, Bool, true, false, cond, ◌&&◌, ◌||◌, List, [], ◌∷◌, ◌++◌, length, map, filter, position, Option, Some, None, refl, sym, ap, subst, ◌∙◌, arith, length-append, true≢false, not, one-add}
 use Rattle.std.specs.Prelude.{nat_lt}
 use Rattle.std.specs.List.{list_all, list_any, position_or_len}
-use Rattle.std.specs.Option.{is_none, is_some, unwrap_or}
+use Rattle.std.specs.Option.{is_some}
 use Rattle.std.proofs.lemmas.Bool.{false_from_ne_true}
 use Rattle.std.proofs.lemmas.Bool.Decides.{nat_tests}
 use Rattle.std.proofs.lemmas.List.{map-append}
@@ -19,12 +19,12 @@ use Rattle.git_objects.specs.CommitBodies.{commit_from}
 use Rattle.git_objects.specs.declared.name.Name.{Name}
 use Rattle.git_objects.specs.declared.kind.Kind.{Kind}
 use Rattle.git_objects.specs.declared.kind.Kind.TheVariants.{Blob, Tree, Commit as CommitKind}
-use Rattle.object_store.specs.Objects.{Object, object_name, same_kind, has, has_name, is_body, is_named, IsStore}
+use Rattle.object_store.specs.Objects.{Object, same_kind, has, has_name, is_body, IsStore}
 use Rattle.object_store.specs.Fits.{is_commit}
 use Rattle.object_store.proofs.Held.{has_name-from}
 use Rattle.object_store.proofs.StoredCommits.{commit-held}
-use Rattle.commit_graph.specs.Graphs.{Row, IsGraph, place_of}
-use Rattle.state_items.specs.Arrivals.{AreHeld, blobs_of, commit_row, place_in, rows_of, with_blob_name, with_commit, with_row, HasParents}
+use Rattle.commit_graph.specs.Graphs.{Row, place_of}
+use Rattle.state_items.specs.Arrivals.{AreHeld, blobs_of, commit_row, rows_of, with_blob_name, with_commit, with_row, HasParents}
 use Rattle.state_items.proofs.Naming.{any-map, or-back, or-false}
 
 -- ---- places

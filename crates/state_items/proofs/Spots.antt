@@ -1,13 +1,13 @@
 -- Where fields stand in an item.
-use Rattle.std.proofs.Common.{◌≡◌, ◌+◌, ◌≤◌, ℕ, Bool, true, false, cond, List, Option, Some, None, length, take, drop, Result, Ok, Err, refl, sym, ap, ◌∙◌}
+use Rattle.std.proofs.Common.{◌≡◌, ◌+◌, ℕ, Bool, true, false, cond, Option, Some, None, length, take, drop, Ok, Err, refl, sym, ap, ◌∙◌}
 use Rattle.std.specs.Prelude.{nat_le}
 use Rattle.std.proofs.lemmas.List.{drop-drop}
 use Rattle.git_objects.specs.Paths.{Bytes}
 use Rattle.git_objects.specs.Results.{◌>>=◌, or_refuse}
 use Rattle.git_objects.specs.declared.kind.Kind.{Kind}
-use Rattle.state_items.specs.Fields.{Spot, Fault, BrokenAt, Read, as_number, field, number, number_of}
+use Rattle.state_items.specs.Fields.{Spot, BrokenAt, Read, as_number, field, number, number_of}
 use Rattle.state_items.specs.Items.{kind_field, kind_of}
-use Rattle.state_items.specs.Steps.{Field, body_field}
+use Rattle.state_items.specs.Steps.{body_field}
 use Rattle.state_items.specs.Stops.{spot_at}
 use Rattle.state_items.proofs.Stopping.{same-value, then-ok}
 

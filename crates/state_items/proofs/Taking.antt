@@ -1,5 +1,5 @@
 -- One object more.
-use Rattle.std.proofs.Common.{◌≡◌, ◌+◌, ◌<◌, ◌≤◌, ◌^◌, ℕ, Bool, true, false, not, ◌&&◌, List, [], ◌∷◌, ◌++◌, length, map, filter, take, drop, None, Some, Result, Ok, Err, refl, sym, ap, subst, ◌∙◌, arith, true≢false}
+use Rattle.std.proofs.Common.{◌≡◌, ◌≤◌, ◌^◌, ℕ, Bool, true, false, not, ◌&&◌, List, [], ◌∷◌, ◌++◌, length, map, filter, None, Result, Ok, Err, refl, sym, ap, subst, ◌∙◌, arith}
 use borrow.Author.Tests.{leb-true}
 use Rattle.std.specs.Prelude.{nat_le}
 use Rattle.std.specs.Bool.{if◌then◌else◌}
@@ -20,7 +20,7 @@ use Rattle.commit_graph.specs.Graphs.{Row, place_of}
 use Rattle.state_items.specs.Fields.{Fault, BrokenAt}
 use Rattle.state_items.specs.Items.{has_room, take_object}
 use Rattle.state_items.specs.Arrivals.{AreHeld, HasArrived, HasParents, more_commits, blobs_of, rows_of, with_blob_name, with_row}
-use Rattle.state_items.proofs.Naming.{commits-more, named-more, room-more, take-unfit, take-new, commit-stays}
+use Rattle.state_items.proofs.Naming.{named-more, room-more, commit-stays}
 use Rattle.state_items.proofs.RowsHeld.{blob-fresh, has-parents, place-fresh, rows-number}
 
 pub take-full : (S : List Object) (k : Kind) (b : Bytes) (at : ℕ) → refusal S k b ≡ None → has_name S (name k b) ≡ false → has_room (record { kind = k; body = b } ∷ S) ≡ false

@@ -17,7 +17,8 @@ use Rattle.state_items.specs.Changes.{Plan, NoPlan, ChangePlan, RulePlan, KeepPl
 -- objects one after another, each with its children before it, within the limits of objects, and not held yet
 abbrev pub AreNew : List Object → List Object → Type 0
 AreNew S [] = ⊤
-AreNew S (o ∷ os) = (is_body S o.kind o.body ≡ true) × (body_fits S o.kind o.body ≡ true) × (has_name S (object_name o) ≡ false) × AreNew (o ∷ S) os
+AreNew S (o ∷ os) = (is_body S o.kind o.body ≡ true) × (body_fits S o.kind o.body ≡ true)
+    × (has_name S (object_name o) ≡ false) × AreNew (o ∷ S) os
 
 -- ref names that strictly rise, each with a commit among these objects
 abbrev pub are_refs : List Object → Option Bytes → Refs → Bool
@@ -32,18 +33,22 @@ is_result (Some p) = is_name p.commit && is_name p.tree
 abbrev pub are_entries : List Object → ℕ → Bytes → List Kept → List (Bytes × Option Shown) → Bool
 are_entries S k text kept [] = true
 are_entries S k text kept (e ∷ es) =
-    has Commit S e.0 && is_result e.1 && not (list_any (is_of text k e.0) kept) && are_entries S k text (kept ++ entry_of k text e ∷ []) es
+    has Commit S e.0 && is_result e.1 && not (list_any (is_of text k e.0) kept)
+    && are_entries S k text (kept ++ entry_of k text e ∷ []) es
 
 -- what may be added to what is held
 abbrev pub IsAddition : Held → Plan → Type 0
 IsAddition h NoPlan = ⊤
-IsAddition h (ChangePlan objects refs) = AreNew h.objects objects × (are_refs (held_after h (ChangePlan objects refs)).objects None refs ≡ true)
+IsAddition h (ChangePlan objects refs) = AreNew h.objects objects
+    × (are_refs (held_after h (ChangePlan objects refs)).objects None refs ≡ true)
 IsAddition h (RulePlan k) = is_rule k ≡ true
-IsAddition h (KeepPlan k text es) = (is_rule k ≡ true) × (is_canonical text ≡ true) × (length text < 2 ^ 16) × (are_entries h.objects k text h.kept es ≡ true)
+IsAddition h (KeepPlan k text es) = (is_rule k ≡ true) × (is_canonical text ≡ true) × (length text < 2 ^ 16)
+    × (are_entries h.objects k text h.kept es ≡ true)
 
--- An addition that passes no limit is read back behind the items. No items spell a state in which nothing is held, and hold what
--- they should.
+-- An addition that passes no limit is read back behind the items. No items spell a state in which nothing is held, and
+-- hold what they should.
 pub record AppendLaw : Type 0 where
-  pub read_back : (items : List Bytes) (h : Held) (p : Plan) → read_items items ≡ Ok h → IsAddition h p → passed h (room_of items) p ≡ None
+  pub read_back : (items : List Bytes) (h : Held) (p : Plan) → read_items items ≡ Ok h → IsAddition h p
+      → passed h (room_of items) p ≡ None
       → read_items (items ++ plan_items p) ≡ Ok (held_after h p)
   pub none : (project : ℕ → Bytes → List Snapshot → Bytes → Option Shown) → IsKept project [] nothing

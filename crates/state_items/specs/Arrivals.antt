@@ -1,5 +1,5 @@
 -- What is held of objects beside the objects: their names, the graph of commits, and the names of the blobs, in order of arrival.
-use Rattle.std.specs.Prelude.{◌≡◌, ◌≤◌, ◌<◌, ◌^◌, ⊤, true, false, ℕ, ◌+◌, List, [], ◌∷◌, ◌++◌, map, filter, length, reverse, Option, Some, None, if◌then◌else◌}
+use Rattle.std.specs.Prelude.{◌≡◌, ◌<◌, ◌^◌, ⊤, true, false, ℕ, ◌+◌, List, [], ◌∷◌, ◌++◌, map, length, reverse, Option, Some, None, if◌then◌else◌}
 use Rattle.std.specs.List.{list_all, list_any}
 use Rattle.std.specs.Option.{is_some, unwrap_or}
 use Rattle.git_objects.specs.Paths.{Bytes, same_bytes}
@@ -11,7 +11,6 @@ use Rattle.git_objects.specs.declared.kind.Kind.{Kind}
 use Rattle.git_objects.specs.declared.kind.Kind.TheVariants.{Blob, Tree, Commit as CommitKind}
 use Rattle.git_objects.specs.declared.name.Name.{Name}
 use Rattle.object_store.specs.Objects.{Object, object_name, same_kind, IsStore}
-use Rattle.object_store.specs.Fits.{is_commit}
 use Rattle.commit_graph.specs.Graphs.{Row, place_of}
 use Rattle.state_items.specs.Items.{has_room}
 

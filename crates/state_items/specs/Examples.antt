@@ -8,6 +8,7 @@ use Rattle.git_objects.specs.Bodies.{tree_entries}
 use Rattle.git_objects.specs.Commits.{commit_body, commit_name}
 use Rattle.git_objects.specs.CommitBodies.{commit_from}
 use Rattle.git_objects.specs.Idents.{is_ident}
+use Rattle.git_objects.specs.Refs.{Refs}
 use Rattle.git_objects.specs.Snapshots.{Snapshot, snapshot_name}
 use Rattle.git_objects.specs.declared.kind.Kind.TheVariants.{Tree}
 use Rattle.git_objects.specs.declared.quantity.Quantity.TheVariants as limits
@@ -27,6 +28,8 @@ use Rattle.sha1.specs.Sha1.{sha1, first_words, schedule, rounds, compress, hash_
 use Rattle.state_items.specs.Fields.{BrokenAt}
 use Rattle.state_items.specs.Items.{Held, change_text, is_canonical, kept_text, nothing, read_item, read_items, rule_text}
 use Rattle.state_items.specs.Repos.{are_used, repo}
+use Rattle.state_items.specs.Appending.{are_refs}
+use Rattle.state_items.specs.Imported.{with_blobs, with_commits}
 use Rattle.state_items.specs.Changes.{ChangePlan, KeepPlan, NoPlan, RulePlan, blob_object, change_plan, fresh, held_after, moved, objects_of, passed, plan_items, rule_plan}
 
 abbrev ident : Bytes
@@ -163,8 +166,12 @@ pub the_item_again : read_items (item ∷ item ∷ []) ≡ Err (1, BrokenAt 11)
 unfolding read_items read_item is_ref_name tree_entries commit_from decode_pairs is_ident find_named has has_name body_of flat change_text commit_body commit_name encode_with body line name digits first_words schedule rounds compress hash_after digest_bytes sha1
 the_item_again = refl
 
+abbrev before : Refs
+before = (codes "a", codes "1") ∷ (codes "b", codes "2") ∷ []
+
 -- refs: one that moves, one that stays, and one that is new, in byte order
-pub what_moves : moved ((codes "a", codes "1") ∷ (codes "b", codes "2") ∷ []) ((codes "c", codes "3") ∷ (codes "a", codes "1") ∷ (codes "b", codes "9") ∷ []) ≡ (codes "b", codes "9") ∷ (codes "c", codes "3") ∷ []
+pub what_moves : moved before ((codes "c", codes "3") ∷ (codes "a", codes "1") ∷ (codes "b", codes "9") ∷ [])
+    ≡ (codes "b", codes "9") ∷ (codes "c", codes "3") ∷ []
 what_moves = refl
 
 pub no_room_for_another_item : passed nothing (record { number = 2 ^ 20; size = 0 }) (RulePlan 2) ≡ Some limits.Items
@@ -185,6 +192,32 @@ nothing_beside_it = refl
 
 pub a_lone_tree_is_beside_it : are_used (record { kind = Tree; body = [] } ∷ []) ≡ false
 a_lone_tree_is_beside_it = refl
+
+-- ---- what is brought
+
+-- each blob once, those that come in front of those before
+pub blobs_once : with_blobs (codes "a" ∷ []) (codes "b" ∷ codes "a" ∷ codes "b" ∷ []) ≡ codes "b" ∷ codes "a" ∷ []
+blobs_once = refl
+
+pub a_commit_once : with_commits (first ∷ []) (first ∷ []) ≡ first ∷ []
+unfolding commit_body commit_name encode_with body line name digits first_words schedule rounds compress hash_after digest_bytes sha1
+a_commit_once = refl
+
+abbrev rising : Refs
+rising = (codes "refs/heads/a", snapshot_name first) ∷ (codes "refs/heads/b", snapshot_name first) ∷ []
+
+-- refs rise, and name commits that are held
+pub refs_that_rise : are_refs held.objects None rising ≡ true
+unfolding has is_ref_name commit_body commit_name encode_with body line name digits first_words schedule rounds compress hash_after digest_bytes sha1
+refs_that_rise = refl
+
+pub refs_that_fall : are_refs held.objects None (reverse rising) ≡ false
+unfolding has is_ref_name commit_body commit_name encode_with body line name digits first_words schedule rounds compress hash_after digest_bytes sha1
+refs_that_fall = refl
+
+pub a_ref_to_nothing : are_refs [] None ((main, snapshot_name first) ∷ []) ≡ false
+unfolding has is_ref_name
+a_ref_to_nothing = refl
 
 -- ---- texts of filters
 
@@ -255,17 +288,20 @@ unfolding read_item kept_text is_canonical read pieces_at list_at target_at name
 one_is_kept = refl
 
 -- the older format has no byte for the rule, and is kept for rule 1
-pub of_rule_1 : read_item held (1 ∷ 2 ∷ (0 ∷ 3 ∷ text ++ (0 ∷ 0 ∷ 0 ∷ 1 ∷ []) ++ original ++ 0 ∷ [])) ≡ Ok (held_after held (KeepPlan 1 text ((original, None) ∷ [])))
+pub of_rule_1 : read_item held (1 ∷ 2 ∷ (0 ∷ 3 ∷ text ++ (0 ∷ 0 ∷ 0 ∷ 1 ∷ []) ++ original ++ 0 ∷ []))
+    ≡ Ok (held_after held (KeepPlan 1 text ((original, None) ∷ [])))
 unfolding read_item is_canonical read pieces_at list_at target_at name_at kept_name_at word_at path_of unquote has commit_body commit_name encode_with body line name digits first_words schedule rounds compress hash_after digest_bytes sha1
 of_rule_1 = refl
 
 -- neither none nor one
-pub no_such_result : read_item held (1 ∷ 2 ∷ (0 ∷ 3 ∷ text ++ (0 ∷ 0 ∷ 0 ∷ 1 ∷ []) ++ original ++ 2 ∷ [])) ≡ Err (BrokenAt 31)
+pub no_such_result : read_item held (1 ∷ 2 ∷ (0 ∷ 3 ∷ text ++ (0 ∷ 0 ∷ 0 ∷ 1 ∷ []) ++ original ++ 2 ∷ []))
+    ≡ Err (BrokenAt 31)
 unfolding read_item is_canonical read pieces_at list_at target_at name_at kept_name_at word_at path_of unquote has commit_body commit_name encode_with body line name digits first_words schedule rounds compress hash_after digest_bytes sha1
 no_such_result = refl
 
 -- a second entry of one original, in the same item and in a later one
-pub twice_in_one_item : read_item held (kept_text 2 text ((original, None) ∷ (original, Some shown) ∷ [])) ≡ Err (BrokenAt 33)
+pub twice_in_one_item : read_item held (kept_text 2 text ((original, None) ∷ (original, Some shown) ∷ []))
+    ≡ Err (BrokenAt 33)
 unfolding read_item kept_text is_canonical read pieces_at list_at target_at name_at kept_name_at word_at path_of unquote has commit_body commit_name encode_with body line name digits first_words schedule rounds compress hash_after digest_bytes sha1
 twice_in_one_item = refl
 
@@ -274,6 +310,7 @@ unfolding read_item kept_text is_canonical read pieces_at list_at target_at name
 kept_again = refl
 
 -- for another rule it is another entry
-pub kept_for_another_rule : read_item with_kept (kept_text 1 text ((original, None) ∷ [])) ≡ Ok (held_after with_kept (KeepPlan 1 text ((original, None) ∷ [])))
+pub kept_for_another_rule : read_item with_kept (kept_text 1 text ((original, None) ∷ []))
+    ≡ Ok (held_after with_kept (KeepPlan 1 text ((original, None) ∷ [])))
 unfolding read_item kept_text is_canonical read pieces_at list_at target_at name_at kept_name_at word_at path_of unquote has commit_body commit_name encode_with body line name digits first_words schedule rounds compress hash_after digest_bytes sha1
 kept_for_another_rule = refl

@@ -80,7 +80,8 @@ pub record IsImported (h g : Held) (bs : List Bytes) (cs : List Snapshot) (es : 
   pub store : IsStore g.objects
   pub blobs : (repo g).blobs ≡ with_blobs (repo h).blobs bs
   pub commits : (repo g).commits ≡ with_commits (repo h).commits cs
-  pub refs : (r : Bytes) → find_entry bytes_cmp r g.refs ≡ option_or (find_entry bytes_cmp r (with_refs [] es)) (find_entry bytes_cmp r h.refs)
+  pub refs : (r : Bytes)
+      → find_entry bytes_cmp r g.refs ≡ option_or (find_entry bytes_cmp r (with_refs [] es)) (find_entry bytes_cmp r h.refs)
   pub kept : g.kept ≡ h.kept
   pub rule : g.rule ≡ h.rule
   -- nothing is held beside the state's objects, where nothing was before
@@ -92,5 +93,6 @@ ImportedLaw = (h : Held) (blobs : List Bytes) (cs : List Snapshot) (refs : Refs)
 
 -- A change that brings whole commits, within the limits of objects, may be added.
 abbrev pub ChangeLaw : Type 0
-ChangeLaw = (h : Held) (blobs : List Bytes) (cs : List Snapshot) (refs : Refs) → IsBrought h blobs cs → AreSmall blobs cs → AreRefsTo (with_commits (repo h).commits cs) refs
+ChangeLaw = (h : Held) (blobs : List Bytes) (cs : List Snapshot) (refs : Refs) → IsBrought h blobs cs
+    → AreSmall blobs cs → AreRefsTo (with_commits (repo h).commits cs) refs
     → IsAddition h (change_plan h (objects_of blobs cs) refs)

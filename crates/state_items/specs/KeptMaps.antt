@@ -1,5 +1,5 @@
 -- Kept projections by a filter's text and a rule, as maps have them and as what is held has them.
-use Rattle.std.specs.Prelude.{◌≡◌, ℕ, Bool, true, ◌&&◌, ◌==◌, List, [], ◌∷◌, ◌++◌, map, filter, if◌then◌else◌, Option, Some, None}
+use Rattle.std.specs.Prelude.{◌≡◌, ℕ, Bool, true, ◌&&◌, ◌==◌, List, [], ◌∷◌, map, filter, if◌then◌else◌, Option, Some, None}
 use Rattle.std.specs.Option.{unwrap_or}
 use Rattle.git_objects.specs.Paths.{Bytes, same_bytes}
 use Rattle.commit_map.specs.Shown.{Entries}

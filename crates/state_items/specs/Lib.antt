@@ -7,6 +7,8 @@ pub mod Imported
 pub mod ReadHeld
 pub mod KeptLaws
 pub mod Hands
+pub mod Stored
+pub mod Canonical
 pub mod Examples
 pub mod Stops
 pub mod Arrivals
@@ -14,3 +16,4 @@ pub mod KeptMaps
 pub mod Steps
 pub mod Readings
 pub mod Lending
+pub mod Writings

@@ -11,8 +11,8 @@ use Rattle.path_names.specs.RefNames.{is_ref_name}
 use Rattle.state_items.specs.Items.{Held, is_rule, read_items}
 use Rattle.state_items.specs.Repos.{repo}
 
--- Refs stand in byte order, each with a commit that is held; kept projections are of commits that are held; the rule is one; and the
--- trees of the commits are within the limits of objects.
+-- Refs stand in byte order, each with a commit that is held; kept projections are of commits that are held; the rule is
+-- one; and the trees of the commits are within the limits of objects.
 pub record IsSoundHeld (h : Held) : Type 0 where
   pub sorted : T (is_sorted bytes_cmp h.refs)
   pub names : list_all (λ e. is_ref_name e.0) h.refs ≡ true
@@ -24,4 +24,5 @@ pub record IsSoundHeld (h : Held) : Type 0 where
 -- Of any items that are read; and where they are bytes, the objects that they hold are a store.
 pub record ReadLaw : Type 0 where
   pub sound : (items : List Bytes) (h : Held) → read_items items ≡ Ok h → IsSoundHeld h
-  pub store : (items : List Bytes) (h : Held) → list_all is_bytes items ≡ true → read_items items ≡ Ok h → IsStore h.objects
+  pub store : (items : List Bytes) (h : Held) → list_all is_bytes items ≡ true → read_items items ≡ Ok h
+      → IsStore h.objects

@@ -40,6 +40,10 @@ pub record Holds (h : Held) (v : Gathered) : Type 0 where
   pub kept : AreKept v.maps h.kept
   pub rule : v.rule ≡ h.rule
 
+-- something is held that was gathered: so it is as long as no item was broken
+abbrev pub HoldsSomething : Gathered → Type 0
+HoldsSomething v = (h : Held) × Holds h v
+
 abbrev pub with_piece : Gathered → Bytes → Gathered
 with_piece v piece = record v { piece = piece }
 

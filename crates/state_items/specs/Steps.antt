@@ -1,5 +1,5 @@
 -- Parts of an item's definition, as the code reads them.
-use Rattle.std.specs.Prelude.{ℕ, zero, suc, Bool, ◌&&◌, List, [], ◌∷◌, ◌++◌, Option, Some, None, Result, Ok, Err, is_none}
+use Rattle.std.specs.Prelude.{ℕ, zero, suc, Bool, ◌&&◌, List, [], ◌∷◌, ◌++◌, Option, None, Result, Ok, is_none}
 use Rattle.std.specs.List.{list_all}
 use Rattle.std.specs.FinMap.{put as put_entry}
 use Rattle.git_objects.specs.Paths.{Bytes}

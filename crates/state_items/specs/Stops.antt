@@ -1,5 +1,5 @@
 -- Why the code stops reading an item, beside what the definitions say, and where it stands in the item.
-use Rattle.std.specs.Prelude.{◌≡◌, ⊤, ℕ, drop, Result, Ok, Err}
+use Rattle.std.specs.Prelude.{◌≡◌, ⊤, ℕ, drop, Result, Err}
 use Rattle.git_objects.specs.Paths.{Bytes}
 use Rattle.state_items.specs.Fields.{Spot, Fault, BrokenAt, Clash}
 use Rattle.state_items.specs.declared.fault.ItemFault.{ItemFault}

@@ -11,10 +11,9 @@ ghost use Rattle.state_items.specs.KeptMaps.{entries_at, with_map_by};
 ghost use Rattle.state_items.specs.Steps.{entries_step, entry_step, kept_maps, original_field, shown_field};
 ghost use Rattle.state_items.specs.Stops.{IsStop};
 
-use crate::ItemFault;
-use crate::KeptMaps;
 use crate::cursor::Cursor;
 use crate::ref_fields::{has_commit, name_in};
+use crate::{ItemFault, KeptMaps};
 use commit_map::{CommitMap, Rule, Shown};
 use filter_routes::is_sound;
 use filter_text::{Filter, FilterFault, parse, print};

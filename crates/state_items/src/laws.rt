@@ -1,9 +1,11 @@
 // Laws of the definitions.
 ghost use Rattle.state_items.specs.Appending.{AppendLaw};
+ghost use Rattle.state_items.specs.Canonical.{CanonicalLaw};
 ghost use Rattle.state_items.specs.Hands.{HandLaw};
 ghost use Rattle.state_items.specs.Imported.{ChangeLaw, ImportedLaw};
 ghost use Rattle.state_items.specs.KeptLaws.{KeptLaw, Projecting};
 ghost use Rattle.state_items.specs.ReadHeld.{ReadLaw};
+ghost use Rattle.state_items.specs.Stored.{StoredLaw};
 
 /// An addition that passes no limit is read back behind the items, and no items are Kept.
 pub fn append_law()
@@ -33,4 +35,14 @@ pub fn hand_law()
 /// What items hold is sound, and of items that are bytes the objects are a store.
 pub fn read_law()
     ensures { ReadLaw }
+{}
+
+/// A store that has blobs and commits has each object that they bring, and no two of these have one name.
+pub fn stored_law()
+    ensures { StoredLaw }
+{}
+
+/// A canonical text is that of a sound filter, and a sound filter is printed as its canonical text.
+pub fn canonical_law()
+    ensures { CanonicalLaw }
 {}

@@ -9,9 +9,13 @@ mod laws;
 mod objects;
 mod reading;
 mod ref_fields;
+mod writing;
 
 pub use commit_map::Rule;
 pub use fault::ItemFault;
 pub use kept::KeptMaps;
-pub use laws::{append_law, change_law, hand_law, imported_law, kept_law, read_law};
+pub use laws::{
+    append_law, canonical_law, change_law, hand_law, imported_law, kept_law, read_law, stored_law,
+};
 pub use reading::{Loaded, Reading};
+pub use writing::{change_item, change_size, count_commits, first_passed, kept_item, rule_item};

@@ -75,8 +75,14 @@ fn kind_field(cursor: &mut Cursor<'_>) -> Result<Kind, ItemFault>
 fn part_at(item: &[u8], at: usize) -> Result<Part, ItemFault>
     requires { at ≤ length item.now }
     ensures part { MatchResult result
-        (λ p. body_field (spot_at at item.now) ≡ Ok (record { kind = p.kind; body = take p.len (drop p.at item.now);
-        at = p.at }, spot_at (p.at + p.len) item.now))
+        (λ p. body_field (spot_at at item.now) ≡ Ok (
+          record {
+            kind = p.kind;
+            body = take p.len (drop p.at item.now);
+            at = p.at;
+          },
+          spot_at (p.at + p.len) item.now,
+        ))
         (λ stop. IsStop stop (body_field (spot_at at item.now))) }
     ensures within { IfOk result (λ p. p.at + p.len ≤ length item.now) }
 {
@@ -100,11 +106,7 @@ fn put_fault(error: PutError, at: usize) -> ItemFault
 }
 
 // Takes in an object that isn't held, whatever its size.
-fn add(
-    incoming: &mut Incoming,
-    names: &mut IndexSet<Name>,
-    part: Part,
-) -> Result<Name, ItemFault>
+fn add(incoming: &mut Incoming, names: &mut IndexSet<Name>, part: Part) -> Result<Name, ItemFault>
     requires within { part.at + part.len ≤ length incoming.old.piece }
     requires named { AreNamed incoming.old.objects names.old.keys }
     ensures refusal { IfOk result (λ _. refusal incoming.old.objects part.kind
@@ -112,8 +114,10 @@ fn add(
     ensures fresh { IfOk result (λ _. has_name incoming.old.objects
         (name part.kind (take part.len (drop part.at incoming.old.piece))) ≡ false) }
     ensures name { IfOk result (λ n. n.0 ≡ name part.kind (take part.len (drop part.at incoming.old.piece))) }
-    ensures objects { IfOk result (λ _. incoming.new.objects ≡ record { kind = part.kind;
-        body = take part.len (drop part.at incoming.old.piece) } ∷ incoming.old.objects) }
+    ensures objects { IfOk result (λ _. incoming.new.objects ≡ record {
+      kind = part.kind;
+      body = take part.len (drop part.at incoming.old.piece);
+    } ∷ incoming.old.objects) }
     ensures whole { IsStore incoming.new.objects }
     ensures names { IfOk result (λ n. names.new.keys ≡ names.old.keys ++ n ∷ []) }
     ensures piece { incoming.new.piece ≡ incoming.old.piece }
@@ -233,8 +237,10 @@ impl Objects {
         requires within { part.at + part.len ≤ length self.old.incoming.piece }
         requires named { key.0 ≡ name part.kind (take part.len (drop part.at self.old.incoming.piece)) }
         requires arrived { HasArrived self.old.graph (map name_bytes self.old.blobs.keys) part.kind (take part.len (drop part.at self.old.incoming.piece)) }
-        ensures fits { IfOk result (λ fits. (S : List Object) → self.old.incoming.objects ≡ record { kind = part.kind;
-            body = take part.len (drop part.at self.old.incoming.piece) } ∷ S →
+        ensures fits { IfOk result (λ fits. (S : List Object) → self.old.incoming.objects ≡ record {
+          kind = part.kind;
+          body = take part.len (drop part.at self.old.incoming.piece);
+        } ∷ S →
             fits ≡ body_fits S part.kind (take part.len (drop part.at self.old.incoming.piece))) }
         ensures rows { IfOk result (λ fits. fits ≡ true → self.new.graph
             ≡ with_row self.old.graph part.kind (take part.len (drop part.at self.old.incoming.piece))) }

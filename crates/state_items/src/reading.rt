@@ -10,7 +10,7 @@ ghost use Rattle.state_items.specs.Changes.{with_refs};
 ghost use Rattle.state_items.specs.Fields.{number, start};
 ghost use Rattle.state_items.specs.Items.{Held, item_kind, item_kind_field, nothing, read_item};
 ghost use Rattle.state_items.specs.Lending.{LendsPiece};
-ghost use Rattle.state_items.specs.Readings.{Gathered, Holds, kind_value, parts_of, with_piece};
+ghost use Rattle.state_items.specs.Readings.{Gathered, Holds, HoldsSomething, kind_value, parts_of, with_piece};
 ghost use Rattle.state_items.specs.Steps.{are_heads, item_step, kept_by_rule, kept_maps, objects_step, part_step, refs_step, rule_end};
 ghost use Rattle.state_items.specs.Stops.{IsStop, spot_at};
 
@@ -108,7 +108,9 @@ fn item_kind_field(cursor: &mut Cursor<'_>) -> Result<ItemKind, ItemFault>
     let format_at = cursor.at();
     let format = cursor.byte()?;
     if format != 1 && format != 2 {
-        return Err(ItemFault::Broken { at: format_at as u64 });
+        return Err(ItemFault::Broken {
+            at: format_at as u64,
+        });
     }
     let kind_at = cursor.at();
     let kind = cursor.byte()?;
@@ -345,8 +347,9 @@ impl Reading {
         incoming.piece_mut()
     }
 
-    /// Reads the item that the piece is; then the piece is empty. After a fault nothing is known of what was read.
+    /// Reads the item that the piece is; then the piece is empty. After a fault no further item may be read.
     pub fn read_item(&mut self) -> Result<(), ItemFault>
+        requires { HoldsSomething self.old }
         ensures item { (h : Held) → Holds h self.old → MatchResult result
             (λ _. (g : Held) × (read_item h self.old.piece ≡ Ok g) × Holds g self.new)
             (λ stop. IsStop stop (read_item h self.old.piece)) }

@@ -6,7 +6,8 @@ use Rattle.object_store.specs.Unfolding.{flat}
 use Rattle.object_store.proofs.Growth.{flat-grown, grown_as, grown_then, has-grown, stands-grown}
 use Rattle.decision_lists.specs.Backward.{route_cells}
 use Rattle.decision_lists.specs.Cells.{cells}
-use Rattle.filter_unapply.specs.Hands.{HasLeaves, IsMadeOf}
+use Rattle.filter_unapply.specs.StoredLeaves.{HasLeaves}
+use Rattle.filter_unapply.specs.Hands.{IsMadeOf}
 use Rattle.filter_unapply.specs.Routed.{IsTakenOrIn, taken}
 use Rattle.filter_unapply.specs.Parts.{AreParts}
 use Rattle.filter_unapply.proofs.MadeTrees.{err-again, known-as}

@@ -1,4 +1,4 @@
-use Rattle.std.proofs.Common.{◌≡◌, ◌∙◌, [], Ok, sym, ap}
+use Rattle.std.proofs.Common.{◌∙◌, [], Ok, sym, ap}
 use Rattle.commit_map.specs.Rules.{rule_number}
 use Rattle.state_items.specs.KeptMaps.{RuleMaps, with_map_by}
 use Rattle.state_items.proofs.KeptRead.{kept-read}

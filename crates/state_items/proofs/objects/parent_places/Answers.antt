@@ -1,8 +1,7 @@
-use Rattle.std.proofs.Common.{◌≡◌, ◌+◌, ◌<◌, ◌++◌, ◌∷◌, [], ℕ, true, Some, None, map, take, length, slice_get, All, sym, ap, subst, ◌∙◌}
+use Rattle.std.proofs.Common.{length, sym}
 use Rattle.std.specs.Option.{is_some}
 use Rattle.git_objects.specs.Paths.{Bytes}
-use Rattle.commit_graph.specs.Graphs.{Row, place_of}
-use Rattle.state_items.specs.Arrivals.{place_in}
+use Rattle.commit_graph.specs.Graphs.{place_of}
 use Rattle.state_items.proofs.ParentPlaces.{all-at, not-some, place-more, places-within}
 use Rattle.state_items.proofs.objects.parent_places.Goals as goal
 

@@ -1,7 +1,7 @@
 use Rattle.std.proofs.Common.{[], ap, subst, sym, ◌∙◌}
 use Rattle.std.specs.FinMap.{put}
 use Rattle.git_objects.specs.Paths.{Bytes}
-use Rattle.git_objects.specs.Refs.{Refs, bytes_cmp}
+use Rattle.git_objects.specs.Refs.{bytes_cmp}
 use Rattle.ref_store.specs.Refs.{AreDistinct}
 use Rattle.ref_store.proofs.Heads.{distinct-set}
 use Rattle.state_items.specs.Changes.{with_refs}

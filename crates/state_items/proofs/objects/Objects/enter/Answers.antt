@@ -1,7 +1,4 @@
-use Rattle.std.proofs.Common.{◌≡◌, ◌++◌, ◌∷◌, [], List, map, take, drop, sym, ap, ◌∙◌}
-use Rattle.object_store.specs.Objects.{Object}
-use Rattle.git_objects.specs.Parts.{name_bytes}
-use Rattle.state_items.specs.Arrivals.{with_blob_name}
+use Rattle.std.proofs.Common.{take, drop, ◌∙◌}
 use Rattle.state_items.proofs.Naming.{last-fits-of}
 use Rattle.state_items.proofs.RowsHeld.{blob-more}
 use Rattle.state_items.proofs.objects.Objects.enter.Goals as goal

@@ -1,4 +1,4 @@
-use Rattle.std.proofs.Common.{◌≡◌, ◌≤◌, ◌-◌, ◌+◌, length, Ok, sym, ap, subst, ◌∙◌}
+use Rattle.std.proofs.Common.{◌≡◌, ◌≤◌, ◌-◌, length, Ok, subst, ◌∙◌}
 use Rattle.git_objects.specs.Paths.{Bytes}
 use Rattle.state_items.specs.Items.{object_field, objects_field}
 use Rattle.state_items.specs.Stops.{IsStop, spot_at}

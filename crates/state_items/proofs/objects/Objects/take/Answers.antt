@@ -5,7 +5,7 @@ use Rattle.git_objects.specs.Parts.{name_bytes}
 use Rattle.object_store.specs.Objects.{Object, IsStore}
 use Rattle.object_store.specs.Fits.{body_fits}
 use Rattle.object_store.specs.Places.{Intake}
-use Rattle.state_items.specs.Arrivals.{AreHeld, HasArrived, with_blob_name, with_row}
+use Rattle.state_items.specs.Arrivals.{HasArrived, with_blob_name, with_row}
 use Rattle.state_items.proofs.Naming.{take-unfit, take-new}
 use Rattle.state_items.proofs.Taking.{arrived, commits-stay, few-rows, held-more, room-is, take-full}
 use Rattle.state_items.proofs.objects.Objects.take.Goals as goal

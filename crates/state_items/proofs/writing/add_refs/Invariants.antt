@@ -1,0 +1,11 @@
+use Rattle.std.proofs.Common.{◌≡◌, ◌≤◌, ◌^◌, ◌+◌, drop, length}
+use Rattle.std.specs.List.{flat_map}
+use Rattle.ref_store.specs.Pairs.{pairs}
+use Rattle.state_items.specs.Items.{ref_text}
+use Rattle.state_items.proofs.writing.add_refs.Given as goal
+
+abbrev pub invariant-loop-entry : goal.invariant-loop-entry
+invariant-loop-entry l = record {
+  bound : l.size ≤ 2 ^ 29;
+  rest : l.size + length (flat_map ref_text (pairs (drop l.entry-index l.refs))) ≡ l.initial.size + length (flat_map ref_text (pairs l.refs));
+}

@@ -1,0 +1,324 @@
+// Writing items.
+ghost use Rattle.std.specs.Prelude.{◌≡◌, ◌≤◌, ◌<◌, ◌^◌, ◌+◌, ◌++◌, ◌∷◌, [], None, filter, length, map, nat_le};
+ghost use Rattle.std.specs.Prelude.{IfOk, List, OnOk, ℕ};
+ghost use Rattle.std.specs.Bool.{if◌then◌else◌};
+ghost use Rattle.std.specs.Int.{to_be_bytes, w32};
+ghost use Rattle.std.specs.List.{flat_map};
+ghost use Rattle.git_objects.specs.declared.limits.TheConstants.{ITEMS, STORE_BYTES};
+ghost use Rattle.object_store.specs.Fits.{is_commit};
+ghost use Rattle.object_store.specs.Objects.{Object};
+ghost use Rattle.ref_store.specs.Pairs.{pair, pairs};
+ghost use Rattle.commit_map.specs.Rules.{rule_number};
+ghost use Rattle.commit_map.specs.Shown.{entry_value, entry_values};
+ghost use Rattle.state_items.specs.Changes.{or_else, passed_by_item, passed_by_objects};
+ghost use Rattle.state_items.specs.Items.{change_text, entry_text, kept_text, kind_byte, object_text, ref_text, rule_text};
+ghost use Rattle.state_items.specs.Writings.{first_passed, found, sized};
+
+use commit_map::{Rule, Shown};
+use git_objects::limits::{COMMITS, ITEM_BYTES, ITEMS, OBJECTS, STORE_BYTES};
+use git_objects::{Kind, Name, Quantity};
+use object_store::Store;
+use path_names::RefName;
+use std::alloc::{AllocError, Global};
+
+// `size + more`, or None above the limit of an item.
+fn add_size(size: usize, more: usize) -> Option<usize>
+    requires { size ≤ 2 ^ 29 }
+    ensures { result ≡ sized (size + more) }
+{
+    if more <= ITEM_BYTES - size {
+        Some(size + more)
+    } else {
+        None
+    }
+}
+
+// `size` and the bytes that an item takes for an object, or None above the limit of an item.
+fn add_object(store: &Store, name: &Name, size: usize) -> Option<usize>
+    requires { size ≤ 2 ^ 29 }
+    ensures { result ≡ sized (size + length (flat_map object_text (found store.now (name.now ∷ [])))) }
+{
+    match store.get(name) {
+        None => Some(size),
+        Some(object) => match add_size(size, 5) {
+            None => None,
+            Some(size) => add_size(size, object.body.len()),
+        },
+    }
+}
+
+// `size` and the bytes that an item takes for these objects, or None above the limit of an item.
+fn add_objects(store: &Store, names: &[Name], size: usize) -> Option<usize>
+    requires { size ≤ 2 ^ 29 }
+    ensures { result ≡ sized (size + length (flat_map object_text (found store.now names.now))) }
+{
+    let mut size = size;
+    for name in names {
+        match add_object(store, name, size) {
+            None => return None,
+            Some(more) => size = more,
+        }
+    }
+    Some(size)
+}
+
+// `size` and the bytes that an item takes for a ref, or None above the limit of an item.
+fn add_ref(entry: &(RefName, Name), size: usize) -> Option<usize>
+    requires { size ≤ 2 ^ 29 }
+    ensures { result ≡ sized (size + length (ref_text (pair entry.now))) }
+{
+    let (refname, head) = entry;
+    match add_size(size, 2 + head.bytes().len()) {
+        None => None,
+        Some(size) => add_size(size, refname.text().len()),
+    }
+}
+
+// `size` and the bytes that an item takes for these refs, or None above the limit of an item.
+fn add_refs(refs: &[(RefName, Name)], size: usize) -> Option<usize>
+    requires { size ≤ 2 ^ 29 }
+    ensures { result ≡ sized (size + length (flat_map ref_text (pairs refs.now))) }
+{
+    let mut size = size;
+    for entry in refs {
+        match add_ref(entry, size) {
+            None => return None,
+            Some(more) => size = more,
+        }
+    }
+    Some(size)
+}
+
+/// The length in bytes of the item of these objects and refs, or None above the limit of an item.
+#[tactic(auto, unfolding(crate::specs::Items::change_text))]
+pub fn change_size(store: &Store, names: &[Name], refs: &[(RefName, Name)]) -> Option<usize>
+    ensures { result ≡ sized (length (change_text (found store.now names.now) (pairs refs.now))) }
+{
+    match add_objects(store, names, 10) {
+        None => None,
+        Some(size) => add_refs(refs, size),
+    }
+}
+
+fn is_commit(store: &Store, name: &Name) -> bool
+    ensures { (if result then 1 else 0) ≡ length (filter is_commit (found store.now (name.now ∷ []))) }
+{
+    match store.get(name) {
+        None => false,
+        Some(object) => object.kind == Kind::Commit,
+    }
+}
+
+/// How many of these objects are commits.
+pub fn count_commits(store: &Store, names: &[Name]) -> usize
+    ensures number { result ≡ length (filter is_commit (found store.now names.now)) }
+    ensures bound { result < 2 ^ 63 }
+{
+    let mut count = 0;
+    for name in names {
+        if is_commit(store, name) {
+            count += 1;
+        }
+    }
+    count
+}
+
+/// The first limit of a state that an item passes: by how many commits and objects are held with it, its length in
+/// bytes or None above the limit of an item, and how many items of how many bytes stand before it.
+pub fn first_passed(
+    commits: usize,
+    objects: usize,
+    item: Option<usize>,
+    number: u32,
+    size: u64,
+) -> Option<Quantity>
+    ensures { (S : List Object) (bytes : List ℕ) → commits ≡ length (filter is_commit S) → objects ≡ length S →
+        item ≡ sized (length bytes) → result ≡ passed_by_objects S
+        (passed_by_item (record { number = number; size = size }) bytes) }
+{
+    passed_by_numbers(commits, objects, item, number, size)
+}
+
+fn passed_by_numbers(
+    commits: usize,
+    objects: usize,
+    item: Option<usize>,
+    number: u32,
+    size: u64,
+) -> Option<Quantity>
+    ensures { result ≡ first_passed commits objects item number size }
+{
+    if commits > COMMITS as usize {
+        return Some(Quantity::Commits);
+    }
+    if objects > OBJECTS as usize {
+        return Some(Quantity::Objects);
+    }
+    match item {
+        None => Some(Quantity::Item),
+        Some(length) => passed_by_items(length, number, size),
+    }
+}
+
+// The first limit on all items together that one item more passes.
+fn passed_by_items(length: usize, number: u32, size: u64) -> Option<Quantity>
+    ensures { result ≡ or_else (nat_le (number + 1) ITEMS) Quantity.Items (or_else (nat_le
+        (size + length) STORE_BYTES) Quantity.Store None) }
+{
+    if number >= ITEMS {
+        return Some(Quantity::Items);
+    }
+    if size > STORE_BYTES {
+        return Some(Quantity::Store);
+    }
+    if length as u64 > STORE_BYTES - size {
+        return Some(Quantity::Store);
+    }
+    None
+}
+
+fn kind_byte(kind: Kind) -> u8
+    ensures { result ≡ kind_byte kind }
+{
+    match kind {
+        Kind::Blob => 1,
+        Kind::Tree => 2,
+        Kind::Commit => 3,
+    }
+}
+
+// Writes an object: its kind, its length and its body.
+fn write_object(text: &mut Vec<u8>, store: &Store, name: &Name) -> Result<(), AllocError>
+    requires { length (flat_map object_text (found store.now (name.now ∷ []))) ≤ 2 ^ 29 }
+    ensures { OnOk result (text.new.items ≡ text.old.items ++ flat_map object_text (found store.now (name.now ∷ []))) }
+{
+    match store.get(name) {
+        None => Ok(()),
+        Some(object) => {
+            text.push(kind_byte(object.kind))?;
+            text.extend_from_slice(&(object.body.len() as u32).to_be_bytes())?;
+            text.extend_from_slice(object.body)?;
+            Ok(())
+        }
+    }
+}
+
+// Writes these objects.
+fn write_objects(text: &mut Vec<u8>, store: &Store, names: &[Name]) -> Result<(), AllocError>
+    requires { length (flat_map object_text (found store.now names.now)) ≤ 2 ^ 29 }
+    ensures { OnOk result (text.new.items ≡ text.old.items ++ flat_map object_text (found store.now names.now)) }
+{
+    for name in names {
+        write_object(text, store, name)?;
+    }
+    Ok(())
+}
+
+// Writes a ref: its length, itself, and its commit's name.
+fn write_ref(text: &mut Vec<u8>, entry: &(RefName, Name)) -> Result<(), AllocError>
+    ensures { OnOk result (text.new.items ≡ text.old.items ++ ref_text (pair entry.now)) }
+{
+    let (refname, head) = entry;
+    let name = refname.text();
+    text.extend_from_slice(&(name.len() as u16).to_be_bytes())?;
+    text.extend_from_slice(name)?;
+    text.extend_from_slice(head.bytes())?;
+    Ok(())
+}
+
+// Writes these refs.
+fn write_refs(text: &mut Vec<u8>, refs: &[(RefName, Name)]) -> Result<(), AllocError>
+    ensures { OnOk result (text.new.items ≡ text.old.items ++ flat_map ref_text (pairs refs.now)) }
+{
+    for entry in refs {
+        write_ref(text, entry)?;
+    }
+    Ok(())
+}
+
+// Writes a number of four bytes, the high byte first.
+fn write_number(text: &mut Vec<u8>, n: usize) -> Result<(), AllocError>
+    requires { n < 2 ^ 32 }
+    ensures { OnOk result (text.new.items ≡ text.old.items ++ to_be_bytes w32 n) }
+{
+    text.extend_from_slice(&(n as u32).to_be_bytes())
+}
+
+/// The item of these objects, which are in the store, and of these refs. `size` is its length in bytes, of which it is
+/// made at once: each body is copied once.
+#[tactic(auto, unfolding(crate::specs::Items::change_text))]
+pub fn change_item(
+    alloc: Global,
+    store: &Store,
+    names: &[Name],
+    refs: &[(RefName, Name)],
+    size: usize,
+) -> Result<Vec<u8>, AllocError>
+    requires found { length (found store.now names.now) ≡ length names.now }
+    requires size { length (change_text (found store.now names.now) (pairs refs.now)) ≤ 2 ^ 29 }
+    ensures { IfOk result (λ item. item.items ≡ change_text (found store.now names.now) (pairs refs.now)) }
+{
+    let mut text = Vec::new(alloc);
+    text.reserve(size)?;
+    text.extend_from_slice(&[1, 1])?;
+    write_number(&mut text, names.len())?;
+    write_objects(&mut text, store, names)?;
+    write_number(&mut text, refs.len())?;
+    write_refs(&mut text, refs)?;
+    Ok(text)
+}
+
+// Writes an original with its projection, if it has one.
+fn write_entry(text: &mut Vec<u8>, entry: &(Name, Option<Shown>)) -> Result<(), AllocError>
+    ensures { OnOk result (text.new.items ≡ text.old.items ++ entry_text (entry_value entry.now)) }
+{
+    let (original, shown) = entry;
+    text.extend_from_slice(original.bytes())?;
+    match shown {
+        None => text.push(0)?,
+        Some(shown) => {
+            text.push(1)?;
+            text.extend_from_slice(shown.commit.bytes())?;
+            text.extend_from_slice(shown.tree.bytes())?;
+        }
+    }
+    Ok(())
+}
+
+// Writes these originals.
+fn write_entries(text: &mut Vec<u8>, entries: &[(Name, Option<Shown>)]) -> Result<(), AllocError>
+    ensures { OnOk result (text.new.items ≡ text.old.items ++ flat_map entry_text (entry_values entries.now)) }
+{
+    for entry in entries {
+        write_entry(text, entry)?;
+    }
+    Ok(())
+}
+
+/// The item of these originals with their projections, for the filter of that canonical text and a rule.
+#[tactic(auto, unfolding(crate::specs::Items::kept_text))]
+pub fn kept_item(
+    alloc: Global,
+    rule: Rule,
+    text: &[u8],
+    entries: &[(Name, Option<Shown>)],
+) -> Result<Vec<u8>, AllocError>
+    requires short { length text.now < 2 ^ 16 }
+    requires few { length entries.now < 2 ^ 32 }
+    ensures { IfOk result (λ item. item.items ≡ kept_text (rule_number rule) text.now (entry_values entries.now)) }
+{
+    let mut item = Vec::new(alloc);
+    item.extend_from_slice(&[2, 2, rule.number()])?;
+    item.extend_from_slice(&(text.len() as u16).to_be_bytes())?;
+    item.extend_from_slice(text)?;
+    write_number(&mut item, entries.len())?;
+    write_entries(&mut item, entries)?;
+    Ok(item)
+}
+
+/// The item that sets a rule.
+pub fn rule_item(rule: Rule) -> [u8; 3]
+    ensures { result ≡ rule_text (rule_number rule) }
+{
+    [2, 3, rule.number()]
+}
