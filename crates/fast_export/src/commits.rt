@@ -9,7 +9,8 @@ ghost use Rattle.object_store.specs.Objects.{IsStore, has};
 ghost use Rattle.object_store.specs.StoredSnapshots.{snapshot_of};
 ghost use Rattle.object_store.specs.Unfolding.{flat};
 ghost use Rattle.fast_export.specs.ExportTexts.{commit_text, commits_text, leaf_line, line, mark_line, marks_behind};
-ghost use Rattle.fast_export.specs.Given.{AreHeldBlobs, commit_mark, commit_names, head_text, is_named, marks_in, parent_word, parents_from};
+ghost use Rattle.fast_export.specs.Given.{AreHeldBlobs, commit_mark, commit_names, head_text};
+ghost use Rattle.fast_export.specs.Given.{is_named, marks_in, parent_word, parents_from};
 ghost use Rattle.fast_export.specs.Histories.{snapshots_at};
 ghost use Rattle.fast_export.specs.Sending.{IsPut};
 

@@ -1,5 +1,6 @@
 // Histories, written to a sink.
-ghost use Rattle.std.specs.Prelude.{◌≡◌, ◌<◌, ◌≤◌, ◌↔◌, ◌-◌, ℕ, [], ◌++◌, ◌∷◌, codes, length, map, take, IfOk, IsErrOf, OnErr, OnOk};
+ghost use Rattle.std.specs.Prelude.{◌≡◌, ◌<◌, ◌≤◌, ◌↔◌, ◌-◌, ℕ, [], ◌++◌};
+ghost use Rattle.std.specs.Prelude.{◌∷◌, codes, length, map, take, IfOk, IsErrOf, OnErr, OnOk};
 ghost use Rattle.std.specs.Io.KnownBytes.{Appends};
 ghost use Rattle.git_objects.specs.Parts.{name_bytes};
 ghost use Rattle.object_store.specs.Objects.{IsStore};
@@ -53,11 +54,12 @@ fn add_last(out: &mut Vec<u8>, refname: &RefName, number: u64) -> Result<(), All
     Ok(())
 }
 
-/// Writes the stream of git-fast-import(1) that makes these commits on a ref: each with its whole tree, as git-fast-export(1)
-/// writes it with `--full-tree`, each blob once, in front of the first commit that has it, and at the end the ref, set to the
-/// last commit. For no commits nothing is written. The sink gets pieces of at least 32,768 bytes, but for the last one.
+/// Writes the stream of git-fast-import(1) that makes these commits on a ref: each with its whole tree, as
+/// git-fast-export(1) writes it with `--full-tree`, each blob once, in front of the first commit that has it, and at
+/// the end the ref, set to the last commit. For no commits nothing is written. The sink gets pieces of at least 32,768
+/// bytes, but for the last one.
 ///
-/// A commit comes once, and behind its parents. After an error the sink has a front of the text.
+/// Each commit comes once, and behind its parents. After an error the sink has a front of the text.
 pub fn write_history<O: Sink>(
     alloc: Global,
     store: &Store,
