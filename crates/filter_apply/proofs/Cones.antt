@@ -1,16 +1,14 @@
 -- A map without the paths of a cone.
-use Rattle.std.proofs.Common.{◌≡◌, ℕ, zero, suc, ◌+◌, ◌<◌, ◌≤◌, Bool, true, false, cond, not, ◌&&◌, T, List, [], ◌∷◌, ◌++◌, length, take, filter, slice_get, Option, Some, None, refl, sym, ap, subst, ◌∙◌, arith, true≢false, append-nil, length-append, ◌||◌, inl, inr}
+use Rattle.std.proofs.Common.{◌≡◌, ℕ, zero, suc, ◌+◌, ◌<◌, Bool, true, false, cond, not, ◌&&◌, T, List, [], ◌∷◌, ◌++◌, length, take, filter, slice_get, Option, Some, None, refl, sym, ap, subst, ◌∙◌, arith, true≢false, append-nil, length-append, ◌||◌, inl, inr}
 use Rattle.std.specs.Option.{option_map, option_or, is_some}
-use Rattle.std.specs.List.{list_all}
 use Rattle.std.proofs.lemmas.Option.{none-some, same_Some}
-use Rattle.std.specs.Cmp.{second_so}
 use Rattle.git_objects.specs.Lists.{Each}
-use Rattle.git_objects.specs.Paths.{Path, same_bytes, is_nil, is_path, is_prefix, comparable}
+use Rattle.git_objects.specs.Paths.{Path, same_bytes, is_path, is_prefix, comparable}
 use Rattle.git_objects.specs.Trees.{Leaf, Flat, IsTree, LeafNode, TreeNode, at, under, remove, standing, if_full}
 use Rattle.git_objects.proofs.Pointwise.{all_at, at_apart}
 use Rattle.git_objects.proofs.Under.{at-under}
 use Rattle.decision_lists.specs.Fronts.{strip, proper, whole}
-use Rattle.decision_lists.specs.Entries.{Cone, at as point, below, base, cone_of, tail, Entry}
+use Rattle.decision_lists.specs.Entries.{Cone, at as point, below, cone_of, tail, Entry}
 use Rattle.decision_lists.specs.Operations.{covers, alive}
 use Rattle.decision_lists.specs.Cells.{free_in}
 use Rattle.decision_lists.specs.Lists.{Thin}

@@ -1,22 +1,20 @@
 -- Which entry decides for a path, and what its part is.
-use Rattle.std.proofs.Common.{◌≡◌, ℕ, zero, suc, ◌+◌, ◌<◌, Bool, true, false, cond, not, ◌&&◌, T, List, [], ◌∷◌, ◌++◌, length, take, filter, slice_get, nat_eq, Option, Some, None, refl, sym, ap, subst, ◌∙◌, arith, true≢false, append-nil}
+use Rattle.std.proofs.Common.{◌≡◌, ℕ, zero, suc, ◌<◌, Bool, true, false, cond, not, ◌&&◌, T, List, [], ◌∷◌, ◌++◌, take, filter, slice_get, Option, Some, None, refl, sym, ap, subst, ◌∙◌, arith, true≢false, append-nil}
 use Rattle.std.specs.Bool.{beq}
 use Rattle.std.specs.Option.{is_some, option_map, option_or}
-use Rattle.std.proofs.lemmas.Option.{none-some, same_Some}
-use Rattle.git_objects.specs.Lists.{Each}
-use Rattle.git_objects.specs.Paths.{Bytes, Path, is_path}
+use Rattle.std.proofs.lemmas.Option.{same_Some}
+use Rattle.git_objects.specs.Paths.{Path, is_path}
 use Rattle.git_objects.specs.Trees.{Leaf, Flat, IsTree, Node, LeafNode, TreeNode, at, under, rests, standing, if_full}
 use Rattle.git_objects.specs.Entries.{is_dir}
-use Rattle.git_objects.specs.declared.kind.Kind.TheVariants.{Tree}
 use Rattle.git_objects.proofs.Pointwise.{all_at}
-use Rattle.object_store.specs.Objects.{Object, IsStore, has, has_child}
-use Rattle.object_store.specs.Unfolding.{flat, StandsFor}
+use Rattle.object_store.specs.Objects.{Object, IsStore, has_child}
+use Rattle.object_store.specs.Unfolding.{flat}
 use Rattle.object_store.specs.Hands.{IsLeafOf, IsComponentOf}
 use Rattle.object_store.proofs.Unfolding.{flat_good}
 use Rattle.path_trees.specs.Standing.{node}
 use Rattle.path_trees.specs.declared.found.Found.{Found}
 use Rattle.decision_lists.specs.Fronts.{strip, proper, whole}
-use Rattle.decision_lists.specs.Entries.{Cone, at as point, below, base, cone_of, tail, Entry}
+use Rattle.decision_lists.specs.Entries.{base, cone_of, Entry}
 use Rattle.decision_lists.specs.Operations.{covers}
 use Rattle.decision_lists.specs.Cells.{free_in}
 use Rattle.decision_lists.specs.Lists.{Thin}
@@ -131,10 +129,10 @@ module _ (es : List Entry) (i : ℕ) (b : Bool) (s : Path) (a : Option Path) (ge
     pub right_tree : is_dir f.mode ≡ true → b ≡ false → filter (λ e. free_in (take i es) (base_in (slice_get es i) ++ e.0)) u ≡ part_of es i p t
     right_tree d k = sym (of_dir d ∙ filter-each test (λ r. free_in (take i es) (base_in (slice_get es i) ++ r)) u (each_entry (λ e. test e.0 ≡ free_in (take i es) (base_in (slice_get es i) ++ e.0)) u (u-tree d).sorted
         (λ e g.
-          test-is e.0
-          ∙ ap (λ (v : Bool). in_cone (cone_of v s) (s ++ e.0) && free_in (take i es) (s ++ e.0)) k
-          ∙ ap (λ o. is_some o && free_in (take i es) (s ++ e.0)) (below-has s e.0 (full e.0 (all_at is_path u e.0 e.1 (u-tree d).paths g)))
-          ∙ ap (λ q. free_in (take i es) (q ++ e.0)) (sym base-is))))
+        test-is e.0
+        ∙ ap (λ (v : Bool). in_cone (cone_of v s) (s ++ e.0) && free_in (take i es) (s ++ e.0)) k
+        ∙ ap (λ o. is_some o && free_in (take i es) (s ++ e.0)) (below-has s e.0 (full e.0 (all_at is_path u e.0 e.1 (u-tree d).paths g)))
+        ∙ ap (λ q. free_in (take i es) (q ++ e.0)) (sym base-is))))
 
     -- what is made of the directory is made of the tree
     pub tree_handed : is_dir f.mode ≡ true → (o : Object) → IsPartObject u o → IsPartObject t o

@@ -1,12 +1,11 @@
 -- What edits and parts hand on.
-use Rattle.std.proofs.Common.{◌≡◌, ℕ, ◌+◌, ◌<◌, Bool, true, false, not, ◌&&◌, cond, T, List, [], ◌∷◌, ◌++◌, length, take, filter, slice_get, get_or, Result, Ok, Err, IfOk, IfErr, IsErrAnd, Option, Some, None, refl, sym, ap, subst, ◌∙◌, arith, true≢false, append-nil}
+use Rattle.std.proofs.Common.{◌≡◌, ℕ, ◌+◌, ◌<◌, Bool, true, false, not, cond, List, [], ◌∷◌, ◌++◌, length, take, filter, slice_get, get_or, Result, Ok, Err, IfOk, IfErr, IsErrAnd, Option, Some, None, refl, sym, ap, subst, ◌∙◌, true≢false, append-nil}
 use Rattle.std.specs.Bool.{beq}
 use Rattle.std.specs.Option.{is_some}
-use Rattle.std.specs.FinMap.{is_sorted}
 use Rattle.std.proofs.lemmas.List.{take_more}
 use Rattle.std.proofs.lemmas.Option.{none-some, same_Some}
-use Rattle.git_objects.specs.Paths.{Bytes, Path, is_nil, path_cmp}
-use Rattle.git_objects.specs.Trees.{Leaf, Flat, IsTree, LeafNode, TreeNode, at, under, remove, standing}
+use Rattle.git_objects.specs.Paths.{Bytes, Path, is_nil}
+use Rattle.git_objects.specs.Trees.{Leaf, Flat, IsTree, at, under, remove, standing}
 use Rattle.git_objects.specs.Entries.{is_dir}
 use Rattle.git_objects.specs.declared.name.Name.{Name}
 use Rattle.git_objects.specs.declared.kind.Kind.TheVariants.{Tree}
@@ -16,7 +15,7 @@ use Rattle.git_objects.proofs.Under.{under-tree}
 use Rattle.object_store.specs.Objects.{Object, IsStore, has}
 use Rattle.object_store.specs.Unfolding.{flat, StandsFor}
 use Rattle.object_store.specs.Hands.{IsLeafOf, IsComponentOf}
-use Rattle.object_store.specs.Growth.{IsGrownBy, IsClash}
+use Rattle.object_store.specs.Growth.{IsGrownBy}
 use Rattle.object_store.proofs.Growth.{grown_self, grown_as, grown_then, clash_as}
 use Rattle.object_store.proofs.Unfolding.{flat_good}
 use Rattle.path_trees.specs.Standing.{node}
@@ -32,8 +31,7 @@ use Rattle.filter_apply.specs.Hands.{IsPartObject}
 use Rattle.filter_apply.specs.Parts.{base_in, is_below, is_wide}
 use Rattle.filter_apply.specs.declared.fault.ApplyError.{ApplyError}
 use Rattle.filter_apply.specs.declared.fault.ApplyError.TheVariants.{Collision, OutOfMemory}
-use Rattle.filter_apply.proofs.Cones.{in_cone, minus, filter-all, filter-twice, taken_leaf, taken_tree, other_leaf, other_tree, minus_away, minus_behind, free_more}
-use Rattle.filter_apply.proofs.Members.{each-in}
+use Rattle.filter_apply.proofs.Cones.{in_cone, minus, filter-twice, taken_leaf, taken_tree, other_leaf, other_tree, minus_away, minus_behind, free_more}
 use Rattle.filter_apply.proofs.Overs.{IsOver, AreOver, tree_over, over_own, over_from, over_under, over_remove, made_as, leaf_over, part_over}
 use Rattle.filter_apply.proofs.Places.{dir_node, leaf_node}
 
@@ -50,11 +48,12 @@ fault_as made more S OutOfMemory h c = tt
 -- ---- a removal
 
 pub way_over : (t : Flat) (v : Path) → IsTree t → AreOver (IsLeafOf t) (IsComponentOf t) (IsOnWay (remove t v) v)
-way_over t v h b m =
-    (under (remove t v) m.above,
-    tree_over (IsLeafOf t) (IsComponentOf t) (under (remove t v) m.above) (under-tree (remove t v) m.above (remove-tree t v h))
-    (over_under (IsLeafOf t) (IsComponentOf t) (remove t v) m.above (over_remove (IsLeafOf t) (IsComponentOf t) t v (over_own t))),
-    m.body)
+way_over t v h b m = (
+  under (remove t v) m.above,
+  tree_over (IsLeafOf t) (IsComponentOf t) (under (remove t v) m.above) (under-tree (remove t v) m.above (remove-tree t v h))
+      (over_under (IsLeafOf t) (IsComponentOf t) (remove t v) m.above (over_remove (IsLeafOf t) (IsComponentOf t) t v (over_own t))),
+  m.body,
+)
 
 -- what stands at a place, by its kind
 module _ (S : List Object) (t : Flat) (v : Path) (f : Found) (h : IsTree t) (e : Some (node S f) ≡ standing t v) where

@@ -1,10 +1,10 @@
 -- Members of lists and of trees.
-use Rattle.std.proofs.Common.{◌≡◌, ℕ, zero, suc, ◌<◌, Bool, true, false, cond, ◌⊎◌, inl, inr, T, List, [], ◌∷◌, ◌++◌, map, Contains, Some, refl, sym, ap, subst, ◌∙◌, arith}
+use Rattle.std.proofs.Common.{◌≡◌, zero, suc, true, false, cond, ◌⊎◌, inl, inr, T, List, [], ◌∷◌, ◌++◌, map, Contains, Some, refl, sym, subst, arith}
 use Rattle.std.specs.List.{flat_map}
 use Rattle.std.specs.FinMap.{is_sorted}
 use Rattle.std.proofs.lemmas.List.Elements.{Contains-append_left, Contains-append_right, Contains-append_cases}
 use Rattle.git_objects.specs.Lists.{Each}
-use Rattle.git_objects.specs.Paths.{Bytes, Path, same_path, path_cmp}
+use Rattle.git_objects.specs.Paths.{Path, same_path, path_cmp}
 use Rattle.git_objects.specs.Trees.{Leaf, Flat, at}
 use Rattle.git_objects.proofs.Order.{path_decides}
 use Rattle.git_objects.proofs.Pointwise.{each_at}

@@ -1,17 +1,16 @@
 -- Trees over leaves and components, told point by point.
-use Rattle.std.proofs.Common.{◌≡◌, Bool, true, false, cond, not, ◌⊎◌, inl, inr, T, List, [], ◌∷◌, ◌++◌, map, filter, Contains, Option, Some, None, refl, sym, ap, subst, ◌∙◌, true≢false}
-use Rattle.std.specs.List.{flat_map}
+use Rattle.std.proofs.Common.{◌≡◌, Bool, true, false, cond, ◌⊎◌, inl, inr, T, List, [], ◌∷◌, ◌++◌, Contains, Option, Some, None, refl, sym, ap, subst, ◌∙◌}
 use Rattle.std.specs.FinMap.{is_sorted}
-use Rattle.std.proofs.lemmas.Option.{none-some, same_Some}
+use Rattle.std.proofs.lemmas.Option.{none-some}
 use Rattle.git_objects.specs.Lists.{Each}
 use Rattle.git_objects.specs.Paths.{Bytes, Path, path_cmp}
 use Rattle.git_objects.specs.Trees.{Leaf, Flat, IsTree, at, under, remove}
 use Rattle.git_objects.specs.Names.{body, name}
 use Rattle.git_objects.specs.declared.kind.Kind.TheVariants.{Tree}
 use Rattle.git_objects.proofs.Maps.{at-remove, first_some}
-use Rattle.git_objects.proofs.Under.{at-under, at-under_nil, under-tree}
-use Rattle.object_store.specs.Objects.{Object, IsStore, find_named}
-use Rattle.object_store.specs.Hands.{IsTreeOver, IsTreeMade, IsLeafOf, IsComponentOf, tree_object}
+use Rattle.git_objects.proofs.Under.{at-under, at-under_nil}
+use Rattle.object_store.specs.Objects.{Object, find_named}
+use Rattle.object_store.specs.Hands.{IsTreeOver, IsTreeMade, IsLeafOf, IsComponentOf}
 use Rattle.object_store.specs.Growth.{IsGrownBy, IsClash}
 use Rattle.object_store.specs.Puts.{Collides, collision, same_object}
 use Rattle.filter_routes.proofs.TreeEntries.{each_entry}
@@ -21,8 +20,6 @@ use Rattle.path_trees.specs.declared.found.TreeFault.{TreeFault}
 use Rattle.path_trees.specs.declared.found.TreeFault.TheVariants.{Collision as TreeCollision, OutOfMemory as TreeOutOfMemory}
 use Rattle.path_trees.proofs.Clashing.{at-together}
 use Rattle.filter_apply.specs.Faults.{IsApplyFault, fault_of}
-use Rattle.filter_apply.specs.declared.fault.ApplyError.{ApplyError}
-use Rattle.filter_apply.specs.declared.fault.ApplyError.TheVariants.{Collision, OutOfMemory}
 use Rattle.filter_apply.proofs.Members.{none_in, here_or_later, each-in, in-each, each-as, each-right, in-map, of-map, in-flat_map, of-flat_map, in-flat, of-flat}
 
 -- each leaf of the map is such a leaf, and each component of its path such a component
@@ -122,11 +119,15 @@ fault_over L C made S TreeOutOfMemory h c = tt
 -- ---- a part of a tree makes trees of the tree
 
 pub made_as : (L M : Leaf → Type 0) (C D : Bytes → Type 0) → ((x : Leaf) → L x → M x) → ((c : Bytes) → C c → D c) → (o : Object) → IsTreeMade L C o → IsTreeMade M D o
-made_as L M C D f g o (t, over, e) = (t, record {
-  tree = over.tree;
-  all_leaves = each-as (λ d. L d.1) (λ d. M d.1) t (λ d. f d.1) over.all_leaves;
-  all_components = each-as (λ d. Each C d.0) (λ d. Each D d.0) t (λ d. each-as C D d.0 g) over.all_components;
-}, e)
+made_as L M C D f g o (t, over, e) = (
+  t,
+  record {
+    tree = over.tree;
+    all_leaves = each-as (λ d. L d.1) (λ d. M d.1) t (λ d. f d.1) over.all_leaves;
+    all_components = each-as (λ d. Each C d.0) (λ d. Each D d.0) t (λ d. each-as C D d.0 g) over.all_components;
+  },
+  e,
+)
 
 -- leaves and components of a map over these
 pub leaf_over : (L : Leaf → Type 0) (C : Bytes → Type 0) (u : Flat) → T (is_sorted path_cmp u) → IsOver L C u → (x : Leaf) → IsLeafOf u x → L x

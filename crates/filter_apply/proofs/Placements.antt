@@ -1,9 +1,9 @@
 -- What is found, put at a place of its own, from the innermost directory out.
-use Rattle.std.proofs.Common.{◌≡◌, ℕ, zero, suc, ◌+◌, ◌-◌, ◌<◌, ◌≤◌, Bool, true, false, not, ◌&&◌, ◌⊎◌, inl, inr, List, [], ◌∷◌, ◌++◌, length, drop, get_or, map, Contains, Result, Ok, Err, IfOk, IfErr, Option, Some, None, refl, sym, ap, subst, ◌∙◌, arith, append-nil, add-one}
+use Rattle.std.proofs.Common.{◌≡◌, ℕ, zero, suc, ◌+◌, ◌<◌, ◌≤◌, true, ◌⊎◌, inl, inr, List, [], ◌∷◌, ◌++◌, length, drop, get_or, Contains, Some, None, refl, sym, ap, subst, ◌∙◌, arith, append-nil, add-one}
 use Rattle.std.proofs.Math.Seq.{drop-cons}
 use Rattle.git_objects.specs.Lists.{Each}
-use Rattle.git_objects.specs.Paths.{Bytes, Path, is_component, is_nil}
-use Rattle.git_objects.specs.Trees.{Leaf, Flat, IsTree, TreeNode, rests}
+use Rattle.git_objects.specs.Paths.{Bytes, Path, is_component}
+use Rattle.git_objects.specs.Trees.{Leaf, Flat, IsTree, rests}
 use Rattle.git_objects.specs.Names.{name, body, depth}
 use Rattle.git_objects.specs.Entries.{body_text, is_dir}
 use Rattle.git_objects.specs.Bodies.{is_name}
@@ -18,11 +18,11 @@ use Rattle.object_store.specs.Unfolding.{flat, below, StandsFor}
 use Rattle.object_store.specs.Hands.{IsTreeOver, IsLeafOf, IsComponentOf}
 use Rattle.object_store.specs.Growth.{IsGrownBy}
 use Rattle.object_store.proofs.Growth.{grown_self, grown_then}
-use Rattle.object_store.proofs.Unfolding.{IsFull, IsHeld}
+use Rattle.object_store.proofs.Unfolding.{IsFull}
 use Rattle.path_trees.specs.Standing.{node}
 use Rattle.path_trees.specs.Levels.{IsTaken, IsRefused}
 use Rattle.path_trees.specs.Listed.{named}
-use Rattle.path_trees.specs.Made.{IsGrown, IsTreeFault}
+use Rattle.path_trees.specs.Made.{IsTreeFault}
 use Rattle.path_trees.specs.Walked.{behind}
 use Rattle.path_trees.specs.declared.found.Found.{Found}
 use Rattle.path_trees.specs.declared.found.TreeFault.{TreeFault}
@@ -33,7 +33,7 @@ use Rattle.path_trees.proofs.Trees.{AreGood, good-changed, good_fits, good_flat}
 use Rattle.path_trees.proofs.Taken.{taken}
 use Rattle.filter_apply.specs.Faults.{IsApplyFault, fault_of}
 use Rattle.filter_apply.specs.Hands.{IsPlacedObject}
-use Rattle.filter_apply.proofs.Members.{first_in, later_in, in-each, each-as, each-app, in-map, in-flat_map}
+use Rattle.filter_apply.proofs.Members.{later_in, in-each, each-app, in-map, in-flat_map}
 use Rattle.filter_apply.proofs.Overs.{AreOver, fault_over, grown_over}
 use Rattle.filter_apply.proofs.Places.{dir_node, dir_held, full-child}
 
@@ -66,9 +66,9 @@ behind_over p t k h = record {
   tree = h;
   all_leaves = each-behind (λ e. IsLeafOf t e.1) (drop k p) t (in-each (λ e. IsLeafOf t e.1) t (λ e i. in-map (λ (d : Path × Leaf). d.1) t e i));
   all_components = each-behind (λ e. Each (λ c. IsComponentOf t c ⊎ Contains p c) e.0) (drop k p) t (in-each (λ e. Each (λ c. IsComponentOf t c ⊎ Contains p c) (drop k p ++ e.0)) t (λ e i.
-    each-app (λ c. IsComponentOf t c ⊎ Contains p c) (drop k p) e.0
-    (in-each (λ c. IsComponentOf t c ⊎ Contains p c) (drop k p) (λ c j. inr (in_drop k p c j)))
-    (in-each (λ c. IsComponentOf t c ⊎ Contains p c) e.0 (λ c j. inl (in-flat_map (λ (d : Path × Leaf). d.0) t e c i j)))));
+      each-app (λ c. IsComponentOf t c ⊎ Contains p c) (drop k p) e.0
+      (in-each (λ c. IsComponentOf t c ⊎ Contains p c) (drop k p) (λ c j. inr (in_drop k p c j)))
+      (in-each (λ c. IsComponentOf t c ⊎ Contains p c) e.0 (λ c j. inl (in-flat_map (λ (d : Path × Leaf). d.0) t e c i j)))));
 }
 
 -- ---- one turn

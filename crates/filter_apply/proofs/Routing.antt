@@ -1,17 +1,17 @@
 -- What one route shows, and what all of them show together.
-use Rattle.std.proofs.Common.{◌≡◌, ℕ, zero, suc, ◌+◌, ◌<◌, ◌≤◌, Bool, true, false, cond, not, ◌&&◌, ◌||◌, ◌⊎◌, inl, inr, T, List, [], ◌∷◌, ◌++◌, length, take, filter, slice_get, get_or, Contains, Option, Some, None, refl, sym, ap, subst, ◌∙◌, arith, true≢false, append-nil}
+use Rattle.std.proofs.Common.{◌≡◌, ℕ, zero, suc, ◌+◌, Bool, true, false, cond, not, ◌&&◌, inl, inr, List, [], ◌∷◌, ◌++◌, take, slice_get, Option, Some, None, refl, sym, ap, subst, ◌∙◌, true≢false, append-nil}
 use Rattle.std.specs.Option.{is_some, option_map, option_or}
 use Rattle.std.proofs.lemmas.List.{take_more}
 use Rattle.std.proofs.lemmas.Option.{none-some, same_Some, slice_get_within, get_or_from_slice_get}
 use Rattle.git_objects.specs.Lists.{Each}
-use Rattle.git_objects.specs.Paths.{Bytes, Path, same_path, is_path, is_nil}
-use Rattle.git_objects.specs.Trees.{Leaf, Flat, IsTree, Node, LeafNode, TreeNode, at, under, rests, standing, if_full}
+use Rattle.git_objects.specs.Paths.{Bytes, Path, same_path, is_path}
+use Rattle.git_objects.specs.Trees.{Leaf, Flat, IsTree, LeafNode, at, under, standing, if_full}
 use Rattle.git_objects.proofs.Maps.{at_rest}
 use Rattle.git_objects.proofs.Order.{path_decides}
 use Rattle.filter_apply.proofs.Handing.{at-filter}
 use Rattle.git_objects.proofs.Pointwise.{all_at, from-T}
 use Rattle.git_objects.proofs.Under.{at-under, at-under_nil}
-use Rattle.decision_lists.specs.Fronts.{strip, proper, whole, kept, left_out, or_else, and_then}
+use Rattle.decision_lists.specs.Fronts.{strip, proper, whole, or_else, and_then}
 use Rattle.decision_lists.specs.Entries.{Cone, at as point, below, base, tail, Entry, decide, run}
 use Rattle.decision_lists.specs.Cells.{free_in}
 use Rattle.decision_lists.specs.Lists.{Full, Valid, IsPath, Solid, Fine}
@@ -22,7 +22,7 @@ use Rattle.filter_text.specs.Filters.{Filter, Filters, nop, sub, onto, dir, file
 use Rattle.filter_routes.specs.Images.{image, first, through}
 use Rattle.filter_routes.specs.Soundness.{IsSound}
 use Rattle.filter_routes.specs.Lists.{IsListOf}
-use Rattle.filter_routes.specs.Lenses.{IsLens, seen_through}
+use Rattle.filter_routes.specs.Lenses.{IsLens}
 use Rattle.filter_routes.specs.Origins.{lens_of, origin}
 use Rattle.filter_routes.proofs.Carried.{same_on_paths}
 use Rattle.filter_routes.proofs.ImagePaths.{image-path}
@@ -32,12 +32,12 @@ use Rattle.path_trees.specs.Walked.{behind}
 use Rattle.path_trees.proofs.Lookups.{leaf_under}
 use Rattle.filter_apply.specs.Hands.{parts_in, parts_in_all, IsNamedIn}
 use Rattle.filter_apply.specs.Parts.{base_in, decides, part_of, rests_of}
-use Rattle.filter_apply.specs.Ranges.{between, passed, restricted, seen_between}
+use Rattle.filter_apply.specs.Ranges.{between, passed, seen_between}
 use Rattle.filter_apply.proofs.Cones.{in_cone, free_more}
 use Rattle.filter_apply.proofs.Deciding.{decides-is}
-use Rattle.filter_apply.proofs.Members.{each-in, in-each, each-as, each-app, each-left, each-right}
-use Rattle.filter_apply.proofs.Overs.{IsOver, over_own}
-use Rattle.filter_apply.proofs.Restricting.{seen-is-tree, from-passed, seen-at, seen-nothing, no-clash, both-seen}
+use Rattle.filter_apply.proofs.Members.{in-each, each-as, each-app, each-left, each-right}
+use Rattle.filter_apply.proofs.Overs.{over_own}
+use Rattle.filter_apply.proofs.Restricting.{seen-is-tree, seen-at, seen-nothing}
 
 -- ---- components of images
 
@@ -284,6 +284,8 @@ module _ (f : Filter) (es : List Entry) (list : IsListOf f es) (sound : IsSound 
       part-named r x g =
           let w = part-leaf r x g in
           let own = over_own t in
-          let all = own.parts (base e.0 ++ r) x w.0 in
-          (own.leaves (base e.0 ++ r) x w.0, each-right (IsComponentOf t) (base e.0) r all,
-          each-left (IsNamedIn f t) a r (image-named (IsNamedIn f t) f (base e.0 ++ r) (a ++ r) (in-each (IsNamedIn f t) (parts_in f) (λ c j. inr j)) (each-as (IsComponentOf t) (IsNamedIn f t) (base e.0 ++ r) (λ c j. inl j) all) w.2))
+          let all = own.parts (base e.0 ++ r) x w.0 in (
+            own.leaves (base e.0 ++ r) x w.0,
+            each-right (IsComponentOf t) (base e.0) r all,
+            each-left (IsNamedIn f t) a r (image-named (IsNamedIn f t) f (base e.0 ++ r) (a ++ r) (in-each (IsNamedIn f t) (parts_in f) (λ c j. inr j)) (each-as (IsComponentOf t) (IsNamedIn f t) (base e.0 ++ r) (λ c j. inl j) all) w.2),
+          )

@@ -1,14 +1,13 @@
 -- What routes show over the trees of a store.
-use Rattle.std.proofs.Common.{◌≡◌, ℕ, zero, suc, ◌+◌, ◌<◌, ◌≤◌, Bool, true, false, cond, not, ◌&&◌, ◌||◌, ◌⊎◌, inl, inr, T, List, [], ◌∷◌, ◌++◌, length, take, slice_get, Contains, Result, Ok, Err, IfOk, IfErr, IfSome, Option, Some, None, refl, sym, ap, subst, ◌∙◌, arith, true≢false, append-nil}
-use Rattle.std.specs.Option.{is_some, option_map, option_or}
+use Rattle.std.proofs.Common.{◌≡◌, ℕ, zero, suc, ◌+◌, ◌≤◌, Bool, true, false, cond, not, ◌&&◌, ◌||◌, ◌⊎◌, inl, inr, T, List, [], ◌∷◌, ◌++◌, length, take, slice_get, Contains, Result, Ok, Err, IfOk, IfErr, IfSome, Option, Some, None, refl, sym, ap, subst, ◌∙◌, arith, true≢false}
+use Rattle.std.specs.Option.{is_some, option_or}
 use Rattle.std.specs.FinMap.{is_sorted}
-use Rattle.std.proofs.lemmas.Option.{none-some, same_Some}
+use Rattle.std.proofs.lemmas.Option.{none-some}
 use Rattle.git_objects.specs.Lists.{Each}
-use Rattle.git_objects.specs.Paths.{Bytes, Path, is_path, is_nil, same_path, path_cmp}
-use Rattle.git_objects.specs.Trees.{Leaf, Flat, IsTree, LeafNode, TreeNode, at, under, rests}
+use Rattle.git_objects.specs.Paths.{Bytes, Path, is_path, is_nil, path_cmp}
+use Rattle.git_objects.specs.Trees.{Leaf, Flat, IsTree, at, under, rests}
 use Rattle.git_objects.specs.Names.{name, body}
 use Rattle.git_objects.specs.Entries.{is_dir}
-use Rattle.git_objects.specs.declared.entry.Entry.{Entry as TreeEntry}
 use Rattle.git_objects.specs.declared.name.Name.{Name}
 use Rattle.git_objects.specs.declared.kind.Kind.TheVariants.{Tree}
 use Rattle.git_objects.proofs.Maps.{at_rest, same_flat}
@@ -16,16 +15,15 @@ use Rattle.git_objects.proofs.Order.{path_decides}
 use Rattle.git_objects.proofs.Under.{under-tree}
 use Rattle.object_store.specs.Objects.{Object, IsStore, has, has_child}
 use Rattle.object_store.specs.Unfolding.{flat, StandsFor}
-use Rattle.object_store.specs.Hands.{IsTreeOver, IsLeafOf, IsComponentOf}
+use Rattle.object_store.specs.Hands.{IsLeafOf, IsComponentOf}
 use Rattle.object_store.specs.Growth.{IsGrownBy, IsClash}
-use Rattle.object_store.proofs.Growth.{grown_self, grown_as, grown_then, stands-grown, has-grown, flat-grown}
+use Rattle.object_store.proofs.Growth.{grown_as, grown_then, stands-grown, has-grown, flat-grown}
 use Rattle.object_store.proofs.Unfolding.{IsFull, flat_good}
 use Rattle.decision_lists.specs.Entries.{Entry, base, tail, decide, run}
 use Rattle.decision_lists.specs.Cells.{free_in}
-use Rattle.filter_text.specs.Filters.{Filter, has_paths}
-use Rattle.filter_routes.specs.Images.{image}
+use Rattle.filter_text.specs.Filters.{Filter, has_paths, nop, sub, onto, dir, file, exclude, join, chain, workspace}
 use Rattle.filter_routes.specs.Soundness.{IsSound}
-use Rattle.filter_routes.specs.Lists.{IsListOf}
+use Rattle.filter_routes.specs.Lists.{IsListOf, IsOneEntry}
 use Rattle.filter_routes.specs.Lenses.{seen_through}
 use Rattle.filter_routes.specs.Origins.{lens_of, origin}
 use Rattle.filter_routes.proofs.Carried.{same_on_paths}
@@ -42,10 +40,12 @@ use Rattle.path_trees.specs.declared.found.TreeFault.TheVariants.{Collision, Out
 use Rattle.path_trees.proofs.Apart.{rests_full}
 use Rattle.path_trees.proofs.Taken.{taken}
 use Rattle.path_trees.proofs.Together.{together_law}
-use Rattle.path_trees.proofs.Trees.{AreGood}
+use Rattle.path_trees.proofs.Trees.{AreGood, good_fits}
 use Rattle.filter_apply.specs.Faults.{IsApplyFault, fault_of}
 use Rattle.filter_apply.specs.Hands.{parts_in, IsNamedIn, IsPartObject, IsShownObject, IsPlacedObject, IsJoinedObject}
-use Rattle.filter_apply.specs.Parts.{part_of, rests_of}
+use Rattle.filter_apply.specs.Parts.{base_in, part_of}
+use Rattle.filter_apply.specs.Truth.{IsPaid}
+use Rattle.object_store.specs.Puts.{of_body}
 use Rattle.filter_apply.specs.Ranges.{between, passed, seen_between, map_of}
 use Rattle.filter_apply.specs.declared.fault.ApplyError.{ApplyError}
 use Rattle.filter_apply.proofs.Cones.{in_cone}
@@ -74,15 +74,16 @@ dir-grown S S' u (Some n) g d = stands-grown S S' n.0 u g d
 
 module _ (a b : Flat) (g : IsTree a) (h : IsTree b) (c : clash a b ≡ None) where
   pub shared_over : AreOver (λ x. IsLeafOf a x ⊎ IsLeafOf b x) (λ x. IsComponentOf a x ⊎ IsComponentOf b x) (IsShared a b)
-  shared_over d m =
-      (under (together a b) m.above,
-      tree_over (λ x. IsLeafOf a x ⊎ IsLeafOf b x) (λ x. IsComponentOf a x ⊎ IsComponentOf b x) (under (together a b) m.above)
-      (under-tree (together a b) m.above (together_law a b g h c).tree)
-      (over_under (λ x. IsLeafOf a x ⊎ IsLeafOf b x) (λ x. IsComponentOf a x ⊎ IsComponentOf b x) (together a b) m.above
-      (over_both (λ x. IsLeafOf a x ⊎ IsLeafOf b x) (λ x. IsComponentOf a x ⊎ IsComponentOf b x) a b
-      (over_as (IsLeafOf a) (λ x. IsLeafOf a x ⊎ IsLeafOf b x) (IsComponentOf a) (λ x. IsComponentOf a x ⊎ IsComponentOf b x) a (λ x l. inl l) (λ x l. inl l) (over_own a))
-      (over_as (IsLeafOf b) (λ x. IsLeafOf a x ⊎ IsLeafOf b x) (IsComponentOf b) (λ x. IsComponentOf a x ⊎ IsComponentOf b x) b (λ x l. inr l) (λ x l. inr l) (over_own b)))),
-      m.body)
+  shared_over d m = (
+    under (together a b) m.above,
+    tree_over (λ x. IsLeafOf a x ⊎ IsLeafOf b x) (λ x. IsComponentOf a x ⊎ IsComponentOf b x) (under (together a b) m.above)
+        (under-tree (together a b) m.above (together_law a b g h c).tree)
+        (over_under (λ x. IsLeafOf a x ⊎ IsLeafOf b x) (λ x. IsComponentOf a x ⊎ IsComponentOf b x) (together a b) m.above
+        (over_both (λ x. IsLeafOf a x ⊎ IsLeafOf b x) (λ x. IsComponentOf a x ⊎ IsComponentOf b x) a b
+        (over_as (IsLeafOf a) (λ x. IsLeafOf a x ⊎ IsLeafOf b x) (IsComponentOf a) (λ x. IsComponentOf a x ⊎ IsComponentOf b x) a (λ x l. inl l) (λ x l. inl l) (over_own a))
+        (over_as (IsLeafOf b) (λ x. IsLeafOf a x ⊎ IsLeafOf b x) (IsComponentOf b) (λ x. IsComponentOf a x ⊎ IsComponentOf b x) b (λ x l. inr l) (λ x l. inr l) (over_own b)))),
+    m.body,
+  )
 
 clash-right : (a : Flat) → clash a [] ≡ None
 clash-right [] = refl
@@ -320,9 +321,10 @@ module _ (f : Filter) (t : Flat) (S0 S : List Object) (g : IsGrownBy (IsShownObj
 
   pub empty_taken : (S' : List Object) → IsStore S' → IsTaken S [] S' → StandsFor S' (name Tree []) [] × IsGrownBy (IsShownObject f t) S0 S'
   empty_taken S' s k =
-      let i = taken (λ b. b ≡ []) S S' [] [] g.store refl good refl k in
-      (record { held = i.held; map = i.map },
-      grown_then (IsShownObject f t) S0 S S' g (grown_over (IsLeafOf t) (IsNamedIn f t) (λ b. b ≡ []) S S' empty_over (record { store = s; newer = i.newer; above = i.above; trees = i.trees })))
+      let i = taken (λ b. b ≡ []) S S' [] [] g.store refl good refl k in (
+        record { held = i.held; map = i.map },
+        grown_then (IsShownObject f t) S0 S S' g (grown_over (IsLeafOf t) (IsNamedIn f t) (λ b. b ≡ []) S S' empty_over (record { store = s; newer = i.newer; above = i.above; trees = i.trees })),
+      )
 
   pub empty_refused : (S' : List Object) (x : TreeFault) → S' ≡ S → IsRefused S [] x → IsApplyFault (IsShownObject f t) S' (fault_of x)
   empty_refused S' x same r = subst (λ (R : List Object). IsApplyFault (IsShownObject f t) R (fault_of x)) (sym same) (fault_over (IsLeafOf t) (IsNamedIn f t) (λ b. b ≡ []) S x empty_over (by x r))
@@ -387,3 +389,19 @@ module _ (f : Filter) (es : List Entry) (list : IsListOf f es) (sound : IsSound 
 
     pub halves_store : (S3 : List Object) → IsGrownBy (IsJoinedObject (map_of S2 a) (map_of S2 b)) S2 S3 → IsGrownBy (IsShownObject f t) S0 S3
     halves_store S3 g = grown_then (IsShownObject f t) S0 S2 S3 both_grown (grown_as (IsJoinedObject (map_of S2 a) (map_of S2 b)) (IsShownObject f t) S2 S3 handed g)
+
+-- ---- steps
+
+pub paid : (f : Filter) (es : List Entry) (old new : ℕ) → IsOneEntry f es → (length es ≡ 1 → new ≤ old + length (base_in (slice_get es 0))) → IsPaid f old new
+paid nop es old new o h = tt
+paid (sub a) es old new o h = subst (λ (ds : List Entry). new ≤ old + length (base_in (slice_get ds 0))) o (h (ap length o))
+paid (onto a) es old new o h = let none = subst (λ (ds : List Entry). new ≤ old + length (base_in (slice_get ds 0))) o (h (ap length o)) in omega arith
+paid (dir a) es old new o h = subst (λ (ds : List Entry). new ≤ old + length (base_in (slice_get ds 0))) o (h (ap length o))
+paid (file a) es old new o h = tt
+paid (exclude f) es old new o h = tt
+paid (join fs) es old new o h = tt
+paid (chain fs) es old new o h = tt
+paid (workspace a) es old new o h = tt
+
+pub empty_fits : (S : List Object) → of_body S Tree [] None ≡ None
+empty_fits S = good_fits S [] (record { entries = tt; held = tt })

@@ -1,5 +1,5 @@
 -- Memos that stay true.
-use Rattle.std.proofs.Common.{◌≡◌, ℕ, zero, suc, ◌-◌, ◌⊎◌, inl, inr, Bool, true, false, List, [], ◌∷◌, ◌++◌, take, Contains, Option, Some, None, is_some, refl, sym, ap, subst, ◌∙◌, cond, true≢false}
+use Rattle.std.proofs.Common.{◌≡◌, ℕ, zero, suc, ◌-◌, ◌⊎◌, inl, inr, Bool, true, false, List, [], ◌∷◌, ◌++◌, take, Contains, Option, Some, None, is_some, refl, sym, ap, subst, ◌∙◌, cond, arith}
 use Rattle.std.proofs.lemmas.Bool.{eqb-true}
 use Rattle.std.proofs.lemmas.Bool.Decides.{eqb_tells}
 use Rattle.std.proofs.lemmas.Option.{none-some, same_Some}
@@ -7,18 +7,18 @@ use Rattle.std.specs.Cmp.Lexicographic.{bytes_decides}
 use Rattle.std.proofs.lemmas.Bool.{and_parts}
 use Rattle.git_objects.specs.Paths.{Bytes, same_bytes}
 use Rattle.git_objects.specs.declared.kind.Kind.TheVariants.{Tree}
-use Rattle.object_store.specs.Objects.{Object, IsStore, has}
-use Rattle.object_store.specs.Unfolding.{flat}
+use Rattle.object_store.specs.Objects.{Object, IsStore}
 use Rattle.object_store.specs.Growth.{IsGrownBy}
 use Rattle.object_store.proofs.Held.{has-above}
 use Rattle.object_store.proofs.Unfolding.{growing_law}
+use Rattle.filter_text.specs.Filters.{Filter, nop, sub, onto, dir, file, exclude, join, chain, workspace}
 use Rattle.filter_text.specs.Shapes.{shape}
 use Rattle.filter_routes.specs.Lenses.{seen_through}
 use Rattle.filter_routes.specs.Origins.{lens_of}
 use Rattle.filter_routes.specs.TableValues.{Table}
 use Rattle.std.specs.Prelude.{nat_eq}
 use Rattle.filter_cache.specs.Memos.{Key, Memo, same_key, found, without, used, used_for, entered}
-use Rattle.filter_apply.specs.Truth.{IsShownAs, Holds, IsTrueFor, KeepsOthers}
+use Rattle.filter_apply.specs.Truth.{IsPaid, IsShownAs, IsTrueFor, KeepsOthers}
 use Rattle.filter_apply.proofs.Members.{here_or_later, first_in, later_in, none_in}
 
 pub same_or_other : (m n : ℕ) → (m ≡ n) ⊎ (m ≡ n → ⊥)
@@ -123,3 +123,27 @@ keeps_more id tree shown m m' h n u s holds differs = elim (h ((n, u), s) holds)
   | inl same ↦ absurd (differs (ap (λ (e : Key × Bytes). e.0.0) same))
   | inr old ↦ old
 ]
+
+-- what a look-up and an entry leave has nothing but what there was, and the entry
+pub after_get : (m m' : Memo) (k : Key) → m' ≡ record m { entries = used k m.entries } → (e : Key × Bytes) → Contains m'.entries e → Contains m.entries e
+after_get m m' k is e h = of-used k m.entries e (subst (λ (x : Memo). Contains x.entries e) is h)
+
+pub after_put : (m m1 m2 : Memo) (j k : Key) (n : Bytes) → m1 ≡ record m { entries = used j m.entries } → (m2 ≡ record m1 { entries = entered m1.capacity k n m1.entries }) ⊎ (m2 ≡ m1) →
+    (e : Key × Bytes) → Contains m2.entries e → (e ≡ (k, n)) ⊎ Contains m.entries e
+after_put m m1 m2 j k n is (inr same) e h = inr (after_get m m1 j is e (subst (λ (x : Memo). Contains x.entries e) same h))
+after_put m m1 m2 j k n is (inl put) e h = elim (of-entered m1.capacity k n m1.entries e (subst (λ (x : Memo). Contains x.entries e) put h)) [
+  | inl new ↦ inl new
+  | inr old ↦ inr (after_get m m1 j is e old)
+]
+
+-- no step is within every bound
+pub paid_same : (f : Filter) (n : ℕ) → IsPaid f n n
+paid_same nop n = tt
+paid_same (sub a) n = omega arith
+paid_same (onto a) n = omega arith
+paid_same (dir a) n = omega arith
+paid_same (file a) n = tt
+paid_same (exclude f) n = tt
+paid_same (join fs) n = tt
+paid_same (chain fs) n = tt
+paid_same (workspace a) n = tt

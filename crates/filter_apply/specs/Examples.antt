@@ -1,6 +1,6 @@
 -- Worked examples.
-use Rattle.std.specs.Prelude.{◌≡◌, refl, Bool, true, false, List, [], ◌∷◌, codes, Some, None}
-use Rattle.git_objects.specs.Paths.{Bytes, Path}
+use Rattle.std.specs.Prelude.{◌≡◌, refl, true, false, List, [], ◌∷◌, codes, Some, None}
+use Rattle.git_objects.specs.Paths.{Bytes}
 use Rattle.git_objects.specs.Trees.{Leaf, FileLeaf, Flat, standing}
 use Rattle.decision_lists.specs.Entries.{Entry, at, below}
 use Rattle.filter_text.specs.Filters.{exclude, join, chain, sub, onto, dir, no_more, more}

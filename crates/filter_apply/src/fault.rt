@@ -8,7 +8,7 @@ use path_trees::TreeFault;
 use std::alloc::AllocError;
 
 /// Why nothing is shown of a tree.
-#[derive(Clone, Copy, Debug, PartialEq, Eq)]
+#[derive(Clone, Copy)]
 pub enum ApplyError {
     /// Another kind or body has the name of a tree that is made.
     Collision { name: Name },

@@ -1,5 +1,6 @@
 // A directory without what earlier entries take of it.
-ghost use Rattle.std.specs.Prelude.{◌≡◌, [], ◌<◌, ◌++◌, true, false, filter, not, is_some, take, slice_get, length, IfOk, IfErr, Some};
+ghost use Rattle.std.specs.Prelude.{◌≡◌, [], ◌<◌, ◌++◌, true, false, filter, not, is_some};
+ghost use Rattle.std.specs.Prelude.{take, slice_get, length, IfOk, IfErr, Some};
 ghost use Rattle.git_objects.specs.Paths.{is_nil};
 ghost use Rattle.git_objects.specs.Trees.{remove};
 ghost use Rattle.git_objects.specs.declared.kind.Kind.TheVariants.{Tree};
@@ -60,9 +61,7 @@ fn without<L: Ledger>(
     ensures store { IsGrownBy (IsPartObject (flat store.old root.0)) store.old store.new }
 {
     match found_at(store, root, rest, steps) {
-        Some(found) if found.mode.is_dir() != point => {
-            removed(alloc, store, root, rest)
-        }
+        Some(found) if found.mode.is_dir() != point => { removed(alloc, store, root, rest) }
         _ => Ok(root),
     }
 }
@@ -106,7 +105,8 @@ pub fn without_holes<L: Ledger>(
     requires cone { is_below (slice_get entries.now route) ≡ true }
     requires thin { Thin [] entries.now }
     ensures ok { IfOk result (λ n. StandsFor store.new n.0
-        (filter (λ e. free_in (take route entries.now) (base_in (slice_get entries.now route) ++ e.0)) (flat store.old root.0))) }
+        (filter (λ e. free_in (take route entries.now) (base_in (slice_get entries.now route) ++ e.0))
+        (flat store.old root.0))) }
     ensures err { IfErr result (IsApplyFault (IsPartObject (flat store.old root.0)) store.new) }
     ensures store { IsGrownBy (IsPartObject (flat store.old root.0)) store.old store.new }
     ensures first { route ≡ 0 → steps.new ≡ steps.old }

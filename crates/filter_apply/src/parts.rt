@@ -23,8 +23,8 @@ use std::sync::ledger::Ledger;
 
 /// What the entry at `route` has of what stands at `place` in the tree of that name: a leaf for a single path, a
 /// directory otherwise, without what the entries before it take. At the entry's base this is what the entry shows of a
-/// tree, and at its target what it has of a tree that is shown. None: it has nothing. A step is one body that is read on
-/// the way to the place, or to what the entries before it take.
+/// tree, and at its target what it has of a tree that is shown. None: it has nothing. A step is one body that is read
+/// on the way to the place, or to what the entries before it take.
 pub fn part<L: Ledger>(
     alloc: Global,
     store: &mut Store,

@@ -1,5 +1,6 @@
 // What the routes of a table show of a tree.
-ghost use Rattle.std.specs.Prelude.{◌≡◌, ◌+◌, ◌<◌, ◌≤◌, true, length, slice_get, IfOk, IfErr, IfSome, None};
+ghost use Rattle.std.specs.Prelude.{◌≡◌, ◌+◌, ◌<◌, ◌≤◌, true, length, slice_get, None};
+ghost use Rattle.std.specs.Prelude.{IfOk, IfErr, IfSome};
 ghost use Rattle.git_objects.specs.declared.kind.Kind.TheVariants.{Tree};
 ghost use Rattle.object_store.specs.Growth.{IsGrownBy};
 ghost use Rattle.object_store.specs.Objects.{IsStore, has};
@@ -33,7 +34,8 @@ fn shown_by<L: Ledger>(
     requires route { route < length table.now.routes }
     ensures ok { IfOk result (IsDirectory store.new
         (seen_between (shape table.now.filter) table.now.routes route (route + 1) (flat store.old root.0))) }
-    ensures err { IfErr result (IsApplyFault (IsShownObject (shape table.now.filter) (flat store.old root.0)) store.new) }
+    ensures err { IfErr result (IsApplyFault
+        (IsShownObject (shape table.now.filter) (flat store.old root.0)) store.new) }
     ensures store { IsGrownBy (IsShownObject (shape table.now.filter) (flat store.old root.0)) store.old store.new }
     ensures few { route ≡ 0 → steps.new ≤ steps.old + length (base_in (slice_get table.now.routes route)) }
 {
@@ -43,7 +45,15 @@ fn shown_by<L: Ledger>(
     let entry = &entries[route];
     match &entry.target {
         None => Ok(None),
-        Some(target) => match part(alloc, store, entries, route, root, entry.base.as_slice(), steps)? {
+        Some(target) => match part(
+            alloc,
+            store,
+            entries,
+            route,
+            root,
+            entry.base.as_slice(),
+            steps,
+        )? {
             None => Ok(None),
             Some(found) => Ok(Some(placed(alloc, store, target.as_slice(), found)?)),
         },
@@ -105,7 +115,8 @@ pub fn shown_between<L: Ledger>(
     requires within { last ≤ length table.now.routes }
     ensures ok { IfOk result (IsDirectory store.new
         (seen_between (shape table.now.filter) table.now.routes first last (flat store.old root.0))) }
-    ensures err { IfErr result (IsApplyFault (IsShownObject (shape table.now.filter) (flat store.old root.0)) store.new) }
+    ensures err { IfErr result (IsApplyFault
+        (IsShownObject (shape table.now.filter) (flat store.old root.0)) store.new) }
     ensures store { IsGrownBy (IsShownObject (shape table.now.filter) (flat store.old root.0)) store.old store.new }
     ensures few { last ≡ 1 → steps.new ≤ steps.old + length (base_in (slice_get table.now.routes 0)) }
 {

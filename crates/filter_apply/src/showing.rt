@@ -4,6 +4,7 @@ ghost use Rattle.git_objects.specs.declared.kind.Kind.TheVariants.{Tree};
 ghost use Rattle.object_store.specs.Growth.{IsGrownBy};
 ghost use Rattle.object_store.specs.Objects.{has};
 ghost use Rattle.object_store.specs.Unfolding.{flat, StandsFor};
+ghost use Rattle.path_trees.specs.Levels.{IsDirectory};
 ghost use Rattle.filter_text.specs.Shapes.{shape};
 ghost use Rattle.filter_routes.specs.Lenses.{seen_through};
 ghost use Rattle.filter_routes.specs.Origins.{lens_of};
@@ -22,6 +23,31 @@ use path_trees::taken_in;
 use std::alloc::Global;
 use std::sync::ledger::Ledger;
 
+// What all routes of the table show of a tree. None: nothing.
+fn shown_by_all<L: Ledger>(
+    alloc: Global,
+    store: &mut Store,
+    table: &Table,
+    root: Name,
+    steps: &mut Steps<L>,
+) -> Result<Option<Name>, ApplyError>
+    requires root { has Tree store.old root.0 ≡ true }
+    ensures ok { IfOk result (IsDirectory store.new
+        (seen_through (lens_of (shape table.now.filter)) (flat store.old root.0))) }
+    ensures err { IfErr result (IsApplyFault
+        (IsShownObject (shape table.now.filter) (flat store.old root.0)) store.new) }
+    ensures store { IsGrownBy (IsShownObject (shape table.now.filter) (flat store.old root.0)) store.old store.new }
+    ensures few { IsPaid (shape table.now.filter) steps.old steps.new }
+{
+    // The store is looked at so that the proof has what each store keeps.
+    let _ = store.get(&root);
+    let count = table.entries().len();
+    if count == 0 {
+        return Ok(None);
+    }
+    shown_between(alloc, store, table, 0, count, root, steps)
+}
+
 // What the table shows of a tree, made from the tree.
 fn made<L: Ledger>(
     alloc: Global,
@@ -33,24 +59,20 @@ fn made<L: Ledger>(
     requires root { has Tree store.old root.0 ≡ true }
     ensures ok { IfOk result (λ n. StandsFor store.new n.0
         (seen_through (lens_of (shape table.now.filter)) (flat store.old root.0))) }
-    ensures err { IfErr result (IsApplyFault (IsShownObject (shape table.now.filter) (flat store.old root.0)) store.new) }
+    ensures err { IfErr result (IsApplyFault
+        (IsShownObject (shape table.now.filter) (flat store.old root.0)) store.new) }
     ensures store { IsGrownBy (IsShownObject (shape table.now.filter) (flat store.old root.0)) store.old store.new }
     ensures few { IsPaid (shape table.now.filter) steps.old steps.new }
 {
-    // The store is looked at so that the proof has what each store keeps.
-    let _ = store.get(&root);
-    let count = table.entries().len();
-    if count > 0 {
-        if let Some(name) = shown_between(alloc, store, table, 0, count, root, steps)? {
-            return Ok(name);
-        }
+    match shown_by_all(alloc, store, table, root, steps)? {
+        Some(name) => Ok(name),
+        None => Ok(taken_in(store, &[])?),
     }
-    Ok(taken_in(store, &[])?)
 }
 
 /// The tree that the table shows of the tree `root`. The memo is asked before anything is read, and then has the pair.
-/// A table's number `id` is its own among all tables that the memo is used with. A step is one body of a directory that
-/// is looked up on the way to what an entry shows or leaves out; what edits and joins read is not counted.
+/// A table's number `id` is its own among all tables that the memo is used with. A step is one body of a directory
+/// that is looked up on the way to what an entry shows or leaves out; what edits and joins read is not counted.
 pub fn shown<L: Ledger>(
     alloc: Global,
     store: &mut Store,
@@ -64,7 +86,8 @@ pub fn shown<L: Ledger>(
     requires memo { IsTrueFor store.old table.now id memo.old }
     ensures ok { IfOk result (λ n. StandsFor store.new n.0
         (seen_through (lens_of (shape table.now.filter)) (flat store.old root.0))) }
-    ensures err { IfErr result (IsApplyFault (IsShownObject (shape table.now.filter) (flat store.old root.0)) store.new) }
+    ensures err { IfErr result (IsApplyFault
+        (IsShownObject (shape table.now.filter) (flat store.old root.0)) store.new) }
     ensures store { IsGrownBy (IsShownObject (shape table.now.filter) (flat store.old root.0)) store.old store.new }
     ensures true_now { IsTrueFor store.new table.now id memo.new }
     ensures others { KeepsOthers id memo.old memo.new }

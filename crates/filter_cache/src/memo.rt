@@ -11,7 +11,7 @@ use std::marker::Model;
 use std::num::NonZeroUsize;
 
 /// A table's number and a tree's name.
-#[derive(Clone, Copy, Debug, PartialEq, Eq, Hash, Drop)]
+#[derive(Clone, Copy, PartialEq, Eq, Hash)]
 pub struct Place {
     table: usize,
     tree: Name,
@@ -19,6 +19,7 @@ pub struct Place {
 
 /// For tables by their numbers and trees by their names, the names of the trees that the tables show of them; the pairs
 /// that were used last, up to a number that is set when the memo is made.
+#[derive(Drop)]
 pub struct Memo {
     pairs: LruCache<Place, Name>,
 }

@@ -1,8 +1,5 @@
-use Rattle.std.proofs.Common.{◌≡◌, ◌∙◌, sym, subst, append-nil}
-use Rattle.std.proofs.Common.{IfOk, IfErr}
-use Rattle.git_objects.specs.Paths.{Path}
 use Rattle.git_objects.specs.Trees.{remove}
-use Rattle.object_store.specs.Unfolding.{flat, StandsFor}
+use Rattle.object_store.specs.Unfolding.{flat}
 use Rattle.object_store.specs.Hands.{IsLeafOf, IsComponentOf}
 use Rattle.object_store.proofs.Unfolding.{flat_good}
 use Rattle.path_trees.specs.Made.{IsOnWay}

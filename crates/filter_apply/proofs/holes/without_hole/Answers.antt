@@ -1,8 +1,7 @@
-use Rattle.std.proofs.Common.{◌≡◌, ◌∙◌, sym, refl, ap}
-use Rattle.git_objects.specs.Paths.{Path}
+use Rattle.std.proofs.Common.{◌∙◌, refl, ap}
 use Rattle.object_store.specs.Unfolding.{flat}
 use Rattle.object_store.proofs.Unfolding.{flat_good}
-use Rattle.decision_lists.specs.Entries.{Cone, Entry, base, cone_of, tail}
+use Rattle.decision_lists.specs.Entries.{Entry, base, cone_of, tail}
 use Rattle.filter_apply.proofs.Cones.{in_cone, minus}
 use Rattle.filter_apply.proofs.Handing.{hole_away, hole_within, rest_full, stands_as, ok_as}
 use Rattle.std.proofs.Common.{filter, not, ◌++◌}

@@ -1,8 +1,7 @@
-use Rattle.std.proofs.Common.{◌≡◌, [], slice_get, refl, arith, sym}
+use Rattle.std.proofs.Common.{[], slice_get, refl, arith}
 use Rattle.object_store.specs.Unfolding.{flat}
 use Rattle.object_store.proofs.Growth.{grown_then, grown_as}
 use Rattle.path_trees.proofs.Placed.{got}
-use Rattle.decision_lists.specs.Entries.{Entry}
 use Rattle.filter_apply.specs.Faults.{IsApplyFault}
 use Rattle.filter_apply.specs.Hands.{IsPartObject}
 use Rattle.filter_apply.proofs.Cones.{thin_apart}

@@ -1,19 +1,7 @@
-use Rattle.filter_apply.proofs.Routing.{part-named}
-use Rattle.std.proofs.Common.{◌≡◌, ℕ, ◌<◌, ◌⊎◌, inl, inr, true, false, List, ◌++◌, length, slice_get, nat_eq, Some, sym, ap, subst, ◌∙◌, arith}
-use Rattle.std.proofs.lemmas.Bool.Decides.{eqb_tells}
+use Rattle.std.proofs.Common.{◌≡◌, ℕ, ◌<◌, inl, inr, ◌++◌, length, slice_get, sym, ap, subst, ◌∙◌}
 use Rattle.std.proofs.lemmas.Option.{same_Some, slice_get_within}
-use Rattle.git_objects.specs.Paths.{Bytes}
-use Rattle.git_objects.specs.declared.kind.Kind.TheVariants.{Tree}
-use Rattle.object_store.specs.Objects.{Object, IsStore}
-use Rattle.object_store.specs.Unfolding.{flat}
-use Rattle.object_store.proofs.Held.{has-above}
-use Rattle.object_store.proofs.Unfolding.{growing_law}
-use Rattle.filter_text.specs.Shapes.{shape}
-use Rattle.filter_routes.specs.Lenses.{seen_through}
-use Rattle.filter_routes.specs.Origins.{lens_of}
 use Rattle.filter_routes.specs.TableValues.{Table}
-use Rattle.filter_cache.specs.Memos.{Memo}
-use Rattle.filter_apply.specs.Truth.{IsShownAs, Holds, IsTrueFor, AreTrueFor, KeepsOthers}
+use Rattle.filter_apply.specs.Truth.{IsShownAs, Holds}
 use Rattle.filter_apply.proofs.Truths.{shown-above, same_or_other}
 use Rattle.filter_apply.proofs.laws.stays_true_law.Goals as goal
 

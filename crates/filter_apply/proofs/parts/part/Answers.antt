@@ -1,15 +1,11 @@
-use Rattle.std.proofs.Common.{◌≡◌, ◌∙◌, sym, ap, subst, refl, not, true, false, Bool, slice_get, Option, Some, None, get_or, arith}
+use Rattle.std.proofs.Common.{◌≡◌, ◌∙◌, sym, ap, not, slice_get, Some}
 use Rattle.std.specs.Option.{option_map}
-use Rattle.std.specs.Bool.{beq}
-use Rattle.git_objects.specs.Paths.{Path}
-use Rattle.git_objects.specs.Trees.{IsTree, Flat, TreeNode}
-use Rattle.git_objects.specs.Entries.{is_dir}
 use Rattle.object_store.specs.Unfolding.{flat}
 use Rattle.object_store.proofs.Unfolding.{flat_good}
 use Rattle.object_store.proofs.Growth.{grown_as}
 use Rattle.path_trees.specs.Standing.{node}
 use Rattle.path_trees.proofs.Placed.{got}
-use Rattle.decision_lists.specs.Entries.{Cone, Entry, cone_of}
+use Rattle.decision_lists.specs.Entries.{cone_of}
 use Rattle.filter_apply.specs.Faults.{IsApplyFault}
 use Rattle.filter_apply.specs.Hands.{IsPartObject}
 use Rattle.filter_apply.specs.Parts.{is_below, is_wide}

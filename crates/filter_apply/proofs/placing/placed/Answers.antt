@@ -1,4 +1,4 @@
-use Rattle.std.proofs.Common.{◌≡◌, ◌∙◌, sym, ap, subst, refl, true, false, inl, inr, ◌⊎◌, Bool, ℕ, [], ◌∷◌, true≢false, get_or, arith, length, ◌-◌, ◌+◌}
+use Rattle.std.proofs.Common.{◌≡◌, ◌∙◌, ap, subst, refl, true, false, inl, inr, ◌⊎◌, Bool, ℕ, [], ◌∷◌, true≢false, arith, length, ◌-◌}
 use Rattle.git_objects.specs.Trees.{rests}
 use Rattle.git_objects.specs.Entries.{is_dir}
 use Rattle.git_objects.specs.Paths.{Path, is_nil, is_component}
@@ -7,7 +7,7 @@ use Rattle.filter_apply.specs.Hands.{IsPlacedObject}
 use Rattle.filter_apply.proofs.Handing.{err_told}
 use Rattle.path_trees.specs.Standing.{node}
 use Rattle.path_trees.proofs.Lookups.{read_at}
-use Rattle.filter_apply.proofs.Placements.{IsPlacing, first_placing, line_fits, line_grown, line_placed, line_refused, line_kept, all_placed}
+use Rattle.filter_apply.proofs.Placements.{IsPlacing, first_placing, line_fits, line_placed, line_refused, line_kept, all_placed}
 use Rattle.filter_apply.proofs.placing.placed.Goals as goal
 
 start : (d n : Bool) (l : ℕ) → (d ≡ true) ⊎ (n ≡ false) → (d ≡ true) ⊎ ((n ≡ false) × (l ≡ l))
@@ -61,8 +61,8 @@ levels-preserved c =
     record {
       within = omega arith;
       placing = line_placed S0 c.args.target.now t c.levels.level c.levels.store c.levels.found c.levels.invariant.placing (c.levels.level - 1) (omega arith) (omega arith) c.bytes-in-levels.result.now (ap is_component c.bytes-in-levels.ensures.bytes ∙ c.bytes-in-levels.ensures.component)
-    (read_at c.args.target.now c.args.target.now (c.levels.level - 1) c.index-target-level.result c.bytes-in-levels.result.now refl c.bytes-in-levels.ensures.bytes c.index-target-level.is)
-    c.deref.result.now (c.deref.ensures.value ∙ c.in_ok-body.ensures) c.taken_in.new.store c.taken_in.ensures.store c.in_ok-name.ensures.ok.1 c.in_ok-name.name c.in_ok-name.ensures.ok.0;
+          (read_at c.args.target.now c.args.target.now (c.levels.level - 1) c.index-target-level.result c.bytes-in-levels.result.now refl c.bytes-in-levels.ensures.bytes c.index-target-level.is)
+          c.deref.result.now (c.deref.ensures.value ∙ c.in_ok-body.ensures) c.taken_in.new.store c.taken_in.ensures.store c.in_ok-name.ensures.ok.1 c.in_ok-name.name c.in_ok-name.ensures.ok.0;
       kind = inl refl;
     }
 

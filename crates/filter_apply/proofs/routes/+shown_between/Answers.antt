@@ -1,4 +1,4 @@
-use Rattle.std.proofs.Common.{rules, ◌≡◌, ◌∙◌, true, ℕ, ◌+◌, ◌-◌, sym, ap, subst, arith, IfOk}
+use Rattle.std.proofs.Common.{rules, ◌≡◌, true, ℕ, ◌+◌, subst, arith, IfOk}
 use Rattle.git_objects.specs.declared.kind.Kind.TheVariants.{Tree}
 use Rattle.object_store.specs.Objects.{has}
 use Rattle.object_store.specs.Unfolding.{flat}

@@ -1,4 +1,4 @@
-use Rattle.std.proofs.Common.{◌≡◌, ◌∙◌, true, List, [], slice_get, get_or, IfSome, Option, Some, None, refl, sym, ap, subst}
+use Rattle.std.proofs.Common.{◌≡◌, ◌∙◌, true, List, slice_get, get_or, IfSome, Option, Some, sym, ap, subst}
 use Rattle.std.specs.Option.{option_map}
 use Rattle.git_objects.specs.Paths.{Path}
 use Rattle.git_objects.specs.Trees.{rests}

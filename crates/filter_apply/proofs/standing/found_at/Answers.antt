@@ -1,11 +1,10 @@
-use Rattle.std.proofs.Common.{◌≡◌, ap, sym, refl, ◌∙◌, arith}
+use Rattle.std.proofs.Common.{ap, sym, refl, ◌∙◌, arith}
 use Rattle.std.specs.Option.{option_map}
-use Rattle.git_objects.specs.Trees.{IsTree}
 use Rattle.object_store.specs.Unfolding.{flat}
 use Rattle.object_store.proofs.Unfolding.{flat_good}
 use Rattle.path_trees.specs.Standing.{node}
 use Rattle.path_trees.proofs.Lookups.{read_at}
-use Rattle.filter_apply.proofs.Places.{from_nothing, from_root, way_off, way_on, no_way, arrived}
+use Rattle.filter_apply.proofs.Places.{from_nothing, from_root, way_off, way_on, arrived}
 use Rattle.filter_apply.proofs.standing.found_at.Goals as goal
 
 pub returns-in_err-found-clause-found : goal.returns-in_err-found-clause-found

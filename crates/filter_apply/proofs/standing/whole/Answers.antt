@@ -1,4 +1,4 @@
-use Rattle.filter_apply.proofs.Places.{some-files, no-files}
+use Rattle.filter_apply.proofs.Places.{some-files}
 use Rattle.filter_apply.proofs.standing.whole.Goals as goal
 
 pub returns-in-Some-clause-found : goal.returns-in-Some-clause-found

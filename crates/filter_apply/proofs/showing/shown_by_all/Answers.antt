@@ -1,0 +1,34 @@
+use Rattle.std.proofs.Common.{◌≡◌, ◌∙◌, length, IfOk, sym, ap, subst, arith, List}
+use Rattle.git_objects.specs.Trees.{Flat}
+use Rattle.object_store.specs.Unfolding.{flat}
+use Rattle.object_store.proofs.Unfolding.{flat_good}
+use Rattle.path_trees.specs.Levels.{IsDirectory}
+use Rattle.decision_lists.specs.Entries.{Entry}
+use Rattle.filter_text.specs.Shapes.{shape}
+use Rattle.filter_apply.specs.Ranges.{seen_between}
+use Rattle.filter_apply.proofs.Shows.{all_seen, none_seen, paid}
+use Rattle.filter_apply.proofs.showing.shown_by_all.Goals as goal
+
+pub returns-then-count-eq0-clause-ok : goal.returns-then-count-eq0-clause-ok
+returns-then-count-eq0-clause-ok g c =
+    let S = c.args.store.now in
+    let t = flat S c.args.root.0 in
+    let f = shape c.args.table.now.filter in
+    let es = c.args.table.now.routes in
+    let none : length es ≡ 0 = ap length (sym c.entries-count.ensures.entries) ∙ c.if-count-eq0.true in
+    none_seen f es c.entries-count.ensures.list c.entries-count.ensures.sound c.entries-count.ensures.paths t (flat_good S c.get.ensures.store c.args.root.0 c.requires.root).tree (omega arith)
+
+pub returns-then-count-eq0-clause-few : goal.returns-then-count-eq0-clause-few
+returns-then-count-eq0-clause-few g c = paid (shape c.args.table.now.filter) c.args.table.now.routes c.args.steps.now c.args.steps.now c.entries-count.ensures.list.one (λ _. omega arith)
+
+pub returns-clause-ok : goal.returns-clause-ok
+returns-clause-ok g c =
+    let S = c.args.store.now in
+    let t = flat S c.args.root.0 in
+    let f = shape c.args.table.now.filter in
+    let es = c.args.table.now.routes in
+    subst (λ (u : Flat). IfOk c.shown_between.result (IsDirectory c.shown_between.new.store u))
+    (ap (λ (ds : List Entry). seen_between f es 0 (length ds) t) c.entries-count.ensures.entries ∙ all_seen f es c.entries-count.ensures.list c.entries-count.ensures.sound c.entries-count.ensures.paths t (flat_good S c.get.ensures.store c.args.root.0 c.requires.root).tree) c.shown_between.ensures.ok
+
+pub returns-clause-few : goal.returns-clause-few
+returns-clause-few g c = paid (shape c.args.table.now.filter) c.args.table.now.routes c.args.steps.now c.shown_between.new.steps c.entries-count.ensures.list.one (λ e. c.shown_between.ensures.few (ap length c.entries-count.ensures.entries ∙ e))
