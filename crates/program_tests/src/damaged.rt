@@ -10,7 +10,9 @@ use std::test::Fail;
 // kind 6, length 7 and body 11; the kind 17, the length 18 and the body 22 of the tree of `a`; 51, 52 and 56 those of
 // the root; 84, 85 and 89 those of the commit; 208 number of refs, 212 length of the ref, 214 the ref, 229 its commit.
 const LENGTH: usize = 263;
+
 const ITEM: usize = 13;
+
 const LAST_GATE: usize = 262;
 
 // What is changed in a byte: its lowest bit, its highest bit, all bits.
@@ -171,16 +173,18 @@ fn answers(alloc: Global, bytes: &[u8], expected: Expected) -> Result<bool, Allo
     let answer = served(alloc, disk_of(alloc, bytes)?, PROJECT, b"")?;
     let text = answer.err.bytes();
     match expected {
-        Expected::Right => {
-            Ok(answer.is(0, b"6a27ff6de5d45a65cc66723c6ae6227ea6004aa6\n", b""))
-        }
+        Expected::Right => { Ok(answer.is(0, b"6a27ff6de5d45a65cc66723c6ae6227ea6004aa6\n", b"")) }
         Expected::NoRef => Ok(answer.is(8, b"", b"unknown ref\n")),
-        Expected::Journal(at) => Ok(answer.status == 25
-            && answer.out.bytes().is_empty()
-            && is_line(text, b"damaged: journal at ", at)),
-        Expected::Item(at) => Ok(answer.status == 25
-            && answer.out.bytes().is_empty()
-            && is_line(text, b"damaged: item 0 at ", at)),
+        Expected::Journal(at) => Ok(
+            answer.status == 25
+                && answer.out.bytes().is_empty()
+                && is_line(text, b"damaged: journal at ", at),
+        ),
+        Expected::Item(at) => Ok(
+            answer.status == 25
+                && answer.out.bytes().is_empty()
+                && is_line(text, b"damaged: item 0 at ", at),
+        ),
     }
 }
 
@@ -196,7 +200,10 @@ fn a_file_is_cut_at_each_length(rt: HostRuntime) -> Result<(), Fail> {
     let whole = file(alloc)?;
     assert!(rt; whole.len() == LENGTH);
     for length in 0..whole.len() + 1 {
-        assert!(rt; answers(alloc, &whole[..length], expected_cut(length))?, "{length}");
+        assert!(rt;
+            answers(alloc, &whole[..length], expected_cut(length))?,
+            "{length}"
+        );
     }
     Ok(())
 }

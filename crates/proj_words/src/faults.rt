@@ -4,10 +4,10 @@ ghost use Rattle.proj_words.specs.Faults.{filter_outcome, route_outcome, stream_
 ghost use Rattle.proj_words.specs.declared.outcome.Outcome.TheVariants.{OutOfMemory};
 
 use crate::{FilterWhat, Outcome};
-use stream_reader::StreamFault;
 use filter_routes::RouteFault;
 use filter_text::FilterFault;
 use std::alloc::AllocError;
+use stream_reader::StreamFault;
 
 impl From<AllocError> for Outcome {
     ghost from_gives = { λ _ outcome. outcome ≡ OutOfMemory };

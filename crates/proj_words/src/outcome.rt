@@ -2,9 +2,9 @@
 ghost use Rattle.std.specs.Prelude.{◌≡◌};
 ghost use Rattle.proj_words.specs.Outcomes.{code_of};
 
-use stream_reader::Feature;
 use git_objects::{Name, Quantity};
 use path_names::{Path, RefName};
+use stream_reader::Feature;
 
 /// What is wrong with the text of a filter.
 #[derive(Clone, Copy, Debug, PartialEq, Eq)]

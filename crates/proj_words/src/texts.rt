@@ -5,11 +5,11 @@ ghost use Rattle.proj_words.specs.Outcomes.{is_plain, text_of, words_of};
 ghost use Rattle.proj_words.specs.Outcomes.{feature_words, filter_words, limit_words, name_words, path_words};
 
 use crate::{FilterWhat, Outcome};
-use stream_reader::Feature;
 use git_objects::{Name, Quantity};
 use itoa::Buffer;
 use path_names::{Path, quote};
 use std::alloc::{AllocError, Global};
+use stream_reader::Feature;
 
 const USAGE: &[u8] =
     b"usage: proj STORE (import [--force] | project REF FILTER | push REF FILTER | export REF FILTER | batch), \
