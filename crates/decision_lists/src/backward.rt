@@ -12,11 +12,7 @@ use git_objects::Component;
 use std::alloc::{AllocError, Global};
 
 /// The list that gives each image which comes from one entry its path, and no other path anything.
-pub fn way_back(
-    alloc: Global,
-    entries: &[Entry],
-    route: usize,
-) -> Result<Vec<Entry>, AllocError>
+pub fn way_back(alloc: Global, entries: &[Entry], route: usize) -> Result<Vec<Entry>, AllocError>
     requires { route < length entries.now }
     ensures { IfOk result (λ v. IsWayBack v.items (route_cells entries.now route)) }
 {

@@ -81,7 +81,11 @@ fn image_of(alloc: Global, table: &Table, path: &Path, hit: &RouteHit) -> Result
 {
     // The filter is looked at so that the proof has that it has paths.
     let _ = table.filter();
-    Path::of_parts(alloc, table.target(hit.route), &path.components()[hit.cut..])
+    Path::of_parts(
+        alloc,
+        table.target(hit.route),
+        &path.components()[hit.cut..],
+    )
 }
 
 // Whether the leaf at a path of the first tree doesn't stand at a path of the second.

@@ -15,7 +15,7 @@ mod sifting;
 pub use below::laid_below;
 pub use fault::LayFault;
 pub use hiding::unseen;
-pub use laying::laid;
 pub use laws::{
     below_law, given_back_law, laid_again_law, laying_law, outcome_law, shown_again_law, unseen_law,
 };
+pub use laying::laid;
