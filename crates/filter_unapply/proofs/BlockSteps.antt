@@ -172,8 +172,8 @@ pub block-more : (S : List Object) → IsStore S → (kept a : Name) (xs ys ms n
     IsLeast (IsBlockUpTo S kept ms xs) o → IsLeast (IsBlockUpTo S kept ms next) r
 block-more S s kept a xs ys ms next e f hk o r g =
     subst (λ (ps : List Name). Each (λ n. has Tree S n.0 ≡ true) ps → AreApart S ps → ((p : Path) (x : Leaf) → at (flat S kept.0) p ≡ Some x → any_at S ps p ≡ None) →
-        IsLeast (IsBlockUpTo S kept ps xs) o → IsLeast (IsBlockUpTo S kept ps next) r) e
+    IsLeast (IsBlockUpTo S kept ps xs) o → IsLeast (IsBlockUpTo S kept ps next) r) e
     (λ t p u l.
-        subst (λ (v : Option (Path × Path)). IsLeast (IsBlockUpTo S kept (xs ++ a ∷ ys) next) v) (sym g)
-        (subst (λ (ns : List Name). IsLeast (IsBlockUpTo S kept (xs ++ a ∷ ys) ns) (lesser (with_clashes S a ys (with_clashes S a xs o)) (clash (flat S a.0) (flat S kept.0)))) (sym f)
-        (block-step S s kept a xs ys hk t p u o l)))
+    subst (λ (v : Option (Path × Path)). IsLeast (IsBlockUpTo S kept (xs ++ a ∷ ys) next) v) (sym g)
+    (subst (λ (ns : List Name). IsLeast (IsBlockUpTo S kept (xs ++ a ∷ ys) ns) (lesser (with_clashes S a ys (with_clashes S a xs o)) (clash (flat S a.0) (flat S kept.0)))) (sym f)
+    (block-step S s kept a xs ys hk t p u o l)))

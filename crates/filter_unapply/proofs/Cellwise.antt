@@ -234,9 +234,9 @@ module _ (b : Bool) (s t : Path) (hs : List Cone) (way : List Entry) (w : IsWayB
           ap (λ o. option_and_then (at (sifted true way n)) (decide o (Some t) None)) k
           ∙ at-sifted true way n (t ++ r)
           ∙ ap (λ o. cond (is_some o) (at n (t ++ r)) None)
-              (way-at (t ++ r) ∙ ap (λ o. origin_at (t ++ r) (cone_of b s, t, hs) o None) (moved-tail b s t p r k)
-               ∙ ap (λ a. cond (is_free hs (a ++ r)) (Some (a ++ r)) None) (cone-base b s)
-               ∙ ap (λ v. cond (is_free hs v) (Some (s ++ r)) None) here)
+          (way-at (t ++ r) ∙ ap (λ o. origin_at (t ++ r) (cone_of b s, t, hs) o None) (moved-tail b s t p r k)
+          ∙ ap (λ a. cond (is_free hs (a ++ r)) (Some (a ++ r)) None) (cone-base b s)
+          ∙ ap (λ v. cond (is_free hs v) (Some (s ++ r)) None) here)
           ∙ both r (is_free hs p)
           ∙ ap (λ o. option_and_then (at n) (or_else (cond (is_free hs p) (decide o (Some t) None) None) None)) (sym k)
 

@@ -81,7 +81,7 @@ module _ (S : List Object) (b : Bool) (s : Path) (f : Found) where
       IsTree (put u s (node S f)) × ((q : Path) (x : Leaf) → at (put u s (node S f)) q ≡ Some x → at t q ≡ Some x)
   put-tree-fits t u h g w k =
       let inside : (q : Path) (x : Leaf) → at (put u s (node S f)) q ≡ Some x → at t q ≡ Some x =
-          λ q x e. back-within (cone_of b s) t u w q x (sym (put-fits t u h w k q) ∙ e) in
+      λ q x e. back-within (cone_of b s) t u w q x (sym (put-fits t u h w k q) ∙ e) in
       (part-tree t (put u s (node S f)) h (sorted-put u s (node S f) g.sorted) inside, inside)
 
   pub out-fits : (u : Flat) → IsTree u → IsFitting S u b s (Some f) → (q : Path) → at (remove u s) q ≡ taken_out (cone_of b s) u q
@@ -158,7 +158,6 @@ empty-made known o e = record { tree = []; above = []; is_tree = nothing; all_kn
     nothing : IsTree []
     nothing = record { sorted = tt; paths = tt; leaves = tt; apart = tt }
 
-
 -- ---- a list asked from its end
 
 asked-is : (b : Bool) (o a x : Option Path) (y : Option Leaf) → chosen b a o y (cond (stays b x) y None) ≡ cond (stays b (decide o a x)) y None
@@ -200,11 +199,14 @@ pub sifted-step : (S R : List Object) (root part n : Bytes) (t : Flat) (b : Bool
     StandsFor S part (sifted b es t) → HasLeaves R n (asked b e (flat S root) (flat S part)) → StandsFor R n (sifted b (e ∷ es) t)
 sifted-step S R root part n t b e es s g same p h =
     stands-from R n (sifted b (e ∷ es) t) s (sorted-sifted b (e ∷ es) t g)
-    (record { held = h.held; leaves = λ q.
-        h.leaves q
-        ∙ (λ i. chosen b e.1 (tail e.0 q) (at (same i) q) ((ap (λ v. at v q) p.map ∙ at-sifted b es t q) i))
-        ∙ asked-is b (tail e.0 q) e.1 (run None es q) (at t q)
-        ∙ sym (at-sifted b (e ∷ es) t q) })
+    (record {
+      held = h.held;
+      leaves = λ q.
+          h.leaves q
+          ∙ (λ i. chosen b e.1 (tail e.0 q) (at (same i) q) ((ap (λ v. at v q) p.map ∙ at-sifted b es t q) i))
+          ∙ asked-is b (tail e.0 q) e.1 (run None es q) (at t q)
+          ∙ sym (at-sifted b (e ∷ es) t q);
+    })
 
 pub started-none : (S : List Object) (b : Bool) (t : Flat) → b ≡ true → (r : Result Name LayFault) → IfOk r (λ n. StandsFor S n.0 []) → IfOk r (λ n. StandsFor S n.0 (sifted b [] t))
 started-none S b t e (Err x) h = tt

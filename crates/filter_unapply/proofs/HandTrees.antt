@@ -120,12 +120,15 @@ known-path f t n p x (inr (inr h)) =
 pub laid-made : (f : Filter) (t n : Flat) (o : Object) → IsMadeOf (IsKnown f t n) o → IsLaidMade f t n o
 laid-made f t n o h =
     let u : Flat = under h.tree h.above in
-    let g = under-tree h.tree h.above h.is_tree in
-    (u, record {
-      tree = g;
-      all_leaves = each_entry (λ d. IsLeafOfTwo t n d.1) u g.sorted (λ d e. known-leaf f t n (h.above ++ d.0) d.1 (known d.0 d.1 e));
-      all_components = each_entry (λ d. Each (IsComponentOfTwo f t n) d.0) u g.sorted (λ d e. each-behind (IsComponentOfTwo f t n) h.above d.0 (known-path f t n (h.above ++ d.0) d.1 (known d.0 d.1 e)));
-    }, h.is_object)
+    let g = under-tree h.tree h.above h.is_tree in (
+      u,
+      record {
+        tree = g;
+        all_leaves = each_entry (λ d. IsLeafOfTwo t n d.1) u g.sorted (λ d e. known-leaf f t n (h.above ++ d.0) d.1 (known d.0 d.1 e));
+        all_components = each_entry (λ d. Each (IsComponentOfTwo f t n) d.0) u g.sorted (λ d e. each-behind (IsComponentOfTwo f t n) h.above d.0 (known-path f t n (h.above ++ d.0) d.1 (known d.0 d.1 e)));
+      },
+      h.is_object,
+    )
   where
     known : (r : Path) (x : Leaf) → at (under h.tree h.above) r ≡ Some x → IsKnown f t n (h.above ++ r) x
     known [] x e = absurd (none-some x (sym (at-under_nil h.tree h.above) ∙ e))

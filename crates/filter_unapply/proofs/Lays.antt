@@ -193,11 +193,12 @@ module _ (f : Filter) (v : has_paths f ≡ true) (s : IsSound f) (es : List Entr
       -- a block of the parts is a block of what is laid
       block-test : (p q : Path) → is_path p ≡ true → is_path q ≡ true → IsBlockIn S k ns p q → (is_some (at u p) ≡ true) × (is_some (image f p) ≡ true) × (is_some (at u q) ≡ true) × (is_other p q ≡ true)
       block-test p q vp vq b =
-          let i : is_some (taken (cells [] es) n p) ≡ true = sym (ap is_some (hp p)) ∙ b.path in
-          (ap is_some (sym (parts-whole p vp)) ∙ right (at (flat S k.0) p) (any_at S ns p) b.path,
-           taken-image p vp i,
-           ap is_some (sym (parts-whole q vq)) ∙ b.by,
-           (λ j. b.comparable j && not (differs p q b.other j)))
+          let i : is_some (taken (cells [] es) n p) ≡ true = sym (ap is_some (hp p)) ∙ b.path in (
+            ap is_some (sym (parts-whole p vp)) ∙ right (at (flat S k.0) p) (any_at S ns p) b.path,
+            taken-image p vp i,
+            ap is_some (sym (parts-whole q vq)) ∙ b.by,
+            (λ j. b.comparable j && not (differs p q b.other j)),
+          )
         where
           right : (x y : Option Leaf) → is_some y ≡ true → is_some (option_or x y) ≡ true
           right None y e = e

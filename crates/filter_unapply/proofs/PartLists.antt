@@ -52,11 +52,12 @@ none-of (Some x) f = absurd (f x refl)
 
 pub apart-app : (S : List Object) (ns : List Name) (m : Name) → AreApart S ns → ((p : Path) (x : Leaf) → at (flat S m.0) p ≡ Some x → any_at S ns p ≡ None) → AreApart S (ns ++ m ∷ [])
 apart-app S [] m a f = (λ p x e. refl, tt)
-apart-app S (n ∷ ns) m a f =
-    (λ p x e.
-        any-app S ns m p ∙ ap (λ o. option_or o (at (flat S m.0) p)) (a.0 p x e)
-        ∙ none-of (at (flat S m.0) p) (λ y i. none-some x (sym (f p y i) ∙ ap (λ o. option_or o (any_at S ns p)) e)),
-     apart-app S ns m a.1 (λ p x e. later (at (flat S n.0) p) (any_at S ns p) (f p x e)))
+apart-app S (n ∷ ns) m a f = (
+  λ p x e.
+      any-app S ns m p ∙ ap (λ o. option_or o (at (flat S m.0) p)) (a.0 p x e)
+      ∙ none-of (at (flat S m.0) p) (λ y i. none-some x (sym (f p y i) ∙ ap (λ o. option_or o (any_at S ns p)) e)),
+  apart-app S ns m a.1 (λ p x e. later (at (flat S n.0) p) (any_at S ns p) (f p x e)),
+)
   where
     later : (x y : Option Leaf) → option_or x y ≡ None → y ≡ None
     later None y e = e
@@ -203,12 +204,14 @@ module _ (S : List Object) (kept : Name) (all : List Name) (R : List Object) (tr
   joining-clash c =
       let r = clash-near (flat R tree.0) (flat R m.0) c in
       let x = some-of (at (flat R tree.0) r.0) r.2 in
-      let y = some-of (at (flat R m.0) r.1) r.3 in
-      (r.0, r.1,
-       ap is_some (joining-known r.0 x.0 (inl x.1)),
-       ap is_some (joining-known r.1 y.0 (inr y.1)),
-       r.4,
-       λ i. none-some y.0 (sym (j.other r.0 x.0 x.1) ∙ ap (λ o. option_or o (any_at S rest r.0)) (ap (λ (u : Flat). at u r.0) (sym same) ∙ ap (at (flat R m.0)) i ∙ y.1)))
+      let y = some-of (at (flat R m.0) r.1) r.3 in (
+        r.0,
+        r.1,
+        ap is_some (joining-known r.0 x.0 (inl x.1)),
+        ap is_some (joining-known r.1 y.0 (inr y.1)),
+        r.4,
+        λ i. none-some y.0 (sym (j.other r.0 x.0 x.1) ∙ ap (λ o. option_or o (any_at S rest r.0)) (ap (λ (u : Flat). at u r.0) (sym same) ∙ ap (at (flat R m.0)) i ∙ y.1)),
+      )
 
 pub none-clash : (o : Option (Path × Path)) (a b : Flat) → o ≡ clash a b → false ≡ is_some o → clash a b ≡ None
 none-clash None a b e f = sym e

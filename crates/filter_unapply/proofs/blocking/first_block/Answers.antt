@@ -14,7 +14,7 @@ loop-i-preserved c =
     let i = c.loop-i.i in
     let a : Name = get_or all i (record { 0 = [] }) in
     let split : take i all ++ a ∷ drop (i + 1) all ≡ all =
-        ap (λ (l : List Name). take i all ++ l) (sym (drop_more all i (record { 0 = [] }) c.loop-i-test.true)) ∙ take-append-drop i all in
+    ap (λ (l : List Name). take i all ++ l) (sym (drop_more all i (record { 0 = [] }) c.loop-i-test.true)) ∙ take-append-drop i all in
     block-more S c.get.ensures.store c.args.kept a (take i all) (drop (i + 1) all) all (take (i + 1) all) split (take_more all i (record { 0 = [] }) c.loop-i-test.true) c.requires.kept
     c.loop-i.least c.in_ok-least-3.least
     (c.in_ok-least-3.ensures

@@ -153,7 +153,7 @@ returns-in_err-kept-clause-err c =
     let sn : flat R c.args.pushed.0 ≡ n = flat-grown S R c.args.pushed.0 g1 c.requires.pushed in
     let both = IsOfBoth es (flat R c.args.base.0) (flat R c.args.pushed.0) in
     let m2 : (o : Object) → IsMadeOf both o → more o = λ o h. laid-made f t n o (path-known both (IsKnown f t n)
-        (λ p x w e. both-known f v s es l t n p x w (subst (λ (a : Flat). IsOfBoth es a n p x) st (subst (λ (b : Flat). IsOfBoth es (flat R c.args.base.0) b p x) sn e))) o h) in
+    (λ p x w e. both-known f v s es l t n p x w (subst (λ (a : Flat). IsOfBoth es a n p x) st (subst (λ (b : Flat). IsOfBoth es (flat R c.args.base.0) b p x) sn e))) o h) in
     let g2 : IsGrownBy more S P = grown_then more S R P g1 (grown_as (IsMadeOf both) more R P m2 c.taken_apart.ensures.store) in
     err-told (laid_through (lens_of f) t n) (IsMadeOf both) more m2 P c.from_residual-in_err-kept.result c.in_err-kept.field-0.0 c.from_residual-in_err-kept.ensures.1 c.in_err-kept.ensures.err
 
@@ -178,7 +178,7 @@ returns-in_err-kept-clause-store c =
     let sn : flat R c.args.pushed.0 ≡ n = flat-grown S R c.args.pushed.0 g1 c.requires.pushed in
     let both = IsOfBoth es (flat R c.args.base.0) (flat R c.args.pushed.0) in
     let m2 : (o : Object) → IsMadeOf both o → more o = λ o h. laid-made f t n o (path-known both (IsKnown f t n)
-        (λ p x w e. both-known f v s es l t n p x w (subst (λ (a : Flat). IsOfBoth es a n p x) st (subst (λ (b : Flat). IsOfBoth es (flat R c.args.base.0) b p x) sn e))) o h) in
+    (λ p x w e. both-known f v s es l t n p x w (subst (λ (a : Flat). IsOfBoth es a n p x) st (subst (λ (b : Flat). IsOfBoth es (flat R c.args.base.0) b p x) sn e))) o h) in
     let g2 : IsGrownBy more S P = grown_then more S R P g1 (grown_as (IsMadeOf both) more R P m2 c.taken_apart.ensures.store) in
     g2
 
@@ -203,13 +203,13 @@ put_together-requires-clause-other c =
     let sn : flat R c.args.pushed.0 ≡ n = flat-grown S R c.args.pushed.0 g1 c.requires.pushed in
     let both = IsOfBoth es (flat R c.args.base.0) (flat R c.args.pushed.0) in
     let m2 : (o : Object) → IsMadeOf both o → more o = λ o h. laid-made f t n o (path-known both (IsKnown f t n)
-        (λ p x w e. both-known f v s es l t n p x w (subst (λ (a : Flat). IsOfBoth es a n p x) st (subst (λ (b : Flat). IsOfBoth es (flat R c.args.base.0) b p x) sn e))) o h) in
+    (λ p x w e. both-known f v s es l t n p x w (subst (λ (a : Flat). IsOfBoth es a n p x) st (subst (λ (b : Flat). IsOfBoth es (flat R c.args.base.0) b p x) sn e))) o h) in
     let g2 : IsGrownBy more S P = grown_then more S R P g1 (grown_as (IsMadeOf both) more R P m2 c.taken_apart.ensures.store) in
     let k = c.in_ok-kept.kept in
     let ns = c.as_slice.result.now in
     let ok0 : StandsFor P k.0 (sifted false es t) = subst (λ (a : Flat). StandsFor P k.0 (sifted false es a)) st c.in_ok-kept.ensures.ok.0 in
     let ok1 : AreParts P ns (taken (cells [] es) n) = subst (λ (b : Flat). AreParts P ns (taken (cells [] es) b)) sn
-        (subst (λ (ms : List Name). AreParts P ms (taken (cells [] es) (flat R c.args.pushed.0))) (sym c.as_slice.ensures.value) c.in_ok-kept.ensures.ok.1) in
+    (subst (λ (ms : List Name). AreParts P ms (taken (cells [] es) (flat R c.args.pushed.0))) (sym c.as_slice.ensures.value) c.in_ok-kept.ensures.ok.1) in
     let hk : (p : Path) → at (flat P k.0) p ≡ at (sifted false es t) p = λ p. ap (λ (u : Flat). at u p) ok0.map in
     λ p x e. ok1.leaves p ∙ kept-alone f v s es l t n ht hn p x (sym (hk p) ∙ e)
 
@@ -234,20 +234,20 @@ returns-clause-ok c =
     let sn : flat R c.args.pushed.0 ≡ n = flat-grown S R c.args.pushed.0 g1 c.requires.pushed in
     let both = IsOfBoth es (flat R c.args.base.0) (flat R c.args.pushed.0) in
     let m2 : (o : Object) → IsMadeOf both o → more o = λ o h. laid-made f t n o (path-known both (IsKnown f t n)
-        (λ p x w e. both-known f v s es l t n p x w (subst (λ (a : Flat). IsOfBoth es a n p x) st (subst (λ (b : Flat). IsOfBoth es (flat R c.args.base.0) b p x) sn e))) o h) in
+    (λ p x w e. both-known f v s es l t n p x w (subst (λ (a : Flat). IsOfBoth es a n p x) st (subst (λ (b : Flat). IsOfBoth es (flat R c.args.base.0) b p x) sn e))) o h) in
     let g2 : IsGrownBy more S P = grown_then more S R P g1 (grown_as (IsMadeOf both) more R P m2 c.taken_apart.ensures.store) in
     let k = c.in_ok-kept.kept in
     let ns = c.as_slice.result.now in
     let ok0 : StandsFor P k.0 (sifted false es t) = subst (λ (a : Flat). StandsFor P k.0 (sifted false es a)) st c.in_ok-kept.ensures.ok.0 in
     let ok1 : AreParts P ns (taken (cells [] es) n) = subst (λ (b : Flat). AreParts P ns (taken (cells [] es) b)) sn
-        (subst (λ (ms : List Name). AreParts P ms (taken (cells [] es) (flat R c.args.pushed.0))) (sym c.as_slice.ensures.value) c.in_ok-kept.ensures.ok.1) in
+    (subst (λ (ms : List Name). AreParts P ms (taken (cells [] es) (flat R c.args.pushed.0))) (sym c.as_slice.ensures.value) c.in_ok-kept.ensures.ok.1) in
     let hk : (p : Path) → at (flat P k.0) p ≡ at (sifted false es t) p = λ p. ap (λ (u : Flat). at u p) ok0.map in
     let Q = c.put_together.new.store in
     let among = IsAmong P k ns in
     let m3 : (o : Object) → IsMadeOf among o → more o = λ o h. laid-made f t n o (path-known among (IsKnown f t n)
-        (λ p x w e. both-known f v s es l t n p x w (among-both f v s es l t n ht hn P k ns hk ok1.leaves p x e)) o h) in
+    (λ p x w e. both-known f v s es l t n p x w (among-both f v s es l t n ht hn P k ns hk ok1.leaves p x e)) o h) in
     let none : None ≡ first_of (unplaced (cells [] es) n) =
-        nothing-some c.in_ok-path.field-0 c.in_default.not-Some ∙ c.in_ok-path.ensures ∙ ap first_of c.in_ok-rest.ensures.ok.map in
+    nothing-some c.in_ok-path.field-0 c.in_default.not-Some ∙ c.in_ok-path.ensures ∙ ap first_of c.in_ok-rest.ensures.ok.map in
     tree-told (laid_through (lens_of f) t n) (pre (lens_of f) t n) Q c.put_together.result (with_parts P k ns)
     (λ m h. laid-tree-is f v s es l t n ht hn P k ns hk ok1.leaves Q c.put_together.ensures.store.store m.0 h none) c.put_together.ensures.ok
 
@@ -272,23 +272,23 @@ returns-clause-err c =
     let sn : flat R c.args.pushed.0 ≡ n = flat-grown S R c.args.pushed.0 g1 c.requires.pushed in
     let both = IsOfBoth es (flat R c.args.base.0) (flat R c.args.pushed.0) in
     let m2 : (o : Object) → IsMadeOf both o → more o = λ o h. laid-made f t n o (path-known both (IsKnown f t n)
-        (λ p x w e. both-known f v s es l t n p x w (subst (λ (a : Flat). IsOfBoth es a n p x) st (subst (λ (b : Flat). IsOfBoth es (flat R c.args.base.0) b p x) sn e))) o h) in
+    (λ p x w e. both-known f v s es l t n p x w (subst (λ (a : Flat). IsOfBoth es a n p x) st (subst (λ (b : Flat). IsOfBoth es (flat R c.args.base.0) b p x) sn e))) o h) in
     let g2 : IsGrownBy more S P = grown_then more S R P g1 (grown_as (IsMadeOf both) more R P m2 c.taken_apart.ensures.store) in
     let k = c.in_ok-kept.kept in
     let ns = c.as_slice.result.now in
     let ok0 : StandsFor P k.0 (sifted false es t) = subst (λ (a : Flat). StandsFor P k.0 (sifted false es a)) st c.in_ok-kept.ensures.ok.0 in
     let ok1 : AreParts P ns (taken (cells [] es) n) = subst (λ (b : Flat). AreParts P ns (taken (cells [] es) b)) sn
-        (subst (λ (ms : List Name). AreParts P ms (taken (cells [] es) (flat R c.args.pushed.0))) (sym c.as_slice.ensures.value) c.in_ok-kept.ensures.ok.1) in
+    (subst (λ (ms : List Name). AreParts P ms (taken (cells [] es) (flat R c.args.pushed.0))) (sym c.as_slice.ensures.value) c.in_ok-kept.ensures.ok.1) in
     let hk : (p : Path) → at (flat P k.0) p ≡ at (sifted false es t) p = λ p. ap (λ (u : Flat). at u p) ok0.map in
     let Q = c.put_together.new.store in
     let among = IsAmong P k ns in
     let m3 : (o : Object) → IsMadeOf among o → more o = λ o h. laid-made f t n o (path-known among (IsKnown f t n)
-        (λ p x w e. both-known f v s es l t n p x w (among-both f v s es l t n ht hn P k ns hk ok1.leaves p x e)) o h) in
+    (λ p x w e. both-known f v s es l t n p x w (among-both f v s es l t n ht hn P k ns hk ok1.leaves p x e)) o h) in
     let none : None ≡ first_of (unplaced (cells [] es) n) =
-        nothing-some c.in_ok-path.field-0 c.in_default.not-Some ∙ c.in_ok-path.ensures ∙ ap first_of c.in_ok-rest.ensures.ok.map in
+    nothing-some c.in_ok-path.field-0 c.in_default.not-Some ∙ c.in_ok-path.ensures ∙ ap first_of c.in_ok-rest.ensures.ok.map in
     put-told (laid_through (lens_of f) t n) P k ns more m3
     (λ p q least. blocked-is f v s es l t n ht hn P k ns hk ok1.leaves p q
-        (block-path P c.taken_apart.ensures.store.store ns ok1.trees p least.0.path) (parts-path P c.taken_apart.ensures.store.store k ns ok0.held ok1.trees q least.0.by) none least)
+    (block-path P c.taken_apart.ensures.store.store ns ok1.trees p least.0.path) (parts-path P c.taken_apart.ensures.store.store k ns ok0.held ok1.trees q least.0.by) none least)
     Q c.put_together.result c.put_together.ensures.err
 
 pub returns-clause-store : goal.returns-clause-store
@@ -312,16 +312,16 @@ returns-clause-store c =
     let sn : flat R c.args.pushed.0 ≡ n = flat-grown S R c.args.pushed.0 g1 c.requires.pushed in
     let both = IsOfBoth es (flat R c.args.base.0) (flat R c.args.pushed.0) in
     let m2 : (o : Object) → IsMadeOf both o → more o = λ o h. laid-made f t n o (path-known both (IsKnown f t n)
-        (λ p x w e. both-known f v s es l t n p x w (subst (λ (a : Flat). IsOfBoth es a n p x) st (subst (λ (b : Flat). IsOfBoth es (flat R c.args.base.0) b p x) sn e))) o h) in
+    (λ p x w e. both-known f v s es l t n p x w (subst (λ (a : Flat). IsOfBoth es a n p x) st (subst (λ (b : Flat). IsOfBoth es (flat R c.args.base.0) b p x) sn e))) o h) in
     let g2 : IsGrownBy more S P = grown_then more S R P g1 (grown_as (IsMadeOf both) more R P m2 c.taken_apart.ensures.store) in
     let k = c.in_ok-kept.kept in
     let ns = c.as_slice.result.now in
     let ok0 : StandsFor P k.0 (sifted false es t) = subst (λ (a : Flat). StandsFor P k.0 (sifted false es a)) st c.in_ok-kept.ensures.ok.0 in
     let ok1 : AreParts P ns (taken (cells [] es) n) = subst (λ (b : Flat). AreParts P ns (taken (cells [] es) b)) sn
-        (subst (λ (ms : List Name). AreParts P ms (taken (cells [] es) (flat R c.args.pushed.0))) (sym c.as_slice.ensures.value) c.in_ok-kept.ensures.ok.1) in
+    (subst (λ (ms : List Name). AreParts P ms (taken (cells [] es) (flat R c.args.pushed.0))) (sym c.as_slice.ensures.value) c.in_ok-kept.ensures.ok.1) in
     let hk : (p : Path) → at (flat P k.0) p ≡ at (sifted false es t) p = λ p. ap (λ (u : Flat). at u p) ok0.map in
     let Q = c.put_together.new.store in
     let among = IsAmong P k ns in
     let m3 : (o : Object) → IsMadeOf among o → more o = λ o h. laid-made f t n o (path-known among (IsKnown f t n)
-        (λ p x w e. both-known f v s es l t n p x w (among-both f v s es l t n ht hn P k ns hk ok1.leaves p x e)) o h) in
+    (λ p x w e. both-known f v s es l t n p x w (among-both f v s es l t n ht hn P k ns hk ok1.leaves p x e)) o h) in
     grown_then more S P Q g2 (grown_as (IsMadeOf among) more P Q m3 c.put_together.ensures.store)

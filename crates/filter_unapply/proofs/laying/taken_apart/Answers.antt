@@ -134,11 +134,12 @@ returns-clause-ok c =
     let P = c.parts_of.new.store in
     let same : flat Q c.args.pushed.0 ≡ n = flat-grown S Q c.args.pushed.0 g2 c.requires.pushed in
     let part = IsTakenOrIn (cells [] es) (flat Q c.args.pushed.0) in
-    let last : (o : Object) → IsMadeOf part o → IsMadeOf known o = known-as part known (λ p x e. inr (subst (λ (v : Flat). IsTakenOrIn (cells [] es) v p x) same e)) in
-    (stands-grown R P c.in_ok-kept.kept.0 (sifted false es t)
-     (grown_then (IsMadeOf known) R Q P (grown_as (IsOnly Tree []) (IsMadeOf known) R Q (empty-made known) e2) (grown_as (IsMadeOf part) (IsMadeOf known) Q P last c.parts_of.ensures.store))
-     c.in_ok-kept.ensures.ok,
-     subst (λ (v : Flat). AreParts P c.in_ok-parts.parts.items (taken (cells [] es) v)) same c.in_ok-parts.ensures.ok)
+    let last : (o : Object) → IsMadeOf part o → IsMadeOf known o = known-as part known (λ p x e. inr (subst (λ (v : Flat). IsTakenOrIn (cells [] es) v p x) same e)) in (
+      stands-grown R P c.in_ok-kept.kept.0 (sifted false es t)
+          (grown_then (IsMadeOf known) R Q P (grown_as (IsOnly Tree []) (IsMadeOf known) R Q (empty-made known) e2) (grown_as (IsMadeOf part) (IsMadeOf known) Q P last c.parts_of.ensures.store))
+          c.in_ok-kept.ensures.ok,
+      subst (λ (v : Flat). AreParts P c.in_ok-parts.parts.items (taken (cells [] es) v)) same c.in_ok-parts.ensures.ok,
+    )
 
 pub returns-clause-store : goal.returns-clause-store
 returns-clause-store c =

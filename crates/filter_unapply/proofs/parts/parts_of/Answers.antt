@@ -34,7 +34,7 @@ returns-in_err-part-clause-err c =
     let known = IsTakenOrIn (cells [] es) n in
     let part = IsTakenOrIn (route_cells es i) (flat R c.args.pushed.0) in
     let more : (o : Object) → IsMadeOf part o → IsMadeOf known o =
-        known-as part known (λ p x e. taken-whole es i n c.loop-route-test.true p x (subst (λ (v : Flat). IsTakenOrIn (route_cells es i) v p x) same e)) in
+    known-as part known (λ p x e. taken-whole es i n c.loop-route-test.true p x (subst (λ (v : Flat). IsTakenOrIn (route_cells es i) v p x) same e)) in
     err-again (IsMadeOf part) (IsMadeOf known) more c.part_of_route.new.store c.from_residual.result c.in_err-part.field-0.0 c.from_residual.ensures.1 c.in_err-part.ensures.err
 
 pub returns-in_err-part-clause-store : goal.returns-in_err-part-clause-store
@@ -49,7 +49,7 @@ returns-in_err-part-clause-store c =
     let known = IsTakenOrIn (cells [] es) n in
     let part = IsTakenOrIn (route_cells es i) (flat R c.args.pushed.0) in
     let more : (o : Object) → IsMadeOf part o → IsMadeOf known o =
-        known-as part known (λ p x e. taken-whole es i n c.loop-route-test.true p x (subst (λ (v : Flat). IsTakenOrIn (route_cells es i) v p x) same e)) in
+    known-as part known (λ p x e. taken-whole es i n c.loop-route-test.true p x (subst (λ (v : Flat). IsTakenOrIn (route_cells es i) v p x) same e)) in
     grown_then (IsMadeOf known) S R c.part_of_route.new.store g (grown_as (IsMadeOf part) (IsMadeOf known) R c.part_of_route.new.store more c.part_of_route.ensures.store)
 
 pub returns-in_err-add-clause-store : goal.returns-in_err-add-clause-store
@@ -64,7 +64,7 @@ returns-in_err-add-clause-store c =
     let known = IsTakenOrIn (cells [] es) n in
     let part = IsTakenOrIn (route_cells es i) (flat R c.args.pushed.0) in
     let more : (o : Object) → IsMadeOf part o → IsMadeOf known o =
-        known-as part known (λ p x e. taken-whole es i n c.loop-route-test.true p x (subst (λ (v : Flat). IsTakenOrIn (route_cells es i) v p x) same e)) in
+    known-as part known (λ p x e. taken-whole es i n c.loop-route-test.true p x (subst (λ (v : Flat). IsTakenOrIn (route_cells es i) v p x) same e)) in
     grown_then (IsMadeOf known) S R c.part_of_route.new.store g (grown_as (IsMadeOf part) (IsMadeOf known) R c.part_of_route.new.store more c.part_of_route.ensures.store)
 
 pub loop-route-preserved : goal.loop-route-preserved
@@ -79,10 +79,10 @@ loop-route-preserved c =
     let known = IsTakenOrIn (cells [] es) n in
     let part = IsTakenOrIn (route_cells es i) (flat R c.args.pushed.0) in
     let more : (o : Object) → IsMadeOf part o → IsMadeOf known o =
-        known-as part known (λ p x e. taken-whole es i n c.loop-route-test.true p x (subst (λ (v : Flat). IsTakenOrIn (route_cells es i) v p x) same e)) in
+    known-as part known (λ p x e. taken-whole es i n c.loop-route-test.true p x (subst (λ (v : Flat). IsTakenOrIn (route_cells es i) v p x) same e)) in
     let T = c.part_of_route.new.store in
     let next = parts-more R T c.part_of_route.ensures.store es i c.loop-route-test.true n c.loop-route.parts.items c.in_ok-part.part c.loop-route.invariant.parts
-        (subst (λ (v : Flat). HasLeaves T c.in_ok-part.part.0 (taken (route_cells es i) v)) same c.in_ok-part.ensures.ok) in
+    (subst (λ (v : Flat). HasLeaves T c.in_ok-part.part.0 (taken (route_cells es i) v)) same c.in_ok-part.ensures.ok) in
     record {
       parts = subst (λ (ns : List Name). AreParts T ns (taken (cells [] (take (i + 1) es)) n)) (sym c.in_ok-add.ensures) next;
       grown = grown_then (IsMadeOf known) S R c.part_of_route.new.store g (grown_as (IsMadeOf part) (IsMadeOf known) R c.part_of_route.new.store more c.part_of_route.ensures.store);

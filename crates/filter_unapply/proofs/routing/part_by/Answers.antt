@@ -57,7 +57,7 @@ returns-clause-ok c =
     let w : IsWayBack c.as_slice.result.now (cells_at (cone_of b s) (Some t) hs []) = subst (λ es. IsWayBack es (cells_at (cone_of b s) (Some t) hs [])) (sym c.as_slice.ensures.value) c.in_ok-way.ensures in
     let same : flat R c.in_ok-inside.inside.0 ≡ sifted true c.as_slice.result.now n = c.in_ok-inside.ensures.ok.map in
     let leaves : (p : Path) → moved b t s (flat R c.in_ok-inside.inside.0) p ≡ taken (cells_at (cone_of b s) (Some t) hs []) n p =
-        λ p. ap (λ (u : Flat). moved b t s u p) same ∙ part-leaves b s t hs c.as_slice.result.now w n p in
+    λ p. ap (λ (u : Flat). moved b t s u p) same ∙ part-leaves b s t hs c.as_slice.result.now w n p in
     leaves-as c.moved.new.store c.moved.result (moved b t s (flat R c.in_ok-inside.inside.0)) (taken (cells_at (cone_of b s) (Some t) hs []) n) leaves c.moved.ensures.ok
 
 pub returns-clause-err : goal.returns-clause-err
@@ -72,7 +72,7 @@ returns-clause-err c =
     let w : IsWayBack c.as_slice.result.now (cells_at (cone_of b s) (Some t) hs []) = subst (λ es. IsWayBack es (cells_at (cone_of b s) (Some t) hs [])) (sym c.as_slice.ensures.value) c.in_ok-way.ensures in
     let same : flat R c.in_ok-inside.inside.0 ≡ sifted true c.as_slice.result.now n = c.in_ok-inside.ensures.ok.map in
     let leaves : (p : Path) → moved b t s (flat R c.in_ok-inside.inside.0) p ≡ taken (cells_at (cone_of b s) (Some t) hs []) n p =
-        λ p. ap (λ (u : Flat). moved b t s u p) same ∙ part-leaves b s t hs c.as_slice.result.now w n p in
+    λ p. ap (λ (u : Flat). moved b t s u p) same ∙ part-leaves b s t hs c.as_slice.result.now w n p in
     let more = IsTakenOrIn (cells_at (cone_of b s) (Some t) hs []) n in
     err-as (IsMadeOf (λ p x. moved b t s (flat R c.in_ok-inside.inside.0) p ≡ Some x)) (IsMadeOf more)
     (known-as (λ p x. moved b t s (flat R c.in_ok-inside.inside.0) p ≡ Some x) more (λ p x e. inr (sym (leaves p) ∙ e))) c.moved.new.store c.moved.result c.moved.ensures.err
@@ -89,7 +89,7 @@ returns-clause-store c =
     let w : IsWayBack c.as_slice.result.now (cells_at (cone_of b s) (Some t) hs []) = subst (λ es. IsWayBack es (cells_at (cone_of b s) (Some t) hs [])) (sym c.as_slice.ensures.value) c.in_ok-way.ensures in
     let same : flat R c.in_ok-inside.inside.0 ≡ sifted true c.as_slice.result.now n = c.in_ok-inside.ensures.ok.map in
     let leaves : (p : Path) → moved b t s (flat R c.in_ok-inside.inside.0) p ≡ taken (cells_at (cone_of b s) (Some t) hs []) n p =
-        λ p. ap (λ (u : Flat). moved b t s u p) same ∙ part-leaves b s t hs c.as_slice.result.now w n p in
+    λ p. ap (λ (u : Flat). moved b t s u p) same ∙ part-leaves b s t hs c.as_slice.result.now w n p in
     let more = IsTakenOrIn (cells_at (cone_of b s) (Some t) hs []) n in
     grown_then (IsMadeOf more) S R c.moved.new.store
     (grown_as (IsMadeOf (IsIn n)) (IsMadeOf more) S R (known-as (IsIn n) more (λ p x e. inl e)) c.sifted.ensures.store)

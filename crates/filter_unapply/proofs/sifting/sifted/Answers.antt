@@ -18,8 +18,8 @@ with_entry-requires-clause-within c =
     let S = c.args.store.now in
     let t = flat S c.args.root.0 in
     λ p x e.
-        ap (λ v. at v p) (flat-grown S c.entries.store c.args.root.0 c.entries.invariant.grown c.requires.root)
-        ∙ sifted-within c.args.inside (drop c.entries.level c.args.list.now) t p x (ap (λ v. at v p) (sym c.entries.invariant.part.map) ∙ e)
+    ap (λ v. at v p) (flat-grown S c.entries.store c.args.root.0 c.entries.invariant.grown c.requires.root)
+    ∙ sifted-within c.args.inside (drop c.entries.level c.args.list.now) t p x (ap (λ v. at v p) (sym c.entries.invariant.part.map) ∙ e)
 
 pub returns-in_err-part-2-clause-err : goal.returns-in_err-part-2-clause-err
 returns-in_err-part-2-clause-err c =
@@ -50,10 +50,10 @@ entries-preserved c =
     let less : l - 1 < length all = omega (arith, c.entries.invariant.within, c.entries-test.true) in
     let back : l - 1 + 1 ≡ l = omega (arith, c.entries-test.true) in
     let list : drop (l - 1) all ≡ e ∷ drop l all =
-        drop_more all (l - 1) e less ∙ (λ i. (sym c.index-list-level.is) i ∷ drop (back i) all) in
+    drop_more all (l - 1) e less ∙ (λ i. (sym c.index-list-level.is) i ∷ drop (back i) all) in
     let next = sifted-step T c.with_entry.new.store c.args.root.0 c.entries.part.0 c.in_ok-part-2.part.0 t c.args.inside e (drop l all)
-        c.with_entry.ensures.store.store (sorted-tree T c.entries.invariant.grown.store c.args.root.0 t same (has-grown S T Tree c.args.root.0 c.entries.invariant.grown c.requires.root)) same
-        c.entries.invariant.part c.in_ok-part-2.ensures.ok in
+    c.with_entry.ensures.store.store (sorted-tree T c.entries.invariant.grown.store c.args.root.0 t same (has-grown S T Tree c.args.root.0 c.entries.invariant.grown c.requires.root)) same
+    c.entries.invariant.part c.in_ok-part-2.ensures.ok in
     record {
       within = omega (arith, c.entries.invariant.within);
       part = subst (λ es. StandsFor c.with_entry.new.store c.in_ok-part-2.part.0 (sifted c.args.inside es t)) (sym list) next;
