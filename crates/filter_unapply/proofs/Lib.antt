@@ -19,3 +19,5 @@ mod BlockSteps
 mod HandTrees
 mod Lays
 mod Nears
+mod LayingLemmas
+mod Hidings

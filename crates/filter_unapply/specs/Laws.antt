@@ -1,8 +1,12 @@
 -- The laws of laying, for every lens and all trees.
-use Rattle.std.specs.Prelude.{◌≡◌, true, false, is_some, None}
+use Rattle.std.specs.Prelude.{◌≡◌, true, false, is_some, Some, None}
 use Rattle.std.specs.Ordering.{is_lt}
 use Rattle.git_objects.specs.Paths.{Path, is_path, path_cmp, comparable}
 use Rattle.git_objects.specs.Trees.{Flat, IsTree, at, under}
+use Rattle.filter_text.specs.Filters.{Filter, has_paths}
+use Rattle.filter_routes.specs.Images.{image}
+use Rattle.filter_routes.specs.Origins.{lens_of}
+use Rattle.filter_routes.specs.Soundness.{IsSound}
 use Rattle.filter_routes.specs.Lenses.{Lens, IsLens, seen_through}
 use Rattle.filter_unapply.specs.Laying.{below}
 use Rattle.filter_unapply.specs.Laying.{pre, laid_through, NotHeld, Blocked, LaidTree}
@@ -60,3 +64,17 @@ pub record BelowLaw : Type 0 where
   pub lens : (a : Path) → is_path a ≡ true → IsLens (below a)
   pub shows : (a : Path) (t : Flat) → IsTree t → seen_through (below a) t ≡ under t a
   pub holds : (a : Path) (t n : Flat) (q : Path) → laid_through (below a) t n ≡ NotHeld q → ⊥
+
+-- For a sound filter without a workspace, or one that is read as the paths below its place.
+pub record LayingLaw : Type 0 where
+  -- what is laid is a tree, and is shown again exactly
+  pub tree : (r : Filter) (t n u : Flat) → has_paths r ≡ true → IsSound r → IsTree t → IsTree n → laid_through (lens_of r) t n ≡ LaidTree u → IsTree u
+  pub shown_again : (r : Filter) (t n u : Flat) → has_paths r ≡ true → IsSound r → IsTree t → IsTree n → laid_through (lens_of r) t n ≡ LaidTree u → seen_through (lens_of r) u ≡ n
+  -- what is shown of a tree is a tree, and laying it gives the tree back
+  pub shown_tree : (r : Filter) (t : Flat) → has_paths r ≡ true → IsSound r → IsTree t → IsTree (seen_through (lens_of r) t)
+  pub given_back : (r : Filter) (t : Flat) → has_paths r ≡ true → IsSound r → IsTree t → laid_through (lens_of r) t (seen_through (lens_of r) t) ≡ LaidTree t
+  -- laying again forgets what was laid first
+  pub laid_again : (r : Filter) (t n u m : Flat) → has_paths r ≡ true → IsSound r → IsTree t → IsTree n → laid_through (lens_of r) t n ≡ LaidTree u → laid_through (lens_of r) u m ≡ laid_through (lens_of r) t m
+  -- each path without an image keeps what it had, and each other one has what was laid at its image
+  pub hidden : (r : Filter) (t n u : Flat) (p : Path) → has_paths r ≡ true → IsSound r → IsTree t → IsTree n → laid_through (lens_of r) t n ≡ LaidTree u → image r p ≡ None → at u p ≡ at t p
+  pub laid_at : (r : Filter) (t n u : Flat) (p q : Path) → has_paths r ≡ true → IsSound r → IsTree t → IsTree n → laid_through (lens_of r) t n ≡ LaidTree u → is_path p ≡ true → image r p ≡ Some q → at u p ≡ at n q

@@ -1,9 +1,13 @@
 -- A tree laid back into the one that it was shown of.
-use Rattle.std.specs.Prelude.{Bool, cond, not, ◌&&◌, [], ◌∷◌, ◌++◌, Option, Some, None, filter, is_some}
-use Rattle.std.specs.Option.{is_none, option_map, option_and_then}
-use Rattle.git_objects.specs.Paths.{Path, comparable, same_path}
-use Rattle.git_objects.specs.Trees.{Flat, rest_below}
+use Rattle.std.specs.Prelude.{Bool, false, true, cond, not, ◌&&◌, [], ◌∷◌, ◌++◌, Option, Some, None, filter, find, is_some}
+use Rattle.std.specs.Option.{is_none, option_map, option_and_then, option_map_or}
+use Rattle.git_objects.specs.Paths.{Path, comparable, same_bytes, same_path}
+use Rattle.git_objects.specs.Trees.{Leaf, FileLeaf, ExecLeaf, LinkLeaf, ModuleLeaf, Flat, at, rest_below}
+use Rattle.filter_text.specs.Filters.{Filter}
+use Rattle.filter_routes.specs.Images.{image}
 use Rattle.filter_routes.specs.Lenses.{Lens, carried}
+use Rattle.filter_routes.specs.Origins.{lens_of}
+use Rattle.workspace.specs.Workspaces.{next}
 
 -- the filter `:/a`: each path below a as its rest
 abbrev pub below : Path → Lens
@@ -46,11 +50,38 @@ pub data Laid : Type 0 where
   Blocked : Path → Path → Laid
   LaidTree : Flat → Laid
 
+-- the first path without an origin, else the first blocked path and what blocks it, else the tree
 abbrev pub laid_from : Option Path → Option (Path × Path) → Flat → Laid
 laid_from (Some q) b u = NotHeld q
 laid_from None (Some b) u = Blocked b.0 b.1
 laid_from None None u = LaidTree u
 
--- n laid into t: in the place of all that f shows of t
+-- n laid into t: in the place of all that the lens shows of t
 abbrev pub laid_through : Lens → Flat → Flat → Laid
 laid_through f t n = laid_from (first_lost f n) (first_blocked f (pre f t n)) (pre f t n)
+
+-- ---- laying through a filter
+
+-- n laid into t, through the filter that n itself asks for
+abbrev pub laid : Filter → Flat → Flat → Laid
+laid f t n = laid_through (lens_of (next f t n)) t n
+
+-- whether both have one mode and the same bytes
+abbrev pub same_leaf : Leaf → Leaf → Bool
+same_leaf (FileLeaf a) (FileLeaf b) = same_bytes a b
+same_leaf (ExecLeaf a) (ExecLeaf b) = same_bytes a b
+same_leaf (LinkLeaf a) (LinkLeaf b) = same_bytes a b
+same_leaf (ModuleLeaf a) (ModuleLeaf b) = same_bytes a b
+same_leaf _ _ = false
+
+-- whether n has another leaf at q than x, or none there
+abbrev pub differs_at : Flat → Leaf → Path → Bool
+differs_at n x q = option_map_or (λ y. not (same_leaf x y)) (at n q) true
+
+-- whether r hides a leaf that r2 shows, and n hasn't this leaf where r2 shows it
+abbrev pub is_unseen : Filter → Filter → Flat → Path × Leaf → Bool
+is_unseen r r2 n e = is_none (image r e.0) && option_map_or (differs_at n e.1) (image r2 e.0) false
+
+-- the first path of t that r2 shows and r doesn't, and that isn't pushed as it stands
+abbrev pub unseen : Filter → Filter → Flat → Flat → Option Path
+unseen r r2 t n = option_map (λ e. e.0) (find (is_unseen r r2 n) t)

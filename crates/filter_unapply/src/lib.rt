@@ -4,6 +4,7 @@
 mod below;
 mod blocking;
 mod fault;
+mod hiding;
 mod laws;
 mod laying;
 mod moving;
@@ -13,7 +14,8 @@ mod sifting;
 
 pub use below::laid_below;
 pub use fault::LayFault;
+pub use hiding::unseen;
 pub use laying::laid;
 pub use laws::{
-    below_law, given_back_law, laid_again_law, outcome_law, shown_again_law, unseen_law,
+    below_law, given_back_law, laid_again_law, laying_law, outcome_law, shown_again_law, unseen_law,
 };

@@ -1,0 +1,106 @@
+// Leaves that a push would overwrite unseen.
+ghost use Rattle.std.specs.Prelude.{◌≡◌, ◌≤◌, true, Some, is_some, length, IfOk};
+ghost use Rattle.std.specs.Option.{option_map};
+ghost use Rattle.git_objects.specs.Trees.{Leaf as LeafValue, at};
+ghost use Rattle.git_objects.specs.declared.kind.Kind.TheVariants.{Tree};
+ghost use Rattle.object_store.specs.Objects.{has};
+ghost use Rattle.object_store.specs.Unfolding.{flat};
+ghost use Rattle.filter_text.specs.Shapes.{shape};
+ghost use Rattle.filter_unapply.specs.Laying.{differs_at, is_unseen, unseen};
+ghost use Rattle.decision_lists.specs.Hits.{image_at};
+ghost use Rattle.filter_routes.specs.Images.{image};
+ghost use Rattle.filter_routes.specs.Tables.{target};
+
+use filter_routes::{RouteHit, Table};
+use git_objects::Name;
+use object_store::Store;
+use path_names::Path;
+use path_trees::{Walk, entry_at};
+use std::alloc::{AllocError, Global};
+
+/// The first path of `base` that the filter of `new` shows and that of `old` doesn't, and that `pushed` hasn't with the
+/// same leaf where it is shown.
+pub fn unseen(
+    alloc: Global,
+    store: &Store,
+    old: &Table,
+    new: &Table,
+    base: Name,
+    pushed: Name,
+) -> Result<Option<Path>, AllocError>
+    requires base { has Tree store.now base.0 ≡ true }
+    requires pushed { has Tree store.now pushed.0 ≡ true }
+    ensures { IfOk result (λ path. path ≡ unseen (shape old.now.filter) (shape new.now.filter)
+        (flat store.now base.0) (flat store.now pushed.0)) }
+{
+    // The store is looked at so that the proof has what each store keeps.
+    let _ = store.get(&base);
+    let mut walk = Walk::new(alloc, store, base)?;
+    'leaves: while walk.next()? {
+        let path = walk.path();
+        if is_unseen(alloc, store, old, new, base, pushed, path)? {
+            return Ok(Some(path.copy(alloc)?));
+        }
+    }
+    Ok(None)
+}
+
+// Whether the leaf at a path of `base` is hidden by `old` and shown by `new`, and `pushed` hasn't it where it is shown.
+fn is_unseen(
+    alloc: Global,
+    store: &Store,
+    old: &Table,
+    new: &Table,
+    base: Name,
+    pushed: Name,
+    path: &Path,
+) -> Result<bool, AllocError>
+    requires base { has Tree store.now base.0 ≡ true }
+    requires pushed { has Tree store.now pushed.0 ≡ true }
+    ensures { IfOk result (λ b. (x : LeafValue) → at (flat store.now base.0) path.now ≡ Some x →
+        b ≡ is_unseen (shape old.now.filter) (shape new.now.filter) (flat store.now pushed.0) (path.now, x)) }
+{
+    if old.image(path).is_some() {
+        return Ok(false);
+    }
+    match new.image(path) {
+        None => Ok(false),
+        Some(hit) => {
+            let image = image_of(alloc, new, path, &hit)?;
+            Ok(differ(store, base, path, pushed, &image))
+        }
+    }
+}
+
+// The image that a hit of a table stands for.
+fn image_of(alloc: Global, table: &Table, path: &Path, hit: &RouteHit) -> Result<Path, AllocError>
+    requires hit { image_at table.now.routes (Some hit.now) path.now ≡ image (shape table.now.filter) path.now }
+    requires route { is_some (target table.now hit.now.route) ≡ true }
+    requires cut { hit.now.cut ≤ length path.now }
+    ensures { IfOk result (λ q. Some q ≡ image (shape table.now.filter) path.now) }
+{
+    // The filter is looked at so that the proof has that it has paths.
+    let _ = table.filter();
+    Path::of_parts(alloc, table.target(hit.route), &path.components()[hit.cut..])
+}
+
+// Whether the leaf at a path of the first tree doesn't stand at a path of the second.
+fn differ(store: &Store, first: Name, path: &Path, second: Name, other: &Path) -> bool
+    requires first { has Tree store.now first.0 ≡ true }
+    requires second { has Tree store.now second.0 ≡ true }
+    ensures { (x : LeafValue) → at (flat store.now first.0) path.now ≡ Some x →
+        result ≡ differs_at (flat store.now second.0) x other.now }
+{
+    // The store is looked at so that the proof has what each store keeps.
+    let _ = store.get(&first);
+    let Some(found) = entry_at(store, second, other) else {
+        return true;
+    };
+    let Some(own) = entry_at(store, first, path) else {
+        return true;
+    };
+    if own.mode == found.mode {
+        return own.name != found.name;
+    }
+    true
+}
