@@ -1,0 +1,3 @@
+pub mod PushVerdicts
+pub mod PushLaws
+pub mod Examples
