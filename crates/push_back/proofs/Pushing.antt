@@ -20,8 +20,9 @@ use Rattle.filter_unapply.specs.Laying.{pre, first_lost, first_blocked, laid, la
 use Rattle.history_ground.specs.Projections.{shown_of, own, projection}
 use Rattle.commit_map.specs.Shown.{Shown}
 use Rattle.commit_map.specs.declared.rule.Rule.{Rule}
+use Rattle.push_back.specs.Pushes.{made_from, made_upon}
 use Rattle.push_back.specs.PushVerdicts.{Pair, Verdict, Refusal, NoChange, BadWorkspace, original_of, original_tree, with_pair, upon, verdict_from, is_bad_workspace, judged, TreeLimit}
-use Rattle.push_back.specs.PushLaws.{AreTrees, IsStep, EachStep, StepsLaw, PushedLaw, IsChain, commit_of, originals, AreFound, ProjectedLaw, Returns, BackLaw, last_of, Agrees, ElsewhereLaw, AdmissibleLaw}
+use Rattle.push_back.specs.PushLaws.{AreTrees, MadeLaw, IsStep, EachStep, StepsLaw, PushedLaw, IsChain, commit_of, originals, AreFound, ProjectedLaw, Returns, BackLaw, last_of, Agrees, ElsewhereLaw, AdmissibleLaw}
 use Rattle.history_ground.specs.ProjectionLaws.{IsOf}
 use Rattle.history_ground.proofs.GraphLemmas.{add-graph, add-has, found, one-parent-in}
 use Rattle.history_ground.proofs.ProjectionLemmas.{projection-added, projection-of, projection-one, upon_one}
@@ -95,6 +96,19 @@ pushed-of f (c ∷ cs) n h t seen ps e =
 
 pub pushed-law : PushedLaw
 pushed-law f g h cs ps e = pushed-of f cs 1 h (tree_at g h) (shown f (tree_at g h)) ps e
+
+-- ---- the originals that were made
+
+made-of : (f : Filter) (cs : List Snapshot) (n : ℕ) (h : Bytes) (t seen : Flat) (ps : List Pair) → verdict_from f n h t seen cs ≡ Ok ps → made_from f h t seen cs ≡ originals ps
+made-of f [] n h t seen ps e = ap originals (ok-is [] ps e)
+made-of f (c ∷ cs) n h t seen ps e =
+    let m = more f n h t seen c cs ps e in
+    ap (λ r. made_upon h c r (λ u. made_from f (snapshot_name (original_of h c u)) u c.tree cs)) m.step
+    ∙ ap (λ xs. original_of h c m.u ∷ xs) (made-of f cs (n + 1) (snapshot_name (original_of h c m.u)) m.u c.tree m.rest m.later)
+    ∙ ap originals m.same
+
+pub made-law : MadeLaw
+made-law f g h refname from x ps e = made-of f x.state.commits 1 h (tree_at g h) (shown f (tree_at g h)) ps e
 
 -- ---- steps
 

@@ -208,7 +208,7 @@ g = codes "g"
 abbrev x : Bytes
 x = codes "x"
 
-abbrev k : Bytes
+abbrev pub k : Bytes
 k = codes "k"
 
 abbrev pub hello : Leaf
@@ -229,7 +229,7 @@ unfolding showing naming
 first_shown = refl
 
 -- ...a file more, and then one less: what isn't shown stays
-abbrev beside : Graph
+abbrev pub beside : Graph
 beside = commit ((a ∷ f ∷ [], hello) ∷ (b ∷ k ∷ [], hello) ∷ []) [] (text_line (codes "init")) ∷ []
 
 abbrev two_pushed : Verdict

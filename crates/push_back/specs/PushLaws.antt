@@ -15,6 +15,9 @@ use Rattle.filter_unapply.specs.Laying.{pre, laid, unseen, LaidTree}
 use Rattle.history_ground.specs.Projections.{shown_of, projection}
 use Rattle.commit_map.specs.Shown.{Shown}
 use Rattle.commit_map.specs.declared.rule.Rule.{Rule}
+use Rattle.fast_import.specs.Replays.{Ran}
+use Rattle.push_back.specs.PushReplays.{Stop}
+use Rattle.push_back.specs.Pushes.{pushed}
 use Rattle.push_back.specs.PushVerdicts.{Pair, verdict, original_tree, is_bad_workspace, passed}
 
 -- each commit's tree is a tree
@@ -74,6 +77,11 @@ commit_of o = option_map (λ s. s.commit) o
 -- the original commits of pairs
 abbrev pub originals : List Pair → List Snapshot
 originals ps = map (λ p. p.original) ps
+
+-- Where no commit is refused, a push makes exactly the originals of the pairs.
+abbrev pub MadeLaw : Type 0
+MadeLaw = (f : Filter) (g : Graph) (h refname : Bytes) (from : Option Bytes) (x : Ran Stop) (ps : List Pair) → verdict f g h x.state.commits ≡ Ok ps →
+    (pushed f g h refname from x).originals ≡ originals ps
 
 -- Each is what the graph has under its name. It is so where all these commits and their trees lie in one store.
 abbrev pub AreFound : Graph → List Snapshot → Type 0

@@ -1,5 +1,5 @@
 // What accepted pushes keep to.
-ghost use Rattle.push_back.specs.PushLaws.{AdmissibleLaw, BackLaw, ElsewhereLaw, NextLaw};
+ghost use Rattle.push_back.specs.PushLaws.{AdmissibleLaw, BackLaw, ElsewhereLaw, MadeLaw, NextLaw};
 ghost use Rattle.push_back.specs.PushLaws.{ProjectedLaw, PushedLaw, StepLaw, StepsLaw};
 
 /// A tree that was laid asks for the filter by which it was laid, as long as that filter shows the workspace's file at the
@@ -22,6 +22,11 @@ pub fn steps_law()
 /// The pairs of an accepted push have exactly the pushed commits, in order.
 pub fn pushed_law()
     ensures { PushedLaw }
+{}
+
+/// A push of which no commit is refused makes exactly the originals of those pairs.
+pub fn made_law()
+    ensures { MadeLaw }
 {}
 
 /// After an accepted push, also one upon no projection, each original commit is projected from scratch to exactly its
