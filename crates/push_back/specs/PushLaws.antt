@@ -1,5 +1,5 @@
 -- What accepted pushes keep to.
-use Rattle.std.specs.Prelude.{◌≡◌, ⊤, true, false, is_some, List, [], ◌∷◌, ◌++◌, map, Option, Some, None, Ok}
+use Rattle.std.specs.Prelude.{◌≡◌, ⊤, true, false, is_some, List, [], ◌∷◌, map, Option, Some, None, Ok}
 use Rattle.std.specs.Option.{option_map, option_and_then, option_to_list}
 use Rattle.git_objects.specs.Paths.{Bytes, Path, is_path, same_bytes}
 use Rattle.git_objects.specs.Lists.{Each}
