@@ -16,7 +16,7 @@ use Rattle.history_ground.specs.Projections.{shown_of, projection}
 use Rattle.commit_map.specs.Shown.{Shown}
 use Rattle.commit_map.specs.declared.rule.Rule.{Rule}
 use Rattle.fast_import.specs.Replays.{Ran}
-use Rattle.push_back.specs.PushReplays.{Stop}
+use Rattle.push_back.specs.PushReplays.{Stop, push_replay}
 use Rattle.push_back.specs.Pushes.{pushed}
 use Rattle.push_back.specs.PushVerdicts.{Pair, verdict, original_tree, is_bad_workspace, passed}
 
@@ -69,6 +69,10 @@ PushedLaw = (f : Filter) (g : Graph) (h : Bytes) (cs : List Snapshot) (ps : List
 abbrev pub IsChain : Option Bytes → List Snapshot → Type 0
 IsChain e [] = ⊤
 IsChain e (c ∷ cs) = (c.parents ≡ option_to_list e) × IsChain (Some (snapshot_name c)) cs
+
+-- The commits of a pushed stream are in line upon the projection, up to the first refusal.
+abbrev pub ChainLaw : Type 0
+ChainLaw = (refname : Bytes) (from : Option Bytes) (seen : Flat) (input : Bytes) → IsChain from (push_replay refname from seen input).state.commits
 
 -- the commit's name, where there is a projection
 abbrev pub commit_of : Option Shown → Option Bytes

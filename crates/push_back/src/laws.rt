@@ -1,6 +1,6 @@
 // What accepted pushes keep to.
-ghost use Rattle.push_back.specs.PushLaws.{AdmissibleLaw, BackLaw, ElsewhereLaw, MadeLaw, NextLaw};
-ghost use Rattle.push_back.specs.PushLaws.{ProjectedLaw, PushedLaw, StepLaw, StepsLaw};
+ghost use Rattle.push_back.specs.PushLaws.{AdmissibleLaw, BackLaw, ChainLaw, ElsewhereLaw, MadeLaw};
+ghost use Rattle.push_back.specs.PushLaws.{NextLaw, ProjectedLaw, PushedLaw, StepLaw, StepsLaw};
 
 /// A tree that was laid asks for the filter by which it was laid, as long as that filter shows the workspace's file at the
 /// place where the filter before it does, or both hide it.
@@ -27,6 +27,12 @@ pub fn pushed_law()
 /// A push of which no commit is refused makes exactly the originals of those pairs.
 pub fn made_law()
     ensures { MadeLaw }
+{}
+
+/// The commits of a pushed stream, up to its first refusal, are in line upon the projection: each has the commit before it
+/// as its only parent, and the first one the projection, or no parent where there is none.
+pub fn chain_law()
+    ensures { ChainLaw }
 {}
 
 /// After an accepted push, also one upon no projection, each original commit is projected from scratch to exactly its
