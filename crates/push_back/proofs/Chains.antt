@@ -19,11 +19,11 @@ use Rattle.stream_reader.specs.declared.fault.StreamFault.TheVariants.{Syntax}
 use Rattle.stream_reader.specs.Verdicts.{start, verdict}
 use Rattle.fast_import.specs.Replays.{Base, Draft, Marked, Replay, begun, command_step, commit_of, committed, edited, gone_on, inline_blob, nothing_yet, ran_by, said, step, with_branch, with_mark}
 use Rattle.push_back.specs.PushLaws.{ChainLaw, IsChain}
-use Rattle.push_back.specs.PushReplays.{Stop, Faulty, OtherRef, NotAtHead, MergePushed, chain_end, is_same_name, push_base, push_command, push_step, pushed_parent}
+use Rattle.push_back.specs.PushReplays.{StreamRefusal, Faulty, OtherRef, NotAtHead, MergePushed, chain_end, is_same_name, push_base, push_command, push_step, pushed_parent}
 
 -- ---- values that weren't refused
 
-passed : (f : Stop) (b : Bool) (x : Result Replay Stop) (s : Replay) → (must f b >>= λ u. x) ≡ Ok s → (b ≡ true) × (x ≡ Ok s)
+passed : (f : StreamRefusal) (b : Bool) (x : Result Replay StreamRefusal) (s : Replay) → (must f b >>= λ u. x) ≡ Ok s → (b ≡ true) × (x ≡ Ok s)
 passed f true x s e = (refl, e)
 passed f false x s e = cc
 
@@ -59,7 +59,7 @@ record IsGood (from : Option Bytes) (r : Replay) : Type 0 where
   chain : IsChain from r.commits
   drafted : (d : Draft) → r.draft ≡ Some d → d.parents ≡ option_to_list (chain_end from r)
 
-abbrev went : Replay → Result Replay Stop
+abbrev went : Replay → Result Replay StreamRefusal
 went r = Ok r
 
 module _ (base : Base) (refname : Bytes) (from : Option Bytes) where
@@ -107,13 +107,13 @@ module _ (base : Base) (refname : Bytes) (from : Option Bytes) where
   }
 
   -- what comes behind a commit's parent
-  abbrev unmerged : Replay → CommitHead → Option Bytes → Result Replay Stop
+  abbrev unmerged : Replay → CommitHead → Option Bytes → Result Replay StreamRefusal
   unmerged r h first = must (MergePushed (length r.commits + 1)) (is_nil h.merges) >>= λ u. Ok (begun base r h first (option_to_list first))
 
-  abbrev at_head : Replay → CommitHead → Option Bytes → Result Replay Stop
+  abbrev at_head : Replay → CommitHead → Option Bytes → Result Replay StreamRefusal
   at_head r h first = must (NotAtHead (chain_end from r) first) (is_same_name (chain_end from r) first) >>= λ u. unmerged r h first
 
-  parent-good : (r s : Replay) (h : CommitHead) (x : Result (Option Bytes) Stop) → IsGood from r → (x >>= λ first. at_head r h first) ≡ Ok s → IsGood from s
+  parent-good : (r s : Replay) (h : CommitHead) (x : Result (Option Bytes) StreamRefusal) → IsGood from r → (x >>= λ first. at_head r h first) ≡ Ok s → IsGood from s
   parent-good r s h (Ok first) g e =
       let a = passed (NotAtHead (chain_end from r) first) (is_same_name (chain_end from r) first) (unmerged r h first) s e in
       let b = passed (MergePushed (length r.commits + 1)) (is_nil h.merges) (went (begun base r h first (option_to_list first))) s a.1 in
@@ -125,7 +125,7 @@ module _ (base : Base) (refname : Bytes) (from : Option Bytes) where
 
   command-good : (r s : Replay) (p : Placed) (c : Command) → IsGood from r → p.command ≡ c → push_command base refname from r p c ≡ Ok s → IsGood from s
   command-good r s p (commands.Commit h) g i e =
-      let x : Result (Option Bytes) Stop = refused_by Faulty (pushed_parent base r h h.from) in
+      let x : Result (Option Bytes) StreamRefusal = refused_by Faulty (pushed_parent base r h h.from) in
       parent-good r s h x g (passed (OtherRef p.at) (same_bytes h.refname refname) (x >>= λ first. at_head r h first) s e).1
   command-good r s p (commands.Reset name target) g i e =
       reset-good r s name (said base r target) g
@@ -138,11 +138,11 @@ module _ (base : Base) (refname : Bytes) (from : Option Bytes) where
 
   -- ---- a whole stream
 
-  ran-good : (end : Option Stop) (ps : List Placed) (r : Replay) → IsGood from r → IsGood from (ran_by (push_step base refname from) end r ps).state
+  ran-good : (end : Option StreamRefusal) (ps : List Placed) (r : Replay) → IsGood from r → IsGood from (ran_by (push_step base refname from) end r ps).state
   ran-good end [] r g = g
   ran-good end (p ∷ ps) r g = by (λ s. ran-good end ps s) (push_step base refname from r p) refl
     where
-      by : ((s : Replay) → IsGood from s → IsGood from (ran_by (push_step base refname from) end s ps).state) → (x : Result Replay Stop) → push_step base refname from r p ≡ x → IsGood from (gone_on p r (λ s. ran_by (push_step base refname from) end s ps) x).state
+      by : ((s : Replay) → IsGood from s → IsGood from (ran_by (push_step base refname from) end s ps).state) → (x : Result Replay StreamRefusal) → push_step base refname from r p ≡ x → IsGood from (gone_on p r (λ s. ran_by (push_step base refname from) end s ps) x).state
       by later (Ok s) i = later s (command-good r s p p.command g refl i)
       by later (Err f) i = g
 

@@ -16,7 +16,7 @@ use Rattle.history_ground.specs.Projections.{shown_of, projection}
 use Rattle.commit_map.specs.Shown.{Shown}
 use Rattle.commit_map.specs.declared.rule.Rule.{Rule}
 use Rattle.fast_import.specs.Replays.{Ran}
-use Rattle.push_back.specs.PushReplays.{Stop, push_replay}
+use Rattle.push_back.specs.PushReplays.{StreamRefusal, push_replay}
 use Rattle.push_back.specs.Pushes.{pushed}
 use Rattle.push_back.specs.PushVerdicts.{Pair, verdict, original_tree, is_bad_workspace, passed}
 
@@ -84,7 +84,7 @@ originals ps = map (λ p. p.original) ps
 
 -- Where no commit is refused, a push makes exactly the originals of the pairs.
 abbrev pub MadeLaw : Type 0
-MadeLaw = (f : Filter) (g : Graph) (h refname : Bytes) (from : Option Bytes) (x : Ran Stop) (ps : List Pair) → verdict f g h x.state.commits ≡ Ok ps →
+MadeLaw = (f : Filter) (g : Graph) (h refname : Bytes) (from : Option Bytes) (x : Ran StreamRefusal) (ps : List Pair) → verdict f g h x.state.commits ≡ Ok ps →
     (pushed f g h refname from x).originals ≡ originals ps
 
 -- Each is what the graph has under its name. It is so where all these commits and their trees lie in one store.

@@ -17,15 +17,15 @@ use Rattle.stream_reader.specs.Verdicts.{start, verdict}
 use Rattle.fast_import.specs.Replays.{Base, Ran, Replay, begun, branch, nothing_yet, ran_by, step, target_name}
 
 -- why the stream of a push is refused
-pub data Stop : Type 0 where
+pub data StreamRefusal : Type 0 where
   -- a commit or a reset on another ref, at this place
-  OtherRef : ℕ → Stop
+  OtherRef : ℕ → StreamRefusal
   -- a commit or the end isn't at the first of these names, but at the second
-  NotAtHead : Option Bytes → Option Bytes → Stop
+  NotAtHead : Option Bytes → Option Bytes → StreamRefusal
   -- the commit of this number, from 1, has a further parent
-  MergePushed : ℕ → Stop
+  MergePushed : ℕ → StreamRefusal
   -- a fault of any stream
-  Faulty : StreamFault → Stop
+  Faulty : StreamFault → StreamRefusal
 
 -- the bytes of a file, an executable or a link; a module's commit isn't here
 abbrev pub blob_of : Leaf → Option Bytes
@@ -58,7 +58,7 @@ pushed_parent base r h (Some c) = or_refuse (Unresolved c.at) (target_name base 
 
 -- One command: a commit or a reset on another ref is refused, then a parent that is none or isn't the chain's end, and then
 -- a merge.
-abbrev pub push_command : Base → Bytes → Option Bytes → Replay → Placed → Command → Result Replay Stop
+abbrev pub push_command : Base → Bytes → Option Bytes → Replay → Placed → Command → Result Replay StreamRefusal
 push_command base refname from r p (commands.Commit h) = do
   _ ← must (OtherRef p.at) (same_bytes h.refname refname)
   first ← refused_by Faulty (pushed_parent base r h h.from)
@@ -70,17 +70,17 @@ push_command base refname from r p (commands.Reset name target) = do
   refused_by Faulty (step base r p)
 push_command base refname from r p c = refused_by Faulty (step base r p)
 
-abbrev pub push_step : Base → Bytes → Option Bytes → Replay → Placed → Result Replay Stop
+abbrev pub push_step : Base → Bytes → Option Bytes → Replay → Placed → Result Replay StreamRefusal
 push_step base refname from r p = push_command base refname from r p p.command
 
 -- whether the ref, where it is set, is at the chain's end; one that is unset is refused after a commit alone
-abbrev pub end_refusal : Option Bytes → Replay → Option Bytes → Option Stop
+abbrev pub end_refusal : Option Bytes → Replay → Option Bytes → Option StreamRefusal
 end_refusal from r None = if is_nil r.commits then None else Some (NotAtHead (chain_end from r) None)
 end_refusal from r (Some n) =
     if is_same_name (chain_end from r) (Some n) then None else Some (NotAtHead (chain_end from r) (Some n))
 
 -- with the refusal that comes behind the whole stream
-abbrev pub at_the_end : Bytes → Option Bytes → Ran Stop → Ran Stop
+abbrev pub at_the_end : Bytes → Option Bytes → Ran StreamRefusal → Ran StreamRefusal
 at_the_end refname from x = record {
   tried = x.tried;
   state = x.state;
@@ -88,7 +88,7 @@ at_the_end refname from x = record {
 }
 
 -- The replay of a stream that is pushed to a ref, upon this projection and what is shown; its commits are the pushed ones.
-abbrev pub push_replay : Bytes → Option Bytes → Flat → Bytes → Ran Stop
+abbrev pub push_replay : Bytes → Option Bytes → Flat → Bytes → Ran StreamRefusal
 push_replay refname from shown input =
     at_the_end refname from
     (ran_by (push_step (push_base refname from shown) refname from) (option_map Faulty (verdict start input).fault) nothing_yet

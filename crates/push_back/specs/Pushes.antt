@@ -10,18 +10,18 @@ use Rattle.commit_map.specs.declared.rule.Rule.{Rule}
 use Rattle.history_ground.specs.Projections.{projection}
 use Rattle.fast_import.specs.Replays.{Base, Ran}
 use Rattle.push_back.specs.PushVerdicts.{Refusal, Verdict, original_of, original_tree, verdict}
-use Rattle.push_back.specs.PushReplays.{Stop, push_base, push_replay}
+use Rattle.push_back.specs.PushReplays.{StreamRefusal, push_base, push_replay}
 
 -- why a push is refused: by its stream, or by the commit of this number, from 1
 pub data PushRefusal : Type 0 where
-  Stopped : Stop → PushRefusal
-  Refused : ℕ → Refusal → PushRefusal
+  StreamRefused : StreamRefusal → PushRefusal
+  CommitRefused : ℕ → Refusal → PushRefusal
 
 -- What its stream stands upon, the stream's replay, the original commits that were made, each for the pushed commit of its
 -- number, and the first refusal: the stream's before any commit's.
 pub record Pushing : Type 0 where
   pub base : Base
-  pub stream : Ran Stop
+  pub stream : Ran StreamRefusal
   pub originals : List Snapshot
   pub refusal : Option PushRefusal
 
@@ -40,15 +40,15 @@ made_from f h t seen (c ∷ cs) =
 -- the refusal of commits, if one is refused
 abbrev pub refusal_of : Verdict → Option PushRefusal
 refusal_of (Ok ps) = None
-refusal_of (Err e) = Some (Refused e.0 e.1)
+refusal_of (Err e) = Some (CommitRefused e.0 e.1)
 
 -- a push whose stream was replayed upon the commit h, whose projection is `from`
-abbrev pub pushed : Filter → Graph → Bytes → Bytes → Option Bytes → Ran Stop → Pushing
+abbrev pub pushed : Filter → Graph → Bytes → Bytes → Option Bytes → Ran StreamRefusal → Pushing
 pushed f g h refname from x = record {
   base = push_base refname from (shown f (tree_at g h));
   stream = x;
   originals = made_from f h (tree_at g h) (shown f (tree_at g h)) x.state.commits;
-  refusal = option_or (option_map Stopped x.fault) (refusal_of (verdict f g h x.state.commits));
+  refusal = option_or (option_map StreamRefused x.fault) (refusal_of (verdict f g h x.state.commits));
 }
 
 -- the push of a stream to a ref that is at the commit h of a graph, through a filter and by a rule

@@ -25,7 +25,7 @@ use Rattle.filter_text.specs.Filters.{Filter, sub, onto}
 use Rattle.commit_map.specs.declared.rule.Rule.TheVariants.{One}
 use Rattle.push_back.specs.PushVerdicts.{NoChange, NotHeld}
 use Rattle.push_back.specs.PushReplays.{OtherRef, NotAtHead, MergePushed}
-use Rattle.push_back.specs.Pushes.{Pushing, PushRefusal, Stopped, Refused, pushing}
+use Rattle.push_back.specs.Pushes.{Pushing, PushRefusal, StreamRefused, CommitRefused, pushing}
 use Rattle.push_back.specs.Examples.{a, b, f, g, k, hello, one, first, beside, reading, showing, naming}
 
 -- what a theorem about streams unfolds, so that it computes
@@ -102,28 +102,28 @@ from_nothing = refl
 
 -- the same commit again, upon nothing where there is a projection
 pub not_at_the_head : (push_one (sub (a ∷ [])) (first ∷ []) new_file).refusal
-    ≡ Some (Stopped (NotAtHead (digits_name (codes "6a27ff6de5d45a65cc66723c6ae6227ea6004aa6")) None))
+    ≡ Some (StreamRefused (NotAtHead (digits_name (codes "6a27ff6de5d45a65cc66723c6ae6227ea6004aa6")) None))
 unfolding replaying reading showing naming
 not_at_the_head = refl
 
 -- digits needn't be known to be another name than the head
 pub another_name : (push_one (sub (codes "new" ∷ [])) (first ∷ []) (commit_lines main ++ upon_first)).refusal
-    ≡ Some (Stopped (NotAtHead None (digits_name (codes "6a27ff6de5d45a65cc66723c6ae6227ea6004aa6"))))
+    ≡ Some (StreamRefused (NotAtHead None (digits_name (codes "6a27ff6de5d45a65cc66723c6ae6227ea6004aa6"))))
 unfolding replaying reading showing naming
 another_name = refl
 
-pub other_ref : (push_one (sub (a ∷ [])) (first ∷ []) (commit_lines (codes "refs/heads/side") ++ upon_first)).refusal ≡ Some (Stopped (OtherRef 0))
+pub other_ref : (push_one (sub (a ∷ [])) (first ∷ []) (commit_lines (codes "refs/heads/side") ++ upon_first)).refusal ≡ Some (StreamRefused (OtherRef 0))
 unfolding replaying reading showing naming
 other_ref = refl
 
 pub a_merge : (push_one (sub (a ∷ [])) (first ∷ [])
-    (commit_lines main ++ upon_first ++ codes "merge 6a27ff6de5d45a65cc66723c6ae6227ea6004aa6\n")).refusal ≡ Some (Stopped (MergePushed 1))
+    (commit_lines main ++ upon_first ++ codes "merge 6a27ff6de5d45a65cc66723c6ae6227ea6004aa6\n")).refusal ≡ Some (StreamRefused (MergePushed 1))
 unfolding replaying reading showing naming
 a_merge = refl
 
 -- the ref is unset behind its commit
 pub not_at_the_end : (push_one (sub (codes "new" ∷ [])) (first ∷ []) (new_file ++ codes "\nreset refs/heads/main\n")).refusal
-    ≡ Some (Stopped (NotAtHead (option_map snapshot_name (last_or None (push_one (sub (codes "new" ∷ [])) (first ∷ []) new_file).stream.state.commits)) None))
+    ≡ Some (StreamRefused (NotAtHead (option_map snapshot_name (last_or None (push_one (sub (codes "new" ∷ [])) (first ∷ []) new_file).stream.state.commits)) None))
 unfolding replaying reading showing naming
 not_at_the_end = refl
 
@@ -133,18 +133,18 @@ an_empty_push = refl
 
 -- ---- refusals of a commit
 
-pub no_change : (push_one (sub (a ∷ [])) (first ∷ []) (commit_lines main ++ upon_first)).refusal ≡ Some (Refused 1 NoChange)
+pub no_change : (push_one (sub (a ∷ [])) (first ∷ []) (commit_lines main ++ upon_first)).refusal ≡ Some (CommitRefused 1 NoChange)
 unfolding replaying reading showing naming
 no_change = refl
 
 -- the second commit is refused: the originals before it were made
 pub the_second_is_refused : told (push_one (sub (a ∷ [])) (first ∷ []) (commit_lines main ++ upon_first ++ codes "D f\n\n" ++ commit_lines main))
-    ≡ ([] ∷ [], Some (Refused 2 NoChange))
+    ≡ ([] ∷ [], Some (CommitRefused 2 NoChange))
 unfolding replaying reading showing naming
 the_second_is_refused = refl
 
 -- `:prefix=lib` shows nothing beside lib
 pub outside : (push_one (onto (codes "lib" ∷ [])) (first ∷ []) (commit_lines main ++ codes "from refs/heads/main\nM 100644 inline readme\ndata 2\n1\n")).refusal
-    ≡ Some (Refused 1 (NotHeld (codes "readme" ∷ [])))
+    ≡ Some (CommitRefused 1 (NotHeld (codes "readme" ∷ [])))
 unfolding replaying reading showing naming
 outside = refl
