@@ -19,5 +19,5 @@ mod BlockSteps
 mod HandTrees
 mod Lays
 mod Nears
-mod LayingLemmas
+pub mod LayingLemmas
 mod Hidings

@@ -1,5 +1,5 @@
-mod GraphLemmas
-mod ProjectionLemmas
+pub mod GraphLemmas
+pub mod ProjectionLemmas
 mod KeptLemmas
 mod HistoryLemmas
 mod HeldCommits

@@ -1,0 +1,6 @@
+pub mod PushVerdicts
+pub mod PushReplays
+pub mod Pushes
+pub mod PushLaws
+pub mod Examples
+pub mod StreamExamples
