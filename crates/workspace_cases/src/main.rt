@@ -1,10 +1,8 @@
-//! Answers cases of workspaces, a line each, from standard input: the filter for a tree, and what filters
-//! show of trees.
+//! Answers cases of workspaces, a line each, from standard input: the filter for a tree, and what it shows.
 #![tactic(auto)]
 
 mod answers;
 mod session;
-mod shown;
 mod trees;
 
 use case_lines::Fault;

@@ -1,12 +1,9 @@
 // What lines of cases work on.
 use crate::answers::resolved;
-use crate::shown::shown_tree;
 use case_lines::{Fault, Line, Texts, Word, read_line, said};
 use filter_routes::Tables;
 use object_store::Store;
 use std::alloc::Global;
-use std::marker::Brand;
-use std::sync::ledger::Blank;
 
 /// What earlier lines made.
 #[derive(Drop)]
@@ -47,14 +44,6 @@ impl Session {
             [form, inner @ ..] if form.text() == "resolve" => {
                 resolved(alloc, texts, &mut self.store, &mut self.tables, inner)
             }
-            [form, inner @ ..] if form.text() == "shown" => shown_tree::<Brand>(
-                alloc,
-                texts,
-                &mut self.store,
-                &mut self.tables,
-                inner,
-                Blank::new(1),
-            ),
             _ => Err(Fault::BadLine),
         }
     }
