@@ -41,6 +41,8 @@ micros() {
 
 # Imports the stream into the store. The process is ended after so many microseconds.
 import_until() {
+    # A process that is ended before it opens its output must not leave the line of the one before it there.
+    : >"$work/out"
     "$proj" "$work/store" import <"$work/stream" >"$work/out" 2>"$work/err" &
     child=$!
     sleep "$(printf '0.%06d' "$1")"
