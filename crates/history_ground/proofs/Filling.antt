@@ -43,7 +43,7 @@ none-front n xs ys h = by (kept_at n xs) refl
     by (Some v) e = absurd (none-some v (sym h ∙ kept-front n xs ys v e))
 
 -- an entry of a list of which something holds
-kept-each : (P : Bytes → Option Shown → Type 0) (n : Bytes) (xs : Entries) (o : Option Shown) → Each (λ e. P e.0 e.1) xs → kept_at n xs ≡ Some o → P n o
+pub kept-each : (P : Bytes → Option Shown → Type 0) (n : Bytes) (xs : Entries) (o : Option Shown) → Each (λ e. P e.0 e.1) xs → kept_at n xs ≡ Some o → P n o
 kept-each P n [] o h e = absurd (none-some o e)
 kept-each P n (x ∷ xs) o h e = by (same_bytes n x.0) refl e (kept-each P n xs o h.1)
   where

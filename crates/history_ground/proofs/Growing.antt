@@ -128,7 +128,7 @@ has-within ts f n h = slice_get_within ts n h.0 h.1
 
 -- ---- the memo
 
-shown-grown : {made : Object → Type 0} (S T : List Object) (t : Table) (tree shown : Bytes) → IsGrownBy made S T → IsShownAs S t tree shown → IsShownAs T t tree shown
+pub shown-grown : {made : Object → Type 0} (S T : List Object) (t : Table) (tree shown : Bytes) → IsGrownBy made S T → IsShownAs S t tree shown → IsShownAs T t tree shown
 shown-grown S T t tree shown g h = record {
   held = has-grown S T Tree tree g h.held;
   seen = stands-grown S T shown _ g (subst (λ (u : Flat). StandsFor S shown (seen_through (lens_of (shape t.filter)) u)) (sym (flat-grown S T tree g h.held)) h.seen);

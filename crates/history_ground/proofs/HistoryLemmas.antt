@@ -36,7 +36,7 @@ any-in-front p xs ys h = any-append p xs ys ∙ or_left (list_any p xs) (list_an
 pub any-behind : {A : Type 0} (p : A → Bool) (xs ys : List A) → list_any p ys ≡ true → list_any p (xs ++ ys) ≡ true
 any-behind p xs ys h = any-append p xs ys ∙ or_right (list_any p xs) (list_any p ys) h
 
-same-image : {A B : Type 0} (p : B → Bool) (q : A → Bool) (f : A → B) → ((x : A) → p (f x) ≡ q x) → (xs : List A) → list_any p (map f xs) ≡ list_any q xs
+pub same-image : {A B : Type 0} (p : B → Bool) (q : A → Bool) (f : A → B) → ((x : A) → p (f x) ≡ q x) → (xs : List A) → list_any p (map f xs) ≡ list_any q xs
 same-image p q f e [] = refl
 same-image p q f e (x ∷ xs) = ap₂ (λ a b. a || b) (e x) (same-image p q f e xs)
 
@@ -56,7 +56,7 @@ pub filter-same : {A B : Type 0} (f g : A → Option B) (xs : List A) → Each (
 filter-same f g [] h = refl
 filter-same f g (x ∷ xs) h = ap₂ cons_option h.0 (filter-same f g xs h.1)
 
-fold-append : {A B : Type 0} (f : B → A → B) (b : B) (xs ys : List A) → fold f b (xs ++ ys) ≡ fold f (fold f b xs) ys
+pub fold-append : {A B : Type 0} (f : B → A → B) (b : B) (xs ys : List A) → fold f b (xs ++ ys) ≡ fold f (fold f b xs) ys
 fold-append f b [] ys = refl
 fold-append f b (x ∷ xs) ys = fold-append f (f b x) xs ys
 
@@ -68,7 +68,7 @@ pub each-map : {A : Type 0} (P Q : A → Type 0) → ((x : A) → P x → Q x) �
 each-map P Q f [] h = tt
 each-map P Q f (x ∷ xs) h = (f x h.0, each-map P Q f xs h.1)
 
-reverse-more : {A : Type 0} (x : A) (xs : List A) → reverse (x ∷ xs) ≡ reverse xs ++ x ∷ []
+pub reverse-more : {A : Type 0} (x : A) (xs : List A) → reverse (x ∷ xs) ≡ reverse xs ++ x ∷ []
 reverse-more x xs = reverse_onto xs x []
 
 pub each-reverse : {A : Type 0} (P : A → Type 0) (xs : List A) → Each P xs → Each P (reverse xs)
@@ -98,7 +98,7 @@ each-added P b p h k = by (list_any (is_same p) b)
     by true = h
     by false = each-append P b (p ∷ []) h (k, tt)
 
-each-distinct : (P : Shown → Type 0) (b ps : List Shown) → Each P b → Each P ps → Each P (distinct_from b ps)
+pub each-distinct : (P : Shown → Type 0) (b ps : List Shown) → Each P b → Each P ps → Each P (distinct_from b ps)
 each-distinct P b [] h k = h
 each-distinct P b (p ∷ ps) h k = each-distinct P (add_shown b p) ps (each-added P b p h k.0) k.1
 
@@ -172,7 +172,7 @@ member-among P test c (x ∷ ms) m h e = by (test x) e (member-among P test c ms
     by true e k = let same : x ≡ m = cc in subst P same h.0
     by false e k = k e
 
-member-of : (k : Rule) (P : Shown → Type 0) (leading : Shown → Bool) (t : Flat) (letter : Letter) (ms : List Shown) (m : Shown) → Each P ms → chosen k leading t letter ms ≡ Member m → P m
+pub member-of : (k : Rule) (P : Shown → Type 0) (leading : Shown → Bool) (t : Flat) (letter : Letter) (ms : List Shown) (m : Shown) → Each P ms → chosen k leading t letter ms ≡ Member m → P m
 member-of k P leading t letter [] m h e = by (is_nil t) e
   where
     by : (b : Bool) → cond b Nothing (New (own t letter [])) ≡ Member m → P m
@@ -193,7 +193,7 @@ new-member : (o : Option Shown) (c d : Snapshot) → member_or o c ≡ New d →
 new-member None c d e = let same : d ≡ c = cc in ap (λ (x : Snapshot). x.parents) same
 new-member (Some m) c d e = cc
 
-new-parents : (k : Rule) (leading : Shown → Bool) (t : Flat) (letter : Letter) (ms : List Shown) (d : Snapshot) → chosen k leading t letter ms ≡ New d → d.parents ≡ names ms
+pub new-parents : (k : Rule) (leading : Shown → Bool) (t : Flat) (letter : Letter) (ms : List Shown) (d : Snapshot) → chosen k leading t letter ms ≡ New d → d.parents ≡ names ms
 new-parents k leading t letter [] d e = by (is_nil t) e
   where
     by : (b : Bool) → cond b Nothing (New (own t letter [])) ≡ New d → d.parents ≡ []

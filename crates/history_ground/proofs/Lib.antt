@@ -18,3 +18,8 @@ mod Filling
 mod Steps
 mod WalkLemmas
 mod ProjectLemmas
+mod Putting
+mod Rising
+mod OwnCommits
+mod MadeHistories
+mod TakenTurns

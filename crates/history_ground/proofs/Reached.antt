@@ -24,7 +24,7 @@ all-each : (test : Bytes → Bool) (ns : List Bytes) → list_all test ns ≡ tr
 all-each test [] h = tt
 all-each test (n ∷ ns) h = let w = and_parts (test n) (list_all test ns) h in (w.0, all-each test ns w.1)
 
-has-each : (g : Graph) (cs : List Snapshot) (n : Bytes) → Each (λ d. has g (snapshot_name d) ≡ true) cs → has cs n ≡ true → has g n ≡ true
+pub has-each : (g : Graph) (cs : List Snapshot) (n : Bytes) → Each (λ d. has g (snapshot_name d) ≡ true) cs → has cs n ≡ true → has g n ≡ true
 has-each g [] n h e = absurd (true≢false (sym e))
 has-each g (d ∷ cs) n h e = by (has_name n d) refl e (has-each g cs n h.1)
   where
@@ -129,7 +129,7 @@ commit-any {P = P} test (d ∷ cs) h e = by (test (snapshot_name d)) refl e (com
     by true q f k = (d, h.0, q)
     by false q f k = k f
 
-place-any : (f : ℕ → Bytes) (test : Bytes → Bool) (ps : List ℕ) → list_any (λ i. test (f i)) ps ≡ true → (p : ℕ) × Contains ps p × (test (f p) ≡ true)
+pub place-any : (f : ℕ → Bytes) (test : Bytes → Bool) (ps : List ℕ) → list_any (λ i. test (f i)) ps ≡ true → (p : ℕ) × Contains ps p × (test (f p) ≡ true)
 place-any f test [] e = absurd (true≢false (sym e))
 place-any f test (q ∷ ps) e = by (test (f q)) refl e (place-any f test ps)
   where
@@ -140,7 +140,7 @@ place-any f test (q ∷ ps) e = by (test (f q)) refl e (place-any f test ps)
         let l : w.1.0 < length ps = w.1.1 in
         (w.0, (suc w.1.0, omega (arith, l), w.1.2), w.2)
 
-any-place : (f : ℕ → Bytes) (test : Bytes → Bool) (ps : List ℕ) (p : ℕ) → Contains ps p → test (f p) ≡ true → list_any (λ i. test (f i)) ps ≡ true
+pub any-place : (f : ℕ → Bytes) (test : Bytes → Bool) (ps : List ℕ) (p : ℕ) → Contains ps p → test (f p) ≡ true → list_any (λ i. test (f i)) ps ≡ true
 any-place f test ps p c t = list_any_at (λ i. test (f i)) ps c.0 p c.1 (ap (λ i. test (f i)) c.2 ∙ t)
 
 same-bool : (a b : Bool) → (a ≡ true → b ≡ true) → (b ≡ true → a ≡ true) → a ≡ b

@@ -28,7 +28,7 @@ turn-below f g h place t q w l k e =
     let c = some-placed g place w l in
     subst (IsTurn f g h place c.0) e (k c.0 c.1)
 
-kept-projected : (o : Option code.Shown) → projected (kept_choice o) ≡ option_map shown_value o
+pub kept-projected : (o : Option code.Shown) → projected (kept_choice o) ≡ option_map shown_value o
 kept-projected None = refl
 kept-projected (Some m) = refl
 

@@ -8,3 +8,5 @@ pub mod Choosing
 pub mod Made
 pub mod Turns
 pub mod Walks
+pub mod Histories
+pub mod Making

@@ -3,6 +3,7 @@
 
 mod choosing;
 mod ground;
+mod histories;
 mod laws;
 mod made;
 mod seeing;
@@ -10,5 +11,6 @@ mod turning;
 mod walking;
 
 pub use ground::Ground;
+pub use histories::history;
 pub use laws::{history_law, projection_law};
 pub use walking::project_to;

@@ -1,0 +1,244 @@
+-- A commit that is projected, and what it becomes put into the store.
+use Rattle.std.proofs.Common.{◌≡◌, ◌⊎◌, inl, inr, ℕ, ◌<◌, ◌≤◌, Bool, true, false, cond, ◌||◌, List, [], ◌∷◌, ◌++◌, map, length, Option, Some, None, IfSome, IfErr, OnOk, IsSome, Result, Ok, Err, unwrap_or, refl, sym, ap, subst, ◌∙◌, true≢false}
+use Rattle.std.specs.List.{cons_option, filter_map, list_all, list_any}
+use Rattle.std.specs.Option.{is_some, option_map, option_to_list}
+use Rattle.std.specs.Cmp.Lexicographic.{bytes_decides}
+use Rattle.std.proofs.lemmas.Bool.{and_parts}
+use Rattle.std.proofs.lemmas.Option.{none-some, same_Some}
+use Rattle.git_objects.specs.Paths.{Bytes, same_bytes}
+use Rattle.git_objects.specs.Lists.{Each}
+use Rattle.git_objects.specs.Names.{name, tree_name}
+use Rattle.git_objects.specs.Commits.{commit_body, commit_name}
+use Rattle.git_objects.specs.Snapshots.{Snapshot, Graph, snapshot_commit, snapshot_name, add_all}
+use Rattle.git_objects.specs.declared.kind.Kind.TheVariants.{Tree, Commit as CommitKind}
+use Rattle.object_store.specs.Objects.{Object, has}
+use Rattle.object_store.specs.Growth.{IsGrownBy}
+use Rattle.object_store.specs.StoredSnapshots.{snapshot_object}
+use Rattle.object_store.specs.Unfolding.{flat}
+use Rattle.object_store.proofs.Growth.{clash_as, has-grown, stands-grown}
+use Rattle.commit_map.specs.Shown.{Shown, Entries, kept_at, shown_value}
+use Rattle.commit_map.specs.declared.commit_map.Shown as code
+use Rattle.filter_text.specs.Filters.{Filter}
+use Rattle.filter_apply.specs.Faults.{IsApplyFault}
+use Rattle.filter_apply.specs.Truth.{AreTrueFor}
+use Rattle.filter_apply.specs.declared.fault.ApplyError.{ApplyError}
+use Rattle.filter_apply.specs.declared.fault.ApplyError.TheVariants.{Collision, OutOfMemory}
+use Rattle.filter_cache.specs.Memos.{Memo}
+use Rattle.filter_routes.specs.TableValues.{Table}
+use Rattle.workspace.specs.Workspaces.{shown}
+use Rattle.history_ground.specs.Projections.{Choice, Member, New, choice_of, distinct, known_at, leads, members, own_commit, projected, shown_of}
+use Rattle.history_ground.specs.StoredGraphs.{name_at, snapshot_named}
+use Rattle.history_ground.specs.Choosing.{Agree, commits_before, IsBelow}
+use Rattle.history_ground.specs.Grounds.{IsGround, Extends, IsShownOf, commits_of}
+use Rattle.history_ground.specs.Asked.{IsNone}
+use Rattle.history_ground.specs.Histories.{AreMade}
+use Rattle.history_ground.specs.Making.{is_among, with_name, IsAdded, IsFit, IsTakenIn, IsBecome, IsTurnObject, AreHeld, IsReady, IsTaken}
+use Rattle.history_ground.specs.Turns.{Becomes, IsNew, IsTurn, kept_choice}
+use Rattle.history_ground.specs.declared.ground.Ground.{Ground}
+use Rattle.history_ground.specs.declared.turning.Turn.{Turn}
+use Rattle.history_ground.specs.declared.turning.Turn.TheVariants as turns
+use Rattle.history_ground.proofs.Filling.{kept-append, kept-front}
+use Rattle.history_ground.proofs.Growing.{extends-as, extends-map, extends-self, extends-then, front-self, graph-grown, shown-grown}
+use Rattle.history_ground.proofs.HistoryLemmas.{each-distinct, member-of, new-parents}
+use Rattle.history_ground.proofs.MadeHistories.{IsIn, found-in, made-grown, made-more}
+use Rattle.history_ground.proofs.Putting.{commit_fits}
+use Rattle.history_ground.proofs.Steps.{Turns, kept-projected}
+use Rattle.history_ground.proofs.TurnLemmas.{some-placed}
+
+-- ---- a ground with a store that has grown
+
+memo-grown : {made : Object → Type 0} (S T : List Object) (ts : List Table) (memo : Memo) → IsGrownBy made S T → AreTrueFor S ts memo → AreTrueFor T ts memo
+memo-grown S T ts memo g h = record { each = λ n t e tree shown' held. shown-grown S T t tree shown' g (h.each n t e tree shown' held); within = h.within }
+
+pub extends-store : (made : Object → Type 0) (g : Ground) (T : List Object) → IsGround g → IsGrownBy made g.store T → Extends made g (record g { store = T })
+extends-store made g T w a = record {
+  graph = refl;
+  rule = refl;
+  tables = front-self g.tables;
+  store = a;
+  ground = record { graph = graph-grown g.store T a g.graph w.graph; memo = memo-grown g.store T g.tables g.memo a w.memo };
+}
+
+pub extends-kept : (made : Object → Type 0) (g h k : Ground) (es : Entries) → Extends made g h → k ≡ record h { map = es } → Extends made g k
+extends-kept made g h k es a e = subst (λ (x : Ground). Extends made g x) (sym e) (extends-map made g h es a)
+
+-- after the call that keeps an entry
+pub kept-either : {T : Type 0} (made : Object → Type 0) (g h k : Ground) (es : Entries) (r : Result T ApplyError) → Extends made g h → OnOk r (k ≡ record h { map = es }) → IfErr r (λ e. IsApplyFault IsNone h.store e × (k ≡ h)) → Extends made g k
+kept-either made g h k es (Ok x) a e f = extends-kept made g h k es a e
+kept-either made g h k es (Err x) a e f = subst (λ (y : Ground). Extends made g y) (sym f.1) a
+
+pub fault-as : (made more : Object → Type 0) (S : List Object) → ((o : Object) → made o → more o) → (e : ApplyError) → IsApplyFault made S e → IsApplyFault more S e
+fault-as made more S f (Collision n) x = clash_as made more S n.0 f x
+fault-as made more S f OutOfMemory x = tt
+
+-- ---- what is kept is in the store
+
+pub held-grown : {made : Object → Type 0} (S T : List Object) (es : Entries) → IsGrownBy made S T → AreHeld S es → AreHeld T es
+held-grown S T es g h = λ n m e. has-grown S T CommitKind m.commit g (h n m e)
+
+pub held-more : (T : List Object) (es : Entries) (n : Bytes) (v : Option Shown) → AreHeld T es → IfSome v (λ m. has CommitKind T m.commit ≡ true) → AreHeld T (es ++ (n, v) ∷ [])
+held-more T es n v h k = λ q m e. by q m e (kept_at q es) refl
+  where
+    here : (q : Bytes) (m : Shown) (b : Bool) → cond b (Some v) None ≡ Some (Some m) → has CommitKind T m.commit ≡ true
+    here q m true e = subst (λ o. IfSome o (λ m. has CommitKind T m.commit ≡ true)) (same_Some v (Some m) e) k
+    here q m false e = absurd (none-some (Some m) e)
+
+    by : (q : Bytes) (m : Shown) → kept_at q (es ++ (n, v) ∷ []) ≡ Some (Some m) → (o : Option (Option Shown)) → kept_at q es ≡ o → has CommitKind T m.commit ≡ true
+    by q m e None i = here q m (same_bytes q n) (sym (kept-append q es ((n, v) ∷ []) i) ∙ e)
+    by q m e (Some o) i = h q m (i ∙ sym (kept-front q es ((n, v) ∷ []) o i) ∙ e)
+
+module _ (S : List Object) (es : Entries) (h : AreHeld S es) where
+  known-held : (ns : List Bytes) → Each (λ (m : Shown). has CommitKind S m.commit ≡ true) (filter_map (known_at es) ns)
+  known-held [] = tt
+  known-held (n ∷ ns) = by (kept_at n es) refl (known-held ns)
+    where
+      by : (o : Option (Option Shown)) → kept_at n es ≡ o → Each (λ (m : Shown). has CommitKind S m.commit ≡ true) (filter_map (known_at es) ns)
+          → Each (λ (m : Shown). has CommitKind S m.commit ≡ true) (cons_option (unwrap_or o None) (filter_map (known_at es) ns))
+      by None e k = k
+      by (Some None) e k = k
+      by (Some (Some m)) e k = (h n m e, k)
+
+  members-held : (ns : List Bytes) → Each (λ (m : Shown). has CommitKind S m.commit ≡ true) (members es ns)
+  members-held ns = each-distinct (λ (m : Shown). has CommitKind S m.commit ≡ true) [] (filter_map (known_at es) ns) tt (known-held ns)
+
+commits-held : (S : List Object) (ms : List Shown) → Each (λ (m : Shown). has CommitKind S m.commit ≡ true) ms → Each (λ n. has CommitKind S n ≡ true) (map (λ (m : Shown). m.commit) ms)
+commits-held S [] h = tt
+commits-held S (m ∷ ms) h = (h.0, commits-held S ms h.1)
+
+one-held : (S : List Object) (ns : List Bytes) (n : Bytes) → list_all (has CommitKind S) ns ≡ true → is_among n ns ≡ true → has CommitKind S n ≡ true
+one-held S [] n h e = absurd (true≢false (sym e))
+one-held S (m ∷ ns) n h e = let w = and_parts (has CommitKind S m) (list_all (has CommitKind S) ns) h in by (same_bytes n m) refl e w.0 (one-held S ns n w.1)
+  where
+    by : (b : Bool) → same_bytes n m ≡ b → (b || is_among n ns) ≡ true → has CommitKind S m ≡ true → (is_among n ns ≡ true → has CommitKind S n ≡ true) → has CommitKind S n ≡ true
+    by true q e x k = ap (has CommitKind S) ((bytes_decides n m).0 q) ∙ x
+    by false q e x k = k e
+
+-- what is kept agrees with itself
+agree-self : (es : Entries) (older : Graph) → Agree es es older
+agree-self es older = λ n o h e. sym (ap (λ x. unwrap_or x None) e)
+
+-- ---- a turn
+
+module _ (f : Filter) (g h : Ground) (place : ℕ) (w : IsGround g) (a : Extends (IsShownOf f (commits_of g)) g h) (m : h.map ≡ g.map) (ns : List Bytes) (ready : IsReady g place ns) where
+  pub never-below : (q : ℕ) → IsBelow g place q → ⊥
+  never-below q b = true≢false (sym (ready.kept q b.reached b.before) ∙ ap is_some b.lacked)
+
+  member-held : (x : Shown) → IsBecome f g place (Member x) → has CommitKind g.store x.commit ≡ true
+  member-held x is =
+      let c = some-placed g place w ready.there in
+      member-of g.rule (λ (y : Shown). has CommitKind g.store y.commit ≡ true) (leads (commits_before g place) g.map c.0.parents) (shown f c.0.tree) c.0.letter (members g.map c.0.parents) x
+      (members-held g.store g.map ready.held c.0.parents) (is c.0 c.1 g.map (agree-self g.map (commits_before g place)))
+
+  parents-held : (d : Snapshot) → IsBecome f g place (New d) → Each (λ n. has CommitKind g.store n ≡ true) d.parents
+  parents-held d is =
+      let c = some-placed g place w ready.there in
+      subst (Each (λ n. has CommitKind g.store n ≡ true))
+      (sym (new-parents g.rule (leads (commits_before g place) g.map c.0.parents) (shown f c.0.tree) c.0.letter (members g.map c.0.parents) d (is c.0 c.1 g.map (agree-self g.map (commits_before g place)))))
+      (commits-held g.store (members g.map c.0.parents) (members-held g.store g.map ready.held c.0.parents))
+
+  grown-parents : (ps : List Bytes) → Each (λ n. has CommitKind g.store n ≡ true) ps → Each (λ n. has CommitKind h.store n ≡ true) ps
+  grown-parents [] x = tt
+  grown-parents (p ∷ ps) x = (has-grown g.store h.store CommitKind p a.store x.0, grown-parents ps x.1)
+
+  pub turn-object : (o : Object) → IsShownOf f (commits_of g) o → IsTurnObject f g place ns o
+  turn-object o x = inl x
+
+  map-is : (k : Ground) (v u : Option Shown) → u ≡ v → k.map ≡ h.map ++ (name_at h.graph place, u) ∷ [] → k.map ≡ g.map ++ (name_at g.graph place, v) ∷ []
+  map-is k v u e q = q ∙ (λ i. m i ++ (name_at (a.graph i) place, e i) ∷ [])
+
+  -- ---- it becomes nothing, or what a parent is projected to
+
+  module _ (k : Ground) (o : Option code.Shown) (t : Turns f g h place (turns.Kept o)) (e : k ≡ record h { map = h.map ++ (name_at h.graph place, option_map shown_value o) ∷ [] }) where
+    kept-held : IfSome (option_map shown_value o) (λ (x : Shown). has CommitKind g.store x.commit ≡ true)
+    kept-held = by o t
+      where
+        by : (o : Option code.Shown) → Turns f g h place (turns.Kept o) → IfSome (option_map shown_value o) (λ (x : Shown). has CommitKind g.store x.commit ≡ true)
+        by None t = tt
+        by (Some x) t = member-held (shown_value x) t
+
+    none-own : (o : Option code.Shown) → own_commit (kept_choice o) ≡ None
+    none-own None = refl
+    none-own (Some x) = refl
+
+    held-now : (o : Option Shown) → IfSome o (λ (x : Shown). has CommitKind g.store x.commit ≡ true) → IfSome o (λ (x : Shown). has CommitKind h.store x.commit ≡ true)
+    held-now None x = tt
+    held-now (Some y) x = has-grown g.store h.store CommitKind y.commit a.store x
+
+    pub taken-kept : IsTaken f place g k ns ns
+    taken-kept =
+        let map : k.map ≡ h.map ++ (name_at h.graph place, option_map shown_value o) ∷ [] = ap (λ (x : Ground). x.map) e in
+        let store : k.store ≡ h.store = ap (λ (x : Ground). x.store) e in
+        record {
+          choice = kept_choice o;
+          is = t;
+          map = map-is k (projected (kept_choice o)) (option_map shown_value o) (sym (kept-projected o)) map;
+          held = subst (λ (es : Entries). AreHeld k.store es) (sym map) (subst (λ (T : List Object). AreHeld T (h.map ++ (name_at h.graph place, option_map shown_value o) ∷ [])) (sym store)
+              (held-more h.store h.map (name_at h.graph place) (option_map shown_value o) (subst (AreHeld h.store) (sym m) (held-grown g.store h.store g.map a.store ready.held)) (held-now (option_map shown_value o) kept-held)));
+          made = λ M x. subst (λ (T : List Object). AreMade T (add_all M (option_to_list (own_commit (kept_choice o)))) ns) (sym store)
+              (subst (λ c. AreMade h.store (add_all M (option_to_list c)) ns) (sym (none-own o)) (made-grown g.store h.store a.store w.graph.store M ns x));
+        }
+
+  -- ---- it becomes a commit of its own
+
+  module _ (s : code.Shown) (b : Bytes) (t : (c : Snapshot) → snapshot_named g.store (name_at g.graph place) ≡ Some c → IsNew f g h place c s b) where
+    n : IsNew f g h place (some-placed g place w ready.there).0 s b
+    n = t (some-placed g place w ready.there).0 (some-placed g place w ready.there).1
+
+    d : Snapshot
+    d = n.commit
+
+    become : IsBecome f g place (New n.commit)
+    become = λ c e. subst (λ (x : Snapshot). Becomes f g place x (New n.commit)) (same_Some (some-placed g place w ready.there).0 c (sym (some-placed g place w ready.there).1 ∙ e)) n.becomes
+
+    body-name : name CommitKind b ≡ snapshot_name n.commit
+    unfolding commit_name
+    body-name = ap (name CommitKind) n.body
+
+    tree-name : s.tree.0 ≡ tree_name n.commit.tree
+    tree-name = ap (λ (x : Shown). x.tree) n.names
+
+    pub fits : IsFit h.store s.commit.0 b
+    fits = record {
+      body = commit_fits h.store (snapshot_commit n.commit) b (ap (has Tree h.store) (sym tree-name) ∙ n.tree.held) (grown-parents n.commit.parents (parents-held n.commit become)) n.read;
+      named = ap (λ (x : Shown). x.commit) n.names ∙ sym body-name;
+    }
+
+    pub made-object : (o : Object) → IsAdded ns b o → IsTurnObject f g place ns o
+    made-object o x = inr (
+      n.commit,
+      become,
+      subst (λ q. is_among q ns ≡ false) body-name x.0,
+      ap (λ q. record { kind = CommitKind; body = q }) (sym n.body) ∙ sym x.1,
+    )
+
+    module _ (k : Ground) (ns' : List Bytes) (u : Extends (IsAdded ns b) h k) (x : IsTakenIn k.store ns ns' b) (q : k.map ≡ h.map ++ (name_at h.graph place, Some (shown_value s)) ∷ []) where
+      grown : IsGrownBy (IsTurnObject f g place ns) g.store k.store
+      grown = (extends-then (IsTurnObject f g place ns) g h k (extends-as (IsShownOf f (commits_of g)) (IsTurnObject f g place ns) g h turn-object a) (extends-as (IsAdded ns b) (IsTurnObject f g place ns) h k made-object u)).store
+
+      stored : is_among (snapshot_name n.commit) ns ≡ false → IsIn k.store n.commit
+      stored e =
+          let stands = stands-grown h.store k.store s.tree.0 n.commit.tree u.store n.tree in
+          found-in k.store n.commit b (x.found (ap (λ y. is_among y ns) body-name ∙ e)) n.body n.read (subst (λ y. flat k.store y ≡ n.commit.tree) tree-name stands.map)
+
+      new-held : has CommitKind k.store (snapshot_name n.commit) ≡ true
+      new-held = by (is_among (snapshot_name n.commit) ns) refl
+        where
+          by : (c : Bool) → is_among (snapshot_name n.commit) ns ≡ c → has CommitKind k.store (snapshot_name n.commit) ≡ true
+          by true e = has-grown g.store k.store CommitKind (snapshot_name n.commit) grown (one-held g.store ns (snapshot_name n.commit) ready.named e)
+          by false e = (stored e).held
+
+      pub taken-made : IsTaken f place g k ns ns'
+      taken-made = record {
+        choice = New n.commit;
+        is = become;
+        map = map-is k (Some (shown_of n.commit)) (Some (shown_value s)) (ap Some n.names) q;
+        held = subst (λ (es : Entries). AreHeld k.store es) (sym (map-is k (Some (shown_of n.commit)) (Some (shown_value s)) (ap Some n.names) q))
+            (held-more k.store g.map (name_at g.graph place) (Some (shown_of n.commit)) (held-grown g.store k.store g.map grown ready.held) new-held);
+        made = λ M y. made-more k.store M ns ns' n.commit (made-grown g.store k.store grown w.graph.store M ns y) (x.names ∙ ap (with_name ns) body-name) stored;
+      }
+
+    pub same-made : (k : Ground) → Extends (IsAdded ns b) h k → Extends (IsTurnObject f g place ns) g k
+    same-made k u = extends-then (IsTurnObject f g place ns) g h k (extends-as (IsShownOf f (commits_of g)) (IsTurnObject f g place ns) g h turn-object a) (extends-as (IsAdded ns b) (IsTurnObject f g place ns) h k made-object u)
+
+  pub same-turn : Extends (IsTurnObject f g place ns) g h
+  same-turn = extends-as (IsShownOf f (commits_of g)) (IsTurnObject f g place ns) g h turn-object a
