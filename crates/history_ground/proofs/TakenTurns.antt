@@ -71,6 +71,10 @@ pub fault-as : (made more : Object → Type 0) (S : List Object) → ((o : Objec
 fault-as made more S f (Collision n) x = clash_as made more S n.0 f x
 fault-as made more S f OutOfMemory x = tt
 
+pub fault-either : {T : Type 0} (made more : Object → Type 0) (S : List Object) → ((o : Object) → made o → more o) → (r : Result T ApplyError) → IfErr r (IsApplyFault made S) → IfErr r (IsApplyFault more S)
+fault-either made more S f (Ok x) h = tt
+fault-either made more S f (Err e) h = fault-as made more S f e h
+
 -- ---- what is kept is in the store
 
 pub held-grown : {made : Object → Type 0} (S T : List Object) (es : Entries) → IsGrownBy made S T → AreHeld S es → AreHeld T es
@@ -178,6 +182,10 @@ module _ (f : Filter) (g h : Ground) (place : ℕ) (w : IsGround g) (a : Extends
               (subst (λ c. AreMade h.store (add_all M (option_to_list c)) ns) (sym (none-own o)) (made-grown g.store h.store a.store w.graph.store M ns x));
         }
 
+  pub kept-ok : {T : Type 0} (k : Ground) (o : Option code.Shown) → Turns f g h place (turns.Kept o) → (r : Result T ApplyError) → OnOk r (k ≡ record h { map = h.map ++ (name_at h.graph place, option_map shown_value o) ∷ [] }) → OnOk r (IsTaken f place g k ns ns)
+  kept-ok k o t (Ok x) e = taken-kept k o t e
+  kept-ok k o t (Err x) e = tt
+
   -- ---- it becomes a commit of its own
 
   module _ (s : code.Shown) (b : Bytes) (t : (c : Snapshot) → snapshot_named g.store (name_at g.graph place) ≡ Some c → IsNew f g h place c s b) where
@@ -236,6 +244,10 @@ module _ (f : Filter) (g h : Ground) (place : ℕ) (w : IsGround g) (a : Extends
             (held-more k.store g.map (name_at g.graph place) (Some (shown_of n.commit)) (held-grown g.store k.store g.map grown ready.held) new-held);
         made = λ M y. made-more k.store M ns ns' n.commit (made-grown g.store k.store grown w.graph.store M ns y) (x.names ∙ ap (with_name ns) body-name) stored;
       }
+
+    pub made-ok : {T : Type 0} (k : Ground) (ns' : List Bytes) → Extends (IsAdded ns b) h k → (r : Result T ApplyError) → OnOk r (IsTakenIn k.store ns ns' b) → OnOk r (k.map ≡ h.map ++ (name_at h.graph place, Some (shown_value s)) ∷ []) → OnOk r (IsTaken f place g k ns ns')
+    made-ok k ns' u (Ok y) x q = taken-made k ns' u x q
+    made-ok k ns' u (Err y) x q = tt
 
     pub same-made : (k : Ground) → Extends (IsAdded ns b) h k → Extends (IsTurnObject f g place ns) g k
     same-made k u = extends-then (IsTurnObject f g place ns) g h k (extends-as (IsShownOf f (commits_of g)) (IsTurnObject f g place ns) g h turn-object a) (extends-as (IsAdded ns b) (IsTurnObject f g place ns) h k made-object u)
