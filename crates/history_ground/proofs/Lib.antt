@@ -23,3 +23,4 @@ mod Rising
 mod OwnCommits
 mod MadeHistories
 mod TakenTurns
+mod TakingLemmas

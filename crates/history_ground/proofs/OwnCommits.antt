@@ -81,7 +81,12 @@ module _ (S : List Object) (rows : List Row) (g : IsGraphIn S rows) where
         ∙ sym (filter-append own (reverse ps) (n ∷ []))
         ∙ ap (filter_map own) (sym (reverse_onto ps n []))
 
-    -- of the commits before a place, where these places are those of the commits that are wanted with all that they reach
+    -- the commits of their own of those before a place, where these places are those of the commits that are wanted with all that
+    -- they reach
+    abbrev Lists : ℕ → Type 0
+    Lists n = (ws : List Bytes) (ps : List ℕ) → Falls n ps → ((i : ℕ) → i < n → has (reached (older S rows g n) ws) (name_at rows i) ≡ among rows i ps)
+        → own_commits k s (older S rows g n) ws ≡ filter_map own (reverse ps)
+
     pub own-places : (n : ℕ) → n ≤ length rows → (ws : List Bytes) (ps : List ℕ) → Falls n ps
         → ((i : ℕ) → i < n → has (reached (older S rows g n) ws) (name_at rows i) ≡ among rows i ps)
         → own_commits k s (older S rows g n) ws ≡ filter_map own (reverse ps)
@@ -93,7 +98,7 @@ module _ (S : List Object) (rows : List Row) (g : IsGraphIn S rows) where
         let a = at-row S rows g n w.0 w.1 in
         let e = older-suc S rows g n w.0 a.0 w.1 a.1 in
         ap (λ (x : Graph). own_commits k s x ws) e
-        ∙ by w.0 w.1 a.0 a.1 (is_wanted ws a.0) refl ps f (λ i b. ap (λ (x : Graph). has (reached x ws) (name_at rows i)) (sym e) ∙ h i b)
+        ∙ by w.0 w.1 a.0 a.1 (λ vs qs x y. own-places n (omega (arith, l)) vs qs x y) (is_wanted ws a.0) refl ps f (λ i b. ap (λ (x : Graph). has (reached x ws) (name_at rows i)) (sym e) ∙ h i b)
       where
         low : n ≤ length rows
         low = omega (arith, l)
@@ -121,13 +126,13 @@ module _ (S : List Object) (rows : List Row) (g : IsGraphIn S rows) where
             let x = row-at S rows g i (omega (arith, b, l)) in
             other (older S rows g n) c (name_at rows i) (new r e c a).new (ap (has (older S rows g n)) (name-is S rows g i x.0 x.1) ∙ older-has S rows g n low i x.0 x.1 b)
 
-        by : (r : Row) → slice_get rows n ≡ Some r → (c : Snapshot) → IsAt S rows r c → (b : Bool) → is_wanted ws c ≡ b → (ps : List ℕ) → Falls (suc n) ps
+        by : (r : Row) → slice_get rows n ≡ Some r → (c : Snapshot) → IsAt S rows r c → Lists n → (b : Bool) → is_wanted ws c ≡ b → (ps : List ℕ) → Falls (suc n) ps
             → ((i : ℕ) → i < suc n → has (cond (is_wanted ws c) (c ∷ []) [] ++ reached (older S rows g n) (cond (is_wanted ws c) (c.parents ++ ws) ws)) (name_at rows i) ≡ among rows i ps)
             → own_commits k s (older S rows g n) (cond (is_wanted ws c) (c.parents ++ ws) ws) ++ cond (is_wanted ws c) (option_to_list (own_commit (ch c))) [] ≡ filter_map own (reverse ps)
-        by r e c a true q [] f h =
+        by r e c a ih true q [] f h =
             absurd (true≢false (sym (ap (λ b. has (cond b (c ∷ []) [] ++ reached (older S rows g n) (cond b (c.parents ++ ws) ws)) (name_at rows n)) q
             ∙ ap (λ b. b || has (reached (older S rows g n) (c.parents ++ ws)) (name_at rows n)) (ap (λ m. same_bytes m (snapshot_name c)) (named r e c a) ∙ same_bytes-self (snapshot_name c))) ∙ h n (omega arith)))
-        by r e c a true q (p ∷ ps) f h = elim (cases_lt p n) as (λ o. own_commits k s (older S rows g n) (cond (is_wanted ws c) (c.parents ++ ws) ws) ++ cond (is_wanted ws c) (option_to_list (own_commit (ch c))) [] ≡ filter_map own (reverse (p ∷ ps))) [
+        by r e c a ih true q (p ∷ ps) f h = elim (cases_lt p n) as (λ o. own_commits k s (older S rows g n) (cond (is_wanted ws c) (c.parents ++ ws) ws) ++ cond (is_wanted ws c) (option_to_list (own_commit (ch c))) [] ≡ filter_map own (reverse (p ∷ ps))) [
           | inl b ↦
               absurd (true≢false (sym (ap (λ b. has (cond b (c ∷ []) [] ++ reached (older S rows g n) (cond b (c.parents ++ ws) ws)) (name_at rows n)) q
               ∙ ap (λ b. b || has (reached (older S rows g n) (c.parents ++ ws)) (name_at rows n)) (ap (λ m. same_bytes m (snapshot_name c)) (named r e c a) ∙ same_bytes-self (snapshot_name c)))
@@ -137,7 +142,7 @@ module _ (S : List Object) (rows : List Row) (g : IsGraphIn S rows) where
               let here : n ≡ p = omega (arith, top, b) in
               ap (λ b. own_commits k s (older S rows g n) (cond b (c.parents ++ ws) ws) ++ cond b (option_to_list (own_commit (ch c))) []) q
               ∙ own-last ps n (own_commits k s (older S rows g n) (c.parents ++ ws)) (own_commit (ch c))
-              (own-places n low (c.parents ++ ws) ps (subst (λ m. Falls m ps) (sym here) f.1) (λ i m.
+              (ih (c.parents ++ ws) ps (subst (λ m. Falls m ps) (sym here) f.1) (λ i m.
               ap (λ b. b || has (reached (older S rows g n) (c.parents ++ ws)) (name_at rows i)) (sym (older-other r e c a i m))
               ∙ ap (λ b. has (cond b (c ∷ []) [] ++ reached (older S rows g n) (cond b (c.parents ++ ws) ws)) (name_at rows i)) (sym q)
               ∙ h i (omega (arith, m))
@@ -145,14 +150,14 @@ module _ (S : List Object) (rows : List Row) (g : IsGraphIn S rows) where
               (ap own_commit (sym (choice-is n r c e a)))
               ∙ ap (λ m. filter_map own (reverse (m ∷ ps))) here
         ]
-        by r e c a false q [] f h =
+        by r e c a ih false q [] f h =
             ap (λ b. own_commits k s (older S rows g n) (cond b (c.parents ++ ws) ws) ++ cond b (option_to_list (own_commit (ch c))) []) q
             ∙ append-nil (own_commits k s (older S rows g n) ws)
-            ∙ own-places n low ws [] tt (λ i m. ap (λ b. has (cond b (c ∷ []) [] ++ reached (older S rows g n) (cond b (c.parents ++ ws) ws)) (name_at rows i)) (sym q) ∙ h i (omega (arith, m)))
-        by r e c a false q (p ∷ ps) f h =
+            ∙ ih ws [] tt (λ i m. ap (λ b. has (cond b (c ∷ []) [] ++ reached (older S rows g n) (cond b (c.parents ++ ws) ws)) (name_at rows i)) (sym q) ∙ h i (omega (arith, m)))
+        by r e c a ih false q (p ∷ ps) f h =
             ap (λ b. own_commits k s (older S rows g n) (cond b (c.parents ++ ws) ws) ++ cond b (option_to_list (own_commit (ch c))) []) q
             ∙ append-nil (own_commits k s (older S rows g n) ws)
-            ∙ own-places n low ws (p ∷ ps) (lower (cases_lt p n), f.1) (λ i m. ap (λ b. has (cond b (c ∷ []) [] ++ reached (older S rows g n) (cond b (c.parents ++ ws) ws)) (name_at rows i)) (sym q) ∙ h i (omega (arith, m)))
+            ∙ ih ws (p ∷ ps) (lower (cases_lt p n), f.1) (λ i m. ap (λ b. has (cond b (c ∷ []) [] ++ reached (older S rows g n) (cond b (c.parents ++ ws) ws)) (name_at rows i)) (sym q) ∙ h i (omega (arith, m)))
           where
             not-here : among rows n (p ∷ ps) ≡ false
             not-here =

@@ -68,7 +68,7 @@ some-placed g place w l =
     let a = at-row g.store g.graph w.graph place r.0 r.1 in
     (a.0, ap (snapshot_named g.store) (name-is g.store g.graph w.graph place r.0 r.1) ∙ a.1.found)
 
-contains-here : {A : Type 0} (xs ys : List A) (x : A) → Contains (xs ++ x ∷ ys) x
+pub contains-here : {A : Type 0} (xs ys : List A) (x : A) → Contains (xs ++ x ∷ ys) x
 contains-here [] ys x = (0, omega arith, refl)
 contains-here (y ∷ xs) ys x =
     let w = contains-here xs ys x in

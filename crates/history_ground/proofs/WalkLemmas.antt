@@ -112,7 +112,7 @@ some-front n es more h = by (kept_at n es) refl h
     by None e k = absurd (true≢false (sym k))
     by (Some v) e k = ap is_some (kept-front n es more v e)
 
-snapshot-same : (g h : Ground) (made : Object → Type 0) (place : ℕ) (c : Snapshot) (w : IsGround g) → Extends made g h → (p : IsPlaced g place c) → snapshot_named h.store (name_at g.graph place) ≡ Some c
+pub snapshot-same : (g h : Ground) (made : Object → Type 0) (place : ℕ) (c : Snapshot) (w : IsGround g) → Extends made g h → (p : IsPlaced g place c) → snapshot_named h.store (name_at g.graph place) ≡ Some c
 snapshot-same g h made place c w a p =
     ap (snapshot_named h.store) (name-is g.store g.graph w.graph place p.row p.there)
     ∙ snapshot-grown g.store h.store a.store g.graph p.row (w.graph.each place p.row p.there) ∙ p.at.found
