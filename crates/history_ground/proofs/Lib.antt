@@ -24,3 +24,4 @@ mod OwnCommits
 mod MadeHistories
 mod TakenTurns
 mod TakingLemmas
+mod HistoryEnds
