@@ -1,5 +1,5 @@
 -- What is known of a filter while a ground grows.
-use Rattle.std.proofs.Common.{◌≡◌, ℕ, ◌<◌, ◌⊎◌, inl, inr, true, false, is_some, true≢false, List, Option, Some, None, slice_get, IfSome, IfOk, IfErr, OnErr, Result, Ok, Err, [], append-nil, refl, sym, ap, subst, ◌∙◌}
+use Rattle.std.proofs.Common.{◌≡◌, ℕ, true, false, is_some, true≢false, List, Option, Some, None, slice_get, IfSome, IfOk, IfErr, OnErr, Result, Ok, Err, [], append-nil, refl, sym, ap, subst, ◌∙◌}
 use Rattle.std.specs.Option.{option_and_then}
 use Rattle.std.specs.declared.alloc.AllocError.{AllocError}
 use Rattle.std.proofs.lemmas.Option.{same_Some}

@@ -1,5 +1,5 @@
 -- The body of a commit of its own.
-use Rattle.std.proofs.Common.{◌≡◌, List, [], ◌∷◌, map, Some, IfOk, Result, Ok, Err, refl, sym, ap, ◌∙◌}
+use Rattle.std.proofs.Common.{◌≡◌, List, [], ◌∷◌, map, Some, IfOk, Result, Ok, Err, refl, ap, ◌∙◌}
 use Rattle.git_objects.specs.Paths.{Bytes}
 use Rattle.git_objects.specs.Commits.{Commit, Letter, commit_body}
 use Rattle.git_objects.specs.CommitBodies.{commit_from}

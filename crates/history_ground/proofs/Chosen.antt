@@ -1,5 +1,5 @@
 -- What is chosen, by how many projections the parents have.
-use Rattle.std.proofs.Common.{◌≡◌, ◌<◌, ◌≤◌, ℕ, Bool, true, false, cond, ◌&&◌, List, [], ◌∷◌, map, get_or, length, Option, Some, None, IfOk, Result, Ok, Err, refl, sym, ap, ap₂, subst, ◌∙◌, arith}
+use Rattle.std.proofs.Common.{◌≡◌, ◌<◌, ◌≤◌, ℕ, Bool, true, false, cond, ◌&&◌, List, [], ◌∷◌, map, get_or, length, IfOk, Result, refl, sym, ap, subst, ◌∙◌, arith}
 use Rattle.std.specs.List.{find}
 use Rattle.std.proofs.lemmas.Result.{IfOk-weaker}
 use Rattle.git_objects.specs.Paths.{Bytes, same_bytes}
@@ -11,14 +11,14 @@ use Rattle.commit_map.specs.Shown.{Entries, shown_value}
 use Rattle.commit_map.specs.Shown as shown
 use Rattle.commit_map.specs.declared.commit_map.Shown.{Shown}
 use Rattle.commit_map.specs.declared.rule.Rule.{Rule}
-use Rattle.commit_map.specs.declared.rule.Rule.TheVariants.{One, Two}
+use Rattle.commit_map.specs.declared.rule.Rule.TheVariants.{Two}
 use Rattle.history_ground.specs.Projections as projections
 use Rattle.history_ground.specs.Projections.{chosen, has_tree, member_or, own}
 use Rattle.history_ground.specs.Choosing.{Agree, commits_before, IsChoice, IsTest}
 use Rattle.history_ground.specs.declared.choosing.Choice.{Choice}
 use Rattle.history_ground.specs.declared.choosing.Choice.TheVariants.{Below, Nothing, Member, New}
 use Rattle.history_ground.specs.declared.choosing.Test.{Test}
-use Rattle.history_ground.specs.declared.choosing.Test.TheVariants.{Is, Lacks}
+use Rattle.history_ground.specs.declared.choosing.Test.TheVariants.{Is}
 use Rattle.history_ground.specs.declared.ground.Ground.{Ground}
 
 -- what a test tells

@@ -1,8 +1,6 @@
 -- A map that is filled has the values of the recursion with its old entries kept.
-use Rattle.std.proofs.Common.{◌≡◌, ℕ, ◌+◌, ◌≤◌, Bool, true, false, cond, ◌||◌, List, [], ◌∷◌, ◌++◌, Option, Some, None, is_some, unwrap_or, refl, sym, ap, ap₂, subst, ◌∙◌, arith, true≢false, append-nil, append_assoc, length}
-use Rattle.std.specs.List.{list_any}
+use Rattle.std.proofs.Common.{◌≡◌, ℕ, ◌+◌, ◌≤◌, Bool, true, false, cond, ◌||◌, [], ◌∷◌, ◌++◌, Option, Some, None, is_some, unwrap_or, refl, sym, ap, subst, ◌∙◌, arith, true≢false, append-nil, append_assoc}
 use Rattle.std.specs.Cmp.Lexicographic.{bytes_decides}
-use Rattle.std.proofs.lemmas.Bool.{or_left, or_right}
 use Rattle.std.proofs.lemmas.Option.{none-some, same_Some}
 use Rattle.git_objects.specs.Paths.{Bytes, same_bytes}
 use Rattle.git_objects.specs.Lists.{Each}
@@ -13,9 +11,9 @@ use Rattle.commit_map.specs.Shown.{Shown, Entries, kept_at}
 use Rattle.commit_map.specs.declared.rule.Rule.{Rule}
 use Rattle.history_ground.specs.Projections.{choice_of, known_at, projected, projection_by, projections}
 use Rattle.history_ground.specs.Choosing.{Agree}
-use Rattle.history_ground.specs.Filled.{IsFilled, weighing, lacking}
+use Rattle.history_ground.specs.Filled.{IsFilled, weighing}
 use Rattle.history_ground.proofs.GraphLemmas.{IsGrown, grown, has-newer, has-self, other}
-use Rattle.history_ground.proofs.HistoryLemmas.{each-append, each-map}
+use Rattle.history_ground.proofs.HistoryLemmas.{each-append}
 
 -- ---- look-ups in a map and one behind it
 

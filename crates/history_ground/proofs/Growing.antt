@@ -1,13 +1,11 @@
 -- What stays when a store and the tables grow.
-use Rattle.std.proofs.Common.{◌≡◌, ℕ, zero, suc, ◌<◌, ◌≤◌, ◌==◌, ◌+◌, ◌⊎◌, inl, inr, Bool, true, false, cond, List, [], ◌∷◌, ◌++◌, length, slice_get, Option, Some, None, Contains, refl, sym, ap, subst, ◌∙◌, arith, append-nil, append_assoc, take}
+use Rattle.std.proofs.Common.{◌≡◌, ℕ, zero, suc, ◌<◌, ◌≤◌, ◌==◌, ◌+◌, ◌⊎◌, inl, inr, Bool, true, false, cond, List, [], ◌∷◌, ◌++◌, length, slice_get, Some, refl, sym, ap, subst, ◌∙◌, arith, append-nil, append_assoc, take}
 use Rattle.std.specs.Option.{option_map}
 use Rattle.std.proofs.lemmas.Bool.{eqb-true, eqb-false}
 use Rattle.std.proofs.lemmas.List.{length-append}
 use Rattle.std.proofs.lemmas.Option.{none-some, same_Some, slice_get_within}
 use Rattle.git_objects.specs.Paths.{Bytes}
-use Rattle.git_objects.specs.Commits.{Commit}
 use Rattle.git_objects.specs.CommitBodies.{commit_from}
-use Rattle.git_objects.specs.Snapshots.{Snapshot, Graph}
 use Rattle.git_objects.specs.declared.kind.Kind.{Kind}
 use Rattle.git_objects.specs.declared.kind.Kind.TheVariants.{Tree, Commit as CommitKind}
 use Rattle.object_store.specs.Objects.{Object, IsStore, has, body_of}
@@ -32,7 +30,7 @@ use Rattle.filter_apply.specs.Truth.{IsShownAs, IsTrueFor, Holds, KeepsOthers, A
 use Rattle.history_ground.specs.StoredGraphs.{IsRowIn, IsGraphIn, graph_of, snapshot_named}
 use Rattle.history_ground.specs.Grounds.{IsGround, commits_of, AreInFront, Extends}
 use Rattle.history_ground.specs.declared.ground.Ground.{Ground}
-use Rattle.history_ground.proofs.StoredGraphs.{IsAt, at-row, older-suc, older-all, row-at}
+use Rattle.history_ground.proofs.StoredGraphs.{at-row, older-suc, older-all, row-at}
 
 -- ---- the store
 

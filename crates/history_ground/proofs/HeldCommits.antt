@@ -1,16 +1,14 @@
 -- A commit of a store.
 use Rattle.std.proofs.Common.{◌≡◌, true, List, Some, None, sym, ap, subst, ◌∙◌, true≢false}
-use Rattle.std.specs.Option.{option_map}
 use Rattle.std.proofs.lemmas.Option.{same_Some}
 use Rattle.git_objects.specs.Paths.{Bytes}
 use Rattle.git_objects.specs.Names.{name}
 use Rattle.git_objects.specs.Commits.{Commit, commit_name}
 use Rattle.git_objects.specs.CommitBodies.{commit_from, IsCommitBody}
-use Rattle.git_objects.specs.Snapshots.{Snapshot, snapshot_name}
+use Rattle.git_objects.specs.Snapshots.{snapshot_name}
 use Rattle.git_objects.specs.declared.kind.Kind.TheVariants.{Tree, Commit as CommitKind}
 use Rattle.git_objects.proofs.CommitReading.{commit_law}
 use Rattle.object_store.specs.Objects.{Object, IsStore, find_named, has, body_of}
-use Rattle.object_store.specs.Unfolding.{flat}
 use Rattle.object_store.specs.StoredSnapshots.{commit_named, snapshot_of}
 use Rattle.object_store.proofs.Held.{body_named, body_bytes}
 use Rattle.object_store.proofs.StoredCommits.{stored-commit, commit-told, commit-read}

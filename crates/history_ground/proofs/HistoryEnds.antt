@@ -1,5 +1,5 @@
 -- A history behind more tables.
-use Rattle.std.proofs.Common.{◌≡◌, ◌⊎◌, inl, inr, ℕ, Contains, subst}
+use Rattle.std.proofs.Common.{◌≡◌, inl, inr, ℕ, Contains, subst}
 use Rattle.git_objects.specs.Paths.{Bytes}
 use Rattle.git_objects.specs.Snapshots.{Graph}
 use Rattle.object_store.specs.Objects.{Object}

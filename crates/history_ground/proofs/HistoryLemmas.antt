@@ -10,7 +10,7 @@ use Rattle.git_objects.specs.Paths.{Bytes, is_nil, same_bytes}
 use Rattle.git_objects.specs.Trees.{Flat}
 use Rattle.git_objects.specs.Commits.{Letter}
 use Rattle.git_objects.proofs.Basics.{same_bytes-self}
-use Rattle.commit_map.specs.Shown.{Shown, Entries, kept_at}
+use Rattle.commit_map.specs.Shown.{Shown}
 use Rattle.commit_map.specs.declared.rule.Rule.{Rule}
 use Rattle.commit_map.specs.declared.rule.Rule.TheVariants.{One, Two}
 use Rattle.git_objects.specs.Snapshots.{Snapshot, Graph, snapshot_name, has_name, has, is_graph, is_wanted, wanted_below, reached, add, add_all}

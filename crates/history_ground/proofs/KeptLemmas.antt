@@ -1,7 +1,6 @@
 -- With true entries kept each commit gives what it gives from scratch.
 use Rattle.std.specs.Prelude.{◌≡◌, refl, true, cond, [], ◌∷◌, Option, Some, None, unwrap_or}
 use Rattle.std.proofs.Common.{ap, ap₂, ◌∙◌}
-use Rattle.git_objects.specs.Paths.{same_bytes}
 use Rattle.git_objects.specs.Trees.{Flat}
 use Rattle.git_objects.proofs.Basics.{same_bytes-self}
 use Rattle.commit_map.specs.Shown.{Shown, Entries, kept_at}

@@ -1,26 +1,25 @@
 -- Whether a projection leads the others, from what is kept.
-use Rattle.std.proofs.Common.{◌≡◌, ℕ, ◌<◌, ◌≤◌, ◌↔◌, Bool, true, false, cond, ◌||◌, ◌&&◌, List, [], ◌∷◌, map, length, slice_get, get_or, Option, Some, None, IfSome, IfNone, IsSome, unwrap_or, All, Contains, refl, sym, ap, subst, ◌∙◌, arith, true≢false}
+use Rattle.std.proofs.Common.{◌≡◌, ℕ, ◌<◌, ◌≤◌, ◌↔◌, Bool, true, false, cond, ◌||◌, List, [], ◌∷◌, map, length, slice_get, get_or, Option, Some, None, IsSome, unwrap_or, All, Contains, refl, sym, ap, subst, ◌∙◌, arith, true≢false}
 use Rattle.std.specs.List.{find, filter_map, cons_option, list_all, list_any}
 use Rattle.std.specs.Option.{option_map, option_map_or}
 use Rattle.std.proofs.lemmas.List.Elements.{All-contains, All-head, All-tail, Contains-get_or}
 use Rattle.std.proofs.lemmas.List.Folds.{list_all-map}
-use Rattle.std.proofs.lemmas.Option.{none-some, same_Some, slice_get-get_or}
+use Rattle.std.proofs.lemmas.Option.{slice_get-get_or}
 use Rattle.git_objects.specs.Paths.{Bytes}
-use Rattle.git_objects.specs.Snapshots.{Snapshot, Graph, snapshot_name, has, ancestors}
+use Rattle.git_objects.specs.Snapshots.{Graph, has}
 use Rattle.commit_graph.specs.Graphs.{Row, Reaches, Through}
 use Rattle.commit_graph.proofs.Reaching.{reaches-down}
 use Rattle.commit_map.specs.Shown.{Shown, Entries, kept_at}
 use Rattle.commit_map.specs.Shown as shown
 use Rattle.commit_map.specs.declared.commit_map.Shown as code
 use Rattle.history_ground.specs.Projections.{distinct, is_same, is_shown_as, is_reached, known_at, leads, members}
-use Rattle.history_ground.specs.StoredGraphs.{name_at, IsGraphIn, graph_of}
-use Rattle.history_ground.specs.Choosing.{parents_at, names_at, commits_before, Agree, AreKept, IsBelow, IsTest}
+use Rattle.history_ground.specs.StoredGraphs.{name_at}
+use Rattle.history_ground.specs.Choosing.{parents_at, names_at, commits_before, Agree, AreKept, IsBelow}
 use Rattle.history_ground.specs.Grounds.{IsGround}
-use Rattle.history_ground.specs.declared.choosing.Test.TheVariants.{Is, Lacks}
 use Rattle.history_ground.specs.declared.ground.Ground.{Ground}
 use Rattle.history_ground.proofs.StoredGraphs.{row-at, name-is, older-has}
 use Rattle.history_ground.proofs.Reached.{same-reached}
-use Rattle.history_ground.proofs.Lacks.{find-some, parent-reached}
+use Rattle.history_ground.proofs.Lacks.{find-some}
 
 -- ---- what agrees
 

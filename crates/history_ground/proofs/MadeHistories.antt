@@ -1,22 +1,22 @@
 -- Commits of a graph that are in a store, while the store grows and with one more.
-use Rattle.std.proofs.Common.{◌≡◌, Bool, true, false, cond, ◌||◌, ◌&&◌, List, [], ◌∷◌, ◌++◌, map, reverse, Option, Some, None, Contains, refl, sym, ap, ap₂, subst, ◌∙◌, true≢false}
+use Rattle.std.proofs.Common.{◌≡◌, Bool, true, false, cond, List, [], ◌∷◌, ◌++◌, map, reverse, Some, Contains, refl, sym, ap, ap₂, subst, ◌∙◌, true≢false}
 use Rattle.std.specs.List.{cons_option, filter_map, list_all, list_any}
-use Rattle.std.specs.Option.{option_map, option_to_list}
+use Rattle.std.specs.Option.{option_map}
 use Rattle.std.proofs.lemmas.Bool.{and_parts, and_from}
 use Rattle.std.proofs.lemmas.List.Elements.{Contains-append_right}
 use Rattle.git_objects.specs.Paths.{Bytes, same_bytes}
 use Rattle.git_objects.specs.Names.{name, tree_name}
-use Rattle.git_objects.specs.Commits.{Commit, commit_body, commit_name}
+use Rattle.git_objects.specs.Commits.{commit_body, commit_name}
 use Rattle.git_objects.specs.CommitBodies.{commit_from}
 use Rattle.git_objects.specs.Parts.{name_bytes}
 use Rattle.git_objects.specs.declared.name.Name.{Name}
 use Rattle.git_objects.specs.Snapshots.{Snapshot, Graph, snapshot_commit, snapshot_name, has_name, add, add_all}
 use Rattle.git_objects.specs.Snapshots as snapshots
-use Rattle.git_objects.specs.declared.kind.Kind.TheVariants.{Tree, Commit as CommitKind}
-use Rattle.object_store.specs.Objects.{Object, IsStore, find_named, has, body_of}
+use Rattle.git_objects.specs.declared.kind.Kind.TheVariants.{Commit as CommitKind}
+use Rattle.object_store.specs.Objects.{Object, IsStore, find_named, has}
 use Rattle.object_store.specs.Growth.{IsGrownBy, IsOnly}
-use Rattle.object_store.specs.Unfolding.{flat, StandsFor}
-use Rattle.object_store.specs.StoredSnapshots.{commit_named, snapshot_of}
+use Rattle.object_store.specs.Unfolding.{flat}
+use Rattle.object_store.specs.StoredSnapshots.{snapshot_of}
 use Rattle.object_store.proofs.Growth.{has-grown, flat-grown}
 use Rattle.object_store.proofs.Parts.{found-has}
 use Rattle.object_store.proofs.StoredCommits.{stored-commit}

@@ -1,11 +1,9 @@
 -- One projection after another.
-use Rattle.std.proofs.Common.{◌≡◌, ◌+◌, ◌<◌, ◌≤◌, ℕ, Bool, true, false, cond, ◌&&◌, List, [], ◌∷◌, map, drop, get_or, length, Option, Some, None, IfOk, Result, Ok, Err, refl, sym, ap, ◌∙◌, arith}
+use Rattle.std.proofs.Common.{◌≡◌, ◌+◌, ◌<◌, ◌≤◌, ℕ, Bool, true, false, cond, List, map, drop, get_or, length, Option, Some, None, sym, ap, ◌∙◌}
 use Rattle.std.specs.List.{find}
 use Rattle.std.proofs.lemmas.List.{at_drop_more, at_drop_all}
-use Rattle.git_objects.specs.Snapshots.{Snapshot}
 use Rattle.commit_map.specs.Shown.{Shown, shown_value}
 use Rattle.commit_map.specs.declared.commit_map.Shown as code
-use Rattle.history_ground.specs.Projections.{Choice, member_or}
 
 module _ (test : Shown → Bool) (ms : List code.Shown) where
   abbrev pub from : List code.Shown → Option Shown

@@ -11,7 +11,7 @@ use Rattle.std.proofs.lemmas.List.Elements.{Contains-get_or}
 use Rattle.git_objects.specs.Paths.{Bytes, same_bytes}
 use Rattle.git_objects.specs.Lists.{Each}
 use Rattle.git_objects.specs.Trees.{Flat}
-use Rattle.git_objects.specs.Snapshots.{Snapshot, Graph, snapshot_name, has_name, has, is_graph, is_wanted, wanted_below, reached, ancestors}
+use Rattle.git_objects.specs.Snapshots.{Snapshot, Graph, snapshot_name, has_name, has, is_graph, is_wanted, reached}
 use Rattle.git_objects.proofs.Basics.{same_bytes-self}
 use Rattle.object_store.specs.Objects.{Object}
 use Rattle.commit_graph.specs.Graphs.{Row, Reaches}
@@ -22,7 +22,7 @@ use Rattle.history_ground.specs.StoredGraphs.{name_at, IsGraphIn, graph_of, snap
 use Rattle.history_ground.proofs.GraphLemmas.{IsGrown, grown, other}
 use Rattle.history_ground.proofs.HistoryLemmas.{any-reverse, filter-append, reached-in}
 use Rattle.history_ground.proofs.StoredGraphs.{IsAt, at-row, older, older-suc, older-all, row-at, name-is, older-has, older-graph}
-use Rattle.history_ground.proofs.Reached.{has-each, any-place, place-any, same-reached}
+use Rattle.history_ground.proofs.Reached.{has-each, same-reached}
 use Rattle.history_ground.proofs.Rising.{Falls, falls, rises, each-all}
 
 -- what becomes of the commit at a place

@@ -1,12 +1,11 @@
 -- The projection of a head.
-use Rattle.std.proofs.Common.{◌≡◌, ℕ, zero, suc, ◌+◌, ◌<◌, ◌≤◌, Bool, true, false, cond, List, [], ◌∷◌, ◌++◌, length, get_or, slice_get, nat_lt, Option, Some, None, IsSome, is_some, refl, sym, ap, subst, ◌∙◌, arith, true≢false}
-use Rattle.std.specs.Option.{option_map, option_map_or}
+use Rattle.std.proofs.Common.{◌≡◌, ℕ, ◌+◌, ◌<◌, ◌≤◌, true, List, [], length, get_or, Option, Some, None, IsSome, refl, sym, ap, subst, ◌∙◌, arith, true≢false}
+use Rattle.std.specs.Option.{option_map_or}
 use Rattle.std.specs.Cmp.Lexicographic.{bytes_decides}
 use Rattle.std.proofs.lemmas.Option.{slice_get-get_or}
 use Rattle.std.proofs.lemmas.List.Quantifiers.{position-Some}
 use Rattle.git_objects.specs.Paths.{Bytes, same_bytes}
 use Rattle.git_objects.specs.Snapshots.{Graph, has, ancestors}
-use Rattle.object_store.specs.Objects.{Object}
 use Rattle.commit_graph.specs.Graphs.{Row, place_of}
 use Rattle.commit_map.specs.Shown.{Shown, Entries, kept_at}
 use Rattle.filter_text.specs.Filters.{Filter}
@@ -17,11 +16,11 @@ use Rattle.history_ground.specs.Projections.{projection_by}
 use Rattle.history_ground.specs.Filled.{IsFilled, lacking}
 use Rattle.history_ground.specs.Grounds.{IsGround, commits_of, Extends, IsShownOf}
 use Rattle.history_ground.specs.Asked.{IsNone}
-use Rattle.history_ground.specs.StoredGraphs.{name_at, graph_of}
+use Rattle.history_ground.specs.StoredGraphs.{name_at}
 use Rattle.history_ground.specs.Walks.{IsWalked}
 use Rattle.history_ground.specs.declared.ground.Ground.{Ground}
 use Rattle.history_ground.proofs.Growing.{commits-same, extends-as, extends-then}
-use Rattle.history_ground.proofs.Filling.{entry-wins, filled-none, filled-value}
+use Rattle.history_ground.proofs.Filling.{entry-wins, filled-value}
 use Rattle.history_ground.proofs.WalkLemmas.{has-named}
 
 nobody : Row

@@ -5,11 +5,11 @@ use Rattle.std.proofs.Common.{ap, ◌∙◌, sym, subst, true≢false}
 use Rattle.std.proofs.lemmas.Bool.{and_parts}
 use Rattle.std.proofs.lemmas.Option.{none-some, same_Some}
 use Rattle.std.specs.Cmp.Lexicographic.{bytes_decides}
-use Rattle.git_objects.specs.Paths.{Bytes, is_nil, same_bytes}
+use Rattle.git_objects.specs.Paths.{Bytes, is_nil}
 use Rattle.git_objects.specs.Trees.{Flat}
 use Rattle.git_objects.specs.Names.{tree_name}
 use Rattle.git_objects.specs.Commits.{Letter}
-use Rattle.commit_map.specs.Shown.{Shown, Entries, kept_at}
+use Rattle.commit_map.specs.Shown.{Shown, kept_at}
 use Rattle.commit_map.specs.declared.rule.Rule.{Rule}
 use Rattle.commit_map.specs.declared.rule.Rule.TheVariants.{One, Two}
 use Rattle.git_objects.specs.Snapshots.{Snapshot, Graph, snapshot_name, has_name, has, commit_at, is_graph, add, add_all}

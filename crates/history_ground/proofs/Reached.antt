@@ -1,11 +1,11 @@
 -- What a commit reaches in a graph, by names and by places.
-use Rattle.std.proofs.Common.{◌≡◌, ℕ, zero, suc, ◌+◌, ◌<◌, ◌≤◌, Bool, true, false, cond, ◌||◌, ◌⊎◌, ◌↔◌, inl, inr, List, [], ◌∷◌, ◌++◌, map, length, slice_get, get_or, Option, Some, None, Contains, refl, sym, ap, subst, ◌∙◌, arith, true≢false}
+use Rattle.std.proofs.Common.{◌≡◌, ℕ, zero, suc, ◌<◌, ◌≤◌, Bool, true, false, cond, ◌||◌, ◌⊎◌, ◌↔◌, inl, inr, List, [], ◌∷◌, ◌++◌, map, length, slice_get, get_or, Some, Contains, refl, sym, ap, subst, ◌∙◌, arith, true≢false}
 use Rattle.std.specs.List.{list_all, list_any}
 use Rattle.std.specs.Cmp.Lexicographic.{bytes_decides}
-use Rattle.std.proofs.lemmas.Bool.{and_parts, and_from, or_left, or_right, cases_lt}
+use Rattle.std.proofs.lemmas.Bool.{and_parts, or_left, or_right, cases_lt}
 use Rattle.std.proofs.lemmas.List.Elements.{All-contains}
 use Rattle.std.proofs.lemmas.List.Folds.{list_any_at}
-use Rattle.std.proofs.lemmas.Option.{none-some, same_Some, slice_get_within}
+use Rattle.std.proofs.lemmas.Option.{same_Some}
 use Rattle.git_objects.specs.Paths.{Bytes, same_bytes}
 use Rattle.git_objects.specs.Lists.{Each}
 use Rattle.git_objects.specs.Snapshots.{Snapshot, Graph, snapshot_name, has_name, has, commit_at, is_graph, is_wanted, wanted_below, reached, ancestors}
@@ -14,9 +14,9 @@ use Rattle.object_store.specs.Objects.{Object}
 use Rattle.commit_graph.specs.Graphs.{Row, Reaches, Itself, Through}
 use Rattle.commit_graph.proofs.Reaching.{reaches-on}
 use Rattle.history_ground.specs.StoredGraphs.{name_at, IsGraphIn, graph_of, snapshot_named}
-use Rattle.history_ground.proofs.GraphLemmas.{IsGrown, grown, found, has-self, has-newer}
-use Rattle.history_ground.proofs.HistoryLemmas.{any-append, any-behind, each-append, each-map, reached-has, reached-in}
-use Rattle.history_ground.proofs.StoredGraphs.{IsAt, at-row, older, older-suc, older-all, row-at, name-is, older-has, older-place, older-graph, whole-graph}
+use Rattle.history_ground.proofs.GraphLemmas.{IsGrown, grown}
+use Rattle.history_ground.proofs.HistoryLemmas.{any-append, any-behind, each-map, reached-has, reached-in}
+use Rattle.history_ground.proofs.StoredGraphs.{IsAt, at-row, older, older-suc, row-at, name-is, older-has, older-place, older-graph}
 
 -- ---- by names
 

@@ -1,12 +1,12 @@
 -- Rising lists of places.
-use Rattle.std.proofs.Common.{◌≡◌, ℕ, zero, suc, ◌+◌, ◌<◌, List, [], ◌∷◌, ◌++◌, reverse, get_or, length, All, refl, sym, subst, arith}
+use Rattle.std.proofs.Common.{ℕ, suc, ◌<◌, List, [], ◌∷◌, ◌++◌, reverse, All, sym, subst, arith}
 use Rattle.std.specs.List.{AllPairs}
 use Rattle.std.specs.List.Sorted.{IsStrictlyIncreasing}
 use Rattle.std.proofs.lemmas.Grind.{reverse_onto}
 use Rattle.std.proofs.lemmas.List.Elements.{All-head, All-tail}
 use Rattle.std.proofs.lemmas.List.Kept.{AllPairs-from_increasing}
 use Rattle.git_objects.specs.Lists.{Each}
-use Rattle.history_ground.proofs.HistoryLemmas.{each-append, each-reverse}
+use Rattle.history_ground.proofs.HistoryLemmas.{each-reverse}
 
 pub each-all : (P : ℕ → Type 0) (xs : List ℕ) → All P xs → Each P xs
 each-all P [] h = tt

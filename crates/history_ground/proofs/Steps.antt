@@ -1,10 +1,9 @@
 -- One step of a walk.
-use Rattle.std.proofs.Common.{◌≡◌, ℕ, ◌+◌, ◌<◌, List, [], ◌∷◌, ◌++◌, length, Option, Some, None, Result, Ok, Err, refl, sym, ap, subst, ◌∙◌}
+use Rattle.std.proofs.Common.{◌≡◌, ℕ, ◌+◌, ◌<◌, List, [], ◌∷◌, ◌++◌, length, Option, Some, None, Result, refl, sym, ap, subst, ◌∙◌}
 use Rattle.std.specs.Option.{option_map}
 use Rattle.object_store.specs.Objects.{Object}
 use Rattle.git_objects.specs.Snapshots.{Snapshot}
-use Rattle.commit_graph.specs.Graphs.{Row}
-use Rattle.commit_map.specs.Shown.{Shown, Entries, shown_value}
+use Rattle.commit_map.specs.Shown.{Shown, shown_value}
 use Rattle.commit_map.specs.declared.commit_map.Shown as code
 use Rattle.filter_text.specs.Filters.{Filter}
 use Rattle.history_ground.specs.Projections.{projected}
@@ -12,7 +11,7 @@ use Rattle.history_ground.specs.Choosing.{IsBelow}
 use Rattle.history_ground.specs.Grounds.{IsGround, Extends}
 use Rattle.history_ground.specs.StoredGraphs.{name_at, snapshot_named}
 use Rattle.history_ground.specs.Turns.{IsNew, IsTurn, kept_choice}
-use Rattle.history_ground.specs.Walks.{IsProjectedTo, IsSettled, IsStep, IsUnsettled}
+use Rattle.history_ground.specs.Walks.{IsProjectedTo, IsSettled, IsStep}
 use Rattle.history_ground.specs.declared.ground.Ground.{Ground}
 use Rattle.history_ground.specs.declared.turning.Turn.{Turn}
 use Rattle.history_ground.specs.declared.turning.Turn.TheVariants as turns

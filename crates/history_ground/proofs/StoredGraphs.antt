@@ -1,29 +1,25 @@
 -- The graph that rows stand for, and its commits by their places.
-use Rattle.std.proofs.Common.{◌≡◌, ℕ, zero, suc, ◌+◌, ◌<◌, ◌≤◌, ◌⊎◌, inl, inr, Bool, true, false, not, cond, ◌||◌, ◌&&◌, List, [], ◌∷◌, ◌++◌, map, length, take, drop, reverse, slice_get, get_or, Option, Some, None, Contains, All, refl, sym, ap, subst, ◌∙◌, arith, true≢false, add-one, ◌-◌}
-use Rattle.std.specs.List.{filter_map, cons_option, list_all, list_any}
+use Rattle.std.proofs.Common.{◌≡◌, ℕ, zero, suc, ◌+◌, ◌<◌, ◌≤◌, inl, inr, Bool, true, false, ◌||◌, List, [], ◌∷◌, ◌++◌, map, length, take, reverse, slice_get, get_or, Some, All, refl, sym, ap, ◌∙◌, arith, true≢false, add-one, ◌-◌}
+use Rattle.std.specs.List.{filter_map, cons_option, list_all}
 use Rattle.std.specs.Option.{option_map, option_map_or}
 use Rattle.std.specs.Cmp.Lexicographic.{bytes_decides}
 use Rattle.std.proofs.lemmas.Bool.{and_from, cases_lt}
 use Rattle.std.proofs.lemmas.List.{take_more, take_all, reverse-append}
-use Rattle.std.proofs.lemmas.List.Folds.{list_any_at, Any-from_list_any}
 use Rattle.std.proofs.lemmas.List.Elements.{All-tail}
-use Rattle.std.proofs.lemmas.Option.{none-some, same_Some, slice_get-get_or, slice_get_within, get_or_from_slice_get}
-use Rattle.git_objects.specs.Paths.{Bytes, same_bytes}
-use Rattle.git_objects.specs.Lists.{Each}
+use Rattle.std.proofs.lemmas.Option.{same_Some, slice_get-get_or, slice_get_within, get_or_from_slice_get}
+use Rattle.git_objects.specs.Paths.{Bytes}
 use Rattle.git_objects.specs.Commits.{Commit}
 use Rattle.git_objects.specs.CommitBodies.{IsCommitBody}
 use Rattle.git_objects.specs.Snapshots.{Snapshot, Graph, snapshot_name, has_name, has, is_graph}
 use Rattle.git_objects.specs.declared.kind.Kind.TheVariants.{Tree, Commit as CommitKind}
-use Rattle.git_objects.proofs.Basics.{same_bytes-self}
 use Rattle.object_store.specs.Objects.{Object, IsStore, body_of}
 use Rattle.object_store.specs.Objects as objects
 use Rattle.object_store.specs.Unfolding.{flat}
 use Rattle.object_store.specs.StoredSnapshots.{commit_named, snapshot_of}
 use Rattle.commit_graph.specs.Graphs.{Row}
-use Rattle.history_ground.specs.StoredGraphs.{name_at, IsRowIn, IsGraphIn, snapshot_named, graph_of}
+use Rattle.history_ground.specs.StoredGraphs.{name_at, IsGraphIn, snapshot_named, graph_of}
 use Rattle.history_ground.proofs.GraphLemmas.{graph-from, has-newer, has-self}
 use Rattle.history_ground.proofs.HeldCommits.{IsHeld, held}
-use Rattle.history_ground.proofs.HistoryLemmas.{filter-append}
 
 -- the commit of a row, with its flat tree
 pub record IsAt (S : List Object) (rows : List Row) (r : Row) (c : Snapshot) : Type 0 where

@@ -1,6 +1,6 @@
 -- A commit that is projected, and what it becomes put into the store.
-use Rattle.std.proofs.Common.{◌≡◌, ◌⊎◌, inl, inr, ℕ, ◌<◌, ◌≤◌, Bool, true, false, cond, ◌||◌, List, [], ◌∷◌, ◌++◌, map, length, Option, Some, None, IfSome, IfErr, OnOk, IsSome, Result, Ok, Err, unwrap_or, refl, sym, ap, subst, ◌∙◌, true≢false}
-use Rattle.std.specs.List.{cons_option, filter_map, list_all, list_any}
+use Rattle.std.proofs.Common.{◌≡◌, inl, inr, ℕ, Bool, true, false, cond, ◌||◌, List, [], ◌∷◌, ◌++◌, map, Option, Some, None, IfSome, IfErr, OnOk, Result, Ok, Err, unwrap_or, refl, sym, ap, subst, ◌∙◌, true≢false}
+use Rattle.std.specs.List.{cons_option, filter_map, list_all}
 use Rattle.std.specs.Option.{is_some, option_map, option_to_list}
 use Rattle.std.specs.Cmp.Lexicographic.{bytes_decides}
 use Rattle.std.proofs.lemmas.Bool.{and_parts}
@@ -8,12 +8,11 @@ use Rattle.std.proofs.lemmas.Option.{none-some, same_Some}
 use Rattle.git_objects.specs.Paths.{Bytes, same_bytes}
 use Rattle.git_objects.specs.Lists.{Each}
 use Rattle.git_objects.specs.Names.{name, tree_name}
-use Rattle.git_objects.specs.Commits.{commit_body, commit_name}
+use Rattle.git_objects.specs.Commits.{commit_name}
 use Rattle.git_objects.specs.Snapshots.{Snapshot, Graph, snapshot_commit, snapshot_name, add_all}
 use Rattle.git_objects.specs.declared.kind.Kind.TheVariants.{Tree, Commit as CommitKind}
 use Rattle.object_store.specs.Objects.{Object, has}
 use Rattle.object_store.specs.Growth.{IsGrownBy}
-use Rattle.object_store.specs.StoredSnapshots.{snapshot_object}
 use Rattle.object_store.specs.Unfolding.{flat}
 use Rattle.object_store.proofs.Growth.{clash_as, has-grown, stands-grown}
 use Rattle.commit_map.specs.Shown.{Shown, Entries, kept_at, shown_value}
@@ -26,19 +25,18 @@ use Rattle.filter_apply.specs.declared.fault.ApplyError.TheVariants.{Collision, 
 use Rattle.filter_cache.specs.Memos.{Memo}
 use Rattle.filter_routes.specs.TableValues.{Table}
 use Rattle.workspace.specs.Workspaces.{shown}
-use Rattle.history_ground.specs.Projections.{Choice, Member, New, choice_of, distinct, known_at, leads, members, own_commit, projected, shown_of}
+use Rattle.history_ground.specs.Projections.{Member, New, known_at, leads, members, own_commit, projected, shown_of}
 use Rattle.history_ground.specs.StoredGraphs.{name_at, snapshot_named}
 use Rattle.history_ground.specs.Choosing.{Agree, commits_before, IsBelow}
 use Rattle.history_ground.specs.Grounds.{IsGround, Extends, IsShownOf, commits_of}
 use Rattle.history_ground.specs.Asked.{IsNone}
 use Rattle.history_ground.specs.Histories.{AreMade}
 use Rattle.history_ground.specs.Making.{is_among, with_name, IsAdded, IsFit, IsTakenIn, IsBecome, IsTurnObject, AreHeld, IsReady, IsTaken}
-use Rattle.history_ground.specs.Turns.{Becomes, IsNew, IsTurn, kept_choice}
+use Rattle.history_ground.specs.Turns.{Becomes, IsNew, kept_choice}
 use Rattle.history_ground.specs.declared.ground.Ground.{Ground}
-use Rattle.history_ground.specs.declared.turning.Turn.{Turn}
 use Rattle.history_ground.specs.declared.turning.Turn.TheVariants as turns
 use Rattle.history_ground.proofs.Filling.{kept-append, kept-front}
-use Rattle.history_ground.proofs.Growing.{extends-as, extends-map, extends-self, extends-then, front-self, graph-grown, shown-grown}
+use Rattle.history_ground.proofs.Growing.{extends-as, extends-map, extends-then, front-self, graph-grown, shown-grown}
 use Rattle.history_ground.proofs.HistoryLemmas.{each-distinct, member-of, new-parents}
 use Rattle.history_ground.proofs.MadeHistories.{IsIn, found-in, made-grown, made-more}
 use Rattle.history_ground.proofs.Putting.{commit_fits}

@@ -1,10 +1,10 @@
 -- A history whose commits are taken in one after another.
-use Rattle.std.proofs.Common.{◌≡◌, ◌⊎◌, ◌↔◌, inl, inr, ℕ, zero, suc, ◌<◌, ◌≤◌, Bool, true, false, cond, ◌||◌, List, [], ◌∷◌, ◌++◌, map, take, drop, get_or, length, Option, Some, None, IfErr, IsSome, Contains, Result, Ok, Err, refl, sym, ap, subst, ◌∙◌, arith, append_assoc, true≢false}
+use Rattle.std.proofs.Common.{◌≡◌, ◌↔◌, inl, inr, ℕ, zero, suc, ◌<◌, ◌≤◌, Bool, true, false, cond, ◌||◌, List, [], ◌∷◌, ◌++◌, map, take, drop, get_or, length, Option, Some, None, IsSome, Contains, refl, sym, ap, subst, ◌∙◌, arith, append_assoc, true≢false}
 use Rattle.std.specs.List.{cons_option, filter_map, list_any, slice_index_or}
 use Rattle.std.specs.List.Sorted.{IsStrictlyIncreasing}
 use Rattle.std.specs.Option.{is_some, option_to_list}
 use Rattle.std.proofs.lemmas.List.Elements.{Contains-get_or}
-use Rattle.std.proofs.lemmas.Option.{none-some, same_Some}
+use Rattle.std.proofs.lemmas.Option.{none-some}
 use Rattle.git_objects.specs.Paths.{Bytes, same_bytes}
 use Rattle.git_objects.specs.Lists.{Each}
 use Rattle.git_objects.specs.Snapshots.{Snapshot, Graph, snapshot_name, has, is_graph, add, add_all}
@@ -18,24 +18,24 @@ use Rattle.filter_apply.specs.Faults.{IsApplyFault}
 use Rattle.filter_apply.specs.declared.fault.ApplyError.{ApplyError}
 use Rattle.workspace.specs.Workspaces.{shown}
 use Rattle.history_ground.specs.Projections.{Choice, New, choice_of, history_graph, known_at, own_commit, projected, projection_by, projections}
-use Rattle.history_ground.specs.StoredGraphs.{name_at, graph_of, snapshot_named}
+use Rattle.history_ground.specs.StoredGraphs.{name_at, snapshot_named}
 use Rattle.history_ground.specs.Choosing.{Agree, commits_before}
 use Rattle.history_ground.specs.Grounds.{IsGround, Extends, IsShownOf, commits_of}
 use Rattle.history_ground.specs.Asked.{IsAskedFor}
 use Rattle.history_ground.specs.Histories.{AreMade, IsOfHistory}
-use Rattle.history_ground.specs.Making.{is_among, IsBecome, IsTurnObject, AreHeld, IsReady, IsTaken}
+use Rattle.history_ground.specs.Making.{IsBecome, IsTurnObject, AreHeld, IsReady, IsTaken}
 use Rattle.history_ground.specs.declared.ground.Ground.{Ground}
 use Rattle.history_ground.specs.declared.seeing.Asked.{Asked}
 use Rattle.history_ground.proofs.Filling.{kept-each, newer-known, projection-at}
 use Rattle.history_ground.proofs.Growing.{commits-same, extends-as, extends-self, extends-then}
-use Rattle.history_ground.proofs.HistoryLemmas.{any-append, each-map, filter-append, fold-append, map-append}
+use Rattle.history_ground.proofs.HistoryLemmas.{any-append, filter-append, fold-append, map-append}
 use Rattle.history_ground.proofs.MadeHistories.{among-made, contains-all, nothing-made}
 use Rattle.history_ground.proofs.OwnCommits.{among, apart, choice-is, choice_at, none-among, one-option, own-history, own_at}
 use Rattle.history_ground.proofs.Reached.{any-place}
 use Rattle.history_ground.proofs.Rising.{each-all, rises, Rises, rises-split}
 use Rattle.history_ground.proofs.StoredGraphs.{at-row, name-is, older, row-at, split-at, whole-graph}
 use Rattle.history_ground.proofs.TakenTurns.{fault-as}
-use Rattle.history_ground.proofs.TurnLemmas.{before-same, contains-here, handed-on, placed, some-placed}
+use Rattle.history_ground.proofs.TurnLemmas.{before-same, contains-here, placed, some-placed}
 use Rattle.history_ground.proofs.WalkLemmas.{snapshot-same}
 
 reaches-then : (rs : List Row) (i p j : ℕ) → Reaches rs i p → Reaches rs p j → Reaches rs i j

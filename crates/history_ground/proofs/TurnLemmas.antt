@@ -1,19 +1,17 @@
 -- A turn of a walk.
-use Rattle.std.proofs.Common.{◌≡◌, ℕ, suc, ◌<◌, ◌≤◌, ◌+◌, Bool, true, List, [], ◌∷◌, ◌++◌, map, take, length, slice_get, Option, Some, None, IfSome, IfOk, IfErr, Result, Ok, Err, All, Contains, refl, sym, ap, subst, ◌∙◌, arith}
-use Rattle.std.specs.List.{filter_map}
-use Rattle.std.specs.Option.{option_map, option_map_or}
+use Rattle.std.proofs.Common.{◌≡◌, ℕ, suc, ◌<◌, ◌≤◌, true, List, [], ◌∷◌, ◌++◌, map, take, length, slice_get, Some, IfSome, IfOk, IfErr, Result, Ok, Err, All, Contains, refl, sym, ap, subst, ◌∙◌, arith}
+use Rattle.std.specs.Option.{option_map_or}
 use Rattle.std.proofs.lemmas.List.{length-map}
 use Rattle.std.proofs.lemmas.Option.{same_Some}
 use Rattle.git_objects.specs.Paths.{Bytes}
 use Rattle.git_objects.specs.Trees.{Flat}
 use Rattle.git_objects.specs.Names.{name, tree_name}
-use Rattle.git_objects.specs.Commits.{Commit, Letter, commit_body, commit_name}
-use Rattle.git_objects.specs.CommitBodies.{commit_from}
+use Rattle.git_objects.specs.Commits.{Letter, commit_body, commit_name}
 use Rattle.git_objects.specs.Snapshots.{Snapshot, Graph, snapshot_commit, snapshot_name}
 use Rattle.git_objects.specs.declared.kind.Kind.TheVariants.{Tree, Commit as CommitKind}
 use Rattle.object_store.specs.Objects.{Object, has}
 use Rattle.object_store.specs.Unfolding.{flat, StandsFor}
-use Rattle.object_store.specs.StoredSnapshots.{commit_named, snapshot_of}
+use Rattle.object_store.specs.StoredSnapshots.{commit_named}
 use Rattle.object_store.proofs.Unfolding.{unfolding_law}
 use Rattle.commit_graph.specs.Graphs.{Row, Reaches}
 use Rattle.commit_map.specs.Shown.{Shown, Entries, kept_at, shown_value}
@@ -29,7 +27,7 @@ use Rattle.filter_apply.specs.declared.fault.ApplyError.TheVariants.{Collision, 
 use Rattle.object_store.proofs.Growth.{clash_as}
 use Rattle.workspace.specs.Workspaces.{resolve, shown}
 use Rattle.history_ground.specs.Projections.{Choice, New, choice_of, chosen, leads, members, own, shown_of}
-use Rattle.history_ground.specs.StoredGraphs.{name_at, IsGraphIn, graph_of, snapshot_named}
+use Rattle.history_ground.specs.StoredGraphs.{name_at, graph_of, snapshot_named}
 use Rattle.history_ground.specs.Made.{own_commit_of}
 use Rattle.history_ground.specs.Choosing.{parents_at, names_at, commits_before, Agree, AreKept, IsBelow, IsChoice, leads_at}
 use Rattle.history_ground.specs.declared.choosing.Choice as choices
@@ -37,7 +35,7 @@ use Rattle.history_ground.specs.declared.choosing.Choice.TheVariants.{Below, Not
 use Rattle.history_ground.specs.Projections as projections
 use Rattle.history_ground.specs.Grounds.{IsGround, commits_of, Extends, IsShownOf}
 use Rattle.history_ground.specs.Asked.{IsShownBy}
-use Rattle.history_ground.specs.Turns.{Becomes, IsNew, IsOwn, IsOwnTurn, IsTurn, IsTurnUpon, kept_choice}
+use Rattle.history_ground.specs.Turns.{Becomes, IsNew, IsOwn, IsOwnTurn, IsTurn, IsTurnUpon}
 use Rattle.history_ground.specs.declared.ground.Ground.{Ground}
 use Rattle.history_ground.specs.declared.turning.Turn.{Turn}
 use Rattle.history_ground.specs.declared.turning.Turn.TheVariants as turns

@@ -1,6 +1,6 @@
 -- A walk: the commits that wait, and what is kept.
-use Rattle.std.proofs.Common.{◌≡◌, ℕ, zero, suc, ◌+◌, ◌<◌, ◌≤◌, ◌⊎◌, inl, inr, Bool, true, false, List, [], ◌∷◌, ◌++◌, length, reverse, slice_get, Option, Some, None, IsSome, Result, Ok, Err, All, Contains, refl, sym, ap, subst, ◌∙◌, ◌||◌, get_or, append_assoc, arith, true≢false, take}
-use Rattle.std.specs.Option.{option_map, option_to_list, is_some}
+use Rattle.std.proofs.Common.{◌≡◌, ℕ, ◌+◌, ◌<◌, ◌≤◌, ◌⊎◌, inl, inr, true, false, List, [], ◌∷◌, ◌++◌, length, reverse, Option, Some, None, IsSome, Ok, All, refl, sym, ap, subst, ◌∙◌, ◌||◌, get_or, append_assoc, arith, true≢false}
+use Rattle.std.specs.Option.{is_some}
 use Rattle.std.proofs.lemmas.List.{reverse-append, length-append}
 use Rattle.std.proofs.lemmas.List.Elements.{All-cons, All-tail}
 use Rattle.git_objects.specs.Paths.{Bytes}
@@ -17,17 +17,17 @@ use Rattle.history_ground.specs.Projections.{choice_of, projected, projection_by
 use Rattle.history_ground.specs.Choosing.{Agree, commits_before, IsBelow}
 use Rattle.history_ground.specs.Filled.{IsFilled, weighing, lacking}
 use Rattle.history_ground.specs.Grounds.{IsGround, commits_of, Extends, IsShownOf}
-use Rattle.history_ground.specs.StoredGraphs.{name_at, graph_of, snapshot_named}
+use Rattle.history_ground.specs.StoredGraphs.{name_at, snapshot_named}
 use Rattle.history_ground.specs.Asked.{IsAskedFor}
 use Rattle.history_ground.specs.declared.seeing.Asked.{Asked}
 use Rattle.history_ground.specs.Walks.{IsProjectedTo, IsSettled, IsStep, IsUnsettled, IsWalked}
 use Rattle.history_ground.specs.declared.ground.Ground.{Ground}
-use Rattle.history_ground.proofs.StoredGraphs.{row-at, name-is, older, older-all, older-has, split-at, whole-graph}
+use Rattle.history_ground.proofs.StoredGraphs.{row-at, name-is, older-all, older-has, split-at, whole-graph}
 use Rattle.history_ground.proofs.Growing.{commits-same, extends-as, extends-self, extends-then, snapshot-grown}
 use Rattle.history_ground.proofs.HistoryLemmas.{reached-has}
 use Rattle.history_ground.proofs.Reached.{reaches-reached}
 use Rattle.history_ground.proofs.Filling.{filled-agrees, filled-more, filled-none, kept-append, kept-new, kept-front, kept-other, projection-at, weigh-set, none-front}
-use Rattle.history_ground.proofs.TurnLemmas.{IsPlaced, before-same, below-same, placed, some-placed}
+use Rattle.history_ground.proofs.TurnLemmas.{IsPlaced, before-same, placed, some-placed}
 
 -- ---- the waiting commits, the latest first
 

@@ -1,5 +1,5 @@
 -- What a filter shows of a tree of the ground, and what is known of it.
-use Rattle.std.specs.Prelude.{◌≡◌, true, Option, Result, IfSome, IfOk, IfErr}
+use Rattle.std.specs.Prelude.{◌≡◌, true, Result, IfSome, IfOk, IfErr}
 use Rattle.git_objects.specs.Paths.{Bytes}
 use Rattle.git_objects.specs.Trees.{Flat}
 use Rattle.git_objects.specs.declared.kind.Kind.TheVariants.{Tree}

@@ -1,5 +1,5 @@
 -- A map of kept projections that is filled by a walk.
-use Rattle.std.specs.Prelude.{◌≡◌, ℕ, ◌+◌, true, if◌then◌else◌, List, [], ◌∷◌, ◌++◌, None, is_some}
+use Rattle.std.specs.Prelude.{◌≡◌, ℕ, ◌+◌, true, if◌then◌else◌, [], ◌∷◌, ◌++◌, None, is_some}
 use Rattle.git_objects.specs.Paths.{Bytes}
 use Rattle.git_objects.specs.Lists.{Each}
 use Rattle.git_objects.specs.Trees.{Flat}

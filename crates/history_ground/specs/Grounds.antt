@@ -1,5 +1,5 @@
 -- What projections are made upon, and what making them leaves of it.
-use Rattle.std.specs.Prelude.{◌≡◌, true, List, ◌++◌, Contains}
+use Rattle.std.specs.Prelude.{◌≡◌, List, ◌++◌, Contains}
 use Rattle.git_objects.specs.Snapshots.{Snapshot, Graph}
 use Rattle.object_store.specs.Objects.{Object}
 use Rattle.object_store.specs.Growth.{IsGrownBy}

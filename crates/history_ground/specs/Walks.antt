@@ -1,5 +1,5 @@
 -- A walk from a commit down to commits of which something is kept.
-use Rattle.std.specs.Prelude.{◌≡◌, ◌+◌, ◌≤◌, ℕ, List, [], ◌∷◌, ◌++◌, length, Option, Some, None, Result, Ok, Err}
+use Rattle.std.specs.Prelude.{◌≡◌, ◌+◌, ◌≤◌, ℕ, [], ◌∷◌, ◌++◌, length, Option, Some, None, Result, Ok, Err}
 use Rattle.git_objects.specs.Paths.{Bytes}
 use Rattle.git_objects.specs.Snapshots.{Snapshot, ancestors}
 use Rattle.filter_text.specs.Filters.{Filter}

@@ -1,5 +1,6 @@
 // Histories of commits, from scratch.
-ghost use Rattle.std.specs.Prelude.{◌≡◌, ◌<◌, ◌++◌, ◌∷◌, [], None, Some, length, map, IfErr, IfOk, IsSome, OnErr, OnOk};
+ghost use Rattle.std.specs.Prelude.{◌≡◌, ◌<◌, ◌++◌, ◌∷◌, [], None, Some, length, map};
+ghost use Rattle.std.specs.Prelude.{IfErr, IfOk, IsSome, OnOk};
 ghost use Rattle.std.specs.Option.{option_map};
 ghost use Rattle.git_objects.specs.Parts.{name_bytes};
 ghost use Rattle.git_objects.specs.declared.kind.Kind.TheVariants.{Commit};
@@ -66,7 +67,8 @@ fn add_made(
 ) -> Result<(), ApplyError>
     requires store { IsStore store.old }
     requires fit { IsFit store.old name.0 body.items }
-    ensures ok { OnOk result (IsTakenIn store.new (map name_bytes made.old.keys) (map name_bytes made.new.keys) body.items) }
+    ensures ok { OnOk result
+        (IsTakenIn store.new (map name_bytes made.old.keys) (map name_bytes made.new.keys) body.items) }
     ensures err { IfErr result (IsApplyFault (IsAdded (map name_bytes made.old.keys) body.items) store.new) }
     ensures store { IsGrownBy (IsAdded (map name_bytes made.old.keys) body.items) store.old store.new }
 {
@@ -106,7 +108,8 @@ fn keep_made(
     requires fit { IsFit ground.old.store shown.commit.0 body.items }
     ensures map { OnOk result (ground.new.map
         ≡ ground.old.map ++ (name_at ground.old.graph place, Some (shown_value shown)) ∷ []) }
-    ensures taken { OnOk result (IsTakenIn ground.new.store (map name_bytes made.old.keys) (map name_bytes made.new.keys) body.items) }
+    ensures taken { OnOk result
+        (IsTakenIn ground.new.store (map name_bytes made.old.keys) (map name_bytes made.new.keys) body.items) }
     ensures same { Extends (IsAdded (map name_bytes made.old.keys) body.items) ground.old ground.new }
     ensures err { IfErr result (IsApplyFault (IsAdded (map name_bytes made.old.keys) body.items) ground.new.store) }
 {
@@ -129,10 +132,12 @@ fn take_in(
     requires asked { IsAskedFor (shape filter.now) ground.old asked.old }
     ensures ok { OnOk result (IsTaken (shape filter.now) place ground.old ground.new
         (map name_bytes made.old.keys) (map name_bytes made.new.keys)) }
-    ensures same { Extends (IsTurnObject (shape filter.now) ground.old place (map name_bytes made.old.keys)) ground.old ground.new }
+    ensures same { Extends
+        (IsTurnObject (shape filter.now) ground.old place (map name_bytes made.old.keys)) ground.old ground.new }
     ensures asked { IsAskedFor (shape filter.now) ground.new asked.new }
     ensures err { IfErr result
-        (IsApplyFault (IsTurnObject (shape filter.now) ground.old place (map name_bytes made.old.keys)) ground.new.store) }
+        (IsApplyFault (IsTurnObject (shape filter.now) ground.old place (map name_bytes made.old.keys))
+        ground.new.store) }
 {
     match take_turn(alloc, ground, filter, asked, place)? {
         Turn::Below(_) => unreachable!(),
@@ -155,9 +160,11 @@ fn take_all(
     requires empty { ground.old.map ≡ [] }
     requires head { head < length ground.old.graph }
     requires asked { IsAskedFor (shape filter.now) ground.old asked.old }
-    ensures ok { IfOk result (λ made. AreMade ground.new.store (history_graph ground.old.rule (shown (shape filter.now))
-        (commits_of ground.old) (name_at ground.old.graph head)) (map name_bytes made.keys)) }
-    ensures same { Extends (IsOfHistory (shape filter.now) ground.old (name_at ground.old.graph head)) ground.old ground.new }
+    ensures ok { IfOk result (λ made. AreMade ground.new.store
+        (history_graph ground.old.rule (shown (shape filter.now)) (commits_of ground.old)
+        (name_at ground.old.graph head)) (map name_bytes made.keys)) }
+    ensures same { Extends
+        (IsOfHistory (shape filter.now) ground.old (name_at ground.old.graph head)) ground.old ground.new }
     ensures err { IfErr result
         (IsApplyFault (IsOfHistory (shape filter.now) ground.old (name_at ground.old.graph head)) ground.new.store) }
 {

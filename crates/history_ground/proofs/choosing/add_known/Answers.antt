@@ -1,4 +1,4 @@
-use Rattle.std.proofs.Common.{◌≡◌, List, Option, map, sym, ◌∙◌, ap}
+use Rattle.std.proofs.Common.{List, Option, map, sym, ◌∙◌, ap}
 use Rattle.std.specs.Option.{option_map}
 use Rattle.commit_map.specs.Shown.{shown_value}
 use Rattle.commit_map.specs.declared.commit_map.Shown.{Shown}

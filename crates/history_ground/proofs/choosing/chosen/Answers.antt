@@ -1,6 +1,5 @@
-use Rattle.std.proofs.Common.{◌≡◌, [], map, sym, ◌∙◌, ap}
+use Rattle.std.proofs.Common.{[], map, sym, ◌∙◌, ap}
 use Rattle.git_objects.specs.Paths.{same_bytes}
-use Rattle.git_objects.specs.Snapshots.{Snapshot}
 use Rattle.object_store.specs.Unfolding.{flat}
 use Rattle.object_store.proofs.Unfolding.{unfolding_law}
 use Rattle.commit_map.specs.Shown.{shown_value}

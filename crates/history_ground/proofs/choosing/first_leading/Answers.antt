@@ -1,7 +1,6 @@
-use Rattle.std.proofs.Common.{◌≡◌, ◌≤◌, ◌&&◌, length, get_or, List, [], sym, ◌∙◌, ap, arith, refl}
+use Rattle.std.proofs.Common.{◌≤◌, ◌&&◌, length, get_or, [], sym, ◌∙◌, ap, arith}
 use Rattle.git_objects.specs.Paths.{same_bytes}
-use Rattle.git_objects.specs.Snapshots.{Snapshot}
-use Rattle.commit_map.specs.Shown.{Entries, shown_value}
+use Rattle.commit_map.specs.Shown.{shown_value}
 use Rattle.commit_map.specs.declared.commit_map.Shown.{Shown}
 use Rattle.history_ground.specs.Projections.{member_or}
 use Rattle.history_ground.specs.Choosing.{leads_at}

@@ -1,4 +1,3 @@
-use Rattle.std.proofs.Common.{◌≡◌}
 use Rattle.history_ground.proofs.Lacks.{parent-below, parents-kept}
 use Rattle.history_ground.proofs.choosing.lacking_parent.Goals as goal
 

@@ -1,7 +1,7 @@
-use Rattle.std.proofs.Common.{◌≡◌, ◌<◌, length, ℕ, List, All, Contains, Some, None, sym, subst, ap, ◌∙◌, arith}
+use Rattle.std.proofs.Common.{◌≡◌, ◌<◌, length, ℕ, List, All, Contains, sym, subst, ap, ◌∙◌, arith}
 use Rattle.std.specs.List.{find, list_all, list_any}
 use Rattle.std.proofs.lemmas.List.Elements.{All-contains}
-use Rattle.commit_map.specs.Shown.{Entries, shown_value}
+use Rattle.commit_map.specs.Shown.{shown_value}
 use Rattle.history_ground.specs.Projections.{is_shown_as}
 use Rattle.history_ground.specs.StoredGraphs.{name_at}
 use Rattle.history_ground.specs.Choosing.{AreKept, parents_at}

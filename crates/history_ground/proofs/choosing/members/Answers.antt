@@ -1,4 +1,4 @@
-use Rattle.std.proofs.Common.{◌≡◌, ◌≤◌, length, map, sym, ◌∙◌, ap, arith}
+use Rattle.std.proofs.Common.{◌≤◌, length, map, sym, ◌∙◌, ap, arith}
 use Rattle.std.specs.List.{filter_map}
 use Rattle.std.proofs.lemmas.List.{at_drop_all}
 use Rattle.commit_map.specs.Shown.{shown_value}

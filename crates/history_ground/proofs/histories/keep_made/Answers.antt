@@ -1,8 +1,6 @@
-use Rattle.std.proofs.Common.{◌≡◌, map, sym, subst}
+use Rattle.std.proofs.Common.{map}
 use Rattle.git_objects.specs.Parts.{name_bytes}
-use Rattle.history_ground.specs.Grounds.{Extends}
 use Rattle.history_ground.specs.Making.{IsAdded}
-use Rattle.history_ground.specs.declared.ground.Ground.{Ground}
 use Rattle.history_ground.proofs.TakenTurns.{extends-store, kept-either}
 use Rattle.history_ground.proofs.histories.keep_made.Goals as goal
 

@@ -1,17 +1,12 @@
-use Rattle.std.proofs.Common.{◌≡◌, ◌++◌, ◌∷◌, [], List, Some, map, subst, sym}
-use Rattle.std.specs.Option.{option_map}
-use Rattle.git_objects.specs.Paths.{Bytes}
+use Rattle.std.proofs.Common.{map, subst}
 use Rattle.git_objects.specs.Parts.{name_bytes}
-use Rattle.git_objects.specs.Snapshots.{Snapshot}
-use Rattle.commit_map.specs.Shown.{shown_value}
 use Rattle.filter_text.specs.Shapes.{shape}
 use Rattle.history_ground.specs.Making.{IsAdded, IsTurnObject}
-use Rattle.history_ground.specs.StoredGraphs.{name_at}
 use Rattle.history_ground.specs.Turns.{IsTurn}
 use Rattle.history_ground.proofs.Asking.{asked-grown}
 use Rattle.history_ground.proofs.Growing.{extends-self}
 use Rattle.history_ground.proofs.Steps.{turn-below}
-use Rattle.history_ground.proofs.TakenTurns.{fault-either, fits, kept-either, kept-ok, made-object, made-ok, never-below, same-made, same-turn}
+use Rattle.history_ground.proofs.TakenTurns.{fault-either, fits, kept-either, kept-ok, made-object, made-ok, never-below, same-made}
 use Rattle.history_ground.proofs.histories.take_in.Goals as goal
 
 pub unreachable-requires : goal.unreachable-requires

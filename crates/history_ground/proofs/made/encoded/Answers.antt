@@ -1,4 +1,4 @@
-use Rattle.std.proofs.Common.{◌≡◌, map, ◌∙◌}
+use Rattle.std.proofs.Common.{map, ◌∙◌}
 use Rattle.git_objects.specs.Commits.{Letter}
 use Rattle.commit_map.specs.Shown.{shown_value}
 use Rattle.history_ground.proofs.Bodies.{own-body, own-commit}

@@ -1,4 +1,4 @@
-use Rattle.std.proofs.Common.{◌≡◌, subst, ℕ, Option, IfSome}
+use Rattle.std.proofs.Common.{subst, ℕ, Option, IfSome}
 use Rattle.git_objects.specs.Trees.{Flat}
 use Rattle.filter_text.specs.Shapes.{shape}
 use Rattle.filter_routes.specs.Interned.{HasAt}

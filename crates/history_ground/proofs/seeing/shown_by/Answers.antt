@@ -1,8 +1,4 @@
-use Rattle.std.proofs.Common.{◌≡◌, List, Option, Some, sym, subst, ap, ◌∙◌}
-use Rattle.std.proofs.lemmas.Option.{same_Some}
-use Rattle.filter_text.specs.Shapes.{shape}
-use Rattle.filter_routes.specs.TableValues.{Table}
-use Rattle.history_ground.proofs.Growing.{true-grown}
+use Rattle.std.proofs.Common.{sym}
 use Rattle.history_ground.proofs.Asking.{shown-of}
 use Rattle.history_ground.proofs.seeing.shown_by.Goals as goal
 

@@ -1,4 +1,4 @@
-use Rattle.std.proofs.Common.{◌≡◌, refl, ap, ◌∙◌}
+use Rattle.std.proofs.Common.{refl, ap, ◌∙◌}
 use Rattle.git_objects.specs.Names.{name}
 use Rattle.git_objects.specs.declared.kind.Kind.TheVariants.{Commit}
 use Rattle.object_store.specs.StoredSnapshots.{commit_named}

@@ -1,14 +1,13 @@
-use Rattle.std.proofs.Common.{◌≡◌, ◌<◌, ◌≤◌, ℕ, List, All, Some, map, length, sym, subst, ap, ◌∙◌, arith}
+use Rattle.std.proofs.Common.{◌≡◌, ◌<◌, ◌≤◌, ℕ, List, All, map, length, sym, subst, ap, ◌∙◌, arith}
 use Rattle.std.proofs.lemmas.Result.{err_from_is_err_and}
 use Rattle.git_objects.specs.Commits.{Letter}
 use Rattle.git_objects.specs.Snapshots.{Snapshot}
 use Rattle.filter_text.specs.Shapes.{shape}
 use Rattle.filter_apply.specs.Faults.{IsApplyFault}
-use Rattle.commit_graph.specs.Graphs.{Row}
-use Rattle.commit_map.specs.Shown.{Entries, shown_value}
+use Rattle.commit_map.specs.Shown.{shown_value}
 use Rattle.commit_map.specs.declared.commit_map.Shown.{Shown}
 use Rattle.history_ground.specs.Projections.{members}
-use Rattle.history_ground.specs.Choosing.{AreKept, names_at, parents_at}
+use Rattle.history_ground.specs.Choosing.{names_at, parents_at}
 use Rattle.history_ground.specs.Grounds.{IsShownOf, commits_of}
 use Rattle.history_ground.specs.Turns.{IsTurnUpon}
 use Rattle.history_ground.proofs.Lacks.{parents-are}

@@ -1,11 +1,9 @@
-use Rattle.std.proofs.Common.{◌≡◌, List, ℕ, Option, Some, None, IsSome, refl, sym, subst, ap, ◌∙◌, is_some, true≢false}
+use Rattle.std.proofs.Common.{sym, ap, ◌∙◌, is_some, true≢false}
 use Rattle.std.specs.Option.{option_map}
 use Rattle.std.proofs.lemmas.Result.{err_from_is_err_and}
 use Rattle.filter_text.specs.Shapes.{shape}
 use Rattle.filter_apply.specs.Faults.{IsApplyFault}
-use Rattle.commit_map.specs.Shown.{kept_at, shown_value}
-use Rattle.git_objects.specs.Snapshots.{Graph}
-use Rattle.history_ground.specs.Asked.{IsNone}
+use Rattle.commit_map.specs.Shown.{shown_value}
 use Rattle.history_ground.specs.Grounds.{IsShownOf, commits_of}
 use Rattle.history_ground.proofs.Asking.{extends-none}
 use Rattle.history_ground.proofs.TurnLemmas.{handed-on, tree-held}

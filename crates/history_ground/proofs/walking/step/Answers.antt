@@ -1,4 +1,4 @@
-use Rattle.std.proofs.Common.{◌≡◌, ◌++◌, ◌∷◌, [], refl, sym, subst, ap, ◌∙◌, Option, Some, None}
+use Rattle.std.proofs.Common.{◌++◌, ◌∷◌, [], refl, sym, subst, ◌∙◌, Some}
 use Rattle.std.specs.Option.{option_map}
 use Rattle.commit_map.specs.Shown.{shown_value}
 use Rattle.filter_text.specs.Shapes.{shape}

@@ -1,8 +1,7 @@
-use Rattle.std.proofs.Common.{◌≡◌, ◌++◌, ◌∷◌, length, List, ℕ, [], refl, sym, subst, ap, ◌∙◌}
+use Rattle.std.proofs.Common.{◌++◌, ◌∷◌, length, List, ℕ, [], sym, subst, ap, ◌∙◌}
 use Rattle.std.proofs.lemmas.Result.{err_from_is_err_and}
 use Rattle.filter_text.specs.Shapes.{shape}
 use Rattle.filter_apply.specs.Faults.{IsApplyFault}
-use Rattle.git_objects.specs.Snapshots.{Graph}
 use Rattle.history_ground.specs.Grounds.{IsShownOf, commits_of}
 use Rattle.history_ground.proofs.TurnLemmas.{handed-on}
 use Rattle.history_ground.proofs.WalkLemmas.{IsWalking, smaller-below, smaller-settled, step-below, step-settled, walked-below, walking-below, walking-settled, walking-start, fault-same}

@@ -1,4 +1,3 @@
-use Rattle.std.proofs.Common.{◌≡◌, sym, ◌∙◌}
 use Rattle.filter_text.specs.Shapes.{shape}
 use Rattle.object_store.specs.Unfolding.{flat}
 use Rattle.history_ground.specs.Asked.{IsNone}
