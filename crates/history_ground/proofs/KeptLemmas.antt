@@ -1,14 +1,16 @@
 -- With true entries kept each commit gives what it gives from scratch.
 use Rattle.std.specs.Prelude.{◌≡◌, refl, true, cond, [], ◌∷◌, Option, Some, None, unwrap_or}
-use Rattle.std.proofs.Common.{ap, ap₂, ◌∙◌}
+use Rattle.std.specs.Prelude.{List}
+use Rattle.std.proofs.Common.{ap, ap₂, sym, ◌∙◌}
+use Rattle.git_objects.specs.Paths.{Bytes}
 use Rattle.git_objects.specs.Trees.{Flat}
 use Rattle.git_objects.proofs.Basics.{same_bytes-self}
 use Rattle.commit_map.specs.Shown.{Shown, Entries, kept_at}
 use Rattle.commit_map.specs.declared.rule.Rule.{Rule}
-use Rattle.git_objects.specs.Snapshots.{Snapshot, Graph, snapshot_name, is_graph}
+use Rattle.git_objects.specs.Snapshots.{Snapshot, Graph, snapshot_name, has, is_graph, add, add_all}
 use Rattle.history_ground.specs.Projections.{choice_of, projected, projection, projections}
-use Rattle.history_ground.specs.ProjectionLaws.{AreTrue, ProjectionLaw}
-use Rattle.history_ground.proofs.GraphLemmas.{IsGrown, grown, has-newer, has-self}
+use Rattle.history_ground.specs.ProjectionLaws.{AreTrue, ProjectionLaw, StayLaw}
+use Rattle.history_ground.proofs.GraphLemmas.{IsGrown, add-keeps, grown, has-newer, has-self}
 use Rattle.history_ground.proofs.ProjectionLemmas.{projection-added, projection-newer, projection-newest, projection-of}
 
 module _ (k : Rule) (shown : Flat → Flat) where
@@ -36,3 +38,15 @@ module _ (k : Rule) (shown : Flat → Flat) where
 
 pub the_law : ProjectionLaw
 the_law = record { tree = λ k s g n c e. projection-of k s g n c e; added = λ k s cs g n h. projection-added k s cs g n h; kept = λ k s g ks e t. kept-same k s g ks e t }
+
+-- ---- commits that are added
+
+has-added : (cs : List Snapshot) (g : Graph) (n : Bytes) → has g n ≡ true → has (add_all g cs) n ≡ true
+has-added [] g n h = h
+has-added (c ∷ cs) g n h = has-added cs (add g c) n (add-keeps g c n h)
+
+pub the_stay : StayLaw
+the_stay = record {
+  of = λ cs g kept o n p e. has-added cs g n (o n p e);
+  values = λ k s cs g kept o t n p e h. t n p e (o n p e) ∙ sym (projection-added k s cs g n (o n p e));
+}

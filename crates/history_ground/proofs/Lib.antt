@@ -25,3 +25,4 @@ mod MadeHistories
 mod TakenTurns
 mod TakingLemmas
 mod HistoryEnds
+mod OrderLemmas

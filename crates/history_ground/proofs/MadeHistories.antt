@@ -21,8 +21,8 @@ use Rattle.object_store.proofs.Growth.{has-grown, flat-grown}
 use Rattle.object_store.proofs.Parts.{found-has}
 use Rattle.object_store.proofs.StoredCommits.{stored-commit}
 use Rattle.history_ground.specs.StoredGraphs.{snapshot_named}
-use Rattle.history_ground.specs.Histories.{AreMade}
-use Rattle.history_ground.specs.Making.{is_among, with_name, IsAdded, IsTakenIn}
+use Rattle.history_ground.specs.Histories.{AreMade, is_among}
+use Rattle.history_ground.specs.Making.{with_name, IsAdded, IsTakenIn}
 use Rattle.history_ground.proofs.Growing.{commit-grown}
 use Rattle.history_ground.proofs.HistoryLemmas.{any-reverse, filter-append, map-append, reverse-more, same-image}
 

@@ -30,8 +30,8 @@ use Rattle.history_ground.specs.StoredGraphs.{name_at, snapshot_named}
 use Rattle.history_ground.specs.Choosing.{Agree, commits_before, IsBelow}
 use Rattle.history_ground.specs.Grounds.{IsGround, Extends, IsShownOf, commits_of}
 use Rattle.history_ground.specs.Asked.{IsNone}
-use Rattle.history_ground.specs.Histories.{AreMade}
-use Rattle.history_ground.specs.Making.{is_among, with_name, IsAdded, IsFit, IsTakenIn, IsBecome, IsTurnObject, AreHeld, IsReady, IsTaken}
+use Rattle.history_ground.specs.Histories.{AreMade, is_among}
+use Rattle.history_ground.specs.Making.{with_name, IsAdded, IsFit, IsTakenIn, IsBecome, IsTurnObject, AreHeld, IsReady, IsTaken}
 use Rattle.history_ground.specs.Turns.{Becomes, IsNew, kept_choice}
 use Rattle.history_ground.specs.declared.ground.Ground.{Ground}
 use Rattle.history_ground.specs.declared.turning.Turn.TheVariants as turns

@@ -16,13 +16,9 @@ use Rattle.filter_text.specs.Filters.{Filter}
 use Rattle.history_ground.specs.Projections.{Choice, New, own_commit, projected}
 use Rattle.history_ground.specs.StoredGraphs.{name_at, snapshot_named}
 use Rattle.history_ground.specs.Grounds.{IsShownOf, commits_of}
-use Rattle.history_ground.specs.Histories.{AreMade}
+use Rattle.history_ground.specs.Histories.{AreMade, is_among}
 use Rattle.history_ground.specs.Turns.{Becomes}
 use Rattle.history_ground.specs.declared.ground.Ground.{Ground}
-
--- whether a name is among these
-abbrev pub is_among : Bytes → List Bytes → Bool
-is_among n ns = list_any (same_bytes n) ns
 
 -- with a name behind, where it isn't there
 abbrev pub with_name : List Bytes → Bytes → List Bytes

@@ -29,3 +29,12 @@ pub record ProjectionLaw : Type 0 where
 pub record HistoryLaw : Type 0 where
   pub commits : (k : Rule) (shown : Flat → Flat) (g : Graph) (h : Bytes) → is_graph g ≡ true → map shown_of (reverse (history_graph k shown g h)) ≡ history k shown g h
   pub graph : (k : Rule) (shown : Flat → Flat) (g : Graph) (h : Bytes) → is_graph g ≡ true → is_graph (history_graph k shown g h) ≡ true
+
+-- each entry is of a commit of the graph
+abbrev pub AreOf : Graph → Entries → Type 0
+AreOf g kept = (n : Bytes) (p : Option Shown) → kept_at n kept ≡ Some p → has g n ≡ true
+
+-- Where each entry is of a commit of the graph and is its projection, this stays when commits are added.
+pub record StayLaw : Type 0 where
+  pub of : (cs : List Snapshot) (g : Graph) (kept : Entries) → AreOf g kept → AreOf (add_all g cs) kept
+  pub values : (k : Rule) (shown : Flat → Flat) (cs : List Snapshot) (g : Graph) (kept : Entries) → AreOf g kept → AreTrue k shown g kept → AreTrue k shown (add_all g cs) kept

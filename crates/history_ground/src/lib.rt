@@ -12,5 +12,5 @@ mod walking;
 
 pub use ground::Ground;
 pub use histories::history;
-pub use laws::{history_law, projection_law};
+pub use laws::{history_law, order_law, projection_law, stay_law};
 pub use walking::project_to;
