@@ -198,7 +198,8 @@ fn taken(
     let root = ground.graph.tree(place);
     let mut asked = Asked::new(alloc, ground, filter, root)?;
     let made = take_all(alloc, ground, filter, &mut asked, place)?;
-    Ok(made.as_slice().to_vec(alloc)?)
+    let names = made.as_slice().to_vec(alloc)?;
+    Ok(names)
 }
 
 /// The history by a filter of the commit of that name: what it and its ancestors are projected to from scratch, as

@@ -38,8 +38,8 @@ returns-in_err-made-clause-err c =
     (history-fault f c.args.head.now.0 g h c.take_all.new.ground c.in-Some.place c.requires.ground c.new.ensures.same
     (named-head g h c.in-Some.place c.args.head.now.0 c.new.ensures.same.graph c.in-Some.ensures.place) c.in_err-made.field-0.0 c.in_err-made.ensures.err)
 
-pub returns-in_err-to_vec-clause-same : goal.returns-in_err-to_vec-clause-same
-returns-in_err-to_vec-clause-same c =
+pub returns-in_err-names-clause-same : goal.returns-in_err-names-clause-same
+returns-in_err-names-clause-same c =
     let g = c.args.ground.now in
     let h = c.new.new.ground in
     history-grown (shape c.args.filter.now) c.args.head.now.0 g h c.take_all.new.ground c.in-Some.place c.requires.ground c.new.ensures.same
@@ -51,7 +51,7 @@ returns-clause-ok c =
     let g = c.args.ground.now in
     let h = c.new.new.ground in
     let S = c.take_all.new.ground.store in
-    let items : c.in_ok-to_vec.field-0.items ≡ c.in_ok-made.made.keys = c.in_ok-to_vec.ensures.items_if_clones_equal (λ x y e. e) ∙ c.as_slice.ensures.keys in
+    let items : c.in_ok-names.names.items ≡ c.in_ok-made.made.keys = c.in_ok-names.ensures.items_if_clones_equal (λ x y e. e) ∙ c.as_slice.ensures.keys in
     subst (AreMade S (history_graph g.rule (shown f) (commits_of g) c.args.head.now.0)) (ap (λ (ns : List Name). map name_bytes ns) (sym items))
     (subst (λ (G : Graph). AreMade S G (map name_bytes c.in_ok-made.made.keys))
     (history-same f c.args.head.now.0 g h c.take_all.new.ground c.in-Some.place c.requires.ground c.new.ensures.same
