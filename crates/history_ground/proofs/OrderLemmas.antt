@@ -1,6 +1,6 @@
 -- The names of a graph's commits that are in a store, the oldest first.
-use Rattle.std.proofs.Common.{◌≡◌, ◌<◌, ◌≤◌, Bool, true, false, not, ◌||◌, ◌&&◌, List, [], ◌∷◌, ◌++◌, map, reverse, length, Option, Some, None, refl, sym, ap, subst, ◌∙◌, arith}
-use Rattle.std.specs.List.{cons_option, filter_map, list_all, list_any}
+use Rattle.std.proofs.Common.{◌≡◌, ◌≤◌, Bool, true, false, not, ◌||◌, List, [], ◌∷◌, ◌++◌, map, reverse, length, Option, Some, None, refl, sym, ap, subst, ◌∙◌, arith}
+use Rattle.std.specs.List.{cons_option, filter_map, list_all}
 use Rattle.std.specs.Option.{option_map, option_map_or}
 use Rattle.std.proofs.lemmas.Bool.{and_parts, and_from}
 use Rattle.std.proofs.lemmas.List.{length-map, reverse-reverse}
@@ -13,7 +13,7 @@ use Rattle.git_objects.proofs.Basics.{same_bytes-back}
 use Rattle.object_store.specs.Objects.{Object}
 use Rattle.object_store.specs.StoredSnapshots.{commit_named, snapshot_of}
 use Rattle.history_ground.specs.StoredGraphs.{snapshot_named}
-use Rattle.history_ground.specs.Histories.{AreMade, is_among, is_distinct, parents_named, is_ordered, OrderLaw}
+use Rattle.history_ground.specs.Histories.{is_among, is_distinct, parents_named, is_ordered, OrderLaw}
 use Rattle.history_ground.proofs.GraphLemmas.{IsGrown, grown}
 use Rattle.history_ground.proofs.HistoryLemmas.{any-append, any-reverse, each-reverse, map-append, reverse-more, same-image}
 

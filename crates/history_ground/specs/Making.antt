@@ -1,8 +1,8 @@
 -- What a history's commits leave that are taken in one after another.
-use Rattle.std.specs.Prelude.{◌≡◌, ◌⊎◌, ◌<◌, ℕ, Bool, true, false, if◌then◌else◌, List, [], ◌∷◌, ◌++◌, length, Some, None, IsSome}
-use Rattle.std.specs.List.{list_all, list_any}
+use Rattle.std.specs.Prelude.{◌≡◌, ◌⊎◌, ◌<◌, ℕ, true, false, if◌then◌else◌, List, [], ◌∷◌, ◌++◌, length, Some, None, IsSome}
+use Rattle.std.specs.List.{list_all}
 use Rattle.std.specs.Option.{option_to_list}
-use Rattle.git_objects.specs.Paths.{Bytes, same_bytes}
+use Rattle.git_objects.specs.Paths.{Bytes}
 use Rattle.git_objects.specs.Names.{name}
 use Rattle.git_objects.specs.Snapshots.{Snapshot, Graph, snapshot_name, add_all}
 use Rattle.git_objects.specs.declared.kind.Kind.TheVariants.{Commit}
