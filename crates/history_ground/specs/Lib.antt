@@ -10,3 +10,4 @@ pub mod Turns
 pub mod Walks
 pub mod Histories
 pub mod Making
+pub mod Examples
