@@ -7,6 +7,7 @@ use object_store::Store;
 
 /// What projections are made upon: commits of a store, which projections of them by one filter are kept, the tables of
 /// filters with what they were seen to show, and the rule by which merges are dropped.
+#[derive(Drop)]
 pub struct Ground {
     /// The objects; projections add trees and commits.
     pub store: Store,
