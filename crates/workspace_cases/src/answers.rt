@@ -18,8 +18,8 @@ use path_trees::{Leaf, Walk, entry_at};
 use std::alloc::{AllocError, Global};
 use workspace::{Resolved, file_place, resolve, resolve_leaf};
 
-// The sound filter of a text.
-fn filter_of(alloc: Global, text: &[u8]) -> Result<Filter, Fault>
+/// The sound filter of a text.
+pub fn filter_of(alloc: Global, text: &[u8]) -> Result<Filter, Fault>
     ensures { IfOk result (λ f. IsUsable (shape f)) }
 {
     match parse(alloc, text) {

@@ -1,9 +1,13 @@
 // What lines of cases work on.
 use crate::answers::resolved;
+use crate::laid::{laid_tree, unseen_path};
+use crate::shown::shown_tree;
 use case_lines::{Fault, Line, Texts, Word, read_line, said};
 use filter_routes::Tables;
 use object_store::Store;
 use std::alloc::Global;
+use std::marker::Brand;
+use std::sync::ledger::Blank;
 
 /// What earlier lines made.
 #[derive(Drop)]
@@ -43,6 +47,20 @@ impl Session {
         match words {
             [form, inner @ ..] if form.text() == "resolve" => {
                 resolved(alloc, texts, &mut self.store, &mut self.tables, inner)
+            }
+            [form, inner @ ..] if form.text() == "shown" => shown_tree::<Brand>(
+                alloc,
+                texts,
+                &mut self.store,
+                &mut self.tables,
+                inner,
+                Blank::new(1),
+            ),
+            [form, inner @ ..] if form.text() == "laid" => {
+                laid_tree(alloc, texts, &mut self.store, &mut self.tables, inner)
+            }
+            [form, inner @ ..] if form.text() == "unseen" => {
+                unseen_path(alloc, texts, &mut self.store, &mut self.tables, inner)
             }
             _ => Err(Fault::BadLine),
         }
