@@ -8,6 +8,7 @@ mod graph;
 mod objects;
 mod replays;
 mod routes;
+mod showing;
 mod streams;
 mod trees;
 
@@ -18,7 +19,7 @@ use std::rt::Clock;
 use std::{env, io};
 
 const USAGE: &str =
-    "all, replay, or objects, graph, trees, streams or routes, a mode, and a number";
+    "all, replay, or objects, graph, trees, streams, routes or shown, a mode, and a number";
 
 // A small run of each kind of work, for `all`: the bench, the mode, and two numbers.
 const SMALL: [(&str, &str, u32, u32); 8] = [
@@ -42,6 +43,9 @@ fn answer(
 ) -> io::Result<Option<String>> {
     if bench == "graph" {
         return graph::answer(rt, alloc, mode, u64::from(numbers.0));
+    }
+    if bench == "shown" {
+        return showing::answer(rt, alloc, mode, numbers.0);
     }
     Ok(untimed(alloc, bench, mode, numbers)?)
 }

@@ -13,8 +13,8 @@ fn told(alloc: Global, filter: &Filter) -> Option<bool> {
     is_sound(alloc, filter).ok()
 }
 
-// The filter of a text.
-fn read(alloc: Global, text: &[u8]) -> Result<Filter, FilterFault>
+/// The filter of a text.
+pub fn read(alloc: Global, text: &[u8]) -> Result<Filter, FilterFault>
     ensures { IfOk result (λ f. pieces (shape f) ≤ 1024) }
 {
     Ok(parse(alloc, text)?)

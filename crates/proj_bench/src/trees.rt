@@ -9,8 +9,8 @@ use path_names::Path;
 use path_trees::{Found, Walk, put_at};
 use std::alloc::{AllocError, Global};
 
-// Whether an object of that kind has the name.
-fn is_held(store: &Store, kind: Kind, name: &Name) -> bool
+/// Whether an object of that kind has the name.
+pub fn is_held(store: &Store, kind: Kind, name: &Name) -> bool
     ensures { result ≡ has kind store.now name.now.0 }
 {
     match store.get(name) {
@@ -29,8 +29,14 @@ fn body(alloc: Global, mode: Mode, name: &Name, width: u32) -> Result<Vec<u8>, A
     Ok(body)
 }
 
-// The tree of one level over another.
-fn level(alloc: Global, store: &mut Store, mode: Mode, name: &Name, width: u32) -> Option<Name> {
+/// The tree of one level over another.
+pub fn level(
+    alloc: Global,
+    store: &mut Store,
+    mode: Mode,
+    name: &Name,
+    width: u32,
+) -> Option<Name> {
     let body = body(alloc, mode, name, width).ok()?;
     store.put(Kind::Tree, body).ok()
 }
@@ -52,8 +58,14 @@ fn path(alloc: Global, width: u32, number: u32) -> Option<Path> {
     Path::parse(alloc, text.as_str().as_bytes()).ok()
 }
 
-// Puts a file at a path.
-fn put_one(alloc: Global, store: &mut Store, root: Name, path: &Path, name: Name) -> Option<Name> {
+/// Puts a file at a path.
+pub fn put_one(
+    alloc: Global,
+    store: &mut Store,
+    root: Name,
+    path: &Path,
+    name: Name,
+) -> Option<Name> {
     if !is_held(store, Kind::Tree, &root) || !is_held(store, Kind::Blob, &name) {
         return None;
     }
