@@ -1,0 +1,4 @@
+pub mod CommitGraphs
+pub mod Staying
+pub mod Recalling
+mod Judging

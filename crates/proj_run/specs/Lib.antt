@@ -1,0 +1,10 @@
+pub mod Filters
+pub mod Cases
+pub mod Steps
+pub mod Hands
+pub mod Plans
+pub mod Lawful
+pub mod Makes
+pub mod Sent
+pub mod Answers
+pub mod Examples

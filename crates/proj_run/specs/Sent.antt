@@ -1,0 +1,38 @@
+-- What comes of writing a report, or of telling how a command ended.
+use Rattle.std.specs.Prelude.{◌≡◌, ⊤, ℕ, ◌≤◌, take, Result, Ok, Err}
+use Rattle.std.specs.Io.KnownBytes.{Appends}
+use Rattle.git_objects.specs.Paths.{Bytes}
+use Rattle.proj_io.specs.Counts.{Counts, Rose}
+use Rattle.proj_io.specs.Views.{SinkView}
+use Rattle.proj_words.specs.declared.outcome.Outcome.{Outcome}
+use Rattle.proj_words.specs.declared.outcome.Outcome.TheVariants.{Done, OutOfMemory, WriteFault, StoreFault}
+
+-- a front of the report was written
+abbrev pub Fronts : Bytes → SinkView → SinkView → Type 0
+Fronts report before after = (n : ℕ) × Appends before.written after.written (take n report)
+
+-- What was written of a report by each outcome. Only the sink itself may want memory.
+abbrev pub IsSent : Outcome → Bytes → SinkView → SinkView → Type 0
+IsSent Done report before after = Appends before.written after.written report
+IsSent WriteFault report before after = Fronts report before after
+IsSent OutOfMemory report before after = Rose before.refusals after.refusals × Fronts report before after
+IsSent outcome report before after = ⊥
+
+-- what was written, and no count has fallen
+pub record IsWritten (outcome : Outcome) (report : Bytes) (before after : SinkView) : Type 0 where
+  pub sent : IsSent outcome report before after
+  pub cause : Counts before.faults after.faults (outcome ≡ WriteFault)
+  pub memory : before.refusals ≤ after.refusals
+
+-- of a report, or of a refusal, of which nothing is written
+abbrev pub IsConcluded : Result Bytes Outcome → SinkView → SinkView → Outcome → Type 0
+IsConcluded (Ok report) before after outcome = IsWritten outcome report before after
+IsConcluded (Err refusal) before after outcome = outcome ≡ refusal
+
+-- the outcomes whose text takes memory
+abbrev pub TakesMemory : Outcome → Type 0
+TakesMemory Done = ⊥
+TakesMemory OutOfMemory = ⊥
+TakesMemory WriteFault = ⊥
+TakesMemory StoreFault = ⊥
+TakesMemory outcome = ⊤

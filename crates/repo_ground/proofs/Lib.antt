@@ -1,0 +1,11 @@
+pub mod RowsGround
+pub mod GroundLaws
+pub mod GrownLaws
+pub mod Rules
+pub mod RefsFound
+pub mod StatesRead
+pub mod ItemRuns
+pub mod Stopping
+pub mod WholeLoads
+pub mod Members
+pub mod TreesFound

@@ -1,0 +1,107 @@
+-- A state of what was read has what items hold.
+use Rattle.std.proofs.Common.{◌≡◌, ℕ, zero, suc, ◌<◌, Bool, true, false, cond, ◌||◌, List, [], ◌∷◌, length, take, get_or, Contains, Option, Some, None, refl, sym, ap, subst, ◌∙◌, arith}
+use Rattle.std.proofs.lemmas.Option.{none-some}
+use Rattle.git_objects.specs.Paths.{Bytes, same_bytes}
+use Rattle.git_objects.specs.Refs.{Refs}
+use Rattle.git_objects.proofs.Basics.{same_bytes-back, same_bytes-self}
+use Rattle.object_store.specs.Objects.{Object, object_name, find_named, has_name, IsStore}
+use Rattle.commit_map.specs.Rules.{rule_number}
+use Rattle.commit_map.specs.Shown.{Entries, kept_at}
+use Rattle.commit_graph.specs.Graphs.{Row}
+use Rattle.filter_apply.specs.Truth.{AreTrueFor}
+use Rattle.filter_cache.specs.Memos.{Key, Memo}
+use Rattle.filter_routes.specs.TableValues.{Table}
+use Rattle.history_ground.specs.Grounds.{IsGround}
+use Rattle.history_ground.specs.StoredGraphs.{IsGraphIn}
+use Rattle.state_items.specs.Arrivals.{rows_of}
+use Rattle.state_items.specs.Changes.{with_refs}
+use Rattle.state_items.specs.Items.{Held}
+use Rattle.state_items.specs.KeptMaps.{RuleMaps, entries_at}
+use Rattle.state_items.specs.Readings.{Gathered, Holds}
+use Rattle.ref_store.specs.Refs.{AreDistinct}
+use Rattle.repo_ground.specs.Contents.{Contents, Spells, is_selected}
+use Rattle.repo_ground.proofs.RowsGround.{rows_ground}
+
+or-left : (a b : Bool) → (a || b) ≡ false → a ≡ false
+or-left true b h = h
+or-left false b h = refl
+
+or-right : (a b : Bool) → (a || b) ≡ false → b ≡ false
+or-right true b h = absurd (cc h)
+or-right false b h = h
+
+-- an object whose name another hasn't
+apart-at : (S : List Object) (n : Bytes) (k : ℕ) (d : Object) → k < length S → has_name S n ≡ false → same_bytes (object_name (get_or S k d)) n ≡ false
+unfolding has_name
+apart-at [] n k d lt h = absurd (omega arith)
+apart-at (o ∷ S) n zero d lt h = or-left (same_bytes (object_name o) n) (has_name S n) h
+apart-at (o ∷ S) n (suc k) d lt h = apart-at S n k d (omega arith) (or-right (same_bytes (object_name o) n) (has_name S n) h)
+
+found-at : (S : List Object) (k : ℕ) (d : Object) → k < length S → IsStore S → find_named S (object_name (get_or S k d)) ≡ Some (get_or S k d)
+unfolding find_named
+found-at [] k d lt s = absurd (omega arith)
+found-at (o ∷ S) zero d lt s = ap (λ b. cond b (Some o) (find_named S (object_name o))) (same_bytes-self (object_name o))
+found-at (o ∷ S) (suc k) d lt s =
+    let less : k < length S = omega arith in
+    ap (λ b. cond b (Some o) (find_named S (object_name (get_or S k d)))) (same_bytes-back (object_name o) (object_name (get_or S k d)) ∙ apart-at S (object_name o) k d less s.1)
+    ∙ found-at S k d less s.2
+
+-- an object of a store is found by its name
+pub found-in : (S : List Object) → IsStore S → (o : Object) → Contains S o → find_named S (object_name o) ≡ Some o
+found-in S s o m = subst (λ (x : Object). find_named S (object_name x) ≡ Some x) m.2 (found-at S m.0 o m.1 s)
+
+-- what a state has of what was read
+pub record IsReadInto (v : Gathered) (s : Contents) : Type 0 where
+  pub store : s.basis.store ≡ v.objects
+  pub names : s.names ≡ v.names
+  pub graph : s.basis.graph ≡ v.rows
+  pub known : s.blobs ≡ v.blobs
+  pub refs : s.refs ≡ v.refs
+  pub maps : s.maps ≡ v.maps
+  pub rule : rule_number s.basis.rule ≡ v.rule
+  pub none : s.selected ≡ None
+  pub kept : s.kept ≡ 0
+
+spells-read : (h : Held) (v : Gathered) (s : Contents) → IsReadInto v s → Holds h v → Spells h s
+spells-read h v s r g =
+    let e : s.basis.store ≡ h.objects = r.store ∙ g.objects in
+    record {
+      store = g.store;
+      room = g.room;
+      within = λ o m. ap (λ (S : List Object). find_named S (object_name o)) e ∙ found-in h.objects g.store o m;
+      names = r.names ∙ g.names;
+      graph = r.graph ∙ g.graph;
+      known = r.known ∙ g.known;
+      distinct = subst (λ (rs : Refs). AreDistinct rs) (sym r.refs) g.distinct;
+      refs = ap (λ (rs : Refs). with_refs [] rs) r.refs ∙ g.refs;
+      heads = g.heads;
+      entries = λ text rule n k.
+          ap (λ (es : Entries). kept_at n es)
+          (ap (λ (o : Option (Bytes × ℕ)). cond (is_selected o text rule) (take s.kept s.basis.map) (entries_at rule text s.maps)) r.none
+          ∙ ap (λ (m : RuleMaps). entries_at rule text m) r.maps
+          ∙ g.kept text rule k);
+      few = omega (arith, r.kept);
+      rule = r.rule ∙ g.rule;
+    }
+
+true-nothing : (S : List Object) (memo : Memo) → memo.entries ≡ [] → AreTrueFor S [] memo
+true-nothing S memo e = record {
+  each = λ id table h. absurd (none-some table h);
+  within = λ n tree shown m. absurd (not-there [] ((n, tree), shown) refl (subst (λ (es : List (Key × Bytes)). Contains es ((n, tree), shown)) e m));
+}
+  where
+    not-there : (es : List (Key × Bytes)) (x : Key × Bytes) → length es ≡ 0 → Contains es x → ⊥
+    not-there es x z m = absurd (omega (arith, m.1, z))
+
+-- its ground, with no tables yet and an empty memo
+ground-read : (h : Held) (v : Gathered) (s : Contents) → IsReadInto v s → Holds h v → s.basis.tables ≡ [] → s.basis.memo.entries ≡ [] → IsGround s.basis
+ground-read h v s r g t m =
+    let of : IsGraphIn h.objects (rows_of h.objects) = rows_ground h.objects h.objects g.store g.store (found-in h.objects g.store) in
+    let S : IsGraphIn s.basis.store (rows_of h.objects) = subst (λ (S : List Object). IsGraphIn S (rows_of h.objects)) (sym (r.store ∙ g.objects)) of in
+    record {
+      graph = subst (λ (rows : List Row). IsGraphIn s.basis.store rows) (sym (r.graph ∙ g.graph)) S;
+      memo = subst (λ (ts : List Table). AreTrueFor s.basis.store ts s.basis.memo) (sym t) (true-nothing s.basis.store s.basis.memo m);
+    }
+
+pub whole-read : (h : Held) (v : Gathered) (s : Contents) → IsReadInto v s → s.basis.tables ≡ [] → s.basis.memo.entries ≡ [] → Holds h v → Spells h s × IsGround s.basis
+whole-read h v s r t m g = (spells-read h v s r g, ground-read h v s r g t m)

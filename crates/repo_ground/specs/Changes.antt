@@ -1,0 +1,73 @@
+-- What comes of a plan that is to be appended.
+use Rattle.std.specs.Prelude.{◌≡◌, ◌≢◌, ◌⊎◌, ◌+◌, ⊤, List, [], ◌∷◌, ◌++◌, length, sum_by, Option, None, Some, Result, Ok, Err}
+use Rattle.git_objects.specs.Paths.{Bytes}
+use Rattle.proj_io.specs.Items.{Stays, Gets}
+use Rattle.proj_io.specs.Views.{KeeperView}
+use Rattle.proj_io.specs.declared.keeper.KeepError.{KeepError}
+use Rattle.proj_io.specs.declared.keeper.KeepError.TheVariants.{Failed, OutOfMemory as NoMemory}
+use Rattle.state_items.specs.Items.{Held}
+use Rattle.state_items.specs.Changes.{Plan, held_after, passed, plan_items}
+use Rattle.repo_ground.specs.Contents.{Contents, Spells, room_in}
+use Rattle.repo_ground.specs.declared.error.CommitError.{CommitError}
+use Rattle.repo_ground.specs.declared.error.CommitError.TheVariants.{StoreFault, Limit, OutOfMemory}
+
+-- ---- what comes of a plan
+
+-- The state has what the plan says, behind its items; the store and all that is no part of the plan are as they were.
+pub record IsCommitted (h : Held) (p : Plan) (before after : Contents) : Type 0 where
+  pub within : passed h (room_in before) p ≡ None
+  pub spells : Spells (held_after h p) after
+  pub number : after.number ≡ before.number + length (plan_items p)
+  pub size : after.size ≡ before.size + sum_by length (plan_items p)
+  pub store : after.basis.store ≡ before.basis.store
+  pub tables : after.basis.tables ≡ before.basis.tables
+  pub memo : after.basis.memo ≡ before.basis.memo
+  pub map : after.basis.map ≡ before.basis.map
+  pub selected : after.selected ≡ before.selected
+
+-- Why a plan is refused: the first limit that it passes, or want of memory, and then the state is as before. After a fault of the
+-- keeper the state is of no more use.
+abbrev pub IsRefused : Held → Plan → Contents → Contents → CommitError → Type 0
+IsRefused h p before after StoreFault = (plan_items p ≢ []) × (passed h (room_in before) p ≡ None)
+IsRefused h p before after (Limit q) = (after ≡ before) × (passed h (room_in before) p ≡ Some q)
+IsRefused h p before after OutOfMemory = after ≡ before
+
+-- ---- the keeper
+
+abbrev pub KeepsItems : KeeperView → KeeperView → Type 0
+KeepsItems before after = (after.number ≡ before.number) × Stays before.items after.items
+
+-- it gets these items, which are none or one
+abbrev pub GetsItems : List Bytes → KeeperView → KeeperView → Type 0
+GetsItems [] before after = KeepsItems before after
+GetsItems (item ∷ more) before after = (after.number ≡ before.number + 1) × Gets before.items after.items item
+
+-- it gets the plan's item, or none where the plan has none; after a fault it may have it or not
+abbrev pub Appends : Plan → KeeperView → KeeperView → Result (Unit {0}) CommitError → Type 0
+Appends p before after (Ok _) = GetsItems (plan_items p) before after
+Appends p before after (Err StoreFault) = KeepsItems before after ⊎ GetsItems (plan_items p) before after
+Appends p before after (Err (Limit q)) = KeepsItems before after
+Appends p before after (Err OutOfMemory) = KeepsItems before after
+
+-- what a stop while a plan is appended leaves of the items of a keeper that tells them: these, or these with the item of a plan
+-- that passes no limit
+abbrev pub IsStopOf : Held → Contents → Plan → Option (List Bytes) → List Bytes → Type 0
+IsStopOf h s p None list = ⊤
+IsStopOf h s p (Some items) list = (list ≡ items) ⊎ ((passed h (room_in s) p ≡ None) × (list ≡ items ++ plan_items p))
+
+-- the plan was refused, and the keeper has no item more
+abbrev pub IsRefusal : Result (Unit {0}) CommitError → Type 0
+IsRefusal (Ok _) = ⊥
+IsRefusal (Err StoreFault) = ⊥
+IsRefusal (Err (Limit q)) = ⊤
+IsRefusal (Err OutOfMemory) = ⊤
+
+-- why the keeper has no item more
+abbrev pub keep_error : KeepError → CommitError
+keep_error Failed = StoreFault
+keep_error NoMemory = OutOfMemory
+
+-- a keeping that was refused, as a change that was
+abbrev pub keep_error_result : Result (Unit {0}) KeepError → Result (Unit {0}) CommitError
+keep_error_result (Ok u) = Ok u
+keep_error_result (Err e) = Err (keep_error e)

@@ -1,0 +1,195 @@
+// What a keeper's items spell.
+ghost use Rattle.std.specs.Prelude.{◌≡◌, ◌↔◌, [], Err, None, IfOk, IfSome, MatchResult, OnOk};
+ghost use Rattle.std.specs.FinMap.{find};
+ghost use Rattle.std.specs.Option.{option_map};
+ghost use Rattle.git_objects.specs.Parts.{name_bytes};
+ghost use Rattle.git_objects.specs.Refs.{bytes_cmp};
+ghost use Rattle.filter_text.specs.Printing.{printed};
+ghost use Rattle.filter_text.specs.Shapes.{shape};
+ghost use Rattle.history_ground.specs.Grounds.{IsGround};
+ghost use Rattle.proj_io.specs.Counts.{Counts};
+ghost use Rattle.proj_io.specs.Items.{Stays};
+ghost use Rattle.proj_io.specs.Stops.{OnlyAdds, Nothing};
+ghost use Rattle.ref_store.specs.Refs.{head_of};
+ghost use Rattle.state_items.specs.Items.{Held, nothing, read_items};
+ghost use Rattle.state_items.specs.Readings.{Holds};
+ghost use Rattle.repo_ground.specs.Contents.{Spells};
+ghost use Rattle.repo_ground.specs.Loads.{IsLoaded, IsLoadFault};
+
+use crate::loading::{load_items, reserve_items};
+use commit_map::{CommitMap, Rule};
+use filter_cache::Memo;
+use filter_routes::Tables;
+use filter_text::Filter;
+use git_objects::Name;
+use history_ground::Ground;
+use indexmap::IndexSet;
+use path_names::RefName;
+use proj_io::Keeper;
+use ref_store::Refs;
+use state_items::{KeptMaps, Loaded, Reading};
+use std::alloc::{AllocError, Global};
+use std::marker::Model;
+
+// How many pairs the memo of a new state may hold.
+const MEMO_PAIRS: usize = 65_536;
+
+/// Why items are not loaded.
+#[derive(Clone, Copy, Debug, PartialEq, Eq)]
+pub enum LoadError {
+    /// The keeper failed.
+    StoreFault,
+    /// The first item, numbered from 0, that breaks a rule, and the first byte of the field that breaks it.
+    Damaged { item: u32, at: u64 },
+    /// An item's object has the name of another object.
+    Collision { name: Name },
+    OutOfMemory,
+}
+
+// The filter whose map the ground has.
+#[derive(Drop)]
+pub(crate) struct Selected {
+    // Its canonical text.
+    pub(crate) text: Vec<u8>,
+    pub(crate) rule: Rule,
+}
+
+/// What a keeper's items hold: commits upon which projections are made, refs, and the names of the known blobs.
+#[derive(Drop)]
+pub struct State {
+    /// All objects, also some that no item holds, and the commits that items hold. The map is that of the filter that
+    /// was selected last, and empty before.
+    pub ground: Ground,
+    pub refs: Refs,
+    /// The names of the blobs that items hold.
+    pub blobs: IndexSet<Name>,
+    // The names of the objects that items hold, in order of arrival.
+    pub(crate) held: IndexSet<Name>,
+    // The maps of filters that aren't selected, with exactly the entries that items hold.
+    pub(crate) maps: KeptMaps,
+    pub(crate) selected: Option<Selected>,
+    // How many of the first entries of the ground's map items hold.
+    pub(crate) kept: usize,
+    // How many items there are, and their bytes together.
+    pub(crate) number: u32,
+    pub(crate) size: u64,
+    pub(crate) alloc: Global,
+}
+
+impl Model for State {
+    ghost use Rattle.std.specs.Coded.{codes};
+    ghost use Rattle.std.specs.Prelude.{map};
+    ghost use Rattle.std.specs.Option.{option_map};
+    ghost use Rattle.filter_text.specs.contracts.filter.Filter as filters;
+    ghost use Rattle.git_objects.specs.Parts.{name_bytes};
+    ghost use Rattle.commit_map.specs.Rules.{rule_number};
+    ghost use Rattle.repo_ground.specs.Contents.{Contents};
+
+    ghost Value = { Contents };
+
+    ghost coded = { Prim.hlevel (codes, filters.the_row.coded) };
+
+    ghost view = { λ s. record {
+      basis = s.ground;
+      refs = s.refs;
+      blobs = map name_bytes s.blobs.keys;
+      names = map name_bytes s.held.keys;
+      maps = s.maps;
+      selected = option_map (λ f. (f.text.items, rule_number f.rule)) s.selected;
+      kept = s.kept;
+      number = s.number;
+      size = s.size;
+    } };
+}
+
+impl State {
+    /// No objects, no refs, and no items.
+    pub fn empty(alloc: Global) -> Result<State, AllocError>
+        ensures { IfOk result (λ s. Spells nothing s × IsGround s.basis × (s.number ≡ 0) × (s.size ≡ 0)) }
+    {
+        let memo = Memo::new(alloc, MEMO_PAIRS)?;
+        Ok(State::of(alloc, Reading::new(alloc), memo, 0, 0))
+    }
+
+    // The state of what was read of so many items, which have so many bytes.
+    fn of(alloc: Global, reading: Reading, memo: Memo, number: u32, size: u64) -> State
+        requires { memo.entries ≡ [] }
+        ensures spells { (h : Held) → Holds h reading → Spells h result × IsGround result.basis }
+        ensures selected { result.selected ≡ None }
+        ensures map { result.basis.map ≡ [] }
+        ensures number { result.number ≡ number }
+        ensures size { result.size ≡ size }
+    {
+        let Loaded {
+            store,
+            names,
+            graph,
+            blobs,
+            refs,
+            kept,
+            rule,
+        } = reading.finish();
+        let ground = Ground {
+            store,
+            graph,
+            map: CommitMap::new(alloc),
+            tables: Tables::new(alloc),
+            memo,
+            rule,
+        };
+        State {
+            ground,
+            refs,
+            blobs,
+            held: names,
+            maps: kept,
+            selected: None,
+            kept: 0,
+            number,
+            size,
+            alloc,
+        }
+    }
+
+    /// Reads all items of the keeper.
+    pub fn load<K: Keeper>(alloc: Global, keeper: &mut K) -> Result<State, LoadError>
+        requires { K.is_open keeper.old }
+        ensures ok { IfOk result (IsLoaded (K.items keeper.old) (K.number keeper.old)) }
+        ensures err { IfSome (K.items keeper.old) (λ items. MatchResult result (λ _. Unit)
+            (λ e. IsLoadFault e (read_items items))) }
+        ensures same { K.number keeper.new ≡ K.number keeper.old }
+        ensures items { Stays (K.items keeper.old) (K.items keeper.new) }
+        ensures is_open { K.is_open keeper.new }
+        ensures told { K.tells keeper.new ↔ K.tells keeper.old }
+        ensures stops { OnlyAdds (K.moment keeper.old) (K.moment keeper.new) (K.left_since keeper.old)
+            (K.left_since keeper.new) Nothing }
+        ensures cause { Counts (K.faults keeper.old) (K.faults keeper.new) (result ≡ Err LoadError.StoreFault) }
+    {
+        let count = match keeper.count() {
+            Err(_) => return Err(LoadError::StoreFault),
+            Ok(count) => count,
+        };
+        let mut reading = Reading::new(alloc);
+        match reserve_items(keeper, count, &mut reading) {
+            Err(e) => return Err(e),
+            Ok(()) => {}
+        }
+        let size = match load_items(keeper, count, &mut reading) {
+            Err(e) => return Err(e),
+            Ok(size) => size,
+        };
+        match Memo::new(alloc, MEMO_PAIRS) {
+            Err(_) => Err(LoadError::OutOfMemory),
+            Ok(memo) => Ok(State::of(alloc, reading, memo, count, size)),
+        }
+    }
+
+    /// The commit that a ref names.
+    pub fn head(&self, refname: &RefName) -> Option<Name>
+        ensures head { option_map name_bytes result ≡ head_of self.now.refs refname.now }
+        ensures held { (h : Held) → Spells h self.now →
+            option_map name_bytes result ≡ find bytes_cmp refname.now h.refs }
+    {
+        self.refs.get(refname)
+    }
+}
