@@ -8,4 +8,15 @@ pub mod ItemRuns
 pub mod Stopping
 pub mod WholeLoads
 pub mod Members
+mod Grows
+mod TreeLaw
+mod Walks
+mod StoredCommits
+pub mod Entered
+pub mod Batches
 pub mod TreesFound
+pub mod Brought
+pub mod FreshNames
+pub mod MovedRefs
+pub mod Prepared
+pub mod Cuts

@@ -1,15 +1,54 @@
 -- What comes of a plan that is to be appended.
-use Rattle.std.specs.Prelude.{◌≡◌, ◌≢◌, ◌⊎◌, ◌+◌, ⊤, List, [], ◌∷◌, ◌++◌, length, sum_by, Option, None, Some, Result, Ok, Err}
+use Rattle.std.specs.FinMap.{is_sorted}
+use Rattle.std.specs.Prelude.{◌≡◌, ◌≢◌, ◌⊎◌, ◌+◌, ⊤, T, List, [], ◌∷◌, ◌++◌, length, map, sum_by, Option, None, Some, Result, Ok, Err}
 use Rattle.git_objects.specs.Paths.{Bytes}
+use Rattle.git_objects.specs.Refs.{Refs, bytes_cmp}
+use Rattle.git_objects.specs.Snapshots.{Snapshot}
+use Rattle.git_objects.specs.declared.name.Name.{Name}
+use Rattle.object_store.specs.Objects.{Object, find_named}
+use Rattle.object_store.specs.StoredSnapshots.{snapshot_object}
+use Rattle.fast_import.specs.Replaying.{setting_value}
+use Rattle.fast_import.specs.Standing.{AreBlobsIn}
 use Rattle.proj_io.specs.Items.{Stays, Gets}
 use Rattle.proj_io.specs.Views.{KeeperView}
 use Rattle.proj_io.specs.declared.keeper.KeepError.{KeepError}
 use Rattle.proj_io.specs.declared.keeper.KeepError.TheVariants.{Failed, OutOfMemory as NoMemory}
+use Rattle.history_ground.specs.StoredGraphs.{snapshot_named}
 use Rattle.state_items.specs.Items.{Held}
-use Rattle.state_items.specs.Changes.{Plan, held_after, passed, plan_items}
+use Rattle.state_items.specs.Repos.{repo}
+use Rattle.state_items.specs.Changes.{Plan, change_plan, held_after, objects_of, passed, plan_items}
+use Rattle.state_items.specs.Imported.{AreRefsTo, AreSmall, IsBrought, with_commits}
 use Rattle.repo_ground.specs.Contents.{Contents, Spells, room_in}
-use Rattle.repo_ground.specs.declared.error.CommitError.{CommitError}
-use Rattle.repo_ground.specs.declared.error.CommitError.TheVariants.{StoreFault, Limit, OutOfMemory}
+use Rattle.repo_ground.specs.declared.commit.Batch.{Batch}
+use Rattle.repo_ground.specs.declared.commit.CommitError.{CommitError}
+use Rattle.repo_ground.specs.declared.commit.CommitError.TheVariants.{StoreFault, Limit, OutOfMemory}
+
+-- ---- what a batch brings
+
+-- names of the code stand for these commits over a store: the commit has the name, and its tree is in the store
+abbrev pub AreNamedIn : List Object → List Name → List Snapshot → Type 0
+AreNamedIn S [] [] = ⊤
+AreNamedIn S [] (c ∷ cs) = ⊥
+AreNamedIn S (n ∷ ns) [] = ⊥
+AreNamedIn S (n ∷ ns) (c ∷ cs) = (snapshot_named S n.0 ≡ Some c) × (find_named S n.0 ≡ Some (snapshot_object c)) × AreNamedIn S ns cs
+
+abbrev pub settings_of : Batch → Refs
+settings_of b = map setting_value b.refs.items
+
+-- A batch of these blobs and commits upon a state that has what is held: they are in its store, the commits are whole and of known
+-- blobs, each behind its parents, all within the limits of objects; and the refs, in byte order, get commits that are there or brought.
+pub record IsBatchOf (h : Held) (s : Contents) (b : Batch) (blobs : List Bytes) (cs : List Snapshot) : Type 0 where
+  pub spells : Spells h s
+  pub known : AreBlobsIn s.basis.store b.blobs.items blobs
+  pub named : AreNamedIn s.basis.store b.commits.items cs
+  pub brought : IsBrought h blobs cs
+  pub small : AreSmall blobs cs
+  pub sorted : T (is_sorted bytes_cmp (settings_of b))
+  pub refs : AreRefsTo (with_commits (repo h).commits cs) (settings_of b)
+
+-- what a batch adds
+abbrev pub batch_plan : Held → Batch → List Bytes → List Snapshot → Plan
+batch_plan h b blobs cs = change_plan h (objects_of blobs cs) (settings_of b)
 
 -- ---- what comes of a plan
 
@@ -66,8 +105,3 @@ IsRefusal (Err OutOfMemory) = ⊤
 abbrev pub keep_error : KeepError → CommitError
 keep_error Failed = StoreFault
 keep_error NoMemory = OutOfMemory
-
--- a keeping that was refused, as a change that was
-abbrev pub keep_error_result : Result (Unit {0}) KeepError → Result (Unit {0}) CommitError
-keep_error_result (Ok u) = Ok u
-keep_error_result (Err e) = Err (keep_error e)

@@ -4,3 +4,8 @@ pub mod Steps
 pub mod Changes
 pub mod Moves
 pub mod Laws
+pub mod Growing
+pub mod StoredObjects
+pub mod Entering
+pub mod Moving
+pub mod Drafting

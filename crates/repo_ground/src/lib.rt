@@ -1,14 +1,19 @@
 //! A state that a keeper's items spell, upon which commits are projected.
 #![tactic(auto)]
 
-mod error;
+mod commit;
+mod draft;
+mod enter;
+mod holding;
 mod laws;
 mod loading;
+mod moved;
 mod rule;
 mod state;
 mod view;
+mod walk;
 
-pub use error::CommitError;
+pub use commit::{Batch, CommitError};
 pub use laws::{ground_law, grown_law};
 pub use state::{LoadError, State};
 pub use view::StateView;

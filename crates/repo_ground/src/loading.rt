@@ -1,6 +1,6 @@
 // Reading a keeper's items, one after another.
-ghost use Rattle.std.specs.Prelude.{◌≡◌, ◌≤◌, ◌+◌, ◌^◌, ◌&&◌, ◌↔◌, Ok, Err, true, nat_lt, nat_le, length};
-ghost use Rattle.std.specs.Prelude.{IfOk};
+ghost use Rattle.std.specs.Prelude.{◌≡◌, ◌≤◌, ◌+◌, ◌^◌, ◌&&◌, ◌↔◌, Ok, Err, true};
+ghost use Rattle.std.specs.Prelude.{nat_lt, nat_le, length, IfOk};
 ghost use Rattle.std.specs.Prelude.{◌⊎◌, IfErr, IfSome, IsErr, OnOk, MatchResult, sum_by};
 ghost use Rattle.git_objects.specs.declared.limits.TheConstants.{ITEM_BYTES, ITEMS, STORE_BYTES};
 ghost use Rattle.proj_io.specs.Counts.{Counts};

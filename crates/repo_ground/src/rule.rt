@@ -66,8 +66,8 @@ impl State {
     }
 }
 
-// Why an item wasn't appended.
-fn keep_error(error: KeepError) -> CommitError
+/// Why an item wasn't appended.
+pub(crate) fn keep_error(error: KeepError) -> CommitError
     ensures { result ≡ keep_error error }
 {
     match error {

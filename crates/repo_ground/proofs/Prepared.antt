@@ -1,0 +1,258 @@
+-- What a batch brings, as it is held and entered.
+use Rattle.std.proofs.Common.{◌≡◌, ◌+◌, ℕ, suc, Bool, true, false, cond, ◌&&◌, List, [], ◌∷◌, ◌++◌, length, map, filter, reverse, drop, Option, Some, None, Err, refl, sym, ap, subst, ◌∙◌, arith, true≢false}
+use Rattle.std.specs.Prelude.{nat_le}
+use Rattle.std.specs.Cmp.{first_so}
+use Rattle.std.proofs.Math.Seq.{drop-append_seam}
+use Rattle.std.proofs.lemmas.List.{map-append, reverse-append, reverse-reverse}
+use Rattle.std.proofs.lemmas.List.Elements.{All-contains}
+use Rattle.std.proofs.lemmas.Option.{none-some}
+use Rattle.git_objects.specs.Paths.{Bytes, is_nil}
+use Rattle.git_objects.specs.Parts.{name_bytes}
+use Rattle.git_objects.specs.Refs.{Refs}
+use Rattle.git_objects.specs.Snapshots.{Snapshot}
+use Rattle.git_objects.specs.declared.limits.TheConstants.{COMMITS, OBJECTS}
+use Rattle.git_objects.specs.declared.name.Name.{Name}
+use Rattle.git_objects.specs.declared.quantity.Quantity.{Quantity}
+use Rattle.git_objects.specs.declared.quantity.Quantity.TheVariants as limits
+use Rattle.commit_graph.specs.Graphs.{Row}
+use Rattle.object_store.specs.Fits.{is_commit}
+use Rattle.object_store.specs.Objects.{Object, IsStore, find_named, has, object_name}
+use Rattle.object_store.proofs.Parts.{AreIn, found-has}
+use Rattle.object_store.specs.StoredSnapshots.{snapshot_object}
+use Rattle.git_objects.specs.declared.kind.Kind.TheVariants.{Commit as CommitKind}
+use Rattle.std.specs.List.{list_all}
+use Rattle.history_ground.specs.Grounds.{IsGround}
+use Rattle.history_ground.specs.StoredGraphs.{IsGraphIn}
+use Rattle.state_items.specs.Arrivals.{AreHeld, AreNamed}
+use Rattle.state_items.specs.Appending.{IsAddition}
+use Rattle.state_items.specs.Changes.{ChangePlan, NoPlan, Plan, fresh, held_after, moved, objects_of, or_else, passed, passed_by_item, passed_by_objects, plan_items, with_refs}
+use Rattle.state_items.specs.Items.{Held, change_text, has_room}
+use Rattle.state_items.specs.Writings.{found}
+use Rattle.state_items.proofs.Limits.{change-law}
+use Rattle.state_items.proofs.Naming.{names-number}
+use Rattle.state_items.proofs.TreeParts.{all-each}
+use Rattle.repo_ground.specs.Changes.{AreNamedIn, IsBatchOf, batch_plan, settings_of}
+use Rattle.repo_ground.specs.Contents.{Contents, Spells, room_in}
+use Rattle.repo_ground.specs.Drafting.{HasMore, IsDraft, IsItemOf, IsNoDraft, passed_with}
+use Rattle.repo_ground.specs.Entering.{IsFront, with_all}
+use Rattle.repo_ground.specs.Growing.{AreFed, Extends, IsReady, IsStep, grown, held_of}
+use Rattle.repo_ground.specs.Moving.{moves_in, with_heads}
+use Rattle.repo_ground.specs.declared.commit.Batch.{Batch}
+use Rattle.repo_ground.specs.declared.commit.CommitError.{CommitError}
+use Rattle.repo_ground.specs.declared.commit.CommitError.TheVariants.{StoreFault, Limit, OutOfMemory}
+use Rattle.repo_ground.specs.declared.draft.Draft.{Draft}
+use Rattle.repo_ground.proofs.Batches.{fed-from}
+use Rattle.repo_ground.proofs.Brought.{batch-found, batch-new, batch-ready, held-named, held-own}
+use Rattle.repo_ground.proofs.FreshNames.{AreFreshNames, fed-fresh, fresh-names, names-fresh}
+use Rattle.repo_ground.proofs.Grows.{grown-fresh, named-in}
+use Rattle.repo_ground.proofs.MovedRefs.{moves-same, heads-after, heads-distinct, heads-sorted}
+use Rattle.repo_ground.proofs.RowsGround.{rows_ground}
+use Rattle.repo_ground.proofs.Rules.{commits-number}
+
+-- ---- numbers
+
+filter-append : {A : Type 0} (p : A → Bool) (xs ys : List A) → length (filter p (xs ++ ys)) ≡ length (filter p xs) + length (filter p ys)
+filter-append p [] ys = let f : length (filter p ys) ≡ 0 + length (filter p ys) = omega arith in f
+filter-append p (x ∷ xs) ys =
+    elim (p x) as (λ b. length (cond b (x ∷ filter p (xs ++ ys)) (filter p (xs ++ ys))) ≡ length (cond b (x ∷ filter p xs) (filter p xs)) + length (filter p ys)) [
+      | true ↦ let f : suc (length (filter p (xs ++ ys))) ≡ suc (length (filter p xs)) + length (filter p ys) = omega (arith, filter-append p xs ys) in f
+      | false ↦ filter-append p xs ys
+    ]
+
+filter-reverse : {A : Type 0} (p : A → Bool) (xs : List A) → length (filter p (reverse xs)) ≡ length (filter p xs)
+filter-reverse p [] = refl
+filter-reverse p (x ∷ xs) =
+    ap (λ (t : List _). length (filter p t)) (reverse-append (x ∷ []) xs)
+    ∙ filter-append p (reverse xs) (x ∷ [])
+    ∙ (let f : length (filter p (reverse xs)) + length (filter p (x ∷ [])) ≡ length (filter p (x ∷ [])) + length (filter p xs) = omega (arith, filter-reverse p xs) in f)
+    ∙ sym (filter-append p (x ∷ []) xs)
+
+both-true : (a b : Bool) → a ≡ true → b ≡ true → (a && b) ≡ true
+both-true a b p q = ap (λ x. x && b) p ∙ q
+
+or-none : (b : Bool) (q : Quantity) (later : Option Quantity) → or_else b q later ≡ None → (b ≡ true) × (later ≡ None)
+or-none true q later e = (refl, e)
+or-none false q later e = absurd (none-some q (sym e))
+
+-- where no limit is passed, there is room
+passes-room : (S : List Object) (later : Option Quantity) → passed_by_objects S later ≡ None → has_room S ≡ true
+passes-room S later e =
+    let a = or-none (nat_le (length (filter is_commit S)) COMMITS) limits.Commits (or_else (nat_le (length S) OBJECTS) limits.Objects later) e in
+    both-true _ _ (or-none (nat_le (length S) OBJECTS) limits.Objects later a.1).0 a.0
+
+-- ---- more of a state
+
+pub front-map : {A B : Type 0} (f : A → B) (xs ys : List A) → IsFront xs ys → IsFront (map f xs) (map f ys)
+front-map f xs ys e = (map f e.0, ap (map f) e.1 ∙ map-append f xs e.0)
+
+pub has-more : (v now : Contents) (names blobs : List Bytes) (graph : List Row) → v ≡ now → IsFront v.names names → IsFront v.blobs blobs → IsFront v.basis.graph graph
+    → HasMore now (record v { basis = record v.basis { graph = graph }; blobs = blobs; names = names })
+has-more v now names blobs graph e a b d = subst (λ (x : Contents). HasMore x (record v { basis = record v.basis { graph = graph }; blobs = blobs; names = names })) e (record { names = a; blobs = b; commits = d; same = refl })
+
+-- the commits of a batch are in the store
+pub commits-there : (S : List Object) (names : List Name) (cs : List Snapshot) → AreNamedIn S names cs → list_all (has CommitKind S) (map name_bytes names) ≡ true
+commits-there S [] [] h = refl
+commits-there S [] (c ∷ cs) h = absurd h
+commits-there S (n ∷ names) [] h = absurd h
+commits-there S (n ∷ names) (c ∷ cs) h = both-true (has CommitKind S n.0) _ (found-has S CommitKind n.0 (snapshot_object c) h.1 refl).0 (commits-there S names cs h.2)
+
+nils : {A B : Type 0} (xs : List A) (ys : List B) → length xs ≡ length ys → is_nil xs ≡ is_nil ys
+nils [] [] e = refl
+nils [] (y ∷ ys) e = absurd (omega (arith, e))
+nils (x ∷ xs) [] e = absurd (omega (arith, e))
+nils (x ∷ xs) (y ∷ ys) e = refl
+
+nil-none : {A : Type 0} (xs : List A) → is_nil xs ≡ true → xs ≡ []
+nil-none [] e = refl
+nil-none (x ∷ xs) e = absurd (true≢false (sym e))
+
+append-none : {A : Type 0} (xs : List A) → xs ++ [] ≡ xs
+append-none [] = refl
+append-none (x ∷ xs) = ap (λ (t : List _). x ∷ t) (append-none xs)
+
+-- ---- what is held in addition
+
+-- names of the new objects, behind those of what was held
+pub record AreNews (h : Held) (s : Contents) (fs : List Object) (names new : List Name) : Type 0 where
+  pub fresh : AreFreshNames s.basis.store h.objects names fs
+  pub behind : AreNamed (reverse fs ++ h.objects) new
+  pub within : AreIn s.basis.store (reverse fs ++ h.objects)
+  pub commits : length s.basis.graph + length (filter is_commit (found s.basis.store names)) ≡ length (filter is_commit (reverse fs ++ h.objects))
+  pub objects : length new ≡ length (reverse fs ++ h.objects)
+
+module _ (h : Held) (s : Contents) (b : Batch) (blobs : List Bytes) (cs : List Snapshot) (w : IsBatchOf h s b blobs cs) (t : IsStore s.basis.store) where
+  abbrev S : List Object
+  S = s.basis.store
+
+  abbrev H : List Object
+  H = h.objects
+
+  abbrev os : List Object
+  os = objects_of blobs cs
+
+  abbrev fs : List Object
+  fs = fresh H os
+
+  pub are-news : (old new : List Name) → s.names ≡ map name_bytes old → IsStep S old new os [] → Extends old new → AreNews h s fs (drop (length old) new) new
+  are-news old new own step ext =
+      let more : List Name = ext.0 in
+      let same : held_of S new ≡ reverse fs ++ H = step.same ∙ ap (λ (T : List Object). grown T os) (held-own h s old w.spells own) ∙ grown-fresh H os in
+      let behind : AreNamed (reverse fs ++ H) new = subst (λ (T : List Object). AreNamed T new) same step.ready.holds.named in
+      let named : map name_bytes more ≡ map object_name fs = names-fresh H fs old more (held-named h s old w.spells own) (subst (λ (ns : List Name). AreNamed (reverse fs ++ H) ns) ext.1 behind) in
+      let fed : AreFed S H os = fed-from S H os w.spells.store (batch-new h s b blobs cs w t) (batch-found h s b blobs cs w t) in
+      let one = fresh-names S H more fs w.spells.store (batch-new h s b blobs cs w t) (fed-fresh S H os fed) named in
+      let news : more ≡ drop (length old) new = sym (ap (drop (length old)) ext.1 ∙ drop-append_seam old more) in
+      let at : AreFreshNames S H (drop (length old) new) fs = subst (λ (ns : List Name). AreFreshNames S H ns fs) news one in
+      let f = ap (λ (xs : List Object). length (filter is_commit xs)) at.found in
+      let k = commits-number h s w.spells in
+      let x = filter-append is_commit (reverse fs) H in
+      let y = filter-reverse is_commit fs in
+      record {
+        fresh = at;
+        behind = behind;
+        within = subst (AreIn S) same (named-in S (reverse (map name_bytes new)));
+        commits = omega (arith, f, k, x, y);
+        objects = names-number (reverse fs ++ H) new behind;
+      }
+
+  module _ (old new names : List Name) (own : s.names ≡ map name_bytes old) (step : IsReady S old os → IsStep S old new os []) (ext : Extends old new) (en : names ≡ drop (length old) new) where
+    pub news-of : AreNews h s fs names new
+    news-of = subst (λ (ns : List Name). AreNews h s fs ns new) (sym en) (are-news old new own (step (batch-ready h s b blobs cs w t old own)) ext)
+
+    pub behind-old : new ≡ old ++ names
+    behind-old = ext.1 ∙ ap (λ (t : List Name). old ++ t) (sym (en ∙ ap (drop (length old)) ext.1 ∙ drop-append_seam old ext.0))
+
+    -- all of it is held where it was entered behind what was held
+    pub held-with : (known : List Name) (graph : List Row) → AreHeld (with_all S H names) (old ++ names) graph known → AreHeld (reverse fs ++ H) new graph known
+    held-with known graph a = subst (λ (T : List Object). AreHeld T new graph known) news-of.fresh.all (subst (λ (ns : List Name). AreHeld (with_all S H names) ns graph known) (sym behind-old) a)
+
+  abbrev ms : Refs
+  ms = moved h.refs (settings_of b)
+
+  -- ---- what is entered
+
+  pub held-before : (old known : List Name) → s.names ≡ map name_bytes old → s.blobs ≡ map name_bytes known → AreHeld H old s.basis.graph known
+  held-before old known own k = record {
+    whole = w.spells.store;
+    named = held-named h s old w.spells own;
+    graph = w.spells.graph;
+    known = sym k ∙ w.spells.known;
+    room = w.spells.room;
+  }
+
+  pub room-with : (number size : ℕ) (text : Bytes) → passed_with (reverse fs ++ H) number size text ≡ None → has_room (reverse fs ++ H) ≡ true
+  room-with number size text e = passes-room (reverse fs ++ H) (passed_by_item (record { number = number; size = size }) text) e
+
+  -- ---- the plan
+
+  pub some-plan : (is_nil fs && is_nil ms) ≡ false → batch_plan h b blobs cs ≡ ChangePlan fs ms
+  some-plan e = ap (λ t. cond t NoPlan (ChangePlan fs ms)) e
+
+  pub no-plan : (is_nil fs && is_nil ms) ≡ true → batch_plan h b blobs cs ≡ NoPlan
+  no-plan e = ap (λ t. cond t NoPlan (ChangePlan fs ms)) e
+
+  -- the state that has what the plan says
+  pub spells-after : (names new known : List Name) (graph : List Row) → batch_plan h b blobs cs ≡ ChangePlan fs ms → AreNews h s fs names new → AreHeld (reverse fs ++ H) new graph known
+      → Spells (held_after h (ChangePlan fs ms)) (record s { basis = record s.basis { graph = graph }; refs = with_heads s.refs ms; blobs = map name_bytes known; names = map name_bytes new })
+  spells-after names new known graph e n a =
+      let add : IsAddition h (ChangePlan fs ms) = subst (IsAddition h) e (change-law h blobs cs (settings_of b) w.brought w.small w.refs) in
+      let u = w.spells in
+      record {
+        store = a.whole;
+        room = a.room;
+        within = λ o m. All-contains (λ x. find_named S (object_name x) ≡ Some x) (reverse fs ++ H) o (all-each (λ x. find_named S (object_name x) ≡ Some x) (reverse fs ++ H) n.within) m;
+        names = sym (reverse-reverse (map name_bytes new)) ∙ ap reverse a.named;
+        graph = a.graph;
+        known = a.known;
+        distinct = heads-distinct s.refs ms u.distinct;
+        refs = heads-sorted s.refs ms u.distinct ∙ ap (λ (m : Refs). with_refs m ms) u.refs;
+        heads = heads-after H (reverse fs) ms h.refs add.1 u.heads;
+        entries = u.entries;
+        few = u.few;
+        rule = u.rule;
+      }
+
+  pub ground-after : (names new known : List Name) (graph : List Row) → IsGround s.basis → AreNews h s fs names new → AreHeld (reverse fs ++ H) new graph known → IsGround (record s.basis { graph = graph })
+  ground-after names new known graph g n a = record {
+    graph = subst (IsGraphIn S) (sym a.graph) (rows_ground S (reverse fs ++ H) t a.whole (λ o m. All-contains (λ x. find_named S (object_name x) ≡ Some x) (reverse fs ++ H) o (all-each (λ x. find_named S (object_name x) ≡ Some x) (reverse fs ++ H) n.within) m));
+    memo = g.memo;
+  }
+
+  module _ (names new : List Name) (n : AreNews h s fs names new) (rs : Refs) (re : rs ≡ filter (moves_in s.refs) (settings_of b)) where
+    pub refs-are : rs ≡ ms
+    refs-are = re ∙ moves-same s.refs h.refs (settings_of b) w.spells.distinct w.spells.refs w.sorted
+
+    says : (is_nil names && is_nil rs) ≡ (is_nil fs && is_nil ms)
+    says = λ i. nils names fs n.fresh.number i && is_nil (refs-are i)
+
+    pub something-new : (is_nil names && is_nil rs) ≡ false → batch_plan h b blobs cs ≡ ChangePlan fs ms
+    something-new e = some-plan (sym says ∙ e)
+
+    pub nothing-new : (old : List Name) → new ≡ old ++ names → (is_nil names && is_nil rs) ≡ true → (batch_plan h b blobs cs ≡ NoPlan) × (new ≡ old)
+    nothing-new old f e = (no-plan (sym says ∙ e), f ∙ ap (λ (t : List Name). old ++ t) (nil-none names (first_so (is_nil names) _ e)) ∙ append-none old)
+
+    -- the limits and the item, as they were worked out
+    pub passed-is : (text : Bytes) → batch_plan h b blobs cs ≡ ChangePlan fs ms → text ≡ change_text (found S names) rs
+        → passed h (room_in s) (batch_plan h b blobs cs) ≡ passed_with (reverse fs ++ H) s.number s.size text
+    passed-is text e f =
+        ap (passed h (room_in s)) e
+        ∙ ap (λ (x : Bytes). passed_with (reverse fs ++ H) s.number s.size x) (sym (f ∙ (λ i. change_text (n.fresh.found i) (refs-are i))))
+
+    pub no-draft-is : (e : CommitError) → batch_plan h b blobs cs ≡ ChangePlan fs ms → IsItemOf (passed_with (reverse fs ++ H) s.number s.size (change_text (found S names) rs)) (change_text (found S names) rs) (Err e)
+        → IsNoDraft h (batch_plan h b blobs cs) s e
+    no-draft-is StoreFault e made = made
+    no-draft-is (Limit q) e made = passed-is (change_text (found S names) rs) e refl ∙ made
+    no-draft-is OutOfMemory e made = tt
+
+    pub draft-is : (known : List Name) (graph : List Row) (d : Draft) → IsGround s.basis → AreHeld (reverse fs ++ H) new graph known → batch_plan h b blobs cs ≡ ChangePlan fs ms
+        → passed_with (reverse fs ++ H) s.number s.size (change_text (found S names) rs) ≡ None → d.item.items ≡ change_text (found S names) rs → d.refs ≡ with_heads s.refs rs
+        → IsDraft h (batch_plan h b blobs cs) s (record s { basis = record s.basis { graph = graph }; blobs = map name_bytes known; names = map name_bytes new }) d
+    draft-is known graph d g a e fits item refs = record {
+      fits = passed-is (change_text (found S names) rs) e refl ∙ fits;
+      item = ap plan_items e ∙ ap (λ (t : Bytes). t ∷ []) (sym (item ∙ (λ i. change_text (n.fresh.found i) (refs-are i))));
+      spells =
+          subst (λ (p : Plan). Spells (held_after h p) (record s { basis = record s.basis { graph = graph }; refs = d.refs; blobs = map name_bytes known; names = map name_bytes new })) (sym e)
+          (subst (λ (r : Refs). Spells (held_after h (ChangePlan fs ms)) (record s { basis = record s.basis { graph = graph }; refs = r; blobs = map name_bytes known; names = map name_bytes new }))
+          (sym (refs ∙ ap (with_heads s.refs) refs-are)) (spells-after names new known graph e n a));
+      ground = ground-after names new known graph g n a;
+    }

@@ -1,0 +1,179 @@
+// Committing what a command brings.
+ghost use Rattle.std.specs.Prelude.{◌≡◌, ◌≢◌, ◌↔◌, ◌≤◌, List, length, IsErrOf, MatchResult};
+ghost use Rattle.git_objects.specs.Paths.{Bytes};
+ghost use Rattle.git_objects.specs.Snapshots.{Snapshot};
+ghost use Rattle.history_ground.specs.Grounds.{IsGround};
+ghost use Rattle.proj_io.specs.Counts.{Counts};
+ghost use Rattle.proj_io.specs.Stops.{OnlyAdds, IsPresent};
+ghost use Rattle.proj_io.specs.Views.{keeper_view};
+ghost use Rattle.state_items.specs.Items.{Held};
+ghost use Rattle.repo_ground.specs.Drafting.{HasMore, cut_to, IsDraftOrNot, IsNoDraft};
+ghost use Rattle.repo_ground.specs.Changes.{Appends, IsBatchOf, batch_plan};
+ghost use Rattle.repo_ground.specs.Changes.{IsCommitted, IsRefusal, IsRefused, IsStopOf};
+
+use crate::State;
+use crate::draft::{Draft, Meter, is_nothing, item_within, names_from};
+use crate::enter::enter;
+use crate::holding::hold_batch;
+use crate::moved::{moved, with_moved};
+use crate::rule::keep_error;
+use fast_import::Setting;
+use git_objects::{Name, Quantity};
+use proj_io::Keeper;
+use std::alloc::AllocError;
+
+/// What is to be committed: names of objects in the state's store, and refs.
+#[derive(Drop)]
+pub struct Batch {
+    /// Blobs in the order in which they were read.
+    pub blobs: Vec<Name>,
+    /// Commits in order, parents before children.
+    pub commits: Vec<Name>,
+    /// In the byte order of the ref names, each once.
+    pub refs: Vec<Setting>,
+}
+
+/// Why nothing is committed.
+#[derive(Clone, Copy, Debug, PartialEq, Eq)]
+pub enum CommitError {
+    /// The keeper failed. It may have the item or not, and the state is of no more use.
+    StoreFault,
+    /// The state would pass a limit, and is as before.
+    Limit { which: Quantity },
+    /// There was no memory, and the state is as before.
+    OutOfMemory,
+}
+
+impl From<AllocError> for CommitError {
+    ghost use Rattle.std.specs.Prelude.{◌≡◌};
+    ghost use Rattle.repo_ground.specs.declared.commit.CommitError.TheVariants.{OutOfMemory};
+
+    ghost from_gives = { λ _ error. error ≡ OutOfMemory };
+
+    fn from(_error: AllocError) -> CommitError {
+        CommitError::OutOfMemory
+    }
+}
+
+// How many names, blobs and commits there are.
+#[derive(Clone, Copy)]
+struct Mark {
+    names: usize,
+    blobs: usize,
+    commits: u32,
+}
+
+impl State {
+    /// Appends one item with all that the batch brings and no item holds: its blobs, then commit by commit the trees,
+    /// each after what it names and these in the order of its body, and the commit; and the refs whose commit
+    /// changes, in byte order. A batch that changes nothing appends nothing.
+    ///
+    /// All memory is taken before the item is appended.
+    pub fn commit<K: Keeper>(&mut self, keeper: &mut K, batch: Batch) -> Result<(), CommitError>
+        requires open { K.is_open keeper.old }
+        requires number { self.old.number ≡ K.number keeper.old }
+        requires ground { IsGround self.old.basis }
+        requires batch { (h : Held) × (blobs : List Bytes) × (cs : List Snapshot) ×
+            IsBatchOf h self.old batch blobs cs }
+        ensures state { (h : Held) (blobs : List Bytes) (cs : List Snapshot) → IsBatchOf h self.old batch blobs cs →
+            MatchResult result
+            (λ _. IsCommitted h (batch_plan h batch blobs cs) self.old self.new × IsGround self.new.basis)
+            (λ e. IsRefused h (batch_plan h batch blobs cs) self.old self.new e) }
+        ensures items { let seen = keeper_view K.items K.number K.faults in
+            (h : Held) (blobs : List Bytes) (cs : List Snapshot) → IsBatchOf h self.old batch blobs cs →
+            Appends (batch_plan h batch blobs cs) (seen keeper.old) (seen keeper.new) result }
+        ensures is_open { MatchResult result (λ _. K.is_open keeper.new) (λ e. e ≢ CommitError.StoreFault →
+            K.is_open keeper.new) }
+        ensures told { K.tells keeper.new ↔ K.tells keeper.old }
+        // A stop during the call leaves the items, or these with the plan's item behind them.
+        ensures stops { (h : Held) (blobs : List Bytes) (cs : List Snapshot) → IsBatchOf h self.old batch blobs cs →
+            OnlyAdds (K.moment keeper.old) (K.moment keeper.new) (K.left_since keeper.old) (K.left_since keeper.new)
+            (IsStopOf h self.old (batch_plan h batch blobs cs) (K.items keeper.old)) }
+        ensures stops_refused { IsRefusal result → OnlyAdds (K.moment keeper.old) (K.moment keeper.new)
+            (K.left_since keeper.old) (K.left_since keeper.new) (IsPresent (K.items keeper.old)) }
+        ensures cause { Counts (K.faults keeper.old) (K.faults keeper.new) (IsErrOf result CommitError.StoreFault) }
+    {
+        let mark = self.mark();
+        match self.prepare(&batch) {
+            Err(error) => {
+                self.cut_back(mark);
+                Err(error)
+            }
+            Ok(None) => Ok(()),
+            Ok(Some(draft)) => match keeper.append(&draft.item) {
+                Err(error) => {
+                    self.cut_back(mark);
+                    Err(keep_error(error))
+                }
+                Ok(()) => {
+                    self.number += 1;
+                    self.size += draft.item.len() as u64;
+                    self.refs = draft.refs;
+                    Ok(())
+                }
+            },
+        }
+    }
+
+    fn mark(&self) -> Mark
+        ensures names { result.names ≡ length self.now.names }
+        ensures blobs { result.blobs ≡ length self.now.blobs }
+        ensures commits { result.commits ≡ length self.now.basis.graph }
+    {
+        Mark {
+            names: self.held.len(),
+            blobs: self.blobs.len(),
+            commits: self.ground.graph.len(),
+        }
+    }
+
+    // Leaves the first names, blobs and commits.
+    fn cut_back(&mut self, mark: Mark)
+        requires { mark.commits ≤ length self.old.basis.graph }
+        ensures { self.new ≡ cut_to mark.names mark.blobs mark.commits self.old }
+    {
+        self.held.truncate(mark.names);
+        self.blobs.truncate(mark.blobs);
+        self.ground.graph.truncate(mark.commits);
+    }
+
+    // Holds and enters what the batch brings, and works out its item and the refs behind it. None: nothing is new.
+    // After an error some of it may be held and entered.
+    fn prepare(&mut self, batch: &Batch) -> Result<Option<Draft>, CommitError>
+        requires ground { IsGround self.old.basis }
+        requires batch { (h : Held) × (blobs : List Bytes) × (cs : List Snapshot) ×
+            IsBatchOf h self.old batch.now blobs cs }
+        ensures prepared { (h : Held) (blobs : List Bytes) (cs : List Snapshot) →
+            IsBatchOf h self.old batch.now blobs cs → let p = batch_plan h batch.now blobs cs in MatchResult result
+            (λ d. IsDraftOrNot h p self.old self.new d) (λ e. IsNoDraft h p self.old e) }
+        ensures more { HasMore self.old self.new }
+    {
+        let before = self.held.len();
+        hold_batch(self.alloc, &self.ground.store, &mut self.held, batch)?;
+        let moved = moved(self.alloc, &self.refs, &batch.refs)?;
+        let names = names_from(&self.held, before);
+        if is_nothing(names, &moved) {
+            return Ok(None);
+        }
+        let meter = Meter {
+            commits: self.ground.graph.len(),
+            objects: self.held.len(),
+            number: self.number,
+            size: self.size,
+        };
+        let item = match item_within(self.alloc, &self.ground.store, names, &moved, meter) {
+            Err(error) => return Err(error),
+            Ok(item) => item,
+        };
+        let refs = with_moved(self.alloc, &self.refs, &moved)?;
+        let graph = &mut self.ground.graph;
+        enter(
+            self.alloc,
+            &self.ground.store,
+            graph,
+            &mut self.blobs,
+            names,
+        )?;
+        Ok(Some(Draft { item, refs }))
+    }
+}

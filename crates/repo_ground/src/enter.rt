@@ -1,0 +1,110 @@
+// Entering new objects among the commits and the known blobs.
+ghost use Rattle.std.specs.Prelude.{◌≡◌, ◌<◌, ◌^◌, ◌++◌, List, None, Some, true, false, map};
+ghost use Rattle.std.specs.Prelude.{length, All, IfOk, OnOk};
+ghost use Rattle.std.specs.List.{list_all, list_any};
+ghost use Rattle.std.specs.Option.{is_some};
+ghost use Rattle.git_objects.specs.Paths.{same_bytes};
+ghost use Rattle.git_objects.specs.CommitBodies.{commit_from};
+ghost use Rattle.git_objects.specs.Names.{name};
+ghost use Rattle.git_objects.specs.Parts.{name_bytes};
+ghost use Rattle.commit_graph.specs.Graphs.{place_of};
+ghost use Rattle.object_store.specs.Objects.{Object, find_named, object_name};
+ghost use Rattle.state_items.specs.Arrivals.{AreHeld, HasArrived, HasParents, place_in, with_blob_name, with_row};
+ghost use Rattle.repo_ground.specs.Entering.{AreNewIn, IsFront, with_all};
+
+use commit_graph::Graph;
+use git_objects::{CommitView, Kind, Name};
+use indexmap::IndexSet;
+use object_store::Store;
+use std::alloc::{AllocError, Global};
+
+// The places of a commit's parents.
+fn parent_places(
+    alloc: Global,
+    graph: &Graph,
+    commit: &CommitView<'_>,
+) -> Result<Vec<u32>, AllocError>
+    requires { list_all (λ p. is_some (place_of p graph.now)) commit.now.parents ≡ true }
+    ensures places { IfOk result (λ v. v.items ≡ map (place_in graph.now) commit.now.parents) }
+    ensures within { IfOk result (λ v. All (λ p. p < length graph.now) v.items) }
+{
+    let mut places = Vec::new(alloc);
+    for i in 0..commit.parent_count() {
+        match commit.parent(i) {
+            None => unreachable!(),
+            Some(parent) => match graph.index_of(&parent) {
+                None => unreachable!(),
+                Some(place) => places.push(place)?,
+            },
+        }
+    }
+    Ok(places)
+}
+
+// Enters a commit behind the others.
+fn enter_commit(alloc: Global, graph: &mut Graph, key: Name, body: &[u8]) -> Result<(), AllocError>
+    requires parents { HasParents graph.old (commit_from body.now) }
+    requires named { key.0 ≡ name Kind.Commit body.now }
+    requires fresh { place_of key.0 graph.old ≡ None }
+    requires room { length graph.old < 2 ^ 30 }
+    ensures rows { OnOk result (graph.new ≡ with_row graph.old Kind.Commit body.now) }
+    ensures front { IsFront graph.old graph.new }
+{
+    match CommitView::of(body) {
+        None => Ok(()),
+        Some(commit) => {
+            let parents = parent_places(alloc, graph, &commit)?;
+            graph.add(key, commit.tree(), parents)
+        }
+    }
+}
+
+// Enters an object of the store: a commit behind the others, a blob's name behind the others.
+fn enter_one(
+    alloc: Global,
+    store: &Store,
+    graph: &mut Graph,
+    blobs: &mut IndexSet<Name>,
+    key: Name,
+) -> Result<(), AllocError>
+    requires arrived { (o : Object) × (find_named store.now key.0 ≡ Some o) × (key.0 ≡ object_name o) ×
+        HasArrived graph.old (map name_bytes blobs.old.keys) o.kind o.body }
+    ensures rows { OnOk result ((o : Object) → find_named store.now key.0 ≡ Some o →
+        graph.new ≡ with_row graph.old o.kind o.body) }
+    ensures blobs { OnOk result ((o : Object) → find_named store.now key.0 ≡ Some o →
+        map name_bytes blobs.new.keys ≡ with_blob_name (map name_bytes blobs.old.keys) o.kind o.body) }
+    ensures front { IsFront graph.old graph.new × IsFront blobs.old.keys blobs.new.keys }
+{
+    match store.get(&key) {
+        None => Ok(()),
+        Some(object) => match object.kind {
+            Kind::Blob => {
+                blobs.insert(key)?;
+                Ok(())
+            }
+            Kind::Tree => Ok(()),
+            Kind::Commit => enter_commit(alloc, graph, key, object.body),
+        },
+    }
+}
+
+/// Enters the objects of these names, one after another. After want of memory the first of them may be entered.
+pub(crate) fn enter(
+    alloc: Global,
+    store: &Store,
+    graph: &mut Graph,
+    blobs: &mut IndexSet<Name>,
+    names: &[Name],
+) -> Result<(), AllocError>
+    requires new { (H : List Object) × (held : List Name) × AreHeld H held graph.old blobs.old.keys ×
+        AreNewIn store.now H names.now }
+    ensures entered { OnOk result ((H : List Object) (held : List Name) → AreHeld H held graph.old blobs.old.keys →
+        AreNewIn store.now H names.now →
+        AreHeld (with_all store.now H names.now) (held ++ names.now) graph.new blobs.new.keys) }
+    ensures front { IsFront graph.old graph.new × IsFront blobs.old.keys blobs.new.keys }
+{
+    for name in names {
+        enter_one(alloc, store, graph, blobs, *name)?;
+    }
+    Ok(())
+}
