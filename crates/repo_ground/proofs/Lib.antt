@@ -2,6 +2,7 @@ pub mod RowsGround
 pub mod GroundLaws
 pub mod GrownLaws
 pub mod Rules
+pub mod Keeping
 pub mod RefsFound
 pub mod StatesRead
 pub mod ItemRuns
@@ -20,3 +21,4 @@ pub mod FreshNames
 pub mod MovedRefs
 pub mod Prepared
 pub mod Cuts
+pub mod MapFronts

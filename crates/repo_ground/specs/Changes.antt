@@ -105,3 +105,8 @@ IsRefusal (Err OutOfMemory) = ⊤
 abbrev pub keep_error : KeepError → CommitError
 keep_error Failed = StoreFault
 keep_error NoMemory = OutOfMemory
+
+-- a keeping that was refused, as a change that was
+abbrev pub keep_error_result : Result (Unit {0}) KeepError → Result (Unit {0}) CommitError
+keep_error_result (Ok u) = Ok u
+keep_error_result (Err e) = Err (keep_error e)

@@ -1,8 +1,10 @@
 pub mod Contents
 pub mod Loads
 pub mod Steps
+pub mod Selecting
 pub mod Changes
 pub mod Moves
+pub mod Keeping
 pub mod Laws
 pub mod Growing
 pub mod StoredObjects

@@ -13,14 +13,17 @@ ghost use Rattle.proj_io.specs.Stops.{OnlyAdds, Nothing};
 ghost use Rattle.ref_store.specs.Refs.{head_of};
 ghost use Rattle.state_items.specs.Items.{Held, nothing, read_items};
 ghost use Rattle.state_items.specs.Readings.{Holds};
-ghost use Rattle.repo_ground.specs.Contents.{Spells};
+ghost use Rattle.commit_map.specs.Rules.{rule_number};
+ghost use Rattle.repo_ground.specs.Contents.{Spells, is_selected};
 ghost use Rattle.repo_ground.specs.Loads.{IsLoaded, IsLoadFault};
+ghost use Rattle.repo_ground.specs.Selecting.{IsSelected};
 
 use crate::loading::{load_items, reserve_items};
+use crate::selecting::put_back;
 use commit_map::{CommitMap, Rule};
 use filter_cache::Memo;
 use filter_routes::Tables;
-use filter_text::Filter;
+use filter_text::{Filter, print};
 use git_objects::Name;
 use history_ground::Ground;
 use indexmap::IndexSet;
@@ -191,5 +194,41 @@ impl State {
             option_map name_bytes result ≡ find bytes_cmp refname.now h.refs }
     {
         self.refs.get(refname)
+    }
+
+    /// Makes the ground's map that of a filter under the ground's rule, with the entries that items hold, unless it is
+    /// that already. After want of memory the state is of no more use.
+    pub fn select(&mut self, filter: &Filter) -> Result<(), AllocError>
+        ensures { OnOk result (IsSelected (printed (shape filter.now)) self.old self.new) }
+    {
+        let text = print(self.alloc, filter)?;
+        if self.is_selected(&text) {
+            return Ok(());
+        }
+        let rule = self.ground.rule;
+        let empty = CommitMap::new(self.alloc);
+        let found = match self.maps.set(&text, rule, empty)? {
+            None => CommitMap::new(self.alloc),
+            Some(found) => found,
+        };
+        let kept = found.len();
+        let map = std::mem::replace(&mut self.ground.map, found);
+        let selected = Some(Selected { text, rule });
+        let last = std::mem::replace(&mut self.selected, selected);
+        put_back(self.alloc, &mut self.maps, last, map, self.kept)?;
+        self.kept = kept;
+        Ok(())
+    }
+
+    // Whether the ground's map is that of the filter with that text under the ground's rule.
+    fn is_selected(&self, text: &[u8]) -> bool
+        ensures { result ≡ is_selected self.now.selected text.now (rule_number self.now.basis.rule) }
+    {
+        match &self.selected {
+            None => false,
+            Some(last) => {
+                last.text.as_slice() == text && last.rule.number() == self.ground.rule.number()
+            }
+        }
     }
 }

@@ -1,0 +1,11 @@
+use Rattle.std.proofs.Common.{◌≡◌, ◌≤◌, ◌^◌, ◌+◌, drop, length}
+use Rattle.std.specs.List.{flat_map}
+use Rattle.commit_map.specs.Shown.{entry_values}
+use Rattle.state_items.specs.Items.{entry_text}
+use Rattle.repo_ground.proofs.keep.add_entries.Given as goal
+
+abbrev pub invariant-loop-entry : goal.invariant-loop-entry
+invariant-loop-entry l = record {
+  bound : l.size ≤ 2 ^ 29;
+  rest : l.size + length (flat_map entry_text (entry_values (drop l.entry-index l.entries))) ≡ l.initial.size + length (flat_map entry_text (entry_values l.entries));
+}

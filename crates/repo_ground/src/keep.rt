@@ -1,0 +1,202 @@
+// Keeping the projections of the selected filter.
+ghost use Rattle.std.specs.Prelude.{◌≡◌, ◌≢◌, ◌↔◌, ◌≤◌, ◌+◌, ◌^◌};
+ghost use Rattle.std.specs.Prelude.{ℕ, List, Some, length};
+ghost use Rattle.std.specs.Prelude.{IfOk, IsErrOf, MatchResult};
+ghost use Rattle.std.specs.List.{flat_map};
+ghost use Rattle.std.specs.Option.{is_some, option_map};
+ghost use Rattle.git_objects.specs.Paths.{Bytes};
+ghost use Rattle.commit_graph.specs.Graphs.{Row};
+ghost use Rattle.commit_map.specs.Shown.{entry_value, entry_values, kept_at};
+ghost use Rattle.state_items.specs.Changes.{passed_by_item, passed_by_objects};
+ghost use Rattle.state_items.specs.Writings.{sized};
+ghost use Rattle.commit_map.specs.Rules.{rule_number};
+ghost use Rattle.filter_text.specs.Printing.{printed};
+ghost use Rattle.filter_text.specs.Shapes.{shape};
+ghost use Rattle.proj_io.specs.Counts.{Counts};
+ghost use Rattle.proj_io.specs.Stops.{OnlyAdds};
+ghost use Rattle.proj_io.specs.Views.{keeper_view};
+ghost use Rattle.state_items.specs.Items.{Held, entry_text, kept_text};
+ghost use Rattle.repo_ground.specs.Changes.{Appends, IsCommitted, IsStopOf, keep_error_result};
+ghost use Rattle.repo_ground.specs.Contents.{Spells, SpellsSomething, room_in};
+ghost use Rattle.repo_ground.specs.Keeping.{AreOfGraph, IsItemOf, IsKeepRefused, keep_plan};
+ghost use Rattle.repo_ground.specs.Keeping.{new_entries, new_entry, unheld};
+
+use crate::State;
+use crate::canonical::is_canonical;
+use commit_map::{CommitMap, Shown};
+use filter_text::{Filter, print};
+use git_objects::Name;
+use git_objects::limits::ITEM_BYTES;
+use proj_io::{KeepError, Keeper};
+use state_items::{first_passed, kept_item};
+use std::alloc::AllocError;
+
+impl State {
+    /// Appends the entries of the selected filter's map that no item holds, as one item, in the graph's order. It
+    /// appends nothing where there are none, where the filter's text isn't one that is read as a sound filter's
+    /// canonical text, or where the state would pass a limit.
+    pub fn keep<K: Keeper>(&mut self, keeper: &mut K, filter: &Filter) -> Result<(), KeepError>
+        requires open { K.is_open keeper.old }
+        requires number { self.old.number ≡ K.number keeper.old }
+        requires spells { SpellsSomething self.old }
+        requires originals { AreOfGraph self.old }
+        requires selected { self.old.selected ≡ Some (printed (shape filter.now), rule_number self.old.basis.rule) }
+        ensures state { (h : Held) → Spells h self.old →
+            let p = keep_plan h self.old (printed (shape filter.now)) in
+            MatchResult result (λ _. IsCommitted h p self.old self.new) (λ e. IsKeepRefused p self.old self.new e) }
+        ensures items { let seen = keeper_view K.items K.number K.faults in (h : Held) → Spells h self.old →
+            Appends (keep_plan h self.old (printed (shape filter.now)))
+            (seen keeper.old) (seen keeper.new)
+            (keep_error_result result) }
+        ensures is_open { MatchResult result (λ _. K.is_open keeper.new)
+            (λ e. e ≢ KeepError.Failed → K.is_open keeper.new) }
+        ensures told { K.tells keeper.new ↔ K.tells keeper.old }
+        ensures stops { (h : Held) → Spells h self.old → OnlyAdds (K.moment keeper.old) (K.moment keeper.new)
+            (K.left_since keeper.old) (K.left_since keeper.new)
+            (IsStopOf h self.old (keep_plan h self.old (printed (shape filter.now))) (K.items keeper.old)) }
+        ensures cause { Counts (K.faults keeper.old) (K.faults keeper.new) (IsErrOf result KeepError.Failed) }
+    {
+        match self.kept_news(filter) {
+            Err(_) => Err(KeepError::OutOfMemory),
+            Ok(None) => Ok(()),
+            Ok(Some(item)) => match keeper.append(&item) {
+                Err(error) => Err(error),
+                Ok(()) => {
+                    self.kept = self.ground.map.len();
+                    self.number += 1;
+                    self.size += item.len() as u64;
+                    Ok(())
+                }
+            },
+        }
+    }
+
+    // The item of the entries that are to be kept, if they may be.
+    fn kept_news(&self, filter: &Filter) -> Result<Option<Vec<u8>>, AllocError>
+        requires spells { SpellsSomething self.now }
+        ensures item { IfOk result (λ item. (h : Held) → Spells h self.now →
+            IsItemOf h self.now (keep_plan h self.now (printed (shape filter.now))) item) }
+    {
+        let news = self.news()?;
+        if news.is_empty() {
+            return Ok(None);
+        }
+        let text = print(self.alloc, filter)?;
+        if !is_canonical(self.alloc, &text)? {
+            return Ok(None);
+        }
+        let size = kept_size(&text, &news);
+        if self.is_passed(size) {
+            return Ok(None);
+        }
+        let item = kept_item(self.alloc, self.ground.rule, &text, &news)?;
+        Ok(Some(item))
+    }
+
+    // The entries of the map that no item holds, in the graph's order.
+    fn news(&self) -> Result<Vec<(Name, Option<Shown>)>, AllocError>
+        ensures { IfOk result (λ news. entry_values news.items ≡ new_entries self.now) }
+    {
+        let fresh = self.fresh()?;
+        let mut news = Vec::new(self.alloc);
+        for place in 0..self.ground.graph.len() {
+            let name = self.ground.graph.name(place);
+            match self.new_entry(&fresh, name) {
+                None => {}
+                Some(entry) => news.push(entry)?,
+            }
+        }
+        Ok(news)
+    }
+
+    // The entries that no item holds, each commit once.
+    fn fresh(&self) -> Result<CommitMap, AllocError>
+        ensures { IfOk result (λ fresh. (n : Bytes) → kept_at n fresh ≡ kept_at n (unheld self.now)) }
+    {
+        let mut fresh = CommitMap::new(self.alloc);
+        for i in self.kept..self.ground.map.len() {
+            let (original, shown) = self.ground.map.entry(i);
+            if fresh.get(&original).is_none() {
+                fresh.set(original, shown)?;
+            }
+        }
+        Ok(fresh)
+    }
+
+    // What the map has of a commit, where no item holds it.
+    fn new_entry(&self, fresh: &CommitMap, name: Name) -> Option<(Name, Option<Shown>)>
+        requires { (n : Bytes) → kept_at n fresh.now ≡ kept_at n (unheld self.now) }
+        ensures { (r : Row) → name.0 ≡ r.name → option_map (λ e. entry_value e) result ≡ new_entry self.now r }
+    {
+        if fresh.get(&name).is_none() {
+            return None;
+        }
+        match self.ground.map.get(&name) {
+            None => None,
+            Some(shown) => Some((name, shown)),
+        }
+    }
+
+    // Whether an item of that length that brings no objects passes a limit.
+    fn is_passed(&self, size: Option<usize>) -> bool
+        requires spells { SpellsSomething self.now }
+        ensures { (h : Held) (bytes : List ℕ) → Spells h self.now → size ≡ sized (length bytes) →
+            result ≡ is_some (passed_by_objects h.objects (passed_by_item (room_in self.now) bytes)) }
+    {
+        let commits = self.ground.graph.len() as usize;
+        first_passed(commits, self.held.len(), size, self.number, self.size).is_some()
+    }
+}
+
+// `size + more`, or None above the limit of an item.
+fn add_size(size: usize, more: usize) -> Option<usize>
+    requires { size ≤ 2 ^ 29 }
+    ensures { result ≡ sized (size + more) }
+{
+    if more <= ITEM_BYTES - size {
+        Some(size + more)
+    } else {
+        None
+    }
+}
+
+// `size` and the bytes that an item takes for an entry, or None above the limit of an item.
+fn add_entry(entry: &(Name, Option<Shown>), size: usize) -> Option<usize>
+    requires { size ≤ 2 ^ 29 }
+    ensures { result ≡ sized (size + length (entry_text (entry_value entry.now))) }
+{
+    let (original, shown) = entry;
+    match shown {
+        None => add_size(size, original.bytes().len() + 1),
+        Some(shown) => add_size(
+            size,
+            original.bytes().len() + 1 + shown.commit.bytes().len() + shown.tree.bytes().len(),
+        ),
+    }
+}
+
+// `size` and the bytes that an item takes for these entries, or None above the limit of an item.
+fn add_entries(entries: &[(Name, Option<Shown>)], size: usize) -> Option<usize>
+    requires { size ≤ 2 ^ 29 }
+    ensures { result ≡ sized (size + length (flat_map entry_text (entry_values entries.now))) }
+{
+    let mut size = size;
+    for entry in entries {
+        match add_entry(entry, size) {
+            None => return None,
+            Some(more) => size = more,
+        }
+    }
+    Some(size)
+}
+
+// The length in bytes of the item of these entries, or None above the limit of an item.
+#[tactic(auto, unfolding(state_items::specs::Items::kept_text))]
+fn kept_size(text: &[u8], entries: &[(Name, Option<Shown>)]) -> Option<usize>
+    ensures { (rule : ℕ) → result ≡ sized (length (kept_text rule text.now (entry_values entries.now))) }
+{
+    match add_size(9, text.len()) {
+        None => None,
+        Some(size) => add_entries(entries, size),
+    }
+}
