@@ -1,10 +1,12 @@
 -- A stream so far: what its reader has told, and what came of it.
 use Rattle.std.proofs.Common.{◌≡◌, inl, inr, ◌+◌, ◌≤◌, ℕ, true, false, List, [], ◌∷◌, ◌++◌, length, Option, Some, Result, Ok, Err, refl, sym, ap, subst, ◌∙◌, append_assoc, append-nil, arith, length-append}
-use Rattle.std.specs.Prelude.{IsOkAnd}
+use Rattle.std.specs.Prelude.{IsOkAnd, nat_lt}
 use Rattle.std.specs.Io.KnownBytes.{Consumes, IsAtEnd}
 use Rattle.std.proofs.KnownBytes.{Consumes-nil, Consumes-trans}
-use Rattle.git_objects.specs.Paths.{Bytes}
+use Rattle.std.proofs.lemmas.List.Folds.{list_all-append}
+use Rattle.git_objects.specs.Paths.{Bytes, is_bytes}
 use Rattle.git_objects.specs.Results.{◌>>=◌}
+use Rattle.git_objects.proofs.Basics.{and_both}
 use Rattle.object_store.specs.Growth.{IsGrownBy}
 use Rattle.object_store.specs.Objects.{Object, IsStore}
 use Rattle.object_store.proofs.Growth.{grown_as, grown_self, grown_then}
@@ -97,6 +99,7 @@ waited_with base r rd more = waited_from (step base) r rd.progress (grown more r
 -- replay as they are.
 pub record IsSoFar (base : Base) (S T : List Object) (before now : Option Bytes) (rd : Reading) (v : Replaying) : Type 0 where
   pub taken : Bytes
+  pub are_bytes : is_bytes taken ≡ true
   pub gone : Consumes before now taken
   pub told : List Placed
   pub state : Replay
@@ -112,6 +115,7 @@ pub record IsSoFar (base : Base) (S T : List Object) (before now : Option Bytes)
 pub nothing_so_far : (base : Base) (S : List Object) (before : Option Bytes) (v : Replaying) → IsStore S → IsReplayOf S v nothing_yet → IsSoFar base S S before before (record { progress = start; input = record { at = 0; rest = [] }; ended = false }) v
 nothing_so_far base S before v s h = record {
   taken = [];
+  are_bytes = refl;
   gone = Consumes-nil before;
   told = [];
   state = nothing_yet;
@@ -154,6 +158,7 @@ module _ (base : Base) (S T : List Object) (before now : Option Bytes) (old new 
         by (Err f) q d = absurd (subst (λ (y : Result Replay StreamFault). IsOkAnd y (IsReplayOf R w)) q d)
         by (Ok s) q d = record {
           taken = h.taken;
+          are_bytes = h.are_bytes;
           gone = h.gone;
           told = h.told ++ p ∷ [];
           state = s;
@@ -181,6 +186,7 @@ module _ (base : Base) (S T : List Object) (before now : Option Bytes) (old new 
   waiting : IsBefore old new → ((more : Bytes) → MayFollow old more true → verdict_with more old ≡ verdict_with more new) → IsSoFar base S T before now new v
   waiting b follows = let ended = b.ended in record {
     taken = h.taken;
+    are_bytes = h.are_bytes;
     gone = h.gone;
     told = h.told;
     state = h.state;
@@ -200,10 +206,15 @@ module _ (base : Base) (S T : List Object) (before now : Option Bytes) (old new 
       subst (λ k. length h.taken ≤ k + 16908290) (waited_still b more m)
       (omega (arith, h.came, n more, next_near (step base) h.state old.progress (grown more old.input)))
 
+-- bytes behind bytes
+pub both_bytes : (a b : Bytes) → is_bytes a ≡ true → is_bytes b ≡ true → is_bytes (a ++ b) ≡ true
+both_bytes a b h k = list_all-append (λ x. nat_lt x 256) a b ∙ and_both h k
+
 fed_more : (base : Base) (S T : List Object) (before now later : Option Bytes) (rd new : Reading) (v : Replaying) (most : ℕ) → most ≤ 65536 → rd.ended ≡ false → (h : IsSoFar base S T before now rd v) →
     ((more : Bytes) → MayFollow rd more true → length h.taken ≤ waited_with base h.state rd more + 16908290) → IsFed now later rd new most → IsSoFar base S T before later new v
 fed_more base S T before now later rd new v most few un h n (inl p) = record {
   taken = h.taken ++ p.bytes;
+  are_bytes = both_bytes h.taken p.bytes h.are_bytes p.are_bytes;
   gone = Consumes-trans before now later h.taken p.bytes h.gone p.taken;
   told = h.told;
   state = h.state;
@@ -227,6 +238,7 @@ fed_more base S T before now later rd new v most few un h n (inl p) = record {
         ∙ ap (λ (r : Reading). waited_with base h.state r more) (sym p.now)
 fed_more base S T before now later rd new v most few un h n (inr p) = record {
   taken = h.taken;
+  are_bytes = h.are_bytes;
   gone = subst (Consumes before later) (append-nil h.taken) (Consumes-trans before now later h.taken [] h.gone p.none);
   told = h.told;
   state = h.state;

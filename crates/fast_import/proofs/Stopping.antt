@@ -4,7 +4,7 @@ use Rattle.std.specs.Prelude.{IsOkAnd, OnOk}
 use Rattle.std.proofs.KnownBytes.{Consumes-trans}
 use Rattle.std.specs.Option.{unwrap_or}
 use Rattle.std.specs.Io.KnownBytes.{Consumes, IsAtEnd}
-use Rattle.git_objects.specs.Paths.{Bytes}
+use Rattle.git_objects.specs.Paths.{Bytes, is_bytes}
 use Rattle.git_objects.specs.declared.limits.TheConstants.{STREAM_BYTES}
 use Rattle.object_store.specs.Growth.{IsGrownBy}
 use Rattle.object_store.specs.Objects.{Object}
@@ -36,11 +36,15 @@ use Rattle.fast_import.specs.declared.whole.ReplayError.{ReplayError}
 use Rattle.fast_import.specs.declared.whole.ReplayError.TheVariants.{ReadFault, Stream}
 use Rattle.stream_reader.proofs.Commanding.{command-reader}
 use Rattle.fast_import.proofs.Putting.{fault_as}
-use Rattle.fast_import.proofs.Running.{IsRunTo, IsSoFar, made-behind, made-front, run-on, waited_with}
+use Rattle.fast_import.proofs.Running.{IsRunTo, IsSoFar, both_bytes, made-behind, made-front, run-on, waited_with}
 
 rest_none : (now : Option Bytes) → IsAtEnd now → unwrap_or now [] ≡ []
 rest_none None h = refl
 rest_none (Some bs) h = h
+
+rest_bytes : (now : Option Bytes) → IfSome now (λ l. is_bytes l ≡ true) → is_bytes (unwrap_or now []) ≡ true
+rest_bytes None k = refl
+rest_bytes (Some bs) k = k
 
 told_all : (before now : Option Bytes) (taken : Bytes) → Consumes before now taken → IfSome before (λ bytes. bytes ≡ taken ++ unwrap_or now [])
 told_all None now taken h = tt
@@ -64,6 +68,10 @@ module _ (base : Base) (S T : List Object) (before now : Option Bytes) (rd : Rea
 
   pub all_told : IfSome before (λ bytes. bytes ≡ all)
   all_told = told_all before now h.taken h.gone
+
+  -- what a source has left are bytes
+  pub all_bytes : IfSome now (λ l. is_bytes l ≡ true) → is_bytes all ≡ true
+  all_bytes k = both_bytes h.taken rest h.are_bytes (rest_bytes now k)
 
   may_rest : MayFollow rd rest true
   may_rest e = (rest_none now (h.at_end e), refl)

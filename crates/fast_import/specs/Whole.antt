@@ -1,7 +1,7 @@
 -- What a whole stream gives, read in pieces.
 use Rattle.std.specs.Prelude.{◌≡◌, ◌⊎◌, ◌<◌, ◌≤◌, ℕ, true, false, List, [], length, Option, IfOk, IfErr, IsOkAnd, Result}
 use Rattle.std.specs.Io.KnownBytes.{Consumes, IsAtEnd}
-use Rattle.git_objects.specs.Paths.{Bytes}
+use Rattle.git_objects.specs.Paths.{Bytes, is_bytes}
 use Rattle.object_store.specs.Growth.{IsGrownBy}
 use Rattle.object_store.specs.Objects.{Object}
 use Rattle.fast_import.specs.Made.{IsMadeBy, IsRefusal}
@@ -17,6 +17,7 @@ pub record IsPiece (before after : Option Bytes) (old new : Reading) (most : ℕ
   pub bytes : Bytes
   pub some : 0 < length bytes
   pub few : length bytes ≤ most
+  pub are_bytes : is_bytes bytes ≡ true
   pub taken : Consumes before after bytes
   pub now : new ≡ fed bytes false old
 

@@ -1,6 +1,7 @@
 // The replay of a whole stream.
-ghost use Rattle.std.specs.Prelude.{◌≡◌, ◌⊎◌, ◌<◌, ◌≤◌, ◌↔◌, ℕ, List, false, length, IfErr, IfOk, IfSome, IsErrOf};
-ghost use Rattle.std.specs.Prelude.{OnErr, OnOk};
+ghost use Rattle.std.specs.Prelude.{◌≡◌, ◌⊎◌, ◌<◌, ◌≤◌, ◌↔◌, ℕ, List, true, false, length, take, IfErr, IfOk};
+ghost use Rattle.std.specs.Prelude.{IfSome, IsErrOf, OnErr, OnOk};
+ghost use Rattle.git_objects.specs.Paths.{is_bytes};
 ghost use Rattle.git_objects.specs.declared.limits.TheConstants.{STREAM_BYTES};
 ghost use Rattle.proj_io.specs.Counts.{Counts};
 ghost use Rattle.fast_import.specs.Bases.{IsBaseIn, base_in};
@@ -33,7 +34,7 @@ pub fn replay_all<S: Source, B: Base>(
     store: &mut Store,
 ) -> Result<Replayed, ReplayError>
     requires { IsBaseIn store.old (B.commits base.now) (B.refs base.now) (B.blobs base.now) }
-    ensures stream { (all : List ℕ) × IfSome (S.left input.old) (λ bytes. bytes ≡ all) × IsWhole
+    ensures stream { (all : List ℕ) × (is_bytes all ≡ true) × IfSome (S.left input.old) (λ bytes. bytes ≡ all) × IsWhole
         (base_in store.old (B.commits base.now) (B.refs base.now) (B.blobs base.now)) store.old store.new all result }
     ensures taken { IsTaken (base_in store.old (B.commits base.now) (B.refs base.now) (B.blobs base.now))
         (S.left input.old) (S.left input.new) result }
@@ -56,7 +57,7 @@ fn replay_by<S: Source, B: Base>(
     requires base { IsBaseIn store.old (B.commits base.now) (B.refs base.now) (B.blobs base.now) }
     requires some { 0 < length piece.old }
     requires few { length piece.old ≤ 65536 }
-    ensures stream { (all : List ℕ) × IfSome (S.left input.old) (λ bytes. bytes ≡ all) × IsWhole
+    ensures stream { (all : List ℕ) × (is_bytes all ≡ true) × IfSome (S.left input.old) (λ bytes. bytes ≡ all) × IsWhole
         (base_in store.old (B.commits base.now) (B.refs base.now) (B.blobs base.now)) store.old store.new all result }
     ensures taken { IsTaken (base_in store.old (B.commits base.now) (B.refs base.now) (B.blobs base.now))
         (S.left input.old) (S.left input.new) result }
@@ -104,9 +105,18 @@ fn feed_on<S: Source>(
             reader.end();
             Ok(())
         }
-        Ok(count) => match reader.feed(&piece[..count]) {
+        Ok(count) => match reader.feed(front(piece, count)) {
             Ok(()) => Ok(()),
             Err(_) => Err(ReplayError::Stream(StreamFault::OutOfMemory)),
         },
     }
+}
+
+// The front of a piece, of which the proof learns that it is bytes.
+fn front(piece: &[u8], count: usize) -> &[u8]
+    requires { count ≤ length piece.now }
+    ensures value { result.now ≡ take count piece.now }
+    ensures bytes { is_bytes result.now ≡ true }
+{
+    &piece[..count]
 }

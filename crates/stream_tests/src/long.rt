@@ -24,6 +24,8 @@ impl Source for Long {
 
     ghost known = { λ _ told. absurd told };
 
+    ghost bytes = { λ _. tt };
+
     ghost in_range = { λ _. held_bound 0 };
 
     fn read(&mut self, buf: &mut [u8]) -> Result<usize, Failed> {

@@ -9,7 +9,7 @@ use Rattle.fast_import.specs.Standing.{IsStepped}
 use Rattle.stream_reader.specs.declared.reader.Next.{Next}
 use Rattle.fast_import.proofs.Growing.{base-grown, is_base-grown}
 use Rattle.fast_import.proofs.Running.{IsSoFar, fed_waiting, nothing_so_far, one_more}
-use Rattle.fast_import.proofs.Stopping.{ahead, ahead_fed, all, all_given, all_told, feeding_refused, more_open, reading_refused, step_refused, taken_feeding, taken_given, taken_refused, within_fed}
+use Rattle.fast_import.proofs.Stopping.{ahead, ahead_fed, all, all_bytes, all_given, all_told, feeding_refused, more_open, reading_refused, step_refused, taken_feeding, taken_given, taken_refused, within_fed}
 use Rattle.fast_import.proofs.whole.replay_by.Goals as goal
 
 pub stream-init : goal.stream-init
@@ -25,6 +25,7 @@ pub returns-in-Err-clause-stream : goal.returns-in-Err-clause-stream
 returns-in-Err-clause-stream g c =
     let h = c.stream.invariant.so_far in (
       all (base_in c.args.store.now (g.B.Base.commits c.args.base.now) (g.B.Base.refs c.args.base.now) (g.B.Base.blobs c.args.base.now)) c.args.store.now c.stream.store (g.S.Source.left c.args.input.now) (g.S.Source.left c.stream.input) c.stream.reader c.stream.replay h,
+      all_bytes (base_in c.args.store.now (g.B.Base.commits c.args.base.now) (g.B.Base.refs c.args.base.now) (g.B.Base.blobs c.args.base.now)) c.args.store.now c.stream.store (g.S.Source.left c.args.input.now) (g.S.Source.left c.stream.input) c.stream.reader c.stream.replay h (g.met.S.Source.bytes c.stream.input),
       all_told (base_in c.args.store.now (g.B.Base.commits c.args.base.now) (g.B.Base.refs c.args.base.now) (g.B.Base.blobs c.args.base.now)) c.args.store.now c.stream.store (g.S.Source.left c.args.input.now) (g.S.Source.left c.stream.input) c.stream.reader c.stream.replay h,
       reading_refused (base_in c.args.store.now (g.B.Base.commits c.args.base.now) (g.B.Base.refs c.args.base.now) (g.B.Base.blobs c.args.base.now)) c.args.store.now c.stream.store (g.S.Source.left c.args.input.now) (g.S.Source.left c.stream.input) c.stream.reader c.stream.replay h c.in-Err.fault c.in-Err.ensures.follows,
     )
@@ -33,6 +34,7 @@ pub returns-in-Ok-Ended-clause-stream : goal.returns-in-Ok-Ended-clause-stream
 returns-in-Ok-Ended-clause-stream g c =
     let h = c.stream.invariant.so_far in (
       all (base_in c.args.store.now (g.B.Base.commits c.args.base.now) (g.B.Base.refs c.args.base.now) (g.B.Base.blobs c.args.base.now)) c.args.store.now c.stream.store (g.S.Source.left c.args.input.now) (g.S.Source.left c.stream.input) c.stream.reader c.stream.replay h,
+      all_bytes (base_in c.args.store.now (g.B.Base.commits c.args.base.now) (g.B.Base.refs c.args.base.now) (g.B.Base.blobs c.args.base.now)) c.args.store.now c.stream.store (g.S.Source.left c.args.input.now) (g.S.Source.left c.stream.input) c.stream.reader c.stream.replay h (g.met.S.Source.bytes c.stream.input),
       all_told (base_in c.args.store.now (g.B.Base.commits c.args.base.now) (g.B.Base.refs c.args.base.now) (g.B.Base.blobs c.args.base.now)) c.args.store.now c.stream.store (g.S.Source.left c.args.input.now) (g.S.Source.left c.stream.input) c.stream.reader c.stream.replay h,
       all_given (base_in c.args.store.now (g.B.Base.commits c.args.base.now) (g.B.Base.refs c.args.base.now) (g.B.Base.blobs c.args.base.now)) c.args.store.now c.stream.store (g.S.Source.left c.args.input.now) (g.S.Source.left c.stream.input) c.stream.reader c.stream.replay h (subst (λ (n : Next). Follows (Ok n) c.stream.reader c.next.new.self) c.in-Ok-Ended.field-0-is c.in-Ok-Ended.ensures.follows) c.finish.result (c.finish.ensures.gives c.stream.store h.state h.stands),
     )
@@ -47,6 +49,7 @@ returns-in-Err-step-clause-stream g c =
     let h = c.stream.invariant.so_far in
     let p = c.in-Ok-Command.placed in (
       all (base_in c.args.store.now (g.B.Base.commits c.args.base.now) (g.B.Base.refs c.args.base.now) (g.B.Base.blobs c.args.base.now)) c.args.store.now c.stream.store (g.S.Source.left c.args.input.now) (g.S.Source.left c.stream.input) c.stream.reader c.stream.replay h,
+      all_bytes (base_in c.args.store.now (g.B.Base.commits c.args.base.now) (g.B.Base.refs c.args.base.now) (g.B.Base.blobs c.args.base.now)) c.args.store.now c.stream.store (g.S.Source.left c.args.input.now) (g.S.Source.left c.stream.input) c.stream.reader c.stream.replay h (g.met.S.Source.bytes c.stream.input),
       all_told (base_in c.args.store.now (g.B.Base.commits c.args.base.now) (g.B.Base.refs c.args.base.now) (g.B.Base.blobs c.args.base.now)) c.args.store.now c.stream.store (g.S.Source.left c.args.input.now) (g.S.Source.left c.stream.input) c.stream.reader c.stream.replay h,
       step_refused (base_in c.args.store.now (g.B.Base.commits c.args.base.now) (g.B.Base.refs c.args.base.now) (g.B.Base.blobs c.args.base.now)) c.args.store.now c.stream.store (g.S.Source.left c.args.input.now) (g.S.Source.left c.stream.input) c.stream.reader c.stream.replay h p c.next.new.self
           (subst (λ (n : Next). Follows (Ok n) c.stream.reader c.next.new.self) c.in-Ok-Command.field-0-is c.in-Ok-Command.ensures.follows)
@@ -77,6 +80,7 @@ pub returns-in-Err-feed_on-clause-stream : goal.returns-in-Err-feed_on-clause-st
 returns-in-Err-feed_on-clause-stream g c =
     let h = c.stream.invariant.so_far in (
       all (base_in c.args.store.now (g.B.Base.commits c.args.base.now) (g.B.Base.refs c.args.base.now) (g.B.Base.blobs c.args.base.now)) c.args.store.now c.stream.store (g.S.Source.left c.args.input.now) (g.S.Source.left c.stream.input) c.stream.reader c.stream.replay h,
+      all_bytes (base_in c.args.store.now (g.B.Base.commits c.args.base.now) (g.B.Base.refs c.args.base.now) (g.B.Base.blobs c.args.base.now)) c.args.store.now c.stream.store (g.S.Source.left c.args.input.now) (g.S.Source.left c.stream.input) c.stream.reader c.stream.replay h (g.met.S.Source.bytes c.stream.input),
       all_told (base_in c.args.store.now (g.B.Base.commits c.args.base.now) (g.B.Base.refs c.args.base.now) (g.B.Base.blobs c.args.base.now)) c.args.store.now c.stream.store (g.S.Source.left c.args.input.now) (g.S.Source.left c.stream.input) c.stream.reader c.stream.replay h,
       feeding_refused (base_in c.args.store.now (g.B.Base.commits c.args.base.now) (g.B.Base.refs c.args.base.now) (g.B.Base.blobs c.args.base.now)) c.args.store.now c.stream.store (g.S.Source.left c.args.input.now) (g.S.Source.left c.stream.input) c.stream.reader c.stream.replay h c.in-Err-feed_on.error c.in-Err-feed_on.ensures.err,
     )
