@@ -24,12 +24,3 @@ pub mod TreeLaw
 pub mod Walks
 pub mod CommitNames
 pub mod Counting
-pub mod EditLeaves
-pub mod Replaying
-pub mod ImportsKept
-pub mod ReadCommands
-pub mod Making
-pub mod SmallEdits
-pub mod SmallReplaying
-pub mod StreamsKept
-pub mod StoredReplaying

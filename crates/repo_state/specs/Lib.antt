@@ -13,11 +13,3 @@ pub mod Growing
 pub mod StoredObjects
 pub mod Wholes
 pub mod Rows
-pub mod Bases
-pub mod SoundCommands
-pub mod SmallCommands
-pub mod Replayed
-pub mod MadeObjects
-pub mod SmallReplays
-pub mod StoredReplays
-pub mod StreamExamples

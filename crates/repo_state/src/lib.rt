@@ -8,7 +8,6 @@ mod count;
 mod cursor;
 mod draft;
 mod item;
-mod laws;
 mod loading;
 mod objects;
 mod ref_fields;
@@ -18,8 +17,4 @@ mod walk;
 
 pub use commit::{Batch, CommitError, Setting};
 pub use count::count_batch;
-pub use laws::{
-    clash_law, import_kept_law, made_law, reader_law, replayed_law, small_law, stored_replay_law,
-    stream_kept_law,
-};
 pub use state::{LoadError, State};

@@ -1,0 +1,10 @@
+pub mod EditLeaves
+pub mod Replaying
+pub mod ImportsKept
+pub mod ReadCommands
+pub mod Making
+pub mod SmallEdits
+pub mod SmallReplaying
+pub mod StreamsKept
+pub mod StoredReplaying
+pub mod SortedHeads
