@@ -106,7 +106,8 @@ fn comes_before(a: &(Path, Path), b: &(Path, Path)) -> bool
     first.then(second).is_lt()
 }
 
-fn order(a: &Path, b: &Path) -> Ordering
+/// How two paths stand to each other in path order.
+pub fn order(a: &Path, b: &Path) -> Ordering
     ensures { result ≡ path_cmp a.now b.now }
 {
     // The components are looked at so that the proof has that both are paths.

@@ -72,8 +72,13 @@ fn is_unseen(
     }
 }
 
-// The image that a hit of a table stands for.
-fn image_of(alloc: Global, table: &Table, path: &Path, hit: &RouteHit) -> Result<Path, AllocError>
+/// The image that a hit of a table stands for.
+pub fn image_of(
+    alloc: Global,
+    table: &Table,
+    path: &Path,
+    hit: &RouteHit,
+) -> Result<Path, AllocError>
     requires hit { image_at table.now.routes (Some hit.now) path.now ≡ image (shape table.now.filter) path.now }
     requires route { is_some (target table.now hit.now.route) ≡ true }
     requires cut { hit.now.cut ≤ length path.now }
@@ -88,8 +93,8 @@ fn image_of(alloc: Global, table: &Table, path: &Path, hit: &RouteHit) -> Result
     )
 }
 
-// Whether the leaf at a path of the first tree doesn't stand at a path of the second.
-fn differ(store: &Store, first: Name, path: &Path, second: Name, other: &Path) -> bool
+/// Whether the leaf at a path of the first tree doesn't stand at a path of the second. Needs no memory.
+pub fn differ(store: &Store, first: Name, path: &Path, second: Name, other: &Path) -> bool
     requires first { has Tree store.now first.0 ≡ true }
     requires second { has Tree store.now second.0 ≡ true }
     ensures { (x : LeafValue) → at (flat store.now first.0) path.now ≡ Some x →

@@ -13,8 +13,9 @@ mod routing;
 mod sifting;
 
 pub use below::laid_below;
+pub use blocking::order;
 pub use fault::LayFault;
-pub use hiding::unseen;
+pub use hiding::{differ, image_of, unseen};
 pub use laws::{
     below_law, given_back_law, laid_again_law, laying_law, outcome_law, shown_again_law, unseen_law,
 };

@@ -2,10 +2,10 @@ pub mod GraphLemmas
 pub mod ProjectionLemmas
 mod KeptLemmas
 mod HistoryLemmas
-mod HeldCommits
-mod StoredGraphs
-mod Reached
-mod Growing
+pub mod HeldCommits
+pub mod StoredGraphs
+pub mod Reached
+pub mod Growing
 mod Asking
 mod Gathering
 mod Lacks
@@ -13,16 +13,16 @@ mod Leading
 mod Members
 mod Chosen
 mod Bodies
-mod TurnLemmas
+pub mod TurnLemmas
 mod Filling
 mod Steps
 mod WalkLemmas
-mod ProjectLemmas
-mod Putting
+pub mod ProjectLemmas
+pub mod Putting
 mod Rising
 mod OwnCommits
 mod MadeHistories
-mod TakenTurns
+pub mod TakenTurns
 mod TakingLemmas
 mod HistoryEnds
 mod OrderLemmas

@@ -33,8 +33,8 @@ use object_store::{PutError, Store};
 use std::alloc::{AllocError, Global};
 use std::mem;
 
-// Takes in a commit whose tree and parents are there.
-fn put_commit(store: &mut Store, body: Vec<u8>) -> Result<(), ApplyError>
+/// Takes in a commit whose tree and parents are there.
+pub fn put_commit(store: &mut Store, body: Vec<u8>) -> Result<(), ApplyError>
     requires { of_body store.old Commit body.items None ≡ None }
     ensures ok { OnOk result (find_named store.new (name Commit body.items)
         ≡ Some (record { kind = Commit; body = body.items })) }

@@ -11,6 +11,7 @@ mod turning;
 mod walking;
 
 pub use ground::Ground;
-pub use histories::history;
+pub use histories::{history, put_commit};
 pub use laws::{history_law, order_law, projection_law, stay_law};
+pub use made::own_body;
 pub use walking::project_to;

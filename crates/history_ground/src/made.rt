@@ -13,8 +13,8 @@ use git_objects::{Bytes, CommitParts, CommitView, Ident, IdentFault, Name, encod
 use object_store::Store;
 use std::alloc::{AllocError, Global};
 
-// The body of the commit that shows this tree upon the projections of a commit's parents, and says what the commit says.
-pub(crate) fn own_body(
+/// The body of the commit that has this tree and these commits as its parents, and says what the commit of that name says.
+pub fn own_body(
     alloc: Global,
     store: &Store,
     original: &Name,

@@ -9,4 +9,4 @@ mod resolving;
 
 pub use laws::resolve_law;
 pub use place::file_place;
-pub use resolving::{Resolved, resolve, resolve_leaf};
+pub use resolving::{Resolved, leaf_at, resolve, resolve_leaf};

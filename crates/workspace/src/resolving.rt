@@ -183,8 +183,8 @@ pub fn resolve_leaf(
     }
 }
 
-// The leaf at a path of that tree, if one stands there.
-fn leaf_at(store: &Store, root: Name, path: &Path) -> Option<Leaf>
+/// The leaf at a path of that tree, if one stands there. Needs no memory.
+pub fn leaf_at(store: &Store, root: Name, path: &Path) -> Option<Leaf>
     requires root { has Tree store.now root.0 ≡ true }
     ensures leaf { found_value store.now result ≡ at (flat store.now root.0) path.now }
     ensures held { IsHeldLeaf store.now result }
