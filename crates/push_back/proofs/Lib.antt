@@ -1,3 +1,10 @@
 mod Stepping
 mod Pushing
 mod Chains
+mod TreeSizes
+mod LaidTrees
+mod Letters
+mod NextFilters
+mod OneOriginal
+mod Runs
+mod Heads

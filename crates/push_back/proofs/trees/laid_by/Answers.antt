@@ -1,0 +1,11 @@
+use Rattle.object_store.specs.Unfolding.{flat}
+use Rattle.filter_text.specs.Shapes.{shape}
+use Rattle.push_back.proofs.LaidTrees.{answer-by, table-is}
+use Rattle.push_back.proofs.trees.laid_by.Goals as goal
+
+pub returns-clause-answer : goal.returns-clause-answer
+returns-clause-answer c = λ r r2 h k.
+    let g = c.args.ground.now in
+    answer-by r r2 (shape c.in-Some.old.now.filter) (shape c.in-Some-get.new.now.filter) (flat g.store c.args.base.0) (flat g.store c.args.pushed.0) g.store c.laid_unless_unseen.new.store c.laid_unless_unseen.result
+    (table-is g.tables r c.args.way.old c.in-Some.old.now h c.in-Some.ensures) (table-is g.tables r2 c.args.way.new c.in-Some-get.new.now k c.in-Some-get.ensures)
+    c.laid_unless_unseen.ensures
