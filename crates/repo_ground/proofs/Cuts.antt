@@ -27,7 +27,7 @@ take-front [] [] = refl
 take-front [] (y ∷ more) = refl
 take-front (x ∷ xs) more = ap (λ (t : List _). x ∷ t) (take-front xs more)
 
-front-back : {A : Type 0} (n : ℕ) (xs ys : List A) → n ≡ length xs → IsFront xs ys → take n ys ≡ xs
+pub front-back : {A : Type 0} (n : ℕ) (xs ys : List A) → n ≡ length xs → IsFront xs ys → take n ys ≡ xs
 front-back n xs ys e f = (λ i. take (e i) (f.1 i)) ∙ take-front xs f.0
 
 pub front-long : {A : Type 0} (n : ℕ) (xs ys : List A) → n ≡ length xs → IsFront xs ys → n ≤ length ys

@@ -39,8 +39,8 @@ room-back (o ∷ newer) S h = room-back newer S (room-less o (newer ++ S) h)
 
 -- ---- names of new objects
 
-front-of : (o : Object) (fs H : List Object) → reverse (o ∷ fs) ++ H ≡ reverse fs ++ o ∷ H
-front-of o fs H = ap (λ (r : List Object). r ++ H) (reverse-append (o ∷ []) fs) ∙ append_assoc (reverse fs) (o ∷ []) H
+pub front-of : {A : Type 0} (x : A) (xs ys : List A) → reverse (x ∷ xs) ++ ys ≡ reverse xs ++ x ∷ ys
+front-of x xs ys = ap (λ (r : List _). r ++ ys) (reverse-append (x ∷ []) xs) ∙ append_assoc (reverse xs) (x ∷ []) ys
 
 same-head : (x y : Bytes) (xs ys : List Bytes) → x ∷ xs ≡ y ∷ ys → x ≡ y
 same-head x y xs ys e = cc

@@ -34,7 +34,7 @@ use Rattle.repo_ground.proofs.RowsGround.{are-in}
 -- ---- one commit
 
 -- a commit that is read of a body has the body's name
-snapshot-named : (H : List Object) (b : Bytes) (h : IsHeldCommit H b) → IsStore H → snapshot_name (snapshot_of H h.commit) ≡ name CommitKind b
+pub snapshot-named : (H : List Object) (b : Bytes) (h : IsHeldCommit H b) → IsStore H → snapshot_name (snapshot_of H h.commit) ≡ name CommitKind b
 unfolding commit_name
 snapshot-named H b h s =
     let spelled : IsCommitBody h.commit b = (commit_law b h.commit h.bytes).0 h.read in
@@ -46,7 +46,7 @@ snapshot-part S H c s h i t =
     ap (λ (f : Flat). record { tree = f; parents = c.parents; letter = c.letter }) (sym (flat-part S H c.tree s h i t))
 
 -- the commit of an object that the store has
-snapshot-found : (S H : List Object) (b : Bytes) (h : IsHeldCommit H b) → IsStore S → IsStore H → AreIn S (record { kind = CommitKind; body = b } ∷ H)
+pub snapshot-found : (S H : List Object) (b : Bytes) (h : IsHeldCommit H b) → IsStore S → IsStore H → AreIn S (record { kind = CommitKind; body = b } ∷ H)
     → snapshot_named S (name CommitKind b) ≡ Some (snapshot_of H h.commit)
 snapshot-found S H b h s w i =
     ap (option_map (snapshot_of S)) (ap commit_from (found-has S CommitKind (name CommitKind b) (record { kind = CommitKind; body = b }) i.0 refl).1 ∙ h.read)

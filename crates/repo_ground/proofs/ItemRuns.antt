@@ -1,15 +1,18 @@
 -- Items, one after another.
-use Rattle.std.proofs.Common.{◌≡◌, ℕ, ◌+◌, ◌<◌, List, [], ◌∷◌, length, drop, take, Result, Ok, Some, None, IfSome, refl, sym, ap, subst, ◌∙◌, add-one, sum_by}
+use Rattle.std.proofs.Common.{◌≡◌, ℕ, ◌+◌, ◌<◌, true, List, [], ◌∷◌, ◌++◌, length, drop, take, Result, Ok, Some, None, IfSome, refl, sym, ap, subst, ◌∙◌, arith, add-one, length-append, sum_by}
 use Rattle.std.specs.declared.option.Option.{Option}
 use Rattle.std.proofs.Math.Seq.{drop-cons}
+use Rattle.std.proofs.lemmas.List.{take-append-drop, take_more}
 use Rattle.std.proofs.lemmas.Option.{unwrap_or-slice_get}
-use Rattle.std.proofs.lemmas.List.Sums.{sum_by_more}
+use Rattle.std.proofs.lemmas.List.Sums.{sum_by-cons, sum_by_push}
 use Rattle.git_objects.specs.Paths.{Bytes}
 use Rattle.git_objects.specs.Results.{◌>>=◌}
 use Rattle.proj_io.specs.Items.{Stays, item_of}
-use Rattle.state_items.specs.Items.{Held, Break, nothing, read_one, read_from, read_items}
-use Rattle.state_items.specs.Readings.{Gathered, Holds}
+use Rattle.state_items.specs.Items.{Held, Break, item_fits, nothing, read_item, read_one, read_from, read_items}
+use Rattle.state_items.specs.Readings.{Gathered, Holds, with_piece}
+use Rattle.state_items.proofs.ReadObjects.{value-of}
 use Rattle.repo_ground.specs.Loads.{IsLoadFault}
+use Rattle.repo_ground.specs.Steps.{AreRead, IsReadNext}
 use Rattle.repo_ground.specs.declared.state.LoadError.{LoadError}
 use Rattle.repo_ground.specs.declared.state.LoadError.TheVariants.{StoreFault, Damaged, Collision, OutOfMemory}
 
@@ -31,87 +34,116 @@ then_rest number size item items g = read_from (number + 1) (size + length item)
 drop-item : (all : List Bytes) (k : ℕ) → k < length all → drop k all ≡ item_of all k ∷ drop (k + 1) all
 drop-item all k h = drop-cons all k [] h ∙ (λ i. sym (unwrap_or-slice_get all k []) i ∷ drop (sym (add-one k) i) all)
 
--- the items read so far are held, and gathered
-pub record Rest (all : List Bytes) (number size : ℕ) (v : Gathered) : Type 0 where
-  pub held : Held
-  pub gathered : Holds held v
-  pub read : read_items all ≡ read_from number size held (drop number all)
-  pub sum : size ≡ sum_by length (take number all)
+-- behind items that are read, the rest is read
+read-behind : (items rest : List Bytes) (number size : ℕ) (h g : Held) → read_from number size h items ≡ Ok g →
+    read_from number size h (items ++ rest) ≡ read_from (number + length items) (size + sum_by length items) g rest
+read-behind [] rest number size h g e =
+    let same : h ≡ g = cc in
+    let n : number ≡ number + 0 = omega arith in
+    let z : size ≡ size + 0 = omega arith in
+    λ i. read_from (n i) (z i) (same i) rest
+read-behind (x ∷ items) rest number size h g e =
+    let d = value-of (read_one number size h x) (then_rest number size x items) g e in
+    let n : (number + 1) + length items ≡ number + length (x ∷ items) = omega arith in
+    let z : (size + length x) + sum_by length items ≡ size + sum_by length (x ∷ items) = omega (arith, sum_by-cons length x items) in
+    ap (λ (q : Result Held Break). q >>= then_rest number size x (items ++ rest)) d.was
+    ∙ read-behind items rest (number + 1) (size + length x) d.value g d.rest
+    ∙ (λ i. read_from (n i) (z i) g rest)
 
-abbrev pub RestOf : Option (List Bytes) → ℕ → ℕ → ℕ → Gathered → Type 0
-RestOf o count number size v = IfSome o (λ all. count ≡ length all → Rest all number size v)
+-- behind the first items, which are read, some more are read
+more-behind : (o : Option (List Bytes)) (number size : ℕ) (v : Gathered) (r : AreRead o number size v) (rest : List Bytes) →
+    read_items (r.items ++ rest) ≡ read_from number size r.held rest
+unfolding read_items
+more-behind o number size v r rest =
+    let n : 0 + length r.items ≡ number = omega arith in
+    let z : 0 + sum_by length r.items ≡ size = omega arith in
+    read-behind r.items rest 0 0 nothing r.held r.read ∙ (λ i. read_from (n i) (z i) r.held rest)
+
+pub none-read : (o : Option (List Bytes)) (v : Gathered) → Holds nothing v → AreRead o 0 0 v
+unfolding read_items
+none-read o v h = record { items = []; keeps = none-kept o; held = nothing; read = refl; gathered = h; many = refl; long = refl }
+  where
+    none-kept : (o : Option (List Bytes)) → IfSome o (λ all. [] ≡ take 0 all)
+    none-kept None = tt
+    none-kept (Some all) = refl
+
+-- an item that the keeper has, where it tells them
+abbrev pub HasItem : Option (List Bytes) → ℕ → Type 0
+HasItem o number = IfSome o (λ all. number < length all)
+
+pub has-item : (o : Option (List Bytes)) (number count n : ℕ) → number < count → count ≡ n → IfSome o (λ all. length all ≡ n) → HasItem o number
+has-item None number count n lt e l = tt
+has-item (Some all) number count n lt e l = omega arith
+
+keeps-more : (o p : Option (List Bytes)) (number : ℕ) (items : List Bytes) (item : Bytes) → Stays o p → HasItem o number →
+    IfSome o (λ all. items ≡ take number all) → IfSome p (λ all. item ≡ item_of all number) → IfSome o (λ all. items ++ item ∷ [] ≡ take (number + 1) all)
+keeps-more None p number items item st lt k s = tt
+keeps-more (Some all) None number items item st lt k s = absurd st
+keeps-more (Some all) (Some other) number items item st lt k s =
+    let last : item ≡ item_of all number = s ∙ ap (λ (xs : List Bytes). item_of xs number) st in
+    (λ i. k i ++ (last ∙ unwrap_or-slice_get all number []) i ∷ []) ∙ sym (take_more all number [] lt)
+
+-- what is held is so with any piece
+pub holds-piece : (h : Held) (v w : Gathered) → w ≡ with_piece v w.piece → Holds h v → Holds h w
+holds-piece h v w e g = subst (λ (x : Gathered). Holds h x) (sym e) (record {
+  store = g.store;
+  room = g.room;
+  objects = g.objects;
+  names = g.names;
+  graph = g.graph;
+  known = g.known;
+  distinct = g.distinct;
+  refs = g.refs;
+  heads = g.heads;
+  kept = g.kept;
+  rule = g.rule;
+})
+
+-- the piece was read as an item
+abbrev pub ReadsTo : Gathered → Gathered → Type 0
+ReadsTo w u = (h : Held) → Holds h w → (g : Held) × (read_item h w.piece ≡ Ok g) × Holds g u
+
+pub next-read : (o : Option (List Bytes)) (number before now : ℕ) (v w u : Gathered) (h : Held) → w ≡ with_piece v w.piece → item_fits number before w.piece ≡ true → now ≡ before + length w.piece →
+    IfSome o (λ all. w.piece ≡ item_of all number) → ReadsTo w u → Holds h v → IsReadNext o number before h now u
+next-read o number before now v w u h p f e k r g =
+    let t = r h (holds-piece h v w p g) in
+    let one : read_one number before h w.piece ≡ Ok t.0 = grind arith in
+    record { item = w.piece; keeps = k; after = t.0; read = one; gathered = t.2; size = e }
 
 -- what reading one item more gives
 abbrev pub StepsTo : ℕ → ℕ → Gathered → ℕ → Gathered → Option (List Bytes) → Type 0
-StepsTo number size v now w p = (h : Held) → Holds h v → IfSome p (λ all.
-    ((g : Held) × (read_one number size h (item_of all number) ≡ Ok g) × Holds g w) × (now ≡ size + length (item_of all number)))
+StepsTo number size v now w p = (h : Held) → Holds h v → IsReadNext p number size h now w
+
+pub more-read : (o p : Option (List Bytes)) (number size now : ℕ) (v w : Gathered) → Stays o p → HasItem o number → AreRead o number size v → StepsTo number size v now w p → AreRead o (number + 1) now w
+more-read o p number size now v w st lt r s =
+    let t = s r.held r.gathered in
+    record {
+      items = r.items ++ t.item ∷ [];
+      keeps = keeps-more o p number r.items t.item st lt r.keeps t.keeps;
+      held = t.after;
+      read = more-behind o number size v r (t.item ∷ []) ∙ ap (λ (q : Result Held Break). q >>= then_rest number size t.item []) t.read;
+      gathered = t.gathered;
+      many = omega (arith, r.many, length-append r.items (t.item ∷ []));
+      long = omega (arith, t.size, r.long, sum_by_push length r.items t.item);
+    }
 
 abbrev pub FailsBy : ℕ → ℕ → Gathered → LoadError → Option (List Bytes) → Type 0
 FailsBy number size v e p = (h : Held) → Holds h v → IfSome p (λ all. IsLoadFault e (read_one number size h (item_of all number)))
 
-pub rest-start : (o : Option (List Bytes)) (count : ℕ) (v : Gathered) → Holds nothing v → RestOf o count 0 0 v
-unfolding read_items
-rest-start None count v h = tt
-rest-start (Some all) count v h = λ e. record { held = nothing; gathered = h; read = refl; sum = refl }
-
-rest-one : (all : List Bytes) (number size now : ℕ) (v w : Gathered) → number < length all → Rest all number size v → StepsTo number size v now w (Some all) → Rest all (number + 1) now w
-rest-one all number size now v w lt r s =
-    let t = s r.held r.gathered in
+pub read-fault : (o p : Option (List Bytes)) (number size : ℕ) (v : Gathered) (e : LoadError) → Stays o p → HasItem o number → AreRead o number size v → FailsBy number size v e p →
+    IfSome o (λ all. IsLoadFault e (read_items all))
+read-fault None p number size v e st lt r s = tt
+read-fault (Some all) None number size v e st lt r s = absurd st
+read-fault (Some all) (Some other) number size v e st lt r s =
     let item : Bytes = item_of all number in
-    record {
-      held = t.0.0;
-      gathered = t.0.2;
-      read = r.read
-          ∙ ap (λ (items : List Bytes). read_from number size r.held items) (drop-item all number lt)
-          ∙ ap (λ (q : Result Held Break). q >>= then_rest number size item (drop (number + 1) all)) t.0.1
-          ∙ ap (λ n. read_from (number + 1) n t.0.0 (drop (number + 1) all)) (sym t.1);
-      sum = t.1 ∙ (λ i. r.sum i + length (unwrap_or-slice_get all number [] i)) ∙ sym (sum_by_more length all number [] lt);
-    }
-
-pub rest-more : (o p : Option (List Bytes)) (count number size now : ℕ) (v w : Gathered) → Stays o p → number < count → RestOf o count number size v → StepsTo number size v now w p → RestOf o count (number + 1) now w
-rest-more None p count number size now v w st lt r s = tt
-rest-more (Some all) None count number size now v w st lt r s = absurd st
-rest-more (Some all) (Some other) count number size now v w st lt r s = λ many.
-    rest-one all number size now v w (subst (λ n. number < n) many lt) (r many) (subst (λ (items : List Bytes). StepsTo number size v now w (Some items)) st s)
-
-rest-failed : (all : List Bytes) (number size : ℕ) (v : Gathered) (e : LoadError) → number < length all → Rest all number size v → FailsBy number size v e (Some all) → IsLoadFault e (read_items all)
-rest-failed all number size v e lt r s =
-    fault-along e (read_items all) (read_one number size r.held (item_of all number) >>= then_rest number size (item_of all number) (drop (number + 1) all))
-    (r.read ∙ ap (λ (items : List Bytes). read_from number size r.held items) (drop-item all number lt))
-    (fault-then e (read_one number size r.held (item_of all number)) (then_rest number size (item_of all number) (drop (number + 1) all)) (s r.held r.gathered))
-
-pub rest-fault : (o p : Option (List Bytes)) (count number size : ℕ) (v : Gathered) (e : LoadError) → Stays o p → number < count → RestOf o count number size v → FailsBy number size v e p →
-    IfSome o (λ all. count ≡ length all → IsLoadFault e (read_items all))
-rest-fault None p count number size v e st lt r s = tt
-rest-fault (Some all) None count number size v e st lt r s = absurd st
-rest-fault (Some all) (Some other) count number size v e st lt r s = λ many.
-    rest-failed all number size v e (subst (λ n. number < n) many lt) (r many) (subst (λ (items : List Bytes). FailsBy number size v e (Some items)) st s)
-
--- all items are read
-abbrev pub IsAllRead : List Bytes → ℕ → Gathered → Type 0
-IsAllRead all size v = ((h : Held) × (read_items all ≡ Ok h) × Holds h v) × (size ≡ sum_by length all)
-
-rest-all : (all : List Bytes) (count size : ℕ) (v : Gathered) → count ≡ length all → Rest all count size v → IsAllRead all size v
-rest-all all count size v e r = (
-  (
-    r.held,
-    r.read ∙ ap (λ n. read_from count size r.held (drop n all)) e ∙ ap (λ (items : List Bytes). read_from count size r.held items) (none-left all),
-    r.gathered,
-  ),
-  r.sum ∙ ap (λ n. sum_by length (take n all)) e ∙ ap (λ (items : List Bytes). sum_by length items) (whole all),
-)
-  where
-    none-left : (all : List Bytes) → drop (length all) all ≡ []
-    none-left [] = refl
-    none-left (x ∷ all) = none-left all
-
-    whole : (all : List Bytes) → take (length all) all ≡ all
-    whole [] = refl
-    whole (x ∷ all) = ap (λ (items : List Bytes). x ∷ items) (whole all)
-
-pub rest-held : (o : Option (List Bytes)) (count number size : ℕ) (v : Gathered) → number ≡ count → RestOf o count number size v → IfSome o (λ all. count ≡ length all → IsAllRead all size v)
-rest-held None count number size v n r = tt
-rest-held (Some all) count number size v n r = λ e. rest-all all count size v e (subst (λ (k : ℕ). Rest all k size v) n (r e))
+    let rest : List Bytes = drop (number + 1) all in
+    let f : IsLoadFault e (read_one number size r.held item) =
+    subst (λ (xs : List Bytes). IsLoadFault e (read_one number size r.held (item_of xs number))) st (s r.held r.gathered) in
+    let whole : all ≡ r.items ++ item ∷ rest =
+    sym (take-append-drop number all) ∙ (λ i. sym r.keeps i ++ drop-item all number lt i) in
+    fault-along e (read_items all) (read_one number size r.held item >>= then_rest number size item rest)
+    (ap read_items whole ∙ more-behind (Some all) number size v r (item ∷ rest))
+    (fault-then e (read_one number size r.held item) (then_rest number size item rest) f)
 
 pub stays-self : (o : Option (List Bytes)) → Stays o o
 stays-self None = tt

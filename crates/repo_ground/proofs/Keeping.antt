@@ -1,14 +1,18 @@
 -- Keeping entries of the selected map.
-use Rattle.std.proofs.Common.{◌≡◌, ◌+◌, ◌<◌, ◌≤◌, ◌&&◌, ◌||◌, ℕ, length-append, zero, suc, append_assoc, slice_get, Bool, true, false, cond, List, [], ◌∷◌, ◌++◌, drop, length, take, Option, Some, None, refl, sym, ap, subst, ◌∙◌, arith, true≢false, append-nil, IsSome, is_some}
+use Rattle.std.proofs.Common.{◌≡◌, ◌+◌, ◌*◌, ◌^◌, ◌<◌, ◌≤◌, ◌&&◌, ◌||◌, ℕ, length-append, zero, suc, append_assoc, slice_get, Bool, true, false, cond, List, [], ◌∷◌, ◌++◌, drop, length, take, Option, Some, None, refl, sym, ap, subst, ◌∙◌, arith, true≢false, append-nil, IsSome, is_some}
 use Rattle.std.specs.Option.{option_map}
 use Rattle.std.specs.Bool.{if◌then◌else◌}
-use Rattle.std.specs.Prelude.{◌==◌, sum_by}
+use borrow.Author.Tests.{leb-true}
+use Rattle.std.specs.Prelude.{◌==◌, filter, nat_le, sum_by}
+use Rattle.std.specs.Cmp.{second_so}
+use Rattle.git_objects.specs.declared.limits.TheConstants.{COMMITS, OBJECTS}
+use Rattle.object_store.specs.Fits.{is_commit}
 use Rattle.std.specs.List.{cons_option, filter_map, flat_map, list_any}
 use Rattle.std.specs.Cmp.Lexicographic.{bytes_decides}
 use Rattle.std.specs.Int.{to_be_bytes, w16, w32}
 use Rattle.commit_map.specs.Rules.{rule_number}
 use Rattle.state_items.proofs.Lengths.{item-some}
-use Rattle.std.proofs.lemmas.List.{map-append, take-append-drop, take_all}
+use Rattle.std.proofs.lemmas.List.{length-map, map-append, take-append-drop, take_all}
 use Rattle.std.proofs.lemmas.Option.{none-some, same_Some}
 use Rattle.git_objects.specs.declared.name.Name.{Name}
 use Rattle.commit_map.specs.declared.commit_map.Shown as declared
@@ -18,13 +22,14 @@ use Rattle.git_objects.proofs.Basics.{same_bytes-back}
 use Rattle.commit_graph.specs.Graphs.{Row, place_of}
 use Rattle.commit_map.specs.Shown.{Entries, Shown, entry_value, entry_values, kept_at}
 use Rattle.state_items.specs.Changes.{ChangePlan, KeepPlan, NoPlan, Plan, RulePlan, held_after, passed, plan_items}
-use Rattle.state_items.specs.Items.{Held, entry_text, is_rule, kept_text, result_text, rule_text}
+use Rattle.state_items.specs.Items.{Held, entry_text, is_canonical, is_rule, kept_text, result_text, rule_text}
 use Rattle.state_items.specs.KeptMaps.{entries_at, entries_for}
+use Rattle.state_items.proofs.Canonicals.{canonical-law}
 use Rattle.state_items.proofs.KeptHeld.{entries-behind}
-use Rattle.state_items.proofs.RowsHeld.{some-place}
+use Rattle.state_items.proofs.RowsHeld.{rows-number, some-place}
 use Rattle.repo_ground.specs.Changes.{IsCommitted}
 use Rattle.repo_ground.specs.Contents.{Contents, Spells, entries_in, is_selected, room_in}
-use Rattle.repo_ground.specs.Keeping.{AreOfGraph, keep_plan, may_keep, new_entries, new_entry, news, unheld}
+use Rattle.repo_ground.specs.Keeping.{AreNamed, AreOfGraph, keep_plan, may_keep, new_entries, new_entry, news, unheld}
 
 -- all entries of the map are kept then, in an item of so many bytes
 abbrev pub with_kept : Contents → ℕ → Contents
@@ -32,7 +37,7 @@ with_kept s n = record s { kept = length s.basis.map; number = s.number + 1; siz
 
 -- ---- look-ups
 
-kept-append : (n : Bytes) (xs ys : Entries) → kept_at n xs ≡ None → kept_at n (xs ++ ys) ≡ kept_at n ys
+pub kept-append : (n : Bytes) (xs ys : Entries) → kept_at n xs ≡ None → kept_at n (xs ++ ys) ≡ kept_at n ys
 kept-append n [] ys h = refl
 kept-append n (x ∷ xs) ys h = by (same_bytes n x.0) h (kept-append n xs ys)
   where
@@ -48,7 +53,7 @@ kept-front n (x ∷ xs) ys o h = by (same_bytes n x.0) h (kept-front n xs ys o)
     by true e k = e
     by false e k = k e
 
-kept-each : (P : Bytes → Option Shown → Type 0) (n : Bytes) (xs : Entries) (o : Option Shown) → Each (λ e. P e.0 e.1) xs → kept_at n xs ≡ Some o → P n o
+pub kept-each : (P : Bytes → Option Shown → Type 0) (n : Bytes) (xs : Entries) (o : Option Shown) → Each (λ e. P e.0 e.1) xs → kept_at n xs ≡ Some o → P n o
 kept-each P n [] o h e = absurd (none-some o e)
 kept-each P n (x ∷ xs) o h e = by (same_bytes n x.0) refl e (kept-each P n xs o h.1)
   where
@@ -155,6 +160,31 @@ drop-at : {A : Type 0} (xs : List A) (i : ℕ) (x : A) → slice_get xs i ≡ So
 drop-at [] i x e = absurd (none-some x e)
 drop-at {A = A} (y ∷ ys) zero x e = ap (λ (z : A). z ∷ ys) (same_Some y x e)
 drop-at {A = A} (y ∷ ys) (suc i) x e = drop-at ys i x e ∙ ap (λ (n : ℕ). x ∷ drop n (y ∷ ys)) (let q : suc (i + 1) ≡ suc i + 1 = omega arith in q)
+
+-- ---- how many
+
+filter_map-few : {A B : Type 0} (f : A → Option B) (xs : List A) → length (filter_map f xs) ≤ length xs
+filter_map-few f [] = omega arith
+filter_map-few {B = B} f (x ∷ xs) = by (f x) (filter_map-few f xs)
+  where
+    by : (o : Option B) → length (filter_map f xs) ≤ length xs → length (cons_option o (filter_map f xs)) ≤ suc (length xs)
+    by None h = omega (arith, h)
+    by (Some y) h = omega (arith, h)
+
+pub few-news : (h : Held) (s : Contents) → Spells h s → length (new_entries s) ≤ 2 ^ 20
+few-news h s w =
+    let few = filter_map-few (new_entry s) s.basis.graph in
+    let rows = ap length w.graph ∙ rows-number h.objects w.store in
+    let all = leb-true (length (filter is_commit h.objects)) COMMITS (second_so (nat_le (length h.objects) OBJECTS) (nat_le (length (filter is_commit h.objects)) COMMITS) w.room) in
+    omega (arith, few, rows, all)
+
+-- the new entries are by names, where the length of their item is
+pub news-named : (h : Held) (s : Contents) (text : Bytes) (xs : List (Name × Option declared.Shown)) (size : Option ℕ) → Spells h s → is_canonical text ≡ true → entry_values xs ≡ new_entries s
+    → (9 + length text + 61 * length xs ≤ 2 ^ 29 → IsSome size) → (IsSome size → AreNamed (entry_values xs)) → AreNamed (new_entries s)
+news-named h s text xs size w canonical e few named =
+    let short = (canonical-law.of_text text canonical).1.short in
+    let same : length xs ≡ length (new_entries s) = sym (length-map xs entry_value) ∙ ap length e in
+    subst AreNamed e (named (few (omega (arith, short, same, few-news h s w))))
 
 -- ---- the code's lists
 

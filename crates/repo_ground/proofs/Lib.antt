@@ -22,3 +22,7 @@ pub mod MovedRefs
 pub mod Prepared
 pub mod Cuts
 pub mod MapFronts
+pub mod Reaching
+pub mod CommitsEntered
+pub mod TestedMoves
+pub mod Taken

@@ -93,7 +93,7 @@ abbrev pub chosen : Contents → Option (Bytes × ℕ) → Entries → RuleMaps 
 chosen s selected found maps kept = record s { basis = record s.basis { map = found }; maps = maps; selected = selected; kept = kept }
 
 pub chosen-already : (text : Bytes) (s : Contents) → is_selected s.selected text (rule_number s.basis.rule) ≡ true → IsSelected text s s
-chosen-already text s e = record { selected = by s.selected e; same = refl; spells = λ h w. w; map = inl refl }
+chosen-already text s e = record { selected = by s.selected e; same = refl; spells = λ h w. w; map = inl refl; held = inl refl }
   where
     by : (o : Option (Bytes × ℕ)) → is_selected o text (rule_number s.basis.rule) ≡ true → o ≡ Some (text, rule_number s.basis.rule)
     by None g = absurd (true≢false (sym g))
@@ -124,6 +124,7 @@ chosen-now text s found maps other is put = record {
     rule = w.rule;
   };
   map = inr (λ h n w. had h w n ∙ ap (λ r. kept_at n (entries_for text r h.kept)) w.rule);
+  held = inr refl;
 }
   where
     k : ℕ

@@ -51,7 +51,7 @@ use Rattle.repo_ground.proofs.Rules.{commits-number}
 
 -- ---- numbers
 
-filter-append : {A : Type 0} (p : A → Bool) (xs ys : List A) → length (filter p (xs ++ ys)) ≡ length (filter p xs) + length (filter p ys)
+pub filter-append : {A : Type 0} (p : A → Bool) (xs ys : List A) → length (filter p (xs ++ ys)) ≡ length (filter p xs) + length (filter p ys)
 filter-append p [] ys = let f : length (filter p ys) ≡ 0 + length (filter p ys) = omega arith in f
 filter-append p (x ∷ xs) ys =
     elim (p x) as (λ b. length (cond b (x ∷ filter p (xs ++ ys)) (filter p (xs ++ ys))) ≡ length (cond b (x ∷ filter p xs) (filter p xs)) + length (filter p ys)) [
@@ -59,7 +59,7 @@ filter-append p (x ∷ xs) ys =
       | false ↦ filter-append p xs ys
     ]
 
-filter-reverse : {A : Type 0} (p : A → Bool) (xs : List A) → length (filter p (reverse xs)) ≡ length (filter p xs)
+pub filter-reverse : {A : Type 0} (p : A → Bool) (xs : List A) → length (filter p (reverse xs)) ≡ length (filter p xs)
 filter-reverse p [] = refl
 filter-reverse p (x ∷ xs) =
     ap (λ (t : List _). length (filter p t)) (reverse-append (x ∷ []) xs)
@@ -106,7 +106,7 @@ nil-none : {A : Type 0} (xs : List A) → is_nil xs ≡ true → xs ≡ []
 nil-none [] e = refl
 nil-none (x ∷ xs) e = absurd (true≢false (sym e))
 
-append-none : {A : Type 0} (xs : List A) → xs ++ [] ≡ xs
+pub append-none : {A : Type 0} (xs : List A) → xs ++ [] ≡ xs
 append-none [] = refl
 append-none (x ∷ xs) = ap (λ (t : List _). x ∷ t) (append-none xs)
 

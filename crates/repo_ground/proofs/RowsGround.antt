@@ -1,5 +1,5 @@
 -- The commits of what is held are a graph of each store that has it.
-use Rattle.std.proofs.Common.{◌≡◌, ℕ, zero, suc, ◌+◌, ◌<◌, inl, inr, Bool, true, false, not, cond, ◌||◌, List, [], ◌∷◌, ◌++◌, map, length, slice_get, Option, Some, None, Contains, All, refl, sym, ap, subst, ◌∙◌, arith, true≢false, one-add, nat_lt}
+use Rattle.std.proofs.Common.{◌≡◌, ℕ, zero, suc, ◌+◌, ◌<◌, inl, inr, Bool, true, false, not, cond, ◌||◌, List, [], ◌∷◌, ◌++◌, map, length, Option, Some, None, Contains, All, refl, sym, ap, subst, ◌∙◌, arith, true≢false, one-add, nat_lt}
 use Rattle.std.specs.List.{list_any, position_or_len}
 use Rattle.std.specs.Option.{is_some, unwrap_or}
 use Rattle.std.specs.Cmp.Lexicographic.{bytes_decides}
@@ -13,13 +13,14 @@ use Rattle.git_objects.specs.Commits.{Commit}
 use Rattle.git_objects.specs.CommitBodies.{commit_from}
 use Rattle.git_objects.specs.declared.kind.Kind.{Kind}
 use Rattle.git_objects.specs.declared.kind.Kind.TheVariants.{Blob, Tree, Commit as CommitKind}
-use Rattle.object_store.specs.Objects.{Object, IsStore, find_named, has, is_body, object_name}
+use Rattle.object_store.specs.Objects.{Object, IsStore, find_named, has, has_name, is_body, object_name}
+use Rattle.object_store.specs.StoredSnapshots.{commit_named}
 use Rattle.object_store.proofs.Parts.{AreIn, found-has, part-has}
 use Rattle.object_store.proofs.StoredCommits.{commit-held}
 use Rattle.commit_graph.specs.Graphs.{Row, place_of}
-use Rattle.commit_graph.proofs.Places.{slice_get-push}
+use Rattle.commit_graph.proofs.Places.{graph-nil, graph-push, slice_get-push}
 use Rattle.state_items.specs.Arrivals.{commit_row, place_in, rows_of, with_commit, with_row}
-use Rattle.state_items.proofs.RowsHeld.{place-there, rows-graph, some-place}
+use Rattle.state_items.proofs.RowsHeld.{place-fresh, place-there, some-place}
 use Rattle.state_items.proofs.TreeParts.{each-map, each-member}
 use Rattle.history_ground.specs.StoredGraphs.{name_at, IsRowIn, IsGraphIn}
 
@@ -56,9 +57,17 @@ name-at-place rows n h =
     place true e = refl
     place false e = absurd (true≢false (sym e))
 
-names-held : (H : List Object) (ps : List Bytes) → IsStore H → Each (λ p. has CommitKind H p ≡ true) ps → map (name_at (rows_of H)) (map (place_in (rows_of H)) ps) ≡ ps
-names-held H [] s h = refl
-names-held H (p ∷ ps) s h = λ i. name-at-place (rows_of H) p (place-there p H s ∙ h.0) i ∷ names-held H ps s h.1 i
+-- names that have places
+abbrev pub ArePlaced : List Row → List Bytes → Type 0
+ArePlaced rows ns = Each (λ n. is_some (place_of n rows) ≡ true) ns
+
+names-placed : (rows : List Row) (ps : List Bytes) → ArePlaced rows ps → map (name_at rows) (map (place_in rows) ps) ≡ ps
+names-placed rows [] h = refl
+names-placed rows (p ∷ ps) h = λ i. name-at-place rows p h.0 i ∷ names-placed rows ps h.1 i
+
+-- commits that are held have places
+held-placed : (H : List Object) → IsStore H → (ps : List Bytes) → Each (λ p. has CommitKind H p ≡ true) ps → ArePlaced (rows_of H) ps
+held-placed H s ps h = each-map (λ p. has CommitKind H p ≡ true) (λ p. is_some (place_of p (rows_of H)) ≡ true) ps (λ p q. place-there p H s ∙ q) h
 
 -- ---- rows
 
@@ -71,9 +80,9 @@ place-below n rows h = by (nat_lt (position_or_len (λ (r : Row). same_bytes r.n
     by true e g = ltb-true _ _ e
     by false e g = absurd (true≢false (sym g))
 
-places-below : (H : List Object) → IsStore H → (ps : List Bytes) → Each (λ p. has CommitKind H p ≡ true) ps → All (λ p. p < length (rows_of H)) (map (place_in (rows_of H)) ps)
-places-below H s [] h = All-nil (λ p. p < length (rows_of H))
-places-below H s (p ∷ ps) h = All-cons (λ p. p < length (rows_of H)) (place_in (rows_of H) p) (map (place_in (rows_of H)) ps) (place-below p (rows_of H) (place-there p H s ∙ h.0)) (places-below H s ps h.1)
+places-below : (rows : List Row) (ps : List Bytes) → ArePlaced rows ps → All (λ p. p < length rows) (map (place_in rows) ps)
+places-below rows [] h = All-nil (λ p. p < length rows)
+places-below rows (p ∷ ps) h = All-cons (λ p. p < length rows) (place_in rows p) (map (place_in rows) ps) (place-below p rows h.0) (places-below rows ps h.1)
 
 row-push : (S : List Object) (rows : List Row) (r q : Row) → All (λ p. p < length rows) q.parents → IsRowIn S rows q → IsRowIn S (rows ++ r ∷ []) q
 row-push S rows r q below w = record {
@@ -85,49 +94,47 @@ row-push S rows r q below w = record {
   tree_held = w.tree_held;
 }
 
-abbrev AreRowsIn : List Object → List Row → Type 0
-AreRowsIn S rows = (i : ℕ) (r : Row) → slice_get rows i ≡ Some r → IsRowIn S rows r
-
 -- below the length of the rows
 within : (rows : List Row) (i : ℕ) (ps : List ℕ) → i < length rows → All (λ p. p < i) ps → All (λ p. p < length rows) ps
 within rows i ps l h j d e = let below = h j d e in omega (arith, l, below)
 
-module _ (S H : List Object) (s : IsStore H) where
-  new-row : (b : Bytes) → is_body H CommitKind b ≡ true → AreIn S (record { kind = CommitKind; body = b } ∷ H) → (c : Commit) → commit_from b ≡ Some c
-      → has Tree H c.tree ≡ true → Each (λ p. has CommitKind H p ≡ true) c.parents
-      → IsRowIn S (rows_of H ++ commit_row (rows_of H) (name CommitKind b) c ∷ []) (commit_row (rows_of H) (name CommitKind b) c)
-  new-row b w i c e t ps =
-      let r : Row = commit_row (rows_of H) (name CommitKind b) c in
-      let f = found-has S CommitKind (name CommitKind b) (record { kind = CommitKind; body = b }) i.0 refl in
-      record {
-        commit = c;
-        held = f.0;
-        named = ap commit_from f.1 ∙ e;
-        tree = refl;
-        parents = sym (names-held H c.parents s ps) ∙ sym (names-push (rows_of H) r r.parents (places-below H s c.parents ps));
-        tree_held = (part-has S H Tree c.tree i.1 t).0;
-      }
+-- one commit of the store more, whose parents have places
+pub one-more : (S : List Object) (rows : List Row) (n : Bytes) (c : Commit) → IsGraphIn S rows → has CommitKind S n ≡ true → commit_named S n ≡ Some c → has Tree S c.tree ≡ true → ArePlaced rows c.parents
+    → place_of n rows ≡ None → IsGraphIn S (rows ++ commit_row rows n c ∷ [])
+one-more S rows n c g held named tree ps new =
+    let r : Row = commit_row rows n c in
+    let below = places-below rows c.parents ps in
+    record {
+      store = g.store;
+      graph = graph-push rows r g.graph new below;
+      each = λ j q e. elim (slice_get-push rows r j q e) [
+        | inl old ↦ row-push S rows r q (within rows j q.parents (slice_get_within rows j q old) (g.graph.placed j q old)) (g.each j q old)
+        | inr own ↦ subst (IsRowIn S (rows ++ r ∷ [])) own.1 (record {
+          commit = c;
+          held = held;
+          named = named;
+          tree = refl;
+          parents = sym (names-placed rows c.parents ps) ∙ sym (names-push rows r r.parents below);
+          tree_held = tree;
+        })
+      ];
+    }
 
-  commit-rows : (b : Bytes) → is_body H CommitKind b ≡ true → AreIn S (record { kind = CommitKind; body = b } ∷ H) → AreRowsIn S (rows_of H)
-      → AreRowsIn S (with_row (rows_of H) CommitKind b)
-  commit-rows b w i h =
-      let c = commit-held H b w in
-      let r : Row = commit_row (rows_of H) (name CommitKind b) c.commit in
-      subst (λ (o : Option Commit). AreRowsIn S (with_commit (rows_of H) (name CommitKind b) o)) (sym c.read)
-      (λ j q e. elim (slice_get-push (rows_of H) r j q e) [
-        | inl old ↦ row-push S (rows_of H) r q (within (rows_of H) j q.parents (slice_get_within (rows_of H) j q old) ((rows-graph H s).placed j q old)) (h j q old)
-        | inr own ↦ subst (IsRowIn S (rows_of H ++ r ∷ [])) own.1 (new-row b w i c.commit c.read c.tree c.parents)
-      ])
+step : (S H : List Object) (k : Kind) (b : Bytes) → IsStore H → is_body H k b ≡ true → has_name H (name k b) ≡ false → AreIn S (record { kind = k; body = b } ∷ H) → IsGraphIn S (rows_of H)
+    → IsGraphIn S (with_row (rows_of H) k b)
+step S H Blob b s w n i g = g
+step S H Tree b s w n i g = g
+step S H CommitKind b s w n i g =
+    let c = commit-held H b w in
+    let f = found-has S CommitKind (name CommitKind b) (record { kind = CommitKind; body = b }) i.0 refl in
+    subst (λ (o : Option Commit). IsGraphIn S (with_commit (rows_of H) (name CommitKind b) o)) (sym c.read)
+    (one-more S (rows_of H) (name CommitKind b) c.commit g f.0 (ap commit_from f.1 ∙ c.read) (part-has S H Tree c.commit.tree i.1 c.tree).0 (held-placed H s c.commit.parents c.parents)
+    (place-fresh (name CommitKind b) H s n))
 
-  step : (k : Kind) (b : Bytes) → is_body H k b ≡ true → AreIn S (record { kind = k; body = b } ∷ H) → AreRowsIn S (rows_of H) → AreRowsIn S (with_row (rows_of H) k b)
-  step Blob b w i h = h
-  step Tree b w i h = h
-  step CommitKind b w i h = commit-rows b w i h
-
-each-row : (S H : List Object) → IsStore H → AreIn S H → AreRowsIn S (rows_of H)
+rows-in : (S H : List Object) → IsStore S → IsStore H → AreIn S H → IsGraphIn S (rows_of H)
 unfolding rows_of
-each-row S [] s h i r e = absurd (none-some r e)
-each-row S (o ∷ H) s h i r e = step S H s.2 o.kind o.body s.0 h (each-row S H s.2 h.1) i r e
+rows-in S [] t s h = record { store = t; graph = graph-nil; each = λ i r e. absurd (none-some r e) }
+rows-in S (o ∷ H) t s h = step S H o.kind o.body s.2 s.0 s.1 h (rows-in S H t s.2 h.1)
 
 -- all of them are found in the store under their names
 pub are-in : (S H : List Object) → ((o : Object) → Contains H o → find_named S (object_name o) ≡ Some o) → AreIn S H
@@ -135,4 +142,4 @@ are-in S H w = each-map (Contains H) (λ o. find_named S (object_name o) ≡ Som
 
 -- the commits of what is held, as a graph of a store that has all of it
 pub rows_ground : (S H : List Object) → IsStore S → IsStore H → ((o : Object) → Contains H o → find_named S (object_name o) ≡ Some o) → IsGraphIn S (rows_of H)
-rows_ground S H s h w = record { store = s; graph = rows-graph H h; each = each-row S H h (are-in S H w) }
+rows_ground S H s h w = rows-in S H s h (are-in S H w)

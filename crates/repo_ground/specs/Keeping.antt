@@ -1,11 +1,13 @@
 -- The entries of a filter that are to be kept.
-use Rattle.std.specs.Prelude.{◌≡◌, ◌≢◌, ℕ, Bool, ◌&&◌, not, if◌then◌else◌, [], ◌∷◌, drop, filter_map, IsSome, Option, None, Some}
+use Rattle.std.specs.Prelude.{◌≡◌, ◌≢◌, ℕ, Bool, true, ◌&&◌, not, if◌then◌else◌, [], ◌∷◌, drop, filter_map, IsSome, Option, None, Some}
 use Rattle.std.specs.Global.{Vec}
+use Rattle.std.specs.List.{list_all}
 use Rattle.std.specs.Option.{is_none, is_some, option_map}
 use Rattle.git_objects.specs.Lists.{Each}
 use Rattle.commit_graph.specs.Graphs.{Row, place_of}
 use Rattle.commit_map.specs.Shown.{Entries, Shown, kept_at}
 use Rattle.git_objects.specs.Paths.{Bytes, is_nil}
+use Rattle.state_items.specs.Appending.{is_result}
 use Rattle.state_items.specs.Items.{Held, is_canonical}
 use Rattle.state_items.specs.Changes.{Plan, NoPlan, KeepPlan, passed, plan_items}
 use Rattle.proj_io.specs.declared.keeper.KeepError.{KeepError}
@@ -26,6 +28,10 @@ new_entries s = filter_map (new_entry s) s.basis.graph
 
 abbrev pub news : Held → Contents → Bytes → Plan
 news h s text = KeepPlan h.rule text (new_entries s)
+
+-- each projection of these is by names
+abbrev pub AreNamed : Entries → Type 0
+AreNamed es = list_all (λ e. is_result e.1) es ≡ true
 
 -- each entry of the map that no item holds is of a commit of the graph
 abbrev pub AreOfGraph : Contents → Type 0

@@ -4,6 +4,7 @@ pub mod Steps
 pub mod Selecting
 pub mod Changes
 pub mod Moves
+pub mod Reaching
 pub mod Keeping
 pub mod Laws
 pub mod Growing
@@ -11,3 +12,4 @@ pub mod StoredObjects
 pub mod Entering
 pub mod Moving
 pub mod Drafting
+pub mod Taking

@@ -3,16 +3,29 @@ use Rattle.std.specs.Prelude.{◌≡◌, ⊤, ℕ, List, [], None, Option, Resul
 use Rattle.git_objects.specs.Paths.{Bytes}
 use Rattle.history_ground.specs.Grounds.{IsGround}
 use Rattle.state_items.specs.Fields.{BrokenAt, Clash}
-use Rattle.state_items.specs.Items.{Held, Break}
+use Rattle.state_items.specs.Items.{Held, Break, nothing}
 use Rattle.repo_ground.specs.Contents.{Contents, IsCurrent, Spells}
 use Rattle.repo_ground.specs.declared.state.LoadError.{LoadError}
 use Rattle.repo_ground.specs.declared.state.LoadError.TheVariants.{StoreFault, Damaged, Collision, OutOfMemory}
 
--- it has what some items hold, which are the keeper's where it tells them, and no filter is selected yet
-pub record IsLoaded (items : Option (List Bytes)) (number : ℕ) (s : Contents) : Type 0 where
+-- nothing is held, nothing is in the store, there are no items, and no filter is selected yet
+pub record IsEmpty (s : Contents) : Type 0 where
+  pub spells : Spells nothing s
+  pub ground : IsGround s.basis
+  pub store : s.basis.store ≡ []
+  pub none : s.selected ≡ None
+  pub map : s.basis.map ≡ []
+  pub number : s.number ≡ 0
+  pub size : s.size ≡ 0
+
+-- it has what some items hold, which are the keeper's where it tells them, and nothing else; no filter is selected yet
+pub record IsLoaded (told : Option (List Bytes)) (number : ℕ) (s : Contents) : Type 0 where
+  pub items : List Bytes
+  pub keeps : IfSome told (λ all. items ≡ all)
   pub held : Held
+  pub current : IsCurrent items held s
   pub spells : Spells held s
-  pub current : IfSome items (λ all. IsCurrent all held s)
+  pub only : s.basis.store ≡ held.objects
   pub ground : IsGround s.basis
   pub none : s.selected ≡ None
   pub empty : s.basis.map ≡ []

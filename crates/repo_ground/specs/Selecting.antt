@@ -1,5 +1,5 @@
 -- The map of one filter in the ground's place.
-use Rattle.std.specs.Prelude.{◌≡◌, ◌⊎◌, Some}
+use Rattle.std.specs.Prelude.{◌≡◌, ◌⊎◌, length, Some}
 use Rattle.git_objects.specs.Paths.{Bytes}
 use Rattle.commit_map.specs.Rules.{rule_number}
 use Rattle.commit_map.specs.Shown.{kept_at}
@@ -16,10 +16,11 @@ with_maps before after = record before {
   kept = after.kept;
 }
 
--- The filter of that text is selected under the ground's rule. Its map has of each commit what items hold, unless it was selected
--- already: then nothing has changed.
+-- The filter of that text is selected under the ground's rule. Its map has of each commit what items hold, and nothing else, unless it
+-- was selected already: then nothing has changed.
 pub record IsSelected (text : Bytes) (before after : Contents) : Type 0 where
   pub selected : after.selected ≡ Some (text, rule_number before.basis.rule)
   pub same : after ≡ with_maps before after
   pub spells : (h : Held) → Spells h before → Spells h after
   pub map : (after ≡ before) ⊎ ((h : Held) (n : Bytes) → Spells h before → kept_at n after.basis.map ≡ kept_at n (entries_for text h.rule h.kept))
+  pub held : (after ≡ before) ⊎ (after.kept ≡ length after.basis.map)

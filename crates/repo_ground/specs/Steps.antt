@@ -1,7 +1,11 @@
--- Loading one item more.
-use Rattle.std.specs.Prelude.{◌≡◌, ⊤, ℕ, Bool, false}
+-- Loading one item more, and those that are loaded so far.
+use Rattle.std.specs.Prelude.{◌≡◌, ⊤, ◌+◌, ℕ, Bool, false, List, length, take, sum_by, Option, Ok, IfSome}
+use Rattle.git_objects.specs.Paths.{Bytes}
+use Rattle.proj_io.specs.Items.{item_of}
 use Rattle.state_items.specs.declared.fault.ItemFault.{ItemFault}
 use Rattle.state_items.specs.declared.fault.ItemFault.TheVariants.{Broken, Collision as Clashes, OutOfMemory as NoMemory}
+use Rattle.state_items.specs.Items.{Held, read_items, read_one}
+use Rattle.state_items.specs.Readings.{Gathered, Holds}
 use Rattle.repo_ground.specs.declared.state.LoadError.{LoadError}
 use Rattle.repo_ground.specs.declared.state.LoadError.TheVariants.{StoreFault, Damaged, Collision, OutOfMemory}
 
@@ -17,3 +21,22 @@ IsUnread number StoreFault fits = ⊤
 IsUnread number OutOfMemory fits = ⊤
 IsUnread number (Damaged item at) fits = (item ≡ number) × (at ≡ 0) × (fits ≡ false)
 IsUnread number (Collision n) fits = ⊥
+
+-- the item of this number is read behind what is held of so many bytes: the keeper's where it tells its items
+pub record IsReadNext (told : Option (List Bytes)) (number before : ℕ) (h : Held) (now : ℕ) (v : Gathered) : Type 0 where
+  pub item : Bytes
+  pub keeps : IfSome told (λ all. item ≡ item_of all number)
+  pub after : Held
+  pub read : read_one number before h item ≡ Ok after
+  pub gathered : Holds after v
+  pub size : now ≡ before + length item
+
+-- so many first items are read, which have so many bytes together
+pub record AreRead (told : Option (List Bytes)) (number size : ℕ) (v : Gathered) : Type 0 where
+  pub items : List Bytes
+  pub keeps : IfSome told (λ all. items ≡ take number all)
+  pub held : Held
+  pub read : read_items items ≡ Ok held
+  pub gathered : Holds held v
+  pub many : number ≡ length items
+  pub long : size ≡ sum_by length items

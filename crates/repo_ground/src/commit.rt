@@ -79,6 +79,7 @@ impl State {
             MatchResult result
             (λ _. IsCommitted h (batch_plan h batch blobs cs) self.old self.new × IsGround self.new.basis)
             (λ e. IsRefused h (batch_plan h batch blobs cs) self.old self.new e) }
+        ensures store { self.new.basis.store ≡ self.old.basis.store }
         ensures items { let seen = keeper_view K.items K.number K.faults in
             (h : Held) (blobs : List Bytes) (cs : List Snapshot) → IsBatchOf h self.old batch blobs cs →
             Appends (batch_plan h batch blobs cs) (seen keeper.old) (seen keeper.new) result }

@@ -1,22 +1,27 @@
 // Entering new objects among the commits and the known blobs.
-ghost use Rattle.std.specs.Prelude.{◌≡◌, ◌<◌, ◌^◌, ◌++◌, List, None, Some, true, false, map};
-ghost use Rattle.std.specs.Prelude.{length, All, IfOk, OnOk};
+ghost use Rattle.std.specs.Prelude.{◌≡◌, ◌<◌, ◌^◌, ◌++◌, ◌∷◌, List, None, Some, true, false, map};
+ghost use Rattle.std.specs.Prelude.{length, reverse, All, IfOk, OnOk};
 ghost use Rattle.std.specs.List.{list_all, list_any};
 ghost use Rattle.std.specs.Option.{is_some};
 ghost use Rattle.git_objects.specs.Paths.{same_bytes};
 ghost use Rattle.git_objects.specs.CommitBodies.{commit_from};
 ghost use Rattle.git_objects.specs.Names.{name};
 ghost use Rattle.git_objects.specs.Parts.{name_bytes};
+ghost use Rattle.git_objects.specs.Snapshots.{Snapshot};
 ghost use Rattle.commit_graph.specs.Graphs.{place_of};
 ghost use Rattle.object_store.specs.Objects.{Object, find_named, object_name};
 ghost use Rattle.state_items.specs.Arrivals.{AreHeld, HasArrived, HasParents, place_in, with_blob_name, with_row};
 ghost use Rattle.repo_ground.specs.Entering.{AreNewIn, IsFront, with_all};
+ghost use Rattle.repo_ground.specs.Reaching.{HasCommits, IsNext, MayEnter};
 
 use commit_graph::Graph;
 use git_objects::{CommitView, Kind, Name};
 use indexmap::IndexSet;
 use object_store::Store;
 use std::alloc::{AllocError, Global};
+
+// How many commits a graph takes.
+const MOST_COMMITS: u32 = 1 << 30;
 
 // The places of a commit's parents.
 fn parent_places(
@@ -57,6 +62,44 @@ fn enter_commit(alloc: Global, graph: &mut Graph, key: Name, body: &[u8]) -> Res
             graph.add(key, commit.tree(), parents)
         }
     }
+}
+
+// Enters a commit of the store behind the others, unless it has a row already.
+fn enter_new(alloc: Global, store: &Store, graph: &mut Graph, key: Name) -> Result<(), AllocError>
+    requires next { (known : List Snapshot) × (c : Snapshot) × IsNext store.now graph.old known key c }
+    ensures entered { OnOk result ((known : List Snapshot) (c : Snapshot) → IsNext store.now graph.old known key c →
+        HasCommits store.now graph.new (c ∷ known)) }
+    ensures front { IsFront graph.old graph.new }
+{
+    if graph.index_of(&key).is_some() {
+        return Ok(());
+    }
+    if graph.len() >= MOST_COMMITS {
+        return Err(AllocError);
+    }
+    match store.get(&key) {
+        None => Ok(()),
+        Some(object) => enter_commit(alloc, graph, key, object.body),
+    }
+}
+
+/// Enters those of these commits that have no rows, one after another. A graph that is full can't take a commit more,
+/// which is told as want of memory. After an error the first of them may be entered.
+pub(crate) fn enter_commits(
+    alloc: Global,
+    store: &Store,
+    graph: &mut Graph,
+    names: &[Name],
+) -> Result<(), AllocError>
+    requires may { (known : List Snapshot) × (cs : List Snapshot) × MayEnter store.now graph.old known names.now cs }
+    ensures entered { OnOk result ((known : List Snapshot) (cs : List Snapshot) →
+        MayEnter store.now graph.old known names.now cs → HasCommits store.now graph.new (reverse cs ++ known)) }
+    ensures front { IsFront graph.old graph.new }
+{
+    for name in names {
+        enter_new(alloc, store, graph, *name)?;
+    }
+    Ok(())
 }
 
 // Enters an object of the store: a commit behind the others, a blob's name behind the others.

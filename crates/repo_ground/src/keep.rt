@@ -1,7 +1,7 @@
 // Keeping the projections of the selected filter.
-ghost use Rattle.std.specs.Prelude.{◌≡◌, ◌≢◌, ◌↔◌, ◌≤◌, ◌+◌, ◌^◌};
-ghost use Rattle.std.specs.Prelude.{ℕ, List, Some, length};
-ghost use Rattle.std.specs.Prelude.{IfOk, IsErrOf, MatchResult};
+ghost use Rattle.std.specs.Prelude.{◌≡◌, ◌≢◌, ◌↔◌, ◌≤◌, ◌+◌, ◌*◌, ◌^◌};
+ghost use Rattle.std.specs.Prelude.{ℕ, List, Some, true, Err, length};
+ghost use Rattle.std.specs.Prelude.{IfOk, IsErrOf, IsSome, OnOk, MatchResult};
 ghost use Rattle.std.specs.List.{flat_map};
 ghost use Rattle.std.specs.Option.{is_some, option_map};
 ghost use Rattle.git_objects.specs.Paths.{Bytes};
@@ -15,10 +15,11 @@ ghost use Rattle.filter_text.specs.Shapes.{shape};
 ghost use Rattle.proj_io.specs.Counts.{Counts};
 ghost use Rattle.proj_io.specs.Stops.{OnlyAdds};
 ghost use Rattle.proj_io.specs.Views.{keeper_view};
-ghost use Rattle.state_items.specs.Items.{Held, entry_text, kept_text};
+ghost use Rattle.state_items.specs.Appending.{is_result};
+ghost use Rattle.state_items.specs.Items.{Held, entry_text, is_canonical, kept_text};
 ghost use Rattle.repo_ground.specs.Changes.{Appends, IsCommitted, IsStopOf, keep_error_result};
 ghost use Rattle.repo_ground.specs.Contents.{Spells, SpellsSomething, room_in};
-ghost use Rattle.repo_ground.specs.Keeping.{AreOfGraph, IsItemOf, IsKeepRefused, keep_plan};
+ghost use Rattle.repo_ground.specs.Keeping.{AreNamed, AreOfGraph, IsItemOf, IsKeepRefused, keep_plan};
 ghost use Rattle.repo_ground.specs.Keeping.{new_entries, new_entry, unheld};
 
 use crate::State;
@@ -44,6 +45,7 @@ impl State {
         ensures state { (h : Held) → Spells h self.old →
             let p = keep_plan h self.old (printed (shape filter.now)) in
             MatchResult result (λ _. IsCommitted h p self.old self.new) (λ e. IsKeepRefused p self.old self.new e) }
+        ensures store { self.new.basis.store ≡ self.old.basis.store }
         ensures items { let seen = keeper_view K.items K.number K.faults in (h : Held) → Spells h self.old →
             Appends (keep_plan h self.old (printed (shape filter.now)))
             (seen keeper.old) (seen keeper.new)
@@ -55,6 +57,9 @@ impl State {
             (K.left_since keeper.old) (K.left_since keeper.new)
             (IsStopOf h self.old (keep_plan h self.old (printed (shape filter.now))) (K.items keeper.old)) }
         ensures cause { Counts (K.faults keeper.old) (K.faults keeper.new) (IsErrOf result KeepError.Failed) }
+        ensures basis { self.new.basis ≡ self.old.basis }
+        ensures named { result ≢ Err KeepError.OutOfMemory → is_canonical (printed (shape filter.now)) ≡ true →
+            AreNamed (new_entries self.old) }
     {
         match self.kept_news(filter) {
             Err(_) => Err(KeepError::OutOfMemory),
@@ -76,6 +81,8 @@ impl State {
         requires spells { SpellsSomething self.now }
         ensures item { IfOk result (λ item. (h : Held) → Spells h self.now →
             IsItemOf h self.now (keep_plan h self.now (printed (shape filter.now))) item) }
+        ensures named { OnOk result (is_canonical (printed (shape filter.now)) ≡ true →
+            AreNamed (new_entries self.now)) }
     {
         let news = self.news()?;
         if news.is_empty() {
@@ -163,7 +170,9 @@ fn add_size(size: usize, more: usize) -> Option<usize>
 // `size` and the bytes that an item takes for an entry, or None above the limit of an item.
 fn add_entry(entry: &(Name, Option<Shown>), size: usize) -> Option<usize>
     requires { size ≤ 2 ^ 29 }
-    ensures { result ≡ sized (size + length (entry_text (entry_value entry.now))) }
+    ensures size { result ≡ sized (size + length (entry_text (entry_value entry.now))) }
+    ensures named { is_result (entry_value entry.now).1 ≡ true }
+    ensures short { length (entry_text (entry_value entry.now)) ≤ 61 }
 {
     let (original, shown) = entry;
     match shown {
@@ -178,7 +187,9 @@ fn add_entry(entry: &(Name, Option<Shown>), size: usize) -> Option<usize>
 // `size` and the bytes that an item takes for these entries, or None above the limit of an item.
 fn add_entries(entries: &[(Name, Option<Shown>)], size: usize) -> Option<usize>
     requires { size ≤ 2 ^ 29 }
-    ensures { result ≡ sized (size + length (flat_map entry_text (entry_values entries.now))) }
+    ensures size { result ≡ sized (size + length (flat_map entry_text (entry_values entries.now))) }
+    ensures named { IsSome result → AreNamed (entry_values entries.now) }
+    ensures few { size + 61 * length entries.now ≤ 2 ^ 29 → IsSome result }
 {
     let mut size = size;
     for entry in entries {
@@ -193,7 +204,9 @@ fn add_entries(entries: &[(Name, Option<Shown>)], size: usize) -> Option<usize>
 // The length in bytes of the item of these entries, or None above the limit of an item.
 #[tactic(auto, unfolding(state_items::specs::Items::kept_text))]
 fn kept_size(text: &[u8], entries: &[(Name, Option<Shown>)]) -> Option<usize>
-    ensures { (rule : ℕ) → result ≡ sized (length (kept_text rule text.now (entry_values entries.now))) }
+    ensures size { (rule : ℕ) → result ≡ sized (length (kept_text rule text.now (entry_values entries.now))) }
+    ensures named { IsSome result → AreNamed (entry_values entries.now) }
+    ensures few { 9 + length text.now + 61 * length entries.now ≤ 2 ^ 29 → IsSome result }
 {
     match add_size(9, text.len()) {
         None => None,

@@ -1,7 +1,7 @@
 // Reading a keeper's items, one after another.
 ghost use Rattle.std.specs.Prelude.{◌≡◌, ◌≤◌, ◌+◌, ◌^◌, ◌&&◌, ◌↔◌, Ok, Err, true};
 ghost use Rattle.std.specs.Prelude.{nat_lt, nat_le, length, IfOk};
-ghost use Rattle.std.specs.Prelude.{◌⊎◌, IfErr, IfSome, IsErr, OnOk, MatchResult, sum_by};
+ghost use Rattle.std.specs.Prelude.{◌⊎◌, IfErr, IfSome, IsErr, OnOk, MatchResult};
 ghost use Rattle.git_objects.specs.declared.limits.TheConstants.{ITEM_BYTES, ITEMS, STORE_BYTES};
 ghost use Rattle.proj_io.specs.Counts.{Counts};
 ghost use Rattle.proj_io.specs.Items.{Stays, item_of};
@@ -9,7 +9,7 @@ ghost use Rattle.proj_io.specs.Stops.{OnlyAdds, Nothing};
 ghost use Rattle.state_items.specs.Items.{Held, item_fits, nothing, read_items, read_one};
 ghost use Rattle.state_items.specs.Readings.{Holds, HoldsSomething, with_piece};
 ghost use Rattle.repo_ground.specs.Loads.{IsLoadFault};
-ghost use Rattle.repo_ground.specs.Steps.{IsUnread, load_error};
+ghost use Rattle.repo_ground.specs.Steps.{AreRead, IsReadNext, IsUnread, load_error};
 
 use crate::LoadError;
 use git_objects::limits::{ITEM_BYTES, ITEMS, STORE_BYTES};
@@ -98,11 +98,12 @@ fn fetch<K: Keeper>(
 ) -> Result<u64, LoadError>
     requires open { K.is_open keeper.old }
     requires before { before ≤ 2 ^ 31 }
-    ensures fetched { IfSome (K.items keeper.old) (λ all. MatchResult result
-        (λ now. (reading.new ≡ with_piece reading.old (item_of all number))
-        × (item_fits number before (item_of all number) ≡ true) × (now ≡ before + length (item_of all number)))
-        (λ e. IsUnread number e (item_fits number before (item_of all number)))) }
     ensures piece { OnOk result (reading.new ≡ with_piece reading.old reading.new.piece) }
+    ensures fits { OnOk result (item_fits number before reading.new.piece ≡ true) }
+    ensures size { IfOk result (λ now. now ≡ before + length reading.new.piece) }
+    ensures keeps { OnOk result (IfSome (K.items keeper.old) (λ all. reading.new.piece ≡ item_of all number)) }
+    ensures unread { IfSome (K.items keeper.old) (λ all.
+        IfErr result (λ e. IsUnread number e (item_fits number before (item_of all number)))) }
     ensures sum { IfOk result (λ now. now ≤ 2 ^ 31) }
     ensures same { K.number keeper.new ≡ K.number keeper.old }
     ensures items { Stays (K.items keeper.old) (K.items keeper.new) }
@@ -150,11 +151,9 @@ fn load_item<K: Keeper>(
     requires open { K.is_open keeper.old }
     requires before { before ≤ 2 ^ 31 }
     requires holds { HoldsSomething reading.old }
-    ensures item { (h : Held) → Holds h reading.old → IfSome (K.items keeper.old) (λ all. MatchResult result
-        (λ now. ((g : Held) × (read_one number before h (item_of all number) ≡ Ok g) × Holds g reading.new)
-        × (now ≡ before + length (item_of all number)))
-        (λ e. IsLoadFault e (read_one number before h (item_of all number)))) }
-    ensures holds { OnOk result (HoldsSomething reading.new) }
+    ensures item { (h : Held) → Holds h reading.old → MatchResult result
+        (λ now. IsReadNext (K.items keeper.old) number before h now reading.new)
+        (λ e. IfSome (K.items keeper.old) (λ all. IsLoadFault e (read_one number before h (item_of all number)))) }
     ensures sum { IfOk result (λ now. now ≤ 2 ^ 31) }
     ensures same { K.number keeper.new ≡ K.number keeper.old }
     ensures items { Stays (K.items keeper.old) (K.items keeper.new) }
@@ -174,18 +173,18 @@ fn load_item<K: Keeper>(
     }
 }
 
-/// Reads the first `count` items of a keeper, and gives their bytes together.
+/// Reads all items of a keeper, which are `count`, and gives their bytes together.
 pub(crate) fn load_items<K: Keeper>(
     keeper: &mut K,
     count: u32,
     reading: &mut Reading,
 ) -> Result<u64, LoadError>
     requires open { K.is_open keeper.old }
+    requires count { count ≡ K.number keeper.old }
     requires nothing { Holds nothing reading.old }
-    ensures read { IfSome (K.items keeper.old) (λ all. count ≡ length all → MatchResult result
-        (λ size. ((h : Held) × (read_items all ≡ Ok h) × Holds h reading.new) × (size ≡ sum_by length all))
-        (λ e. IsLoadFault e (read_items all))) }
-    ensures holds { OnOk result (HoldsSomething reading.new) }
+    ensures read { MatchResult result
+        (λ size. AreRead (K.items keeper.old) count size reading.new)
+        (λ e. IfSome (K.items keeper.old) (λ all. IsLoadFault e (read_items all))) }
     ensures same { K.number keeper.new ≡ K.number keeper.old }
     ensures items { Stays (K.items keeper.old) (K.items keeper.new) }
     ensures is_open { K.is_open keeper.new }

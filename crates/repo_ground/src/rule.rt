@@ -25,6 +25,7 @@ impl State {
         requires spells { SpellsSomething self.old }
         ensures state { (h : Held) → Spells h self.old → let p = rule_plan h (rule_number rule) in
             MatchResult result (λ _. IsCommitted h p self.old self.new) (λ e. IsRefused h p self.old self.new e) }
+        ensures store { self.new.basis.store ≡ self.old.basis.store }
         ensures items { let seen = keeper_view K.items K.number K.faults in (h : Held) → Spells h self.old →
             Appends (rule_plan h (rule_number rule)) (seen keeper.old) (seen keeper.new) result }
         ensures is_open { MatchResult result (λ _. K.is_open keeper.new)

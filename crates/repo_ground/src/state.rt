@@ -1,5 +1,5 @@
 // What a keeper's items spell.
-ghost use Rattle.std.specs.Prelude.{◌≡◌, ◌↔◌, [], Err, None, IfOk, IfSome, MatchResult, OnOk};
+ghost use Rattle.std.specs.Prelude.{◌≡◌, ◌↔◌, [], Err, None, IfErr, IfOk, IfSome, OnOk};
 ghost use Rattle.std.specs.FinMap.{find};
 ghost use Rattle.std.specs.Option.{option_map};
 ghost use Rattle.git_objects.specs.Parts.{name_bytes};
@@ -11,11 +11,11 @@ ghost use Rattle.proj_io.specs.Counts.{Counts};
 ghost use Rattle.proj_io.specs.Items.{Stays};
 ghost use Rattle.proj_io.specs.Stops.{OnlyAdds, Nothing};
 ghost use Rattle.ref_store.specs.Refs.{head_of};
-ghost use Rattle.state_items.specs.Items.{Held, nothing, read_items};
+ghost use Rattle.state_items.specs.Items.{Held, read_items};
 ghost use Rattle.state_items.specs.Readings.{Holds};
 ghost use Rattle.commit_map.specs.Rules.{rule_number};
 ghost use Rattle.repo_ground.specs.Contents.{Spells, is_selected};
-ghost use Rattle.repo_ground.specs.Loads.{IsLoaded, IsLoadFault};
+ghost use Rattle.repo_ground.specs.Loads.{IsEmpty, IsLoaded, IsLoadFault};
 ghost use Rattle.repo_ground.specs.Selecting.{IsSelected};
 
 use crate::loading::{load_items, reserve_items};
@@ -108,7 +108,7 @@ impl Model for State {
 impl State {
     /// No objects, no refs, and no items.
     pub fn empty(alloc: Global) -> Result<State, AllocError>
-        ensures { IfOk result (λ s. Spells nothing s × IsGround s.basis × (s.number ≡ 0) × (s.size ≡ 0)) }
+        ensures { IfOk result IsEmpty }
     {
         let memo = Memo::new(alloc, MEMO_PAIRS)?;
         Ok(State::of(alloc, Reading::new(alloc), memo, 0, 0))
@@ -118,6 +118,7 @@ impl State {
     fn of(alloc: Global, reading: Reading, memo: Memo, number: u32, size: u64) -> State
         requires { memo.entries ≡ [] }
         ensures spells { (h : Held) → Holds h reading → Spells h result × IsGround result.basis }
+        ensures store { result.basis.store ≡ reading.objects }
         ensures selected { result.selected ≡ None }
         ensures map { result.basis.map ≡ [] }
         ensures number { result.number ≡ number }
@@ -158,8 +159,7 @@ impl State {
     pub fn load<K: Keeper>(alloc: Global, keeper: &mut K) -> Result<State, LoadError>
         requires { K.is_open keeper.old }
         ensures ok { IfOk result (IsLoaded (K.items keeper.old) (K.number keeper.old)) }
-        ensures err { IfSome (K.items keeper.old) (λ items. MatchResult result (λ _. Unit)
-            (λ e. IsLoadFault e (read_items items))) }
+        ensures err { IfSome (K.items keeper.old) (λ items. IfErr result (λ e. IsLoadFault e (read_items items))) }
         ensures same { K.number keeper.new ≡ K.number keeper.old }
         ensures items { Stays (K.items keeper.old) (K.items keeper.new) }
         ensures is_open { K.is_open keeper.new }
@@ -199,7 +199,8 @@ impl State {
     /// Makes the ground's map that of a filter under the ground's rule, with the entries that items hold, unless it is
     /// that already. After want of memory the state is of no more use.
     pub fn select(&mut self, filter: &Filter) -> Result<(), AllocError>
-        ensures { OnOk result (IsSelected (printed (shape filter.now)) self.old self.new) }
+        ensures selected { OnOk result (IsSelected (printed (shape filter.now)) self.old self.new) }
+        ensures store { self.new.basis.store ≡ self.old.basis.store }
     {
         let text = print(self.alloc, filter)?;
         if self.is_selected(&text) {

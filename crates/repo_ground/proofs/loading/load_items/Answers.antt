@@ -1,14 +1,13 @@
-use Rattle.std.proofs.Common.{◌≡◌, ◌∙◌, refl, arith}
+use Rattle.std.proofs.Common.{◌≡◌, ◌∙◌, ℕ, refl, subst, arith}
 use Rattle.proj_io.specs.Stops.{Nothing, adds_on}
-use Rattle.state_items.specs.Items.{nothing}
-use Rattle.repo_ground.proofs.ItemRuns.{rest-start, rest-more, rest-fault, rest-held, stays-self, stays-on}
+use Rattle.repo_ground.specs.Steps.{AreRead}
+use Rattle.repo_ground.proofs.ItemRuns.{has-item, none-read, more-read, read-fault, stays-self, stays-on}
 use Rattle.repo_ground.proofs.Stopping.{adds_none}
 use Rattle.repo_ground.proofs.loading.load_items.Goals as goal
 
 pub loop-number-init : goal.loop-number-init
 loop-number-init g c = record {
-  rest = rest-start (g.K.Keeper.items c.args.keeper.now) c.args.count c.args.reading.now c.requires.nothing;
-  holds = (nothing, c.requires.nothing);
+  read = none-read (g.K.Keeper.items c.args.keeper.now) c.args.reading.now c.requires.nothing;
   sum = omega arith;
   same = refl;
   items = stays-self (g.K.Keeper.items c.args.keeper.now);
@@ -22,9 +21,10 @@ pub loop-number-preserved : goal.loop-number-preserved
 loop-number-preserved g c =
     let told = c.in-Ok.ensures.told in
     let was_told = c.loop-number.invariant.told in record {
-      rest = rest-more (g.K.Keeper.items c.args.keeper.now) (g.K.Keeper.items c.loop-number.keeper) c.args.count c.loop-number.number c.loop-number.size c.in-Ok.now
-          c.loop-number.reading c.load_item.new.reading c.loop-number.invariant.items c.loop-number-test.true c.loop-number.invariant.rest c.in-Ok.ensures.item;
-      holds = c.in-Ok.ensures.holds;
+      read = more-read (g.K.Keeper.items c.args.keeper.now) (g.K.Keeper.items c.loop-number.keeper) c.loop-number.number c.loop-number.size c.in-Ok.now
+          c.loop-number.reading c.load_item.new.reading c.loop-number.invariant.items
+          (has-item (g.K.Keeper.items c.args.keeper.now) c.loop-number.number c.args.count (g.K.Keeper.number c.args.keeper.now) c.loop-number-test.true c.requires.count (g.met.K.Keeper.counted c.args.keeper.now))
+          c.loop-number.invariant.read c.in-Ok.ensures.item;
       sum = c.in-Ok.ensures.sum;
       same = c.in-Ok.ensures.same ∙ c.loop-number.invariant.same;
       items = stays-on (g.K.Keeper.items c.args.keeper.now) (g.K.Keeper.items c.loop-number.keeper) (g.K.Keeper.items c.load_item.new.keeper) c.loop-number.invariant.items c.in-Ok.ensures.items;
@@ -36,13 +36,15 @@ loop-number-preserved g c =
 
 pub returns-in-Err-clause-read : goal.returns-in-Err-clause-read
 returns-in-Err-clause-read g c =
-    rest-fault (g.K.Keeper.items c.args.keeper.now) (g.K.Keeper.items c.loop-number.keeper) c.args.count c.loop-number.number c.loop-number.size c.loop-number.reading c.in-Err.e
-    c.loop-number.invariant.items c.loop-number-test.true c.loop-number.invariant.rest c.in-Err.ensures.item
+    read-fault (g.K.Keeper.items c.args.keeper.now) (g.K.Keeper.items c.loop-number.keeper) c.loop-number.number c.loop-number.size c.loop-number.reading c.in-Err.e
+    c.loop-number.invariant.items
+    (has-item (g.K.Keeper.items c.args.keeper.now) c.loop-number.number c.args.count (g.K.Keeper.number c.args.keeper.now) c.loop-number-test.true c.requires.count (g.met.K.Keeper.counted c.args.keeper.now))
+    c.loop-number.invariant.read c.in-Err.ensures.item
 
 pub returns-clause-read : goal.returns-clause-read
 returns-clause-read g c =
     let all : c.loop-number.number ≡ c.args.count = omega (arith, c.loop-number-test.false, c.loop-number.auto.number-end) in
-    rest-held (g.K.Keeper.items c.args.keeper.now) c.args.count c.loop-number.number c.loop-number.size c.loop-number.reading all c.loop-number.invariant.rest
+    subst (λ (n : ℕ). AreRead (g.K.Keeper.items c.args.keeper.now) n c.loop-number.size c.loop-number.reading) all c.loop-number.invariant.read
 
 pub returns-in-Err-clause-stops : goal.returns-in-Err-clause-stops
 returns-in-Err-clause-stops g c = adds_on _ _ _ _ _ _ Nothing c.loop-number.invariant.stops c.in-Err.ensures.stops

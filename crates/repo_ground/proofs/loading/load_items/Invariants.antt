@@ -1,14 +1,12 @@
 use Rattle.std.proofs.Common.{◌≡◌, ◌≤◌, ◌^◌, ◌↔◌}
 use Rattle.proj_io.specs.Items.{Stays}
 use Rattle.proj_io.specs.Stops.{OnlyAdds, Nothing}
-use Rattle.state_items.specs.Readings.{HoldsSomething}
-use Rattle.repo_ground.proofs.ItemRuns.{RestOf}
+use Rattle.repo_ground.specs.Steps.{AreRead}
 use Rattle.repo_ground.proofs.loading.load_items.Given as goal
 
 abbrev pub invariant-loop-number : goal.invariant-loop-number
 invariant-loop-number g l = record {
-  rest : RestOf (g.K.Keeper.items l.fn.keeper) l.count l.number l.size l.reading;
-  holds : HoldsSomething l.reading;
+  read : AreRead (g.K.Keeper.items l.fn.keeper) l.number l.size l.reading;
   sum : l.size ≤ 2 ^ 31;
   same : g.K.Keeper.number l.keeper ≡ g.K.Keeper.number l.fn.keeper;
   items : Stays (g.K.Keeper.items l.fn.keeper) (g.K.Keeper.items l.keeper);

@@ -14,8 +14,8 @@ use Rattle.repo_ground.proofs.state.State.select.Goals.{in-None, in-Some}
 use Rattle.repo_ground.proofs.state.State.select.Goals as goal
 
 -- src/state.rt:199:5
-pub returns : goal.returns
-returns c =
+pub returns-clause-selected : goal.returns-clause-selected
+returns-clause-selected c =
     let v : Contents = the_view c.self.inside in
     let text : Bytes = c.in_ok-text.text.items in
     let k : ℕ = rule_number c.self.inside.ground.rule in

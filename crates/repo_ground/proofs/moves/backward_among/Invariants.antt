@@ -1,0 +1,14 @@
+use Rattle.std.proofs.Common.{◌≡◌, List, drop, map}
+use Rattle.git_objects.specs.Refs.{Refs}
+use Rattle.git_objects.specs.Snapshots.{Snapshot}
+use Rattle.object_store.specs.Objects.{Object}
+use Rattle.fast_import.specs.Replaying.{setting_value}
+use Rattle.repo_ground.specs.Moves.{first_backward}
+use Rattle.repo_ground.specs.Reaching.{MayTest}
+use Rattle.repo_ground.proofs.moves.backward_among.Given as goal
+
+-- none of the settings so far moves a ref backward
+abbrev pub invariant-loop-setting : goal.invariant-loop-setting
+invariant-loop-setting l =
+    (S : List Object) (cs : List Snapshot) (sorted : Refs) → MayTest S l.graph cs l.refs sorted (map setting_value l.settings)
+    → first_backward cs sorted (map setting_value l.settings) ≡ first_backward cs sorted (map setting_value (drop l.setting-index l.settings))
