@@ -2,3 +2,9 @@ pub mod CommitGraphs
 pub mod Staying
 pub mod Recalling
 mod Judging
+pub mod StatesAfter
+pub mod Committing
+mod RulesSet
+mod InHands
+mod StatesShown
+mod Exports

@@ -13,11 +13,11 @@ use Rattle.proj_run.specs.Filters.{project_by, project_of, rule_by, sound}
 
 -- ---- two ways to add commits
 
-among-has : (g : List Snapshot) (n : Bytes) → is_among g n ≡ has g n
+pub among-has : (g : List Snapshot) (n : Bytes) → is_among g n ≡ has g n
 among-has [] n = refl
 among-has (c ∷ g) n = ap₂ (λ x y. x || y) (same_bytes-back (snapshot_name c) n) (among-has g n)
 
-with-added : (cs known : List Snapshot) → with_commits known cs ≡ add_all known cs
+pub with-added : (cs known : List Snapshot) → with_commits known cs ≡ add_all known cs
 with-added [] known = refl
 with-added (c ∷ cs) known =
     ap (λ (b : Bool). with_commits (if b then known else c ∷ known) cs) (among-has known (snapshot_name c)) ∙ with-added cs (add known c)

@@ -59,6 +59,13 @@ pub data Case : Type 0 where
   NameCase : Filter → Bytes → Ran StreamFault → Case
   RuleCase : Held → ℕ → Case
 
+-- the cases of a ref's commit, or that there is no such ref
+abbrev pub project_case : Held → Filter → Bytes → Result Case Outcome
+project_case h f refname = head_of refname h.refs >>= λ n. Ok (ProjectCase h f n)
+
+abbrev pub export_case : Held → Filter → Bytes → Result Case Outcome
+export_case h f refname = head_of refname h.refs >>= λ n. Ok (ExportCase h f refname n)
+
 -- The case of a command for what is loaded and an input, or the first refusal: of the filter, of loading, and of the ref. Two forms
 -- aren't built yet.
 abbrev pub case : Command → Result Held Outcome → Bytes → Result Case Outcome

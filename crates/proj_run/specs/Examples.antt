@@ -32,14 +32,14 @@ use Rattle.stream_reader.specs.Commands.{command_line, turn, read_command}
 use Rattle.stream_reader.specs.Verdicts.{verdict_from}
 use Rattle.fast_export.specs.ExportTexts.{export_text}
 use Rattle.state_items.specs.Items.{change_text, is_canonical, kept_text, read_item, read_items, rule_text}
-use Rattle.state_items.specs.Changes.{fresh, plan_items}
+use Rattle.state_items.specs.Changes.{fresh, plan_items, room_of}
 use Rattle.push_back.specs.Examples.{commit, naming, reading, showing}
 use Rattle.proj_words.specs.Words.{Import, Project, Export, Push, Name, Rule, Trial, Batch, Unknown}
 use Rattle.proj_words.specs.declared.outcome.Outcome.{Outcome}
 use Rattle.proj_words.specs.declared.outcome.Outcome.TheVariants.{Usage, UnknownRef, NotForward, NotAtHead, Limit, FilterFault, Overlap, NotBuilt, Damaged}
 use Rattle.proj_words.specs.declared.outcome.FilterWhat.TheVariants as filters
-use Rattle.proj_run.specs.Cases.{Made, loaded, name_or_none}
-use Rattle.proj_run.specs.Makes.{recalled_step}
+use Rattle.proj_run.specs.Cases.{Made, ProjectCase, head_of, loaded, name_or_none}
+use Rattle.proj_run.specs.Makes.{recalled_made}
 use Rattle.proj_run.specs.Filters.{sound}
 use Rattle.proj_run.specs.Steps.{step}
 
@@ -215,7 +215,7 @@ pub a_step_asks_nothing_kept : output_of (step (Project main (codes ":/a")) untr
 unfolding judging showing loading holding replaying reading naming digits
 a_step_asks_nothing_kept = refl
 
-pub what_is_kept_is_recalled : output_of (loaded untrue >>= λ h. recalled_step h (sub (codes "a" ∷ [])) main) ≡ Ok (codes "none\n")
+pub what_is_kept_is_recalled : output_of (loaded untrue >>= λ h. head_of main h.refs >>= λ n. recalled_made (room_of untrue) (ProjectCase h (sub (codes "a" ∷ [])) n)) ≡ Ok (codes "none\n")
 unfolding judging showing loading holding replaying reading naming digits
 what_is_kept_is_recalled = refl
 

@@ -5,6 +5,7 @@ pub mod Hands
 pub mod Plans
 pub mod Lawful
 pub mod Makes
+pub mod Refusals
 pub mod Sent
 pub mod Answers
 pub mod Examples

@@ -2,11 +2,16 @@
 #![tactic(auto)]
 
 mod deliver;
+mod exporting;
 mod filters;
 mod laws;
 mod lines;
+mod refusals;
+mod rule;
 
 pub use deliver::{conclude, finish, tell};
+pub use exporting::export;
 pub use filters::sound_filter;
 pub use laws::{recall_law, stay_law};
 pub use lines::{projection_report, refs_report, rule_report};
+pub use rule::set_rule;
