@@ -13,7 +13,7 @@ ghost use Rattle.commit_map.specs.Rules.{rule_number};
 ghost use Rattle.filter_text.specs.Printing.{printed};
 ghost use Rattle.filter_text.specs.Shapes.{shape};
 ghost use Rattle.proj_io.specs.Counts.{Counts};
-ghost use Rattle.proj_io.specs.Stops.{OnlyAdds};
+ghost use Rattle.proj_io.specs.Stops.{IsPresent, OnlyAdds};
 ghost use Rattle.proj_io.specs.Views.{keeper_view};
 ghost use Rattle.state_items.specs.Appending.{is_result};
 ghost use Rattle.state_items.specs.Items.{Held, entry_text, is_canonical, kept_text};
@@ -56,6 +56,9 @@ impl State {
         ensures stops { (h : Held) → Spells h self.old → OnlyAdds (K.moment keeper.old) (K.moment keeper.new)
             (K.left_since keeper.old) (K.left_since keeper.new)
             (IsStopOf h self.old (keep_plan h self.old (printed (shape filter.now))) (K.items keeper.old)) }
+        ensures stops_memory { IsErrOf result KeepError.OutOfMemory →
+            OnlyAdds (K.moment keeper.old) (K.moment keeper.new) (K.left_since keeper.old) (K.left_since keeper.new)
+            (IsPresent (K.items keeper.old)) }
         ensures cause { Counts (K.faults keeper.old) (K.faults keeper.new) (IsErrOf result KeepError.Failed) }
         ensures basis { self.new.basis ≡ self.old.basis }
         ensures named { result ≢ Err KeepError.OutOfMemory → is_canonical (printed (shape filter.now)) ≡ true →
