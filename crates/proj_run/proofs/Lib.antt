@@ -8,3 +8,8 @@ mod RulesSet
 mod InHands
 mod StatesShown
 mod Exports
+mod SoundTexts
+mod Lengths
+mod NewRows
+mod Keeps
+mod Projects

@@ -6,6 +6,7 @@ mod exporting;
 mod filters;
 mod laws;
 mod lines;
+mod projecting;
 mod refusals;
 mod rule;
 
@@ -14,4 +15,5 @@ pub use exporting::export;
 pub use filters::sound_filter;
 pub use laws::{recall_law, stay_law};
 pub use lines::{projection_report, refs_report, rule_report};
+pub use projecting::project;
 pub use rule::set_rule;
