@@ -13,3 +13,7 @@ mod Lengths
 mod NewRows
 mod Keeps
 mod Projects
+pub mod StreamHands
+pub mod StreamBatches
+pub mod StateBases
+mod Imports

@@ -7,5 +7,6 @@ pub mod Lawful
 pub mod Makes
 pub mod Refusals
 pub mod Sent
+pub mod Replaying
 pub mod Answers
 pub mod Examples

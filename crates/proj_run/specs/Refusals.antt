@@ -1,12 +1,20 @@
 -- The outcomes of what lower crates refuse.
 use Rattle.std.specs.Prelude.{None}
+use Rattle.fast_import.specs.declared.whole.ReplayError.{ReplayError}
+use Rattle.fast_import.specs.declared.whole.ReplayError.TheVariants as replays
 use Rattle.repo_ground.specs.declared.commit.CommitError.{CommitError}
 use Rattle.repo_ground.specs.declared.commit.CommitError.TheVariants as commits
+use Rattle.proj_words.specs.Faults.{stream_outcome}
 use Rattle.proj_words.specs.declared.outcome.Outcome.{Outcome}
-use Rattle.proj_words.specs.declared.outcome.Outcome.TheVariants.{OutOfMemory, Limit, StoreFault}
+use Rattle.proj_words.specs.declared.outcome.Outcome.TheVariants.{OutOfMemory, Limit, ReadFault, StoreFault}
 
 -- why nothing was committed
 abbrev pub commit_outcome : CommitError → Outcome
 commit_outcome commits.StoreFault = StoreFault
 commit_outcome (commits.Limit q) = Limit q None
 commit_outcome commits.OutOfMemory = OutOfMemory
+
+-- why a stream isn't replayed
+abbrev pub replay_outcome : ReplayError → Outcome
+replay_outcome replays.ReadFault = ReadFault
+replay_outcome (replays.Stream f) = stream_outcome f

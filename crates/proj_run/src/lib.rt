@@ -4,8 +4,10 @@
 mod deliver;
 mod exporting;
 mod filters;
+mod importing;
 mod laws;
 mod lines;
+mod naming;
 mod projecting;
 mod refusals;
 mod rule;
@@ -13,6 +15,7 @@ mod rule;
 pub use deliver::{conclude, finish, tell};
 pub use exporting::export;
 pub use filters::sound_filter;
+pub use importing::import;
 pub use laws::{recall_law, stay_law};
 pub use lines::{projection_report, refs_report, rule_report};
 pub use projecting::project;

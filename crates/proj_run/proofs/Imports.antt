@@ -1,0 +1,332 @@
+-- What becomes of an import.
+use Rattle.std.proofs.Common.{◌≡◌, ◌∙◌, ℕ, Bool, true, false, T, List, [], ◌++◌, map, reverse, Contains, IsOkAnd, Option, None, Some, Result, Ok, Err, inl, inr, ⊎_elim, refl, sym, ap, subst}
+use Rattle.std.specs.Prelude.{◌≢◌, ◌⊎◌}
+use Rattle.std.specs.FinMap.{is_sorted}
+use Rattle.std.specs.List.{flat_map}
+use Rattle.std.proofs.lemmas.List.Quantifiers.{Any-push}
+use Rattle.git_objects.specs.Paths.{Bytes, is_bytes}
+use Rattle.git_objects.specs.Refs.{Refs, bytes_cmp}
+use Rattle.git_objects.specs.Results.{◌>>=◌, refused_by}
+use Rattle.git_objects.specs.Snapshots.{Snapshot}
+use Rattle.object_store.specs.Growth.{IsClash, IsGrownBy}
+use Rattle.object_store.specs.Objects.{Object}
+use Rattle.object_store.proofs.Growth.{grown_as}
+use Rattle.stream_reader.specs.Verdicts.{start, verdict}
+use Rattle.stream_reader.specs.declared.fault.StreamFault.{StreamFault}
+use Rattle.stream_reader.specs.declared.fault.StreamFault.TheVariants as streams
+use Rattle.fast_import.specs.Made.{IsPutFault}
+use Rattle.fast_import.specs.Replays.{Replay, Replayed, given_by, heads_of, outcome_of, ran, replay}
+use Rattle.fast_import.specs.Replaying.{setting_value}
+use Rattle.fast_import.specs.Standing.{IsReplayedOf}
+use Rattle.fast_import.specs.Whole.{IsMadeOfStream, IsStreamError}
+use Rattle.fast_import.specs.declared.replayed.Replayed.{Replayed as ReplayedNames}
+use Rattle.fast_import.specs.declared.whole.ReplayError.{ReplayError}
+use Rattle.fast_import.specs.declared.whole.ReplayError.TheVariants as replays
+use Rattle.history_ground.specs.Grounds.{IsGround}
+use Rattle.proj_io.specs.Stops.{IsPresent, OnlyAdds, adds_as}
+use Rattle.proj_io.specs.Views.{KeeperView}
+use Rattle.state_items.specs.Changes.{NoPlan, Plan, Room, change_plan, objects_of, passed}
+use Rattle.state_items.specs.Hands.{IsTwice}
+use Rattle.state_items.specs.Imported.{AreRefsTo, with_commits}
+use Rattle.state_items.specs.Items.{Held}
+use Rattle.state_items.specs.Repos.{repo}
+use Rattle.state_items.proofs.Kepts.{kept-law}
+use Rattle.state_items.proofs.Limits.{change-law}
+use Rattle.state_items.proofs.ReadEntries.{read-law}
+use Rattle.state_items.proofs.ReadObjects.{ok-same}
+use Rattle.state_items.proofs.Twices.{clash-twice}
+use Rattle.repo_ground.specs.Changes.{Appends, IsBatchOf, IsCommitted, IsRefusal as IsRefusedBy, IsRefused, IsStopOf, KeepsItems, batch_plan, settings_of}
+use Rattle.repo_ground.specs.Contents.{Contents, room_in}
+use Rattle.repo_ground.specs.Laws.{base_of}
+use Rattle.repo_ground.specs.Moves.{Move, first_backward}
+use Rattle.repo_ground.specs.declared.commit.Batch.{Batch}
+use Rattle.repo_ground.specs.declared.commit.CommitError.{CommitError}
+use Rattle.repo_ground.proofs.Stopping.{adds_none}
+use Rattle.import_laws.proofs.SortedHeads.{sorted-heads}
+use Rattle.proj_words.specs.Faults.{stream_outcome}
+use Rattle.proj_words.specs.declared.outcome.Outcome.{Outcome}
+use Rattle.proj_words.specs.declared.outcome.Outcome.TheVariants as outcomes
+use Rattle.proj_run.specs.Cases.{Case, ImportCase, Made, all_forward, import_plan, made, no_backward, ref_line, within}
+use Rattle.proj_run.specs.Filters.{project_by}
+use Rattle.proj_run.specs.Hands.{IsInHand, IsInHands, hand}
+use Rattle.proj_run.specs.Makes.{IsAtHand, IsMadeOf, IsRefusal, IsStateAfter, IsStateOf, IsStored, PlansFor, hands_of}
+use Rattle.proj_run.specs.Refusals.{commit_outcome, replay_outcome}
+use Rattle.proj_run.specs.Replaying.{IsPrepared, IsReplayedUpon}
+use Rattle.proj_run.proofs.Committing.{IsCase, good-none, keeps-self, made-done, made-refused, made-without, planned_by, stops-by, told-refusal}
+use Rattle.proj_run.proofs.StatesAfter.{passed-same}
+use Rattle.proj_run.proofs.Staying.{stay}
+use Rattle.proj_run.proofs.StreamBatches.{stream-batch, stream-replayed, whole-trees}
+use Rattle.proj_run.proofs.StreamHands.{stream-in-hand}
+
+-- two different objects of a kind are so of a wider one
+pub twice-as : (P Q : Object → Type 0) (n : Bytes) → ((o : Object) → P o → Q o) → IsTwice P n → IsTwice Q n
+twice-as P Q n f t = record {
+  first = t.first;
+  second = t.second;
+  first_there = f t.first t.first_there;
+  second_there = f t.second t.second_there;
+  apart = t.apart;
+  first_named = t.first_named;
+  second_named = t.second_named;
+}
+
+-- ---- results
+
+no-fault : {A E : Type 0} (a : A) (e : E) → Ok a ≡ Err e → ⊥
+no-fault a e q = cc
+
+abbrev fault-or : {A E : Type 0} → E → Result A E → E
+fault-or d (Ok a) = d
+fault-or d (Err e) = e
+
+-- ---- refs that don't move forward
+
+moved-so : (P : Object → Type 0) (o : Option Move) (e : Outcome) (r : Result Made Outcome) → no_backward o ≡ Err e → r ≡ Err e → IsRefusal P e r
+moved-so P None e r q i = absurd (no-fault {A = Unit {0}} {E = Outcome} tt e q)
+moved-so P (Some m) e r q i =
+    let n : Outcome = outcomes.NotForward m.refname (record { 0 = m.old }) (record { 0 = m.new }) in
+    let same : n ≡ e = ap (fault-or {A = Unit {0}} {E = Outcome} e) q in
+    subst (λ x. r ≡ Err x → IsRefusal P x r) same (λ w. w) i
+
+backward-so : (P : Object → Type 0) (force : Bool) (cs : List Snapshot) (refs es : Refs) (e : Outcome) (r : Result Made Outcome)
+    → all_forward force cs refs es ≡ Err e → r ≡ Err e → IsRefusal P e r
+backward-so P true cs refs es e r q i = absurd (no-fault {A = Unit {0}} {E = Outcome} tt e q)
+backward-so P false cs refs es e r q i = moved-so P (first_backward cs refs es) e r q i
+
+-- ---- nothing is planned
+
+none-planned : (room : Room) (r : Result Case Outcome) (e : Outcome) → e ≢ outcomes.StoreFault → PlansFor room r NoPlan (Err e)
+none-planned room r outcomes.StoreFault n = absurd (n refl)
+none-planned room r e n = refl
+
+none-stored : (e : Outcome) (p : Plan) (before after : KeeperView) → e ≢ outcomes.StoreFault → KeepsItems before after → IsStored (Err e) p before after
+none-stored outcomes.StoreFault p before after n k = absurd (n refl)
+none-stored e p before after n k = k
+
+state-stays : (items : List Bytes) (h : Held) (s : Contents) (e : Outcome) → IsStateOf items h s → IsStateAfter items h s NoPlan (Err e)
+state-stays items h s outcomes.StoreFault t = tt
+state-stays items h s outcomes.OutOfMemory t = tt
+state-stays items h s e t = t
+
+-- a stop is one of a state with as much room
+stop-as : (h : Held) (s t : Contents) (p : Plan) (items : Option (List Bytes)) (list : List Bytes) → room_in t ≡ room_in s → IsStopOf h t p items list → IsStopOf h s p items list
+stop-as h s t p None list e w = tt
+stop-as h s t p (Some all) list e w = ⊎_elim (λ a. inl a) (λ b. inr (sym (ap (λ (r : Room). passed h r p) e) ∙ b.0, b.1)) w
+
+-- what a stream gives that has no fault
+given-whole : (x : Replay) (f : Option StreamFault) (r : Replayed) → outcome_of x f ≡ Ok r → given_by x ≡ r
+given-whole x None r e = ok-same (given_by x) r e
+given-whole x (Some f) r e = absurd (no-fault r f (sym e))
+
+-- the value of a result that has one
+record IsGiven {A E : Type 0} (x : Result A E) (P : A → Type 0) : Type 0 where
+  value : A
+  is : x ≡ Ok value
+  holds : P value
+
+given-value : {A E : Type 0} (x : Result A E) (P : A → Type 0) → IsOkAnd x P → IsGiven x P
+given-value (Ok a) P h = record { value = a; is = refl; holds = h }
+given-value (Err e) P h = absurd h
+
+module _ (items : List Bytes) (h : Held) (all : Bytes) (bytes : is_bytes all ≡ true) (force : Bool) (s : Contents) (st : IsStateOf items h s) where
+  abbrev asked : Case
+  asked = ImportCase force h (ran (base_of h) all)
+
+  abbrev S : List Object
+  S = s.basis.store
+
+  abbrev Hand_here : Object → Type 0
+  Hand_here o = IsAtHand S (Ok asked) o
+
+  -- what the stream brings is in hand
+  brought-in-hand : (o : Object) → IsMadeOfStream (base_of h) all o → IsInHands (hands_of (Ok asked)) o
+  brought-in-hand o m =
+      Any-push (λ k. IsInHand k o) [] (hand asked)
+      (stream-in-hand h.objects (repo h).commits (base_of h) (verdict start all).commands (verdict start all).fault [] o
+      (whole-trees (repo h).commits (ran (base_of h) all).state.commits (stream-replayed h all st.spells.store bytes).commits) m)
+
+  store-grown : (T : List Object) → IsGrownBy (IsMadeOfStream (base_of h) all) S T → IsGrownBy (IsInHands (hands_of (Ok asked))) S T
+  store-grown T g = grown_as (IsMadeOfStream (base_of h) all) (IsInHands (hands_of (Ok asked))) S T brought-in-hand g
+
+  clashes : (T : List Object) (n : Bytes) → IsGrownBy (IsMadeOfStream (base_of h) all) S T → IsClash (IsMadeOfStream (base_of h) all) T n → IsTwice Hand_here n
+  clashes T n g c =
+      twice-as (λ o. Contains S o ⊎ IsMadeOfStream (base_of h) all o) Hand_here n (λ o m. either o m) (clash-twice (IsMadeOfStream (base_of h) all) S T n g c)
+    where
+      either : (o : Object) → Contains S o ⊎ IsMadeOfStream (base_of h) all o → Hand_here o
+      either o (inl m) = inl m
+      either o (inr m) = inr (brought-in-hand o m)
+
+  -- a fault of the stream is the step's
+  made-fault : (f : StreamFault) → replay (base_of h) all ≡ Err f → made (room_in s) asked ≡ Err (stream_outcome f)
+  made-fault f e = ap (λ (x : Result Replayed StreamFault). refused_by stream_outcome x >>= rest) e
+    where
+      rest : Replayed → Result Made Outcome
+      rest r = all_forward force (reverse r.commits ++ (repo h).commits) h.refs r.heads >>= λ _. within (room_in s) h (flat_map ref_line r.heads) (import_plan h r)
+
+  refused-by-stream : (f : StreamFault) → replay (base_of h) all ≡ Err f → IsRefusal Hand_here (stream_outcome f) (made (room_in s) asked)
+  refused-by-stream (streams.Syntax at) e = made-fault (streams.Syntax at) e
+  refused-by-stream (streams.Unsupported at what) e = made-fault (streams.Unsupported at what) e
+  refused-by-stream (streams.Unresolved at) e = made-fault (streams.Unresolved at) e
+  refused-by-stream (streams.BadPath at) e = made-fault (streams.BadPath at) e
+  refused-by-stream (streams.NoSource at) e = made-fault (streams.NoSource at) e
+  refused-by-stream (streams.Limit at which) e = made-fault (streams.Limit at which) e
+  refused-by-stream (streams.Collision n) e = inl (made-fault (streams.Collision n) e)
+  refused-by-stream streams.OutOfMemory e = tt
+
+  refused-by-put : (T : List Object) (f : StreamFault) → IsGrownBy (IsMadeOfStream (base_of h) all) S T → IsPutFault (IsMadeOfStream (base_of h) all) T f
+      → IsRefusal Hand_here (stream_outcome f) (made (room_in s) asked)
+  refused-by-put T f g (inl e) = subst (λ x. IsRefusal Hand_here (stream_outcome x) (made (room_in s) asked)) (sym e) tt
+  refused-by-put T f g (inr (m, e, c)) = subst (λ x. IsRefusal Hand_here (stream_outcome x) (made (room_in s) asked)) (sym e) (inr (clashes T m.0 g c))
+
+  -- why a stream isn't replayed is why there is no report
+  replay-refused : (T : List Object) (f : ReplayError) → IsGrownBy (IsMadeOfStream (base_of h) all) S T → IsStreamError (base_of h) T all f
+      → IsRefusal Hand_here (replay_outcome f) (made (room_in s) asked)
+  replay-refused T replays.ReadFault g i = tt
+  replay-refused T (replays.Stream f) g (inl e) = refused-by-stream f e
+  replay-refused T (replays.Stream f) g (inr p) = refused-by-put T f g p
+
+  -- ---- what is said of an import
+
+  abbrev pub IsImported : Contents → KeeperView → KeeperView → ℕ → ℕ → (ℕ → List Bytes → Type 0) → (ℕ → List Bytes → Type 0) → Result Bytes Outcome → Type 0
+  IsImported after before now a b x y result =
+      (p : Plan) × IsMadeOf (Ok asked) items h s after before now p result × OnlyAdds a b x y (IsStopOf h s p before.items)
+
+  -- ---- the keeper is as it was
+
+  module _ (before : KeeperView) (a : ℕ) (x : ℕ → List Bytes → Type 0) (s1 : Contents) where
+    untouched : (e : Outcome) → IsRefusal Hand_here e (made (room_in s) asked) → e ≢ outcomes.StoreFault → IsStateOf items h s1 → IsGrownBy (IsMadeOfStream (base_of h) all) S s1.basis.store
+        → IsImported s1 before before a a x x (Err e)
+    untouched e i n t g = (
+      NoPlan,
+      record {
+        reported = told-refusal Hand_here (made (room_in s) asked) e i;
+        planned = none-planned (room_in s) (Ok asked) e n;
+        good = good-none items h (room_in s);
+        stored = none-stored e NoPlan before before n (keeps-self before);
+        state = state-stays items h s1 e t;
+        grown = store-grown s1.basis.store g;
+      },
+      adds_none a x (IsStopOf h s NoPlan before.items),
+    )
+
+    -- the stream isn't replayed
+    pub unreplayed : (e : Outcome) (result : Result Bytes Outcome) → result ≡ Err e → IsReplayedUpon items h all s s1 (Err e) → e ≢ outcomes.StoreFault → IsImported s1 before before a a x x result
+    unreplayed e result q u n =
+        let why = u.refused in
+        subst (IsImported s1 before before a a x x) (sym q)
+        (untouched e (subst (λ (o : Outcome). IsRefusal Hand_here o (made (room_in s) asked)) (sym why.1) (replay-refused s1.basis.store why.0 u.grown why.2)) n u.state u.grown)
+
+    -- there was no memory behind it
+    pub no-memory : (g : ReplayedNames) → IsReplayedUpon items h all s s1 (Ok g) → IsImported s1 before before a a x x (Err outcomes.OutOfMemory)
+    no-memory g u = (NoPlan, made-without asked items h s s1 before (store-grown s1.basis.store u.grown), adds_none a x (IsStopOf h s NoPlan before.items))
+
+  -- ---- a stream that was replayed
+
+  module _ (s1 : Contents) (g : ReplayedNames) (report : Bytes) (b : Batch) (u : IsReplayedUpon items h all s s1 (Ok g)) (p : IsPrepared g report b) where
+    given : IsGiven (replay (base_of h) all) (IsReplayedOf s1.basis.store g)
+    given = given-value (replay (base_of h) all) (IsReplayedOf s1.basis.store g) u.given
+
+    abbrev r : Replayed
+    r = given.value
+
+    by-state : IsReplayedOf s1.basis.store g (given_by (ran (base_of h) all).state) → IsBatchOf h s1 b (ran (base_of h) all).state.blobs (ran (base_of h) all).state.commits
+    by-state i =
+        let w = stream-replayed h all st.spells.store bytes in
+        let set : settings_of b ≡ heads_of (ran (base_of h) all).state = ap (map setting_value) p.refs ∙ i.settings in
+        stream-batch h all st.spells.store bytes s1 g b u.state.spells u.state.ground.graph.store (read-law.sound items h st.current.read).trees i p.blobs p.commits
+        (subst (λ (es : Refs). T (is_sorted bytes_cmp es)) (sym set) (sorted-heads (base_of h) (verdict start all).commands (verdict start all).fault))
+        (subst (λ (es : Refs). AreRefsTo (with_commits (repo h).commits (ran (base_of h) all).state.commits) es) (sym set) w.heads)
+
+    batch : IsBatchOf h s1 b r.blobs r.commits
+    batch =
+        let same : given_by (ran (base_of h) all).state ≡ r = given-whole (ran (base_of h) all).state (ran (base_of h) all).fault r given.is in
+        subst (λ (r : Replayed). IsBatchOf h s1 b r.blobs r.commits) same (by-state (subst (IsReplayedOf s1.basis.store g) (sym same) given.holds))
+
+    pub is-batch : (k : Held) × (blobs : List Bytes) × (cs : List Snapshot) × IsBatchOf k s1 b blobs cs
+    is-batch = (h, r.blobs, r.commits, batch)
+
+    -- of each list of blobs and of commits that the batch brings
+    abbrev pub ForBatch : (List Bytes → List Snapshot → Type 0) → Type 0
+    ForBatch P = (blobs : List Bytes) (cs : List Snapshot) → IsBatchOf h s1 b blobs cs → P blobs cs
+
+    same-room : room_in s1 ≡ room_in s
+    same-room = ap room_in u.same
+
+    settings : settings_of b ≡ r.heads
+    settings = ap (map setting_value) p.refs ∙ given.holds.settings
+
+    same-plan : batch_plan h b r.blobs r.commits ≡ import_plan h r
+    same-plan = ap (λ es. change_plan h (objects_of r.blobs r.commits) es) settings
+
+    abbrev forward : Result (Unit {0}) Outcome
+    forward = all_forward force (reverse r.commits ++ (repo h).commits) h.refs (settings_of b)
+
+    -- what comes of it, by the refs
+    made-so : made (room_in s) asked ≡ (forward >>= λ _. within (room_in s) h (flat_map ref_line r.heads) (batch_plan h b r.blobs r.commits))
+    made-so =
+        ap (λ (y : Result Replayed Outcome). y >>= rest) (ap (refused_by stream_outcome) given.is)
+        ∙ (λ i. all_forward force (reverse r.commits ++ (repo h).commits) h.refs (sym settings i) >>= λ _. within (room_in s) h (flat_map ref_line r.heads) (sym same-plan i))
+      where
+        rest : Replayed → Result Made Outcome
+        rest r = all_forward force (reverse r.commits ++ (repo h).commits) h.refs r.heads >>= λ _. within (room_in s) h (flat_map ref_line r.heads) (import_plan h r)
+
+    abbrev onward : Result (Unit {0}) Outcome → Result Made Outcome
+    onward y = y >>= λ _. within (room_in s) h (flat_map ref_line r.heads) (batch_plan h b r.blobs r.commits)
+
+    -- a ref would not move forward
+    backward-refusal : (e : Outcome) → forward ≡ Err e → IsRefusal Hand_here e (made (room_in s) asked)
+    backward-refusal e f =
+        backward-so Hand_here force (reverse r.commits ++ (repo h).commits) h.refs (settings_of b) e (made (room_in s) asked) f (made-so ∙ ap onward f)
+
+    pub not-forward : (before : KeeperView) (a : ℕ) (x : ℕ → List Bytes → Type 0) (e : Outcome) (result : Result Bytes Outcome) → result ≡ Err e
+        → ForBatch (λ blobs cs. (e ≡ outcomes.OutOfMemory) ⊎ (all_forward force (reverse cs ++ (repo h).commits) h.refs (settings_of b) ≡ Err e)) → e ≢ outcomes.StoreFault
+        → IsImported s1 before before a a x x result
+    not-forward before a x e result q f n =
+        subst (IsImported s1 before before a a x x) (sym q) (⊎_elim
+        (λ k. subst (λ (o : Outcome). IsImported s1 before before a a x x (Err o)) (sym k) (no-memory before a x s1 g u))
+        (λ k. untouched before a x s1 e (backward-refusal e k) n u.state u.grown) (f r.blobs r.commits batch))
+
+    -- ---- what it brings is to be committed
+
+    import-case : forward ≡ Ok tt → IsCase asked items h s s1 (flat_map ref_line r.heads) (batch_plan h b r.blobs r.commits)
+    import-case f = record {
+      state = u.state;
+      room = same-room;
+      step = made-so ∙ ap onward f;
+      plan = λ e. refl;
+      addition = change-law h r.blobs r.commits (settings_of b) batch.brought batch.small batch.refs;
+      kept = λ e k.
+          (kept-law project_by).change items h r.blobs r.commits (settings_of b) stay k batch.brought batch.small batch.refs
+          (passed-same items h (batch_plan h b r.blobs r.commits) s st.current e);
+      grown = store-grown s1.basis.store u.grown;
+    }
+
+    module _ (f : ForBatch (λ blobs cs. all_forward force (reverse cs ++ (repo h).commits) h.refs (settings_of b) ≡ Ok tt)) (after : Contents) (before now : KeeperView)
+      (a c : ℕ) (x y : ℕ → List Bytes → Type 0) (stops : ForBatch (λ blobs cs. OnlyAdds a c x y (IsStopOf h s1 (batch_plan h b blobs cs) before.items))) where
+      abbrev plan : Plan
+      plan = batch_plan h b r.blobs r.commits
+
+      of-case : IsCase asked items h s s1 (flat_map ref_line r.heads) plan
+      of-case = import-case (f r.blobs r.commits batch)
+
+      -- a stop during the commit is one of the import
+      stops-as : (p : Plan) → OnlyAdds a c x y (IsStopOf h s1 p before.items) → OnlyAdds a c x y (IsStopOf h s p before.items)
+      stops-as p adds = adds_as a c x y (IsStopOf h s1 p before.items) (IsStopOf h s p before.items) (λ left k. stop-as h s s1 p before.items left same-room k) adds
+
+      pub commit-refused : (e : CommitError) (o : Outcome) → o ≡ commit_outcome e → ForBatch (λ blobs cs. IsRefused h (batch_plan h b blobs cs) s1 after e) → after.basis.store ≡ s1.basis.store
+          → ForBatch (λ blobs cs. Appends (batch_plan h b blobs cs) before now (Err e)) → (IsRefusedBy (Err e) → OnlyAdds a c x y (IsPresent before.items)) → IsImported after before now a c x y (Err o)
+      commit-refused e o q why same got refused =
+          subst (λ (d : Outcome). IsImported after before now a c x y (Err d)) (sym q) (
+            planned_by plan (Err e),
+            made-refused asked items h s s1 (flat_map ref_line r.heads) plan of-case after before now e (why r.blobs r.commits batch) same (got r.blobs r.commits batch),
+            stops-as (planned_by plan (Err e)) (stops-by h s1 plan before.items a c x y (Err e) (stops r.blobs r.commits batch) refused),
+          )
+
+      pub commit-done : (w : Unit {0}) → ForBatch (λ blobs cs. IsCommitted h (batch_plan h b blobs cs) s1 after × IsGround after.basis)
+          → ForBatch (λ blobs cs. Appends (batch_plan h b blobs cs) before now (Ok w)) → IsImported after before now a c x y (Ok report)
+      commit-done w done got = (
+        plan,
+        made-done asked items h s s1 (flat_map ref_line r.heads) plan of-case after w before now report (sym (p.line ∙ ap (flat_map ref_line) given.holds.settings))
+            (done r.blobs r.commits batch).0 (done r.blobs r.commits batch).1 (got r.blobs r.commits batch),
+        stops-as plan (stops r.blobs r.commits batch),
+      )
