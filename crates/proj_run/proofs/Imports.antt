@@ -302,7 +302,7 @@ module _ (items : List Bytes) (h : Held) (all : Bytes) (bytes : is_bytes all ≡
     }
 
     module _ (f : ForBatch (λ blobs cs. all_forward force (reverse cs ++ (repo h).commits) h.refs (settings_of b) ≡ Ok tt)) (after : Contents) (before now : KeeperView)
-      (a c : ℕ) (x y : ℕ → List Bytes → Type 0) (stops : ForBatch (λ blobs cs. OnlyAdds a c x y (IsStopOf h s1 (batch_plan h b blobs cs) before.items))) where
+        (a c : ℕ) (x y : ℕ → List Bytes → Type 0) (stops : ForBatch (λ blobs cs. OnlyAdds a c x y (IsStopOf h s1 (batch_plan h b blobs cs) before.items))) where
       abbrev plan : Plan
       plan = batch_plan h b r.blobs r.commits
 

@@ -157,7 +157,7 @@ same-bytes None all h = tt
 same-bytes (Some l) all h = sym h
 
 module _ (items : List Bytes) (h : Held) (s : Contents) (cs : List (Bytes × Bytes)) (rs : Refs) (bs : List Bytes) (S : List Object) (all : Bytes) (w : IsStateOf items h s)
-  (c : cs ≡ trees_of s.basis.graph) (r : rs ≡ with_refs [] s.refs) (b : bs ≡ reverse s.blobs) where
+    (c : cs ≡ trees_of s.basis.graph) (r : rs ≡ with_refs [] s.refs) (b : bs ≡ reverse s.blobs) where
   abbrev named : Base
   named = base_in s.basis.store cs rs bs
 

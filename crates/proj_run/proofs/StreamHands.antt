@@ -116,16 +116,16 @@ module _ (base : Base) where
         elim (step base r p) as (λ y. step base r p ≡ y → IsMadeBy base r (gone_on p r (λ s. run s ps) y).tried o
         → IsBrought (all_read (gone_on p r (λ s. run s ps) y).tried) (gone_on p r (λ s. run s ps) y).state.commits o) [
           | Ok q ↦ λ e m.
-            let bs : List Bytes = blobs_read p.command in
-            let more : List Bytes = all_read (run q ps).tried in
-            let done : List Snapshot = (run q ps).state.commits in
-            ⊎_elim (λ a. brought-as bs (bs ++ more) q.commits done o (λ b k. Contains-append_left bs more b k) (λ c k. run-more ps q c k) (step-brought r q p.at p.command o e a))
-            (λ a. brought-as more (bs ++ more) done done o (λ b k. Contains-append_right bs more b k) (λ c k. k)
-            (run-brought ps q o (subst (IsMadeOn (λ s. IsMadeBy base s (run q ps).tried o)) e a))) m
+              let bs : List Bytes = blobs_read p.command in
+              let more : List Bytes = all_read (run q ps).tried in
+              let done : List Snapshot = (run q ps).state.commits in
+              ⊎_elim (λ a. brought-as bs (bs ++ more) q.commits done o (λ b k. Contains-append_left bs more b k) (λ c k. run-more ps q c k) (step-brought r q p.at p.command o e a))
+              (λ a. brought-as more (bs ++ more) done done o (λ b k. Contains-append_right bs more b k) (λ c k. k)
+              (run-brought ps q o (subst (IsMadeOn (λ s. IsMadeBy base s (run q ps).tried o)) e a))) m
           | Err f ↦ λ e m.
-            let bs : List Bytes = blobs_read p.command in
-            ⊎_elim (λ a. brought-as bs (bs ++ []) r.commits r.commits o (λ b k. Contains-append_left bs [] b k) (λ c k. k) (refused-brought r p.at p.command f o e a))
-            (λ a. absurd (subst (IsMadeOn (λ s. IsMadeBy base s [] o)) e a)) m
+              let bs : List Bytes = blobs_read p.command in
+              ⊎_elim (λ a. brought-as bs (bs ++ []) r.commits r.commits o (λ b k. Contains-append_left bs [] b k) (λ c k. k) (refused-brought r p.at p.command f o e a))
+              (λ a. absurd (subst (IsMadeOn (λ s. IsMadeBy base s [] o)) e a)) m
         ] refl made
 
 -- ---- trees of commits in hand
@@ -182,6 +182,6 @@ stream-in-hand objects cs base ps end components o trees made =
     let done : List Snapshot = x.state.commits in
     ⊎_elim (λ b. BlobRead b.0 b.1 b.2)
     (λ c.
-        let there : Contains k.commits c.0 = Contains-append_right cs done c.0 c.1 in
-        ⊎_elim (λ e. CommitMade c.0 there e) (λ d. directory-in-hand k c.0 there (All-contains (λ (d : Snapshot). IsTree d.tree) done c.0 (all-each (λ (d : Snapshot). IsTree d.tree) done trees) c.1) o d) c.2)
+    let there : Contains k.commits c.0 = Contains-append_right cs done c.0 c.1 in
+    ⊎_elim (λ e. CommitMade c.0 there e) (λ d. directory-in-hand k c.0 there (All-contains (λ (d : Snapshot). IsTree d.tree) done c.0 (all-each (λ (d : Snapshot). IsTree d.tree) done trees) c.1) o d) c.2)
     (run-brought base end ps nothing_yet o made)

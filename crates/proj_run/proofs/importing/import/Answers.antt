@@ -16,8 +16,8 @@ returns-in_err-replayed-clause-made g c = λ items h w.
     let p = err_from_is_err_and c.from_residual.result c.from_residual.ensures.1 in
     let n = c.in_err-replayed.ensures.early.1 in
     let m =
-        unreplayed items h t.0 t.1 c.args.force c.args.state.now w seen (g.K.Keeper.moment before) (g.K.Keeper.left_since before) c.replay_upon.new.state c.in_err-replayed.field-0.0
-        c.from_residual.result (p.1 ∙ ap Err p.2) t.3 (λ q. n (ap Err q))
+    unreplayed items h t.0 t.1 c.args.force c.args.state.now w seen (g.K.Keeper.moment before) (g.K.Keeper.left_since before) c.replay_upon.new.state c.in_err-replayed.field-0.0
+    c.from_residual.result (p.1 ∙ ap Err p.2) t.3 (λ q. n (ap Err q))
     in
     (t.0, t.2, m.0, m.1, m.2)
 
@@ -27,7 +27,7 @@ returns-in_default-clause-made g c = λ items h w.
     let seen : KeeperView = keeper_view g.K.Keeper.items g.K.Keeper.number g.K.Keeper.faults before in
     let t = c.in_ok-replayed.ensures.replayed items h w in
     let m =
-        no-memory items h t.0 t.1 c.args.force c.args.state.now w seen (g.K.Keeper.moment before) (g.K.Keeper.left_since before) c.replay_upon.new.state c.in_ok-replayed.replayed t.3
+    no-memory items h t.0 t.1 c.args.force c.args.state.now w seen (g.K.Keeper.moment before) (g.K.Keeper.left_since before) c.replay_upon.new.state c.in_ok-replayed.replayed t.3
     in
     (t.0, t.2, m.0, m.1, m.2)
 
@@ -47,9 +47,9 @@ returns-in_err-all_forward-clause-made g c = λ items h w.
     let u = subst (λ (v : Contents). IsReplayedUpon items h t.0 c.args.state.now v (Ok c.in_ok-replayed.replayed)) (sym e.same) t.3 in
     let p = err_from_is_err_and c.from_residual-in_err-all_forward.result c.from_residual-in_err-all_forward.ensures.1 in
     let m =
-        not-forward items h t.0 t.1 c.args.force c.args.state.now w s1 c.in_ok-replayed.replayed c.in-Ok.report c.in-Ok.batch u c.in-Ok.ensures seen (g.K.Keeper.moment before)
-        (g.K.Keeper.left_since before) c.in_err-all_forward.field-0.0 c.from_residual-in_err-all_forward.result (p.1 ∙ ap Err p.2)
-        (λ blobs cs k. e.forward h blobs cs (subst (λ (v : Contents). IsBatchOf h v c.in-Ok.batch blobs cs) e.same k)) (λ q. e.early.2 (ap Err q))
+    not-forward items h t.0 t.1 c.args.force c.args.state.now w s1 c.in_ok-replayed.replayed c.in-Ok.report c.in-Ok.batch u c.in-Ok.ensures seen (g.K.Keeper.moment before)
+    (g.K.Keeper.left_since before) c.in_err-all_forward.field-0.0 c.from_residual-in_err-all_forward.result (p.1 ∙ ap Err p.2)
+    (λ blobs cs k. e.forward h blobs cs (subst (λ (v : Contents). IsBatchOf h v c.in-Ok.batch blobs cs) e.same k)) (λ q. e.early.2 (ap Err q))
     in
     (t.0, t.2, m.0, m.1, m.2)
 
@@ -70,10 +70,10 @@ returns-in-Ok-commit-clause-made g c = λ items h w.
     let u = subst (λ (v : Contents). IsReplayedUpon items h t.0 c.args.state.now v (Ok c.in_ok-replayed.replayed)) (sym same) t.3 in
     let e = c.in-Ok-commit.ensures in
     let m =
-        commit-done items h t.0 t.1 c.args.force c.args.state.now w s1 c.in_ok-replayed.replayed c.in-Ok.report c.in-Ok.batch u c.in-Ok.ensures
-        (λ blobs cs k. c.in_ok-all_forward.ensures.forward h blobs cs (subst (λ (v : Contents). IsBatchOf h v c.in-Ok.batch blobs cs) same k)) c.commit.new.self
-        (keeper_view g.K.Keeper.items g.K.Keeper.number g.K.Keeper.faults before) (keeper_view g.K.Keeper.items g.K.Keeper.number g.K.Keeper.faults now) (g.K.Keeper.moment before)
-        (g.K.Keeper.moment now) (g.K.Keeper.left_since before) (g.K.Keeper.left_since now) (e.stops h) tt (e.state h) (e.items h)
+    commit-done items h t.0 t.1 c.args.force c.args.state.now w s1 c.in_ok-replayed.replayed c.in-Ok.report c.in-Ok.batch u c.in-Ok.ensures
+    (λ blobs cs k. c.in_ok-all_forward.ensures.forward h blobs cs (subst (λ (v : Contents). IsBatchOf h v c.in-Ok.batch blobs cs) same k)) c.commit.new.self
+    (keeper_view g.K.Keeper.items g.K.Keeper.number g.K.Keeper.faults before) (keeper_view g.K.Keeper.items g.K.Keeper.number g.K.Keeper.faults now) (g.K.Keeper.moment before)
+    (g.K.Keeper.moment now) (g.K.Keeper.left_since before) (g.K.Keeper.left_since now) (e.stops h) tt (e.state h) (e.items h)
     in
     (t.0, t.2, m.0, m.1, m.2)
 
@@ -87,10 +87,10 @@ returns-in-Err-clause-made g c = λ items h w.
     let u = subst (λ (v : Contents). IsReplayedUpon items h t.0 c.args.state.now v (Ok c.in_ok-replayed.replayed)) (sym same) t.3 in
     let e = c.in-Err.ensures in
     let m =
-        commit-refused items h t.0 t.1 c.args.force c.args.state.now w s1 c.in_ok-replayed.replayed c.in-Ok.report c.in-Ok.batch u c.in-Ok.ensures
-        (λ blobs cs k. c.in_ok-all_forward.ensures.forward h blobs cs (subst (λ (v : Contents). IsBatchOf h v c.in-Ok.batch blobs cs) same k)) c.commit.new.self
-        (keeper_view g.K.Keeper.items g.K.Keeper.number g.K.Keeper.faults before) (keeper_view g.K.Keeper.items g.K.Keeper.number g.K.Keeper.faults now) (g.K.Keeper.moment before)
-        (g.K.Keeper.moment now) (g.K.Keeper.left_since before) (g.K.Keeper.left_since now) (e.stops h) c.in-Err.error c.commit_outcome.result c.commit_outcome.ensures (e.state h) e.store (e.items h)
-        e.stops_refused
+    commit-refused items h t.0 t.1 c.args.force c.args.state.now w s1 c.in_ok-replayed.replayed c.in-Ok.report c.in-Ok.batch u c.in-Ok.ensures
+    (λ blobs cs k. c.in_ok-all_forward.ensures.forward h blobs cs (subst (λ (v : Contents). IsBatchOf h v c.in-Ok.batch blobs cs) same k)) c.commit.new.self
+    (keeper_view g.K.Keeper.items g.K.Keeper.number g.K.Keeper.faults before) (keeper_view g.K.Keeper.items g.K.Keeper.number g.K.Keeper.faults now) (g.K.Keeper.moment before)
+    (g.K.Keeper.moment now) (g.K.Keeper.left_since before) (g.K.Keeper.left_since now) (e.stops h) c.in-Err.error c.commit_outcome.result c.commit_outcome.ensures (e.state h) e.store (e.items h)
+    e.stops_refused
     in
     (t.0, t.2, m.0, m.1, m.2)

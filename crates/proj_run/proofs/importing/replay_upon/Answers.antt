@@ -29,21 +29,19 @@ returns-clause-replayed g c = λ items h st.
     let result = c.match-replay_all.result in
     elim c.match-replay_all.branch [
       | in-Ok k ↦
-        let t = k.in-Ok.ensures.stream in
-        (
-          t.0,
-          t.1,
-          same-bytes (g.S.Source.left c.args.input.now) t.0 t.2,
-          subst (λ (x : Contents). IsReplayedUpon items h t.0 x (with_store v S) result) c.state.view_is
-              (replayed items h v view.commits view.refs view.blobs S t.0 w e.commits e.refs e.blobs k.in-Ok.replayed result k.result-is t.3),
-        )
+          let t = k.in-Ok.ensures.stream in (
+            t.0,
+            t.1,
+            same-bytes (g.S.Source.left c.args.input.now) t.0 t.2,
+            subst (λ (x : Contents). IsReplayedUpon items h t.0 x (with_store v S) result) c.state.view_is
+                (replayed items h v view.commits view.refs view.blobs S t.0 w e.commits e.refs e.blobs k.in-Ok.replayed result k.result-is t.3),
+          )
       | in-Err k ↦
-        let t = k.in-Err.ensures.stream in
-        (
-          t.0,
-          t.1,
-          same-bytes (g.S.Source.left c.args.input.now) t.0 t.2,
-          subst (λ (x : Contents). IsReplayedUpon items h t.0 x (with_store v S) result) c.state.view_is
-              (not-replayed items h v view.commits view.refs view.blobs S t.0 w e.commits e.refs e.blobs k.in-Err.error k.replay_outcome.result result k.result-is k.replay_outcome.ensures t.3),
-        )
+          let t = k.in-Err.ensures.stream in (
+            t.0,
+            t.1,
+            same-bytes (g.S.Source.left c.args.input.now) t.0 t.2,
+            subst (λ (x : Contents). IsReplayedUpon items h t.0 x (with_store v S) result) c.state.view_is
+                (not-replayed items h v view.commits view.refs view.blobs S t.0 w e.commits e.refs e.blobs k.in-Err.error k.replay_outcome.result result k.result-is k.replay_outcome.ensures t.3),
+          )
     ]
