@@ -17,3 +17,17 @@ pub mod StreamHands
 pub mod StreamBatches
 pub mod StateBases
 mod Imports
+pub mod KeptTexts
+pub mod RecalledTexts
+pub mod Forming
+pub mod Refusing
+pub mod CasePlans
+pub mod Delivering
+pub mod Answering
+pub mod Joining
+pub mod Lengthening
+pub mod ExportAnswers
+pub mod NameForms
+pub mod Making
+pub mod Opening
+pub mod RuleForms

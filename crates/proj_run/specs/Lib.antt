@@ -9,4 +9,7 @@ pub mod Refusals
 pub mod Sent
 pub mod Replaying
 pub mod Answers
+pub mod Forms
+pub mod Stopped
+pub mod Calls
 pub mod Examples
