@@ -23,7 +23,7 @@ use Rattle.fast_export.specs.declared.error.ExportError.{ExportError}
 use Rattle.fast_export.specs.declared.error.ExportError.TheVariants.{OutOfMemory}
 use Rattle.fast_export.proofs.Lookups.{blob_number}
 use Rattle.fast_export.proofs.Sent.{put_as, put_behind, put_idle, put_short, put_stop, put_then}
-use Rattle.fast_export.proofs.WrittenBlobs.{IsPassed, none_passed}
+use Rattle.fast_import.proofs.WalkedLeaves.{IsPassed, none_passed}
 
 -- the line of a leaf, as it is written
 line_is : (S : List Object) (g : Given) (p : Path) (m : Mode) (n : Name) → AreHeldBlobs S g → is_dir m ≡ false → has_child S m n.0 ≡ true

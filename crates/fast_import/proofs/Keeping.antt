@@ -1,7 +1,8 @@
 -- Names in a set and in a map as they stand in a list.
-use Rattle.std.proofs.Common.{◌≡◌, Bool, true, false, cond, ◌||◌, List, [], ◌∷◌, ◌++◌, Option, Some, None, refl, sym, ap, ◌∙◌}
+use Rattle.std.proofs.Common.{◌≡◌, ◌-◌, suc, Bool, true, false, cond, ◌||◌, List, [], ◌∷◌, ◌++◌, length, Option, Some, None, refl, sym, ap, ◌∙◌, arith}
+use Rattle.std.specs.Prelude.{slice_get}
 use Rattle.std.specs.Cmp.Lexicographic.{bytes_decides}
-use Rattle.std.specs.List.{list_any}
+use Rattle.std.specs.List.{last_or, list_any}
 use Rattle.std.specs.Map.{lookup}
 use Rattle.std.specs.Option.{option_or}
 use Rattle.std.proofs.lemmas.List.Folds.{list_any-append}
@@ -95,3 +96,13 @@ hold-old k t es h n =
       | None ↦ λ e g. absurd (true≢false (sym g))
       | Some u ↦ λ e g. held_tree n k t u es e
     ] refl h
+
+-- ---- the last of a list
+
+last-from : (m : Made) (ms : List Made) → slice_get (m ∷ ms) (length ms) ≡ last_or (Some m) ms
+last-from m [] = refl
+last-from m (k ∷ ms) = last-from k ms
+
+pub last-is : (ms : List Made) → slice_get ms (length ms - 1) ≡ last_or None ms
+last-is [] = refl
+last-is (m ∷ ms) = let e : suc (length ms) - 1 ≡ length ms = omega arith in ap (slice_get (m ∷ ms)) e ∙ last-from m ms

@@ -14,3 +14,5 @@ pub mod Taking
 pub mod Ended
 pub mod Running
 pub mod Stopping
+pub mod StoredLeaves
+pub mod WalkedLeaves

@@ -1,12 +1,13 @@
 -- What names of commits stand for, in the code and in the replay.
-use Rattle.std.proofs.Common.{◌≡◌, true, false, cond, List, [], ◌∷◌, ◌++◌, map, Option, Some, None, Result, Ok, IfSome, refl, sym, ap, subst, ◌∙◌}
+use Rattle.std.proofs.Common.{◌≡◌, true, false, cond, List, [], ◌∷◌, ◌++◌, length, map, Option, Some, None, Result, Ok, IfSome, refl, sym, ap, subst, ◌∙◌, arith}
 use Rattle.std.specs.FinMap.{find}
+use Rattle.std.specs.List.{last_or}
 use Rattle.std.specs.Option.{option_map, option_or}
 use Rattle.git_objects.specs.Parts.{name_bytes}
 use Rattle.git_objects.specs.Lists.{Each}
 use Rattle.git_objects.specs.Paths.{Bytes, same_bytes}
 use Rattle.git_objects.specs.Trees.{Flat}
-use Rattle.git_objects.specs.Snapshots.{Snapshot}
+use Rattle.git_objects.specs.Snapshots.{Snapshot, snapshot_name}
 use Rattle.git_objects.specs.declared.kind.Kind.TheVariants.{Tree}
 use Rattle.git_objects.specs.Results.{◌>>=◌}
 use Rattle.git_objects.proofs.Basics.{same_bytes-back}
@@ -42,6 +43,22 @@ module _ (S : List Object) (v : Replaying) (r : Replay) (h : IsReplayOf S v r) w
   ref_stored base t n o b e q is s =
       let here : branch r n ≡ None = sym (branch-is n) ∙ sym q ∙ ap (option_map name_bytes) is in
       s ∙ sym (ap (target_name base r) e ∙ ap (λ (x : Option Bytes). option_or x (find bytes_cmp n base.refs)) here)
+
+-- ---- the commits that were made
+
+-- the last of them
+pub last-made : (S : List Object) (ms : List Made) (cs : List Snapshot) (o : Option Made) (p : Option Snapshot) → AreCommitsIn S ms cs → option_map (λ (m : Made). m.name.0) o ≡ option_map snapshot_name p →
+    option_map (λ (m : Made). m.name.0) (last_or o ms) ≡ option_map snapshot_name (last_or p cs)
+last-made S [] [] o p h e = e
+last-made S [] (c ∷ cs) o p h e = absurd h
+last-made S (m ∷ ms) [] o p h e = absurd h
+last-made S (m ∷ ms) (c ∷ cs) o p h e = last-made S ms cs (Some m) (Some c) h.1 (ap Some (sym h.0.named))
+
+pub count-made : (S : List Object) (ms : List Made) (cs : List Snapshot) → AreCommitsIn S ms cs → length ms ≡ length cs
+count-made S [] [] h = refl
+count-made S [] (c ∷ cs) h = absurd h
+count-made S (m ∷ ms) [] h = absurd h
+count-made S (m ∷ ms) (c ∷ cs) h = omega (arith, count-made S ms cs h.1)
 
 -- ---- trees of commits
 

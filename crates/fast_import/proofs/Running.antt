@@ -29,47 +29,55 @@ use Rattle.stream_reader.specs.declared.fault.StreamFault.{StreamFault}
 
 -- ---- commands in a row
 
+-- what one command makes of a replay
+abbrev pub Step : Type 0 → Type 0
+Step F = Replay → Placed → Result Replay F
+
 -- behind these commands, where none is refused
+abbrev pub after_by : {F : Type 0} → Step F → Replay → List Placed → Result Replay F
+after_by one r [] = Ok r
+after_by one r (p ∷ ps) = one r p >>= λ s. after_by one s ps
+
 abbrev pub after_all : Base → Replay → List Placed → Result Replay StreamFault
-after_all base r [] = Ok r
-after_all base r (p ∷ ps) = step base r p >>= λ s. after_all base s ps
+after_all base r ps = after_by (step base) r ps
 
 abbrev pub with_all : List Placed → Verdict → Verdict
 with_all cs v = record { commands = cs ++ v.commands; fault = v.fault }
 
-after-push : (base : Base) (r s : Replay) (ps : List Placed) (p : Placed) → after_all base r ps ≡ Ok s → after_all base r (ps ++ p ∷ []) ≡ step base s p
-after-push base r s [] p e = let same : r ≡ s = cc in one (step base r p) ∙ ap (λ (x : Replay). step base x p) same
-  where
-    one : (x : Result Replay StreamFault) → (x >>= λ t. Ok t) ≡ x
-    one (Ok t) = refl
-    one (Err f) = refl
-after-push base r s (q ∷ ps) p e = by (step base r q) (λ t. after-push base t s ps p) e
-  where
-    by : (x : Result Replay StreamFault) → ((t : Replay) → after_all base t ps ≡ Ok s → after_all base t (ps ++ p ∷ []) ≡ step base s p)
-        → (x >>= λ t. after_all base t ps) ≡ Ok s → (x >>= λ t. after_all base t (ps ++ p ∷ [])) ≡ step base s p
-    by (Ok t) next g = next t g
-    by (Err f) next g = absurd cc
-
 -- a run that goes on behind these commands
-pub record IsRunTo (y : Ran StreamFault) (ps : List Placed) (z : Ran StreamFault) : Type 0 where
+pub record IsRunTo {F : Type 0} (y : Ran F) (ps : List Placed) (z : Ran F) : Type 0 where
   pub all_tried : y.tried ≡ ps ++ z.tried
   pub same_state : y.state ≡ z.state
   pub same_fault : y.fault ≡ z.fault
 
-run_same : (y z : Ran StreamFault) → y ≡ z → IsRunTo y [] z
-run_same y z e = record { all_tried = ap (λ (x : Ran StreamFault). x.tried) e; same_state = ap (λ (x : Ran StreamFault). x.state) e; same_fault = ap (λ (x : Ran StreamFault). x.fault) e }
+module _ {F : Type 0} (one : Step F) where
+  pub after-push : (r s : Replay) (ps : List Placed) (p : Placed) → after_by one r ps ≡ Ok s → after_by one r (ps ++ p ∷ []) ≡ one s p
+  after-push r s [] p e = let same : r ≡ s = cc in last (one r p) ∙ ap (λ (x : Replay). one x p) same
+    where
+      last : (x : Result Replay F) → (x >>= λ t. Ok t) ≡ x
+      last (Ok t) = refl
+      last (Err f) = refl
+  after-push r s (q ∷ ps) p e = by (one r q) (λ t. after-push t s ps p) e
+    where
+      by : (x : Result Replay F) → ((t : Replay) → after_by one t ps ≡ Ok s → after_by one t (ps ++ p ∷ []) ≡ one s p)
+          → (x >>= λ t. after_by one t ps) ≡ Ok s → (x >>= λ t. after_by one t (ps ++ p ∷ [])) ≡ one s p
+      by (Ok t) next g = next t g
+      by (Err f) next g = absurd cc
 
-run_more : (p : Placed) (y : Ran StreamFault) (ps : List Placed) (z : Ran StreamFault) → IsRunTo y ps z → IsRunTo (also_tried p y) (p ∷ ps) z
-run_more p y ps z h = record { all_tried = ap (λ (xs : List Placed). p ∷ xs) h.all_tried; same_state = h.same_state; same_fault = h.same_fault }
+  run_same : (y z : Ran F) → y ≡ z → IsRunTo y [] z
+  run_same y z e = record { all_tried = ap (λ (x : Ran F). x.tried) e; same_state = ap (λ (x : Ran F). x.state) e; same_fault = ap (λ (x : Ran F). x.fault) e }
 
-run_gone : (base : Base) (end : Option StreamFault) (r s : Replay) (p : Placed) (ps qs : List Placed) (x : Result Replay StreamFault) → ((t : Replay) → after_all base t ps ≡ Ok s → IsRunTo (ran_by (step base) end t (ps ++ qs)) ps (ran_by (step base) end s qs))
-    → (x >>= λ t. after_all base t ps) ≡ Ok s → IsRunTo (gone_on p r (λ t. ran_by (step base) end t (ps ++ qs)) x) (p ∷ ps) (ran_by (step base) end s qs)
-run_gone base end r s p ps qs (Ok t) next g = run_more p (ran_by (step base) end t (ps ++ qs)) ps (ran_by (step base) end s qs) (next t g)
-run_gone base end r s p ps qs (Err f) next g = absurd cc
+  run_more : (p : Placed) (y : Ran F) (ps : List Placed) (z : Ran F) → IsRunTo y ps z → IsRunTo (also_tried p y) (p ∷ ps) z
+  run_more p y ps z h = record { all_tried = ap (λ (xs : List Placed). p ∷ xs) h.all_tried; same_state = h.same_state; same_fault = h.same_fault }
 
-pub run-on : (base : Base) (end : Option StreamFault) (r s : Replay) (ps qs : List Placed) → after_all base r ps ≡ Ok s → IsRunTo (ran_by (step base) end r (ps ++ qs)) ps (ran_by (step base) end s qs)
-run-on base end r s [] qs e = let same : r ≡ s = cc in run_same (ran_by (step base) end r qs) (ran_by (step base) end s qs) (ap (λ (x : Replay). ran_by (step base) end x qs) same)
-run-on base end r s (p ∷ ps) qs e = run_gone base end r s p ps qs (step base r p) (λ t. run-on base end t s ps qs) e
+  run_gone : (end : Option F) (r s : Replay) (p : Placed) (ps qs : List Placed) (x : Result Replay F) → ((t : Replay) → after_by one t ps ≡ Ok s → IsRunTo (ran_by one end t (ps ++ qs)) ps (ran_by one end s qs))
+      → (x >>= λ t. after_by one t ps) ≡ Ok s → IsRunTo (gone_on p r (λ t. ran_by one end t (ps ++ qs)) x) (p ∷ ps) (ran_by one end s qs)
+  run_gone end r s p ps qs (Ok t) next g = run_more p (ran_by one end t (ps ++ qs)) ps (ran_by one end s qs) (next t g)
+  run_gone end r s p ps qs (Err f) next g = absurd cc
+
+  pub run-on : (end : Option F) (r s : Replay) (ps qs : List Placed) → after_by one r ps ≡ Ok s → IsRunTo (ran_by one end r (ps ++ qs)) ps (ran_by one end s qs)
+  run-on end r s [] qs e = let same : r ≡ s = cc in run_same (ran_by one end r qs) (ran_by one end s qs) (ap (λ (x : Replay). ran_by one end x qs) same)
+  run-on end r s (p ∷ ps) qs e = run_gone end r s p ps qs (one r p) (λ t. run-on end t s ps qs) e
 
 -- what commands bring, in front of others and behind others
 pub made-front : (base : Base) (r : Replay) (ps qs : List Placed) (o : Object) → IsMadeBy base r ps o → IsMadeBy base r (ps ++ qs) o
@@ -162,7 +170,7 @@ module _ (base : Base) (S T : List Object) (before now : Option Bytes) (old new 
           gone = h.gone;
           told = h.told ++ p ∷ [];
           state = s;
-          run = after-push base nothing_yet h.state h.told p h.run ∙ q;
+          run = after-push (step base) nothing_yet h.state h.told p h.run ∙ q;
           stands = subst (λ (y : Result Replay StreamFault). IsOkAnd y (IsReplayOf R w)) q d;
           same = split;
           grown = grown_then (IsMadeBy base nothing_yet (h.told ++ p ∷ [])) S T R

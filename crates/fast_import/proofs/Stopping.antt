@@ -80,7 +80,7 @@ module _ (base : Base) (S T : List Object) (before now : Option Bytes) (rd : Rea
   later = verdict_with rest rd
 
   ran_all : IsRunTo (ran base all) h.told (ran_by (step base) later.fault h.state later.commands)
-  ran_all = subst (λ (x : Verdict). IsRunTo (ran_by (step base) x.fault nothing_yet x.commands) h.told (ran_by (step base) later.fault h.state later.commands)) (sym (h.same rest may_rest)) (run-on base later.fault nothing_yet h.state h.told later.commands h.run)
+  ran_all = subst (λ (x : Verdict). IsRunTo (ran_by (step base) x.fault nothing_yet x.commands) h.told (ran_by (step base) later.fault h.state later.commands)) (sym (h.same rest may_rest)) (run-on (step base) later.fault nothing_yet h.state h.told later.commands h.run)
 
   -- what came up so far comes up in the stream
   made_so_far : (o : Object) → IsMadeBy base nothing_yet h.told o → IsMadeOfStream base all o

@@ -10,7 +10,7 @@ use std::marker::Model;
 
 /// The names of the blobs, in order, as often as they were read.
 #[derive(Drop)]
-pub(crate) struct Blobs {
+pub struct Blobs {
     names: Vec<Name>,
     read: IndexSet<Name>,
 }
@@ -28,7 +28,7 @@ impl Model for Blobs {
 }
 
 impl Blobs {
-    pub(crate) fn new(alloc: Global) -> Blobs
+    pub fn new(alloc: Global) -> Blobs
         ensures { result ≡ [] }
     {
         Blobs {
@@ -38,14 +38,14 @@ impl Blobs {
     }
 
     /// Whether a blob of that name was read.
-    pub(crate) fn has(&self, name: &Name) -> bool
+    pub fn has(&self, name: &Name) -> bool
         ensures { result ≡ list_any (is_named name.now) self.now }
     {
         self.read.contains(name)
     }
 
     /// Adds a blob behind the others. At a refusal nothing is added.
-    pub(crate) fn add(&mut self, name: Name) -> Result<(), AllocError>
+    pub fn add(&mut self, name: Name) -> Result<(), AllocError>
         ensures ok { OnOk result (self.new ≡ self.old ++ name ∷ []) }
         ensures err { OnErr result (self.new ≡ self.old) }
     {
@@ -56,7 +56,7 @@ impl Blobs {
         Ok(())
     }
 
-    pub(crate) fn into_vec(self) -> Vec<Name>
+    pub fn into_vec(self) -> Vec<Name>
         ensures { result.items ≡ self }
     {
         self.names

@@ -1,5 +1,6 @@
 // The commits that a stream has made.
 ghost use Rattle.std.specs.Prelude.{◌≡◌, ◌≤◌, ◌++◌, ◌∷◌, [], None, Some, cond, length, OnErr, OnOk};
+ghost use Rattle.std.specs.List.{last_or};
 ghost use Rattle.std.specs.Map.{lookup};
 ghost use Rattle.std.specs.Option.{option_or};
 ghost use Rattle.git_objects.specs.declared.limits.TheConstants.{STREAM_BYTES};
@@ -47,6 +48,20 @@ impl Commits {
         ensures { result ≡ tree_made name.now self.now }
     {
         self.trees.get(name).copied()
+    }
+
+    /// The commit that was made last.
+    pub(crate) fn last(&self) -> Option<Made>
+        ensures { result ≡ last_or None self.now }
+    {
+        self.made.last().copied()
+    }
+
+    pub(crate) fn count(&self) -> u32
+        ensures count { result ≡ length self.now }
+        ensures few { result ≤ STREAM_BYTES }
+    {
+        self.made.len() as u32
     }
 
     /// Adds a commit behind the others. At a refusal nothing is added.

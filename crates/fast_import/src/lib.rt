@@ -19,6 +19,7 @@ mod steps;
 mod whole;
 
 pub use base::{Base, EmptyBase};
+pub use blobs::Blobs;
 pub use laws::waited_law;
 pub use replay::Replay;
 pub use replayed::{Made, Replayed, Setting};
@@ -26,4 +27,4 @@ pub use stream_reader::{
     BlobRef, Change, Command, CommitHead, CommitRef, Feature, Merges, Next, Placed, Reader,
     StreamFault, Target,
 };
-pub use whole::{ReplayError, replay_all};
+pub use whole::{ReplayError, feed_on, replay_all};

@@ -1,11 +1,13 @@
 // The replay of a stream's commands into a store.
-ghost use Rattle.std.specs.Prelude.{◌≡◌, ◌≤◌, List, length};
+ghost use Rattle.std.specs.Prelude.{◌≡◌, ◌≤◌, List, None, length};
+ghost use Rattle.std.specs.List.{last_or};
 ghost use Rattle.std.specs.Option.{option_map};
 ghost use Rattle.git_objects.specs.Parts.{name_bytes};
+ghost use Rattle.git_objects.specs.Snapshots.{snapshot_name};
 ghost use Rattle.git_objects.specs.declared.limits.TheConstants.{STREAM_BYTES};
 ghost use Rattle.object_store.specs.Objects.{Object};
 ghost use Rattle.fast_import.specs.Bases.{base_in};
-ghost use Rattle.fast_import.specs.Replays.{Replay as ReplayOf, given_by, nothing_yet, target_name};
+ghost use Rattle.fast_import.specs.Replays.{Replay as ReplayOf, branch, given_by, nothing_yet, target_name};
 ghost use Rattle.fast_import.specs.Standing.{IsReplayOf, IsReplayedOf};
 
 use crate::blobs::Blobs;
@@ -15,6 +17,7 @@ use crate::draft::Draft;
 use crate::marks::{Marked, Marks};
 use crate::{Base, CommitRef, Replayed, Target};
 use git_objects::Name;
+use path_names::RefName;
 use std::alloc::Global;
 use std::marker::Model;
 
@@ -76,6 +79,33 @@ impl Replay {
             commits: commits.into_vec(),
             heads: branches.into_settings(),
         }
+    }
+
+    /// How many commits the stream has made.
+    pub fn commit_count(&self) -> u32
+        ensures count { (S : List Object) (r : ReplayOf) → IsReplayOf S self.now r → result ≡ length r.commits }
+        ensures few { result ≤ STREAM_BYTES }
+    {
+        self.commits.count()
+    }
+
+    /// The commit that the stream has made last.
+    pub fn last_commit(&self) -> Option<Name>
+        ensures { (S : List Object) (r : ReplayOf) → IsReplayOf S self.now r →
+            option_map name_bytes result ≡ option_map snapshot_name (last_or None r.commits) }
+    {
+        match self.commits.last() {
+            None => None,
+            Some(made) => Some(made.name),
+        }
+    }
+
+    /// The commit to which the stream has set a branch. Takes no memory.
+    pub fn branch(&self, refname: &RefName) -> Option<Name>
+        ensures { (S : List Object) (r : ReplayOf) → IsReplayOf S self.now r →
+            option_map name_bytes result ≡ branch r refname.now }
+    {
+        self.branches.get(refname)
     }
 
     /// The name that stands for a commit in the stream: digits give themselves. Takes no memory.

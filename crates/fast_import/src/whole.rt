@@ -85,8 +85,8 @@ fn replay_by<S: Source, B: Base>(
     }
 }
 
-// Feeds a reader with the next piece, or tells it that the stream ends.
-fn feed_on<S: Source>(
+/// Feeds a reader with the next piece, at most as long as the buffer, or tells it that the stream ends.
+pub fn feed_on<S: Source>(
     input: &mut S,
     reader: &mut Reader,
     piece: &mut [u8],

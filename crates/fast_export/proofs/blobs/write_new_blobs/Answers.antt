@@ -1,6 +1,7 @@
 use Rattle.std.proofs.Common.{[]}
 use Rattle.fast_export.proofs.Sent.{put_err}
-use Rattle.fast_export.proofs.WrittenBlobs.{leaf_here, less_written, more_written, none_written, short_written, stepped}
+use Rattle.fast_import.proofs.WalkedLeaves.{leaf_here, stepped}
+use Rattle.fast_export.proofs.WrittenBlobs.{less_written, more_written, none_written, short_written}
 use Rattle.fast_export.proofs.blobs.write_new_blobs.Goals as goal
 
 pub leaves-init : goal.leaves-init

@@ -1,6 +1,6 @@
 use Rattle.std.proofs.Common.{[]}
 use Rattle.fast_export.proofs.Sent.{put_err}
-use Rattle.fast_export.proofs.WrittenBlobs.{leaf_here, stepped}
+use Rattle.fast_import.proofs.WalkedLeaves.{leaf_here, stepped}
 use Rattle.fast_export.proofs.WrittenLeaves.{less_lines, more_lines, no_lines, one_line, path_here, short_lines}
 use Rattle.fast_export.proofs.commits.write_leaves.Goals as goal
 
