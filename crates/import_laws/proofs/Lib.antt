@@ -1,4 +1,5 @@
 pub mod EditLeaves
+pub mod TreeReplaying
 pub mod Replaying
 pub mod ImportsKept
 pub mod ReadCommands

@@ -35,7 +35,8 @@ use Rattle.import_laws.specs.Bases.{base_of}
 use Rattle.import_laws.specs.MadeObjects.{ClashLaw, IsHeldOrMade, MadeLaw}
 use Rattle.import_laws.specs.Replayed.{end_of}
 use Rattle.import_laws.specs.SoundCommands.{IsSound}
-use Rattle.import_laws.proofs.Replaying.{refuse-value, replayed-law}
+use Rattle.import_laws.proofs.Replaying.{replayed-law}
+use Rattle.import_laws.proofs.TreeReplaying.{refuse-value}
 
 module _ (base : Base) (P : Object → Type 0) where
   -- a commit, its tree, and what lies below a path of its tree

@@ -30,18 +30,14 @@ use Rattle.state_items.proofs.TreesHeld.{each-both}
 use Rattle.import_laws.specs.Bases.{base_of}
 use Rattle.import_laws.specs.SmallCommands.{IsSmall, IsSmallChange}
 use Rattle.import_laws.specs.SmallReplays.{SmallLaw}
-use Rattle.import_laws.proofs.Replaying.{each-named, refuse-value, value-each}
+use Rattle.import_laws.proofs.TreeReplaying.{all-both, each-named, refuse-value, value-each}
 use Rattle.import_laws.proofs.SmallEdits.{IsSmallTree, few-value, fits-small, leaf-good, moved-small, nothing-small, put-small, remove-small, small-fits, within-good}
 
-abbrev is_short : Bytes → Bool
+abbrev pub is_short : Bytes → Bool
 is_short b = nat_le (length b) BLOB_BYTES
 
 abbrev is_small : Snapshot → Bool
 is_small c = tree_fits c.tree && nat_le (length c.letter.message) MESSAGE_BYTES
-
-all-both : {A : Type 0} (f : A → Bool) (xs ys : List A) → list_all f xs ≡ true → list_all f ys ≡ true → list_all f (xs ++ ys) ≡ true
-all-both f [] ys h g = g
-all-both f (x ∷ xs) ys h g = and_both (first_so _ _ h) (all-both f xs ys (second_so (f x) _ h) g)
 
 record IsSmallDraft (d : Draft) : Type 0 where
   message : nat_le (length d.head.message) MESSAGE_BYTES ≡ true
@@ -50,6 +46,15 @@ record IsSmallDraft (d : Draft) : Type 0 where
 abbrev IfSmallDraft : Option Draft → Type 0
 IfSmallDraft None = Unit
 IfSmallDraft (Some d) = IsSmallDraft d
+
+pub inline-short : (c : Change) → IsSmallChange c → list_all is_short (inline_blob c) ≡ true
+inline-short (changes.Modify m (blobs.Inline b) p) v = and_both v.0 refl
+inline-short (changes.Modify m (blobs.Mark n) p) v = refl
+inline-short (changes.Modify m (blobs.Digits n) p) v = refl
+inline-short (changes.Delete p) v = refl
+inline-short (changes.Rename a p) v = refl
+inline-short (changes.Copy a p) v = refl
+inline-short changes.DeleteAll v = refl
 
 module _ (h : Held) (base_fits : list_all (λ c. tree_fits c.tree) (repo h).commits ≡ true) where
   abbrev base : Base
@@ -89,15 +94,6 @@ module _ (h : Held) (base_fits : list_all (λ c. tree_fits c.tree) (repo h).comm
   mark-small : (m : Option ℕ) (x : Marked) (r : Replay) → Small r → Small (with_mark m x r)
   mark-small None x r i = i
   mark-small (Some n) x r i = record { blobs_short = i.blobs_short; commits_small = i.commits_small; draft_small = i.draft_small }
-
-  inline-short : (c : Change) → IsSmallChange c → list_all is_short (inline_blob c) ≡ true
-  inline-short (changes.Modify m (blobs.Inline b) p) v = and_both v.0 refl
-  inline-short (changes.Modify m (blobs.Mark n) p) v = refl
-  inline-short (changes.Modify m (blobs.Digits n) p) v = refl
-  inline-short (changes.Delete p) v = refl
-  inline-short (changes.Rename a p) v = refl
-  inline-short (changes.Copy a p) v = refl
-  inline-short changes.DeleteAll v = refl
 
   edited-small : (r : Replay) (at : ℕ) (t u : Flat) (c : Change) → IsSmallChange c → IsSmallTree t → edited base r at t c ≡ Ok u → IsSmallTree u
   edited-small r at t u (changes.Modify m x p) v g e =
