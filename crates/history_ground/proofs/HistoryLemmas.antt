@@ -144,7 +144,7 @@ reached-in (c ∷ g) ws =
     by true = (or_left (has_name (snapshot_name c) c) (has g (snapshot_name c)) (same_bytes-self (snapshot_name c)), tt)
     by false = tt
 
-wanted-still : (ws : List Bytes) (c : Snapshot) (n : Bytes) → list_any (same_bytes n) ws ≡ true → list_any (same_bytes n) (wanted_below ws c) ≡ true
+pub wanted-still : (ws : List Bytes) (c : Snapshot) (n : Bytes) → list_any (same_bytes n) ws ≡ true → list_any (same_bytes n) (wanted_below ws c) ≡ true
 wanted-still ws c n h = by (is_wanted ws c)
   where
     by : (b : Bool) → list_any (same_bytes n) (cond b (c.parents ++ ws) ws) ≡ true
@@ -345,6 +345,10 @@ module _ (k : Rule) (shown : Flat → Flat) where
       (members-in g (wanted_below ws c) c.parents w.parents
       (subst (λ vs. Each (λ n. list_any (same_bytes n) vs ≡ true) c.parents) (sym (wanted-parents c ws (is_wanted ws c) refl h)) (self-wanted c.parents ws)))) in
       record { same = r.0; graph = r.1 }
+
+  -- a commit's projection has the name of one of the commits that its history makes
+  pub head-made : (g : Graph) (h : Bytes) (p : Shown) → is_graph g ≡ true → P g h ≡ Some p → has g h ≡ true → has (made g (h ∷ [])) p.commit ≡ true
+  head-made g h p s e t = sym (has-made g (h ∷ []) (listed g s (h ∷ [])) p) ∙ in-history g (h ∷ []) h p e t (or_left (same_bytes h h) false (same_bytes-self h))
 
 pub the_law : HistoryLaw
 the_law = record {

@@ -26,3 +26,5 @@ pub mod TakenTurns
 mod TakingLemmas
 mod HistoryEnds
 mod OrderLemmas
+mod OwnProjections
+pub mod HeadLemmas

@@ -107,7 +107,7 @@ commits-held : (S : List Object) (ms : List Shown) → Each (λ (m : Shown). has
 commits-held S [] h = tt
 commits-held S (m ∷ ms) h = (h.0, commits-held S ms h.1)
 
-one-held : (S : List Object) (ns : List Bytes) (n : Bytes) → list_all (has CommitKind S) ns ≡ true → is_among n ns ≡ true → has CommitKind S n ≡ true
+pub one-held : (S : List Object) (ns : List Bytes) (n : Bytes) → list_all (has CommitKind S) ns ≡ true → is_among n ns ≡ true → has CommitKind S n ≡ true
 one-held S [] n h e = absurd (true≢false (sym e))
 one-held S (m ∷ ns) n h e = let w = and_parts (has CommitKind S m) (list_all (has CommitKind S) ns) h in by (same_bytes n m) refl e w.0 (one-held S ns n w.1)
   where

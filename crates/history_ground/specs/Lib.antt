@@ -10,4 +10,5 @@ pub mod Turns
 pub mod Walks
 pub mod Histories
 pub mod Making
+pub mod Heads
 pub mod Examples

@@ -3,6 +3,7 @@
 
 mod choosing;
 mod ground;
+mod heads;
 mod histories;
 mod laws;
 mod made;
@@ -11,6 +12,7 @@ mod turning;
 mod walking;
 
 pub use ground::Ground;
+pub use heads::{Seen, seen_head};
 pub use histories::{history, put_commit};
 pub use laws::{history_law, order_law, projection_law, stay_law};
 pub use made::own_body;

@@ -1,0 +1,241 @@
+-- What is shown of a head.
+use Rattle.std.proofs.Common.{◌≡◌, inl, inr, ℕ, Bool, true, false, cond, List, [], ◌∷◌, length, slice_get, Contains, Option, Some, None, IfSome, IfOk, IfErr, Result, Ok, Err, IsSome, refl, sym, ap, subst, ◌∙◌, arith, not, true≢false}
+use Rattle.std.specs.Prelude.{codes}
+use Rattle.std.specs.Option.{option_map, option_map_or}
+use Rattle.std.specs.Cmp.{second_so}
+use Rattle.std.specs.Cmp.Lexicographic.{bytes_decides}
+use Rattle.std.proofs.lemmas.Bool.{false_from_ne_true, or_left}
+use Rattle.std.proofs.lemmas.Option.{same_Some}
+use Rattle.git_objects.specs.Bodies.{is_name}
+use Rattle.git_objects.specs.CommitBodies.{IsCommitBody, name_field}
+use Rattle.git_objects.specs.Commits.{Commit, commit_body, commit_name, letter_text, parent_lines}
+use Rattle.git_objects.specs.Names.{body, name, tree_name}
+use Rattle.git_objects.specs.Paths.{Bytes, same_bytes}
+use Rattle.git_objects.specs.Snapshots.{Snapshot, Graph, commit_at, snapshot_commit, snapshot_name, tree_at}
+use Rattle.git_objects.specs.Trees.{Flat}
+use Rattle.git_objects.specs.declared.kind.Kind.TheVariants.{Tree, Commit as CommitKind}
+use Rattle.git_objects.specs.declared.name.Name.{Name}
+use Rattle.git_objects.proofs.Basics.{same_bytes-self}
+use Rattle.git_objects.proofs.CommitReading.{name_field-read}
+use Rattle.git_objects.proofs.Digests.{name-is_name}
+use Rattle.object_store.specs.Growth.{IsClash}
+use Rattle.object_store.specs.Objects.{Object, IsStore, body_of, find_named, has, same_kind}
+use Rattle.object_store.specs.Puts.{Collides, collision, same_object}
+use Rattle.object_store.specs.StoredSnapshots.{IsTreeOf, snapshot_object}
+use Rattle.object_store.specs.Unfolding.{StandsFor, flat}
+use Rattle.object_store.proofs.Growth.{flat-grown, has-grown}
+use Rattle.object_store.proofs.StoredCommits.{commit-told}
+use Rattle.object_store.proofs.Unfolding.{unfolding_law}
+use Rattle.commit_graph.specs.Graphs.{Row, place_of}
+use Rattle.commit_map.specs.Shown.{Shown, shown_value}
+use Rattle.commit_map.specs.declared.commit_map.Shown as code
+use Rattle.filter_text.specs.Filters.{Filter}
+use Rattle.filter_apply.specs.Faults.{IsApplyFault}
+use Rattle.filter_apply.specs.declared.fault.ApplyError.{ApplyError}
+use Rattle.workspace.specs.Workspaces.{resolve, shown}
+use Rattle.history_ground.specs.Asked.{IsNone, IsShownBy}
+use Rattle.history_ground.specs.Grounds.{IsGround, Extends, IsShownOf, commits_of}
+use Rattle.history_ground.specs.Heads.{IsSeen, IsSeenObject}
+use Rattle.history_ground.specs.Histories.{AreMade, IsOfHistory}
+use Rattle.history_ground.specs.ProjectionLaws.{IsOf}
+use Rattle.history_ground.specs.Projections.{history_graph, own_commits, projection, projection_by}
+use Rattle.history_ground.specs.declared.ground.Ground.{Ground}
+use Rattle.history_ground.proofs.Asking.{shown-behind, shown-is}
+use Rattle.history_ground.proofs.GraphLemmas.{found}
+use Rattle.history_ground.proofs.Growing.{commits-same, extends-as, extends-then}
+use Rattle.history_ground.proofs.HeldCommits.{held, never-none}
+use Rattle.history_ground.proofs.HistoryLemmas.{head-made}
+use Rattle.history_ground.proofs.MadeHistories.{among-made}
+use Rattle.history_ground.proofs.OwnProjections.{IsAmong, own-has}
+use Rattle.history_ground.proofs.ProjectLemmas.{head-there, place-named, place-within}
+use Rattle.history_ground.proofs.ProjectionLemmas.{projection-of}
+use Rattle.history_ground.proofs.Reached.{commit-older}
+use Rattle.history_ground.proofs.StoredGraphs.{at-row, name-is, older-all, row-at, whole-graph}
+use Rattle.history_ground.proofs.TakenTurns.{fault-as, one-held}
+use Rattle.history_ground.proofs.TurnLemmas.{seen-fault, seen-same, tree-held}
+
+-- ---- the commit
+
+module _ (g : Ground) (n : Bytes) (place : ℕ) (w : IsGround g) (e : Some place ≡ place_of n g.graph) where
+  pub head-has : has CommitKind g.store n ≡ true
+  head-has =
+      let r = row-at g.store g.graph w.graph place (place-within n g.graph place e) in
+      let a = at-row g.store g.graph w.graph place r.0 r.1 in
+      ap (has CommitKind g.store) (sym (place-named n g.graph place e) ∙ name-is g.store g.graph w.graph place r.0 r.1) ∙ a.1.held
+
+  module _ (tree : Bytes) (h : IfSome (slice_get g.graph place) (λ r. tree ≡ r.tree)) where
+    pub head-tree-has : has Tree g.store tree ≡ true
+    head-tree-has = tree-held g place tree w (place-within n g.graph place e) h
+
+    pub head-tree : tree_at (commits_of g) n ≡ flat g.store tree
+    head-tree =
+        let l = place-within n g.graph place e in
+        let r = row-at g.store g.graph w.graph place l in
+        let a = at-row g.store g.graph w.graph place r.0 r.1 in
+        let named : n ≡ r.0.name = sym (place-named n g.graph place e) ∙ name-is g.store g.graph w.graph place r.0 r.1 in
+        let found : commit_at (commits_of g) r.0.name ≡ Some a.0 = ap (λ (x : Graph). commit_at x r.0.name) (sym (older-all g.store g.graph w.graph)) ∙ commit-older g.store g.graph w.graph (length g.graph) (omega arith) place r.0 a.0 r.1 l a.1 in
+        let same : tree ≡ r.0.tree = subst (λ o. IfSome o (λ (x : Row). tree ≡ x.tree)) r.1 h in
+        ap (λ (m : Bytes). tree_at (commits_of g) m) named
+        ∙ ap (λ (o : Option Snapshot). option_map_or (λ (c : Snapshot). c.tree) o []) found
+        ∙ sym (ap (flat g.store) same ∙ a.1.tree)
+
+-- ---- its tree, behind more tables
+
+module _ (f : Filter) (g h k : Ground) (n : Bytes) (place : ℕ) (w : IsGround g) (e : Some place ≡ place_of n g.graph) (root : Bytes) (t : IfSome (slice_get g.graph place) (λ r. root ≡ r.tree))
+    (a : Extends IsNone g h) (m : h.map ≡ g.map) where
+  pub root-held : has Tree h.store root ≡ true
+  root-held = has-grown g.store h.store Tree root a.store (head-tree-has g n place w e root t)
+
+  module _ (r : Result Name ApplyError) (s : IsShownBy (resolve f (flat h.store root)) root h k r) where
+    behind : IsShownBy (resolve f (flat g.store root)) root g k r
+    behind =
+        let there : has Tree g.store root ≡ true = head-tree-has g n place w e root t in
+        shown-behind (resolve f (flat g.store root)) root g h k r there a m
+        (subst (λ (u : Flat). IsShownBy (resolve f u) root h k r) (flat-grown g.store h.store root a.store there) s)
+
+    pub head-shown : IfOk r (λ x. StandsFor k.store x.0 (shown f (tree_at (commits_of g) n)))
+    head-shown =
+        subst (λ (u : Flat). IfOk r (λ (x : Name). StandsFor k.store x.0 u)) (sym (shown-is f (flat g.store root)) ∙ ap (shown f) (sym (head-tree g n place w e root t))) behind.ok
+
+    pub head-map : k.map ≡ g.map
+    head-map = behind.map
+
+    pub head-same : Extends (IsShownOf f (commits_of g)) g k
+    head-same = seen-same f g k place root r w (place-within n g.graph place e) t behind
+
+    pub head-fault : IfErr r (IsApplyFault (IsShownOf f (commits_of g)) k.store)
+    head-fault = by r refl
+      where
+        by : (x : Result Name ApplyError) → r ≡ x → IfErr x (IsApplyFault (IsShownOf f (commits_of g)) k.store)
+        by (Ok y) q = tt
+        by (Err y) q = seen-fault f g k place root r w (place-within n g.graph place e) t behind y q
+
+-- ---- one call after another
+
+module _ (f : Filter) (g : Ground) (n : Bytes) (w : IsGround g) where
+  tree-object : (o : Object) → IsShownOf f (commits_of g) o → IsSeenObject f g n o
+  tree-object o x = inl (inl x)
+
+  pub trees : (h : Ground) → Extends (IsShownOf f (commits_of g)) g h → Extends (IsSeenObject f g n) g h
+  trees h a = extends-as (IsShownOf f (commits_of g)) (IsSeenObject f g n) g h tree-object a
+
+  pub trees-fault : (S : List Object) (e : ApplyError) → IsApplyFault (IsShownOf f (commits_of g)) S e → IsApplyFault (IsSeenObject f g n) S e
+  trees-fault S e x = fault-as (IsShownOf f (commits_of g)) (IsSeenObject f g n) S tree-object e x
+
+  module _ (h : Ground) (a : Extends (IsSeenObject f g n) g h) where
+    commits : commits_of h ≡ commits_of g
+    commits = commits-same (IsSeenObject f g n) g h w a
+
+    pub head-still : IsSome (place_of n g.graph) → IsSome (place_of n h.graph)
+    head-still x = subst (λ (rows : List Row). IsSome (place_of n rows)) (sym a.graph) x
+
+    -- trees that are shown of the same commits
+    tree-more : (o : Object) → IsShownOf f (commits_of h) o → IsSeenObject f g n o
+    tree-more o x = tree-object o (subst (λ (y : Graph). IsShownOf f y o) commits x)
+
+    pub more-trees : (k : Ground) → Extends (IsShownOf f (commits_of h)) h k → Extends (IsSeenObject f g n) g k
+    more-trees k b = extends-then (IsSeenObject f g n) g h k a (extends-as (IsShownOf f (commits_of h)) (IsSeenObject f g n) h k tree-more b)
+
+    pub more-trees-fault : (S : List Object) (e : ApplyError) → IsApplyFault (IsShownOf f (commits_of h)) S e → IsApplyFault (IsSeenObject f g n) S e
+    more-trees-fault S e x = fault-as (IsShownOf f (commits_of h)) (IsSeenObject f g n) S tree-more e x
+
+    pub projection-still : h.map ≡ [] → projection_by h.rule (shown f) h.map (commits_of h) n ≡ projection g.rule (shown f) (commits_of g) n
+    projection-still m = λ i. projection_by (a.rule i) (shown f) (m i) (commits i) n
+
+    -- the history of the same commits
+    pub history-still : history_graph h.rule (shown f) (commits_of h) n ≡ history_graph g.rule (shown f) (commits_of g) n
+    history-still = λ i. history_graph (a.rule i) (shown f) (commits i) n
+
+    history-more : (o : Object) → IsOfHistory f h n o → IsSeenObject f g n o
+    history-more o (inl x) = tree-more o x
+    history-more o (inr x) = inl (inr (x.0, subst (λ (y : Graph). Contains y x.0) history-still x.1, x.2))
+
+    pub more-history : (k : Ground) → Extends (IsOfHistory f h n) h k → Extends (IsSeenObject f g n) g k
+    more-history k b = extends-then (IsSeenObject f g n) g h k a (extends-as (IsOfHistory f h n) (IsSeenObject f g n) h k history-more b)
+
+    pub more-history-fault : (S : List Object) (e : ApplyError) → IsApplyFault (IsOfHistory f h n) S e → IsApplyFault (IsSeenObject f g n) S e
+    more-history-fault S e x = fault-as (IsOfHistory f h n) (IsSeenObject f g n) S history-more e x
+
+-- ---- the commit that it is projected to
+
+differ : (x y : Bytes) → true ≡ not (same_bytes x y) → x ≡ y → ⊥
+differ x y e q = true≢false (e ∙ ap not ((bytes_decides x y).1 q))
+
+agree : (x y : Bytes) → false ≡ not (same_bytes x y) → x ≡ y
+agree x y e = (bytes_decides x y).0 (by (same_bytes x y) e)
+  where
+    by : (b : Bool) → false ≡ not b → b ≡ true
+    by true q = refl
+    by false q = absurd (true≢false (sym q))
+
+first-same : (p q : Bytes × Bytes) → Some p ≡ Some q → p.0 ≡ q.0
+first-same p q e = ap (λ (r : Bytes × Bytes). r.0) (same_Some p q e)
+
+-- bodies of commits with one spelling have one tree
+same-tree : (c d : Commit) → is_name c.tree ≡ true → is_name d.tree ≡ true → commit_body c ≡ commit_body d → c.tree ≡ d.tree
+unfolding commit_body
+same-tree c d h k e =
+    first-same (c.tree, parent_lines c.parents (letter_text c.letter)) (d.tree, parent_lines d.parents (letter_text d.letter))
+    (sym (name_field-read (codes "tree") c.tree (parent_lines c.parents (letter_text c.letter)) h)
+    ∙ ap (name_field (codes "tree")) e
+    ∙ name_field-read (codes "tree") d.tree (parent_lines d.parents (letter_text d.letter)) k)
+
+-- another commit than c has its name
+other-collides : (S : List Object) (c : Snapshot) (d : Commit) → IsStore S → has CommitKind S (snapshot_name c) ≡ true → IsCommitBody d (body_of CommitKind S (snapshot_name c)) → (d.tree ≡ tree_name c.tree → ⊥)
+    → collision CommitKind (commit_body (snapshot_commit c)) (find_named S (snapshot_name c)) ≡ Some (Collides (snapshot_name c))
+unfolding commit_name
+other-collides S c d s h b apart = by (find_named S (snapshot_name c)) refl
+  where
+    differs : (o : Object) → Some o ≡ find_named S (snapshot_name c) → same_object CommitKind (commit_body (snapshot_commit c)) o ≡ true → ⊥
+    differs o e t =
+        apart (same-tree d (snapshot_commit c) b.tree (name-is_name Tree (body c.tree))
+        (b.spelled ∙ commit-told S (snapshot_name c) o s h e ∙ sym ((bytes_decides (commit_body (snapshot_commit c)) o.body).0 (second_so (same_kind CommitKind o.kind) (same_bytes (commit_body (snapshot_commit c)) o.body) t))))
+
+    by : (x : Option Object) → find_named S (snapshot_name c) ≡ x → collision CommitKind (commit_body (snapshot_commit c)) x ≡ Some (Collides (snapshot_name c))
+    by None e = absurd (never-none S (snapshot_name c) s h (sym e))
+    by (Some o) e = ap (λ t. cond t None (Some (Collides (snapshot_name c)))) (false_from_ne_true (same_object CommitKind (commit_body (snapshot_commit c)) o) (differs o (sym e)))
+
+module _ (f : Filter) (g : Ground) (n : Bytes) (w : IsGround g) (there : IsSome (place_of n g.graph)) where
+  pub seen-none : (S : List Object) (tree : Name) → None ≡ projection g.rule (shown f) (commits_of g) n → StandsFor S tree.0 (shown f (tree_at (commits_of g) n)) → IsSeen f g n S (record { from = None; tree = tree })
+  seen-none S tree p s = record { projected = ap (option_map (λ (x : Shown). x.commit)) p; stands = s; there = tt }
+
+  module _ (S : List Object) (x : code.Shown) (p : Some (shown_value x) ≡ projection g.rule (shown f) (commits_of g) n) where
+    pub seen-some : (tree : Name) → StandsFor S tree.0 (shown f (tree_at (commits_of g) n)) → (other : Name) → IsTreeOf S x.commit.0 other.0 → false ≡ not (same_bytes other.0 tree.0) → IsSeen f g n S (record { from = Some x.commit; tree = tree })
+    seen-some tree s other t e = record {
+      projected = ap (option_map (λ (y : Shown). y.commit)) p;
+      stands = s;
+      there = subst (IsTreeOf S x.commit.0) (agree other.0 tree.0 e) t;
+    }
+
+    -- it is in the store with the history
+    pub projection-held : (ns : List Bytes) → AreMade S (history_graph g.rule (shown f) (commits_of g) n) ns → has CommitKind S x.commit.0 ≡ true
+    projection-held ns a =
+        one-held S ns x.commit.0 a.held
+        (among-made S (history_graph g.rule (shown f) (commits_of g) n) ns x.commit.0 a
+        ∙ head-made g.rule (shown f) (commits_of g) n (shown_value x) (whole-graph g.store g.graph w.graph) (sym p) (head-there g n w there))
+
+    -- its tree is what is shown of the head
+    tree-named : x.tree.0 ≡ tree_name (shown f (tree_at (commits_of g) n))
+    tree-named =
+        let c = found (commits_of g) n (head-there g n w there) in
+        let at : tree_at (commits_of g) n ≡ c.0.tree = ap (λ (o : Option Snapshot). option_map_or (λ (d : Snapshot). d.tree) o []) c.1 in
+        let of : x.tree.0 ≡ tree_name (shown f c.0.tree) = subst (IsOf (shown f c.0.tree)) (sym p) (projection-of g.rule (shown f) (commits_of g) n c.0 c.1) in
+        of ∙ ap (λ (t : Flat). tree_name (shown f t)) (sym at)
+
+    own : IsAmong (own_commits g.rule (shown f) (commits_of g) (n ∷ [])) (shown_value x)
+    own = own-has g.rule (shown f) (commits_of g) (n ∷ []) n (shown_value x) (or_left (same_bytes n n) false (same_bytes-self n)) (sym p)
+
+    clash-at : (c : Snapshot) → Contains (own_commits g.rule (shown f) (commits_of g) (n ∷ [])) c → (d : Commit) → IsStore S → has CommitKind S (snapshot_name c) ≡ true → IsCommitBody d (body_of CommitKind S (snapshot_name c)) → (d.tree ≡ tree_name c.tree → ⊥)
+        → IsClash (IsSeenObject f g n) S (snapshot_name c)
+    clash-at c i d s h b apart = record { object = snapshot_object c; is_made = inr (c, i, refl); held = other-collides S c d s h b apart }
+
+    -- another commit of the store has its name, with another tree
+    pub seen-clash : (tree other : Name) → IsStore S → StandsFor S tree.0 (shown f (tree_at (commits_of g) n)) → has CommitKind S x.commit.0 ≡ true → IsTreeOf S x.commit.0 other.0 → true ≡ not (same_bytes other.0 tree.0) → IsClash (IsSeenObject f g n) S x.commit.0
+    seen-clash tree other s stands h t apart =
+        let named : snapshot_name own.0 ≡ x.commit.0 = ap (λ (y : Shown). y.commit) own.2 in
+        let own-tree : tree_name own.0.tree ≡ tree.0 =
+        ap (λ (y : Shown). y.tree) own.2 ∙ tree-named ∙ ap tree_name (sym stands.map) ∙ (unfolding_law S tree.0 s stands.held).named in
+        let b : IsCommitBody t.commit (body_of CommitKind S x.commit.0) = (held S x.commit.0 t.commit s h t.named).spelled in
+        subst (λ (m : Bytes). IsClash (IsSeenObject f g n) S m) named
+        (clash-at own.0 own.1 t.commit s (ap (has CommitKind S) named ∙ h) (subst (λ (m : Bytes). IsCommitBody t.commit (body_of CommitKind S m)) (sym named) b)
+        (λ e. differ other.0 tree.0 apart (t.tree ∙ e ∙ own-tree)))
