@@ -1,13 +1,12 @@
 -- The commits of a pushed stream are in line.
-use Rattle.std.specs.Prelude.{◌≡◌, refl, ℕ, ◌+◌, length, Bool, true, false, List, [], ◌∷◌, ◌++◌, Option, Some, None, Result, Ok, Err}
+use Rattle.std.specs.Prelude.{◌≡◌, refl, ℕ, ◌+◌, length, List, [], ◌∷◌, ◌++◌, Option, Some, None, Result, Ok, Err}
 use Rattle.std.specs.Option.{option_map, option_or, option_to_list}
 use Rattle.std.specs.List.{last_or}
-use Rattle.std.specs.Cmp.Lexicographic.{bytes_decides}
-use Rattle.std.proofs.Common.{ap, ◌∙◌, sym, subst, true≢false}
+use Rattle.std.proofs.Common.{ap, ◌∙◌, sym, subst}
 use Rattle.std.proofs.lemmas.Option.{same_Some}
 use Rattle.git_objects.specs.Paths.{Bytes, is_nil, same_bytes}
 use Rattle.git_objects.specs.Trees.{Flat}
-use Rattle.git_objects.specs.Results.{◌>>=◌, must, or_refuse, refused_by}
+use Rattle.git_objects.specs.Results.{◌>>=◌, or_refuse, refused_by}
 use Rattle.git_objects.specs.Snapshots.{Snapshot, snapshot_name}
 use Rattle.stream_reader.specs.declared.command.Change.{Change}
 use Rattle.stream_reader.specs.declared.command.Command.{Command}
@@ -19,19 +18,8 @@ use Rattle.stream_reader.specs.declared.fault.StreamFault.TheVariants.{Syntax}
 use Rattle.stream_reader.specs.Verdicts.{start, verdict}
 use Rattle.fast_import.specs.Replays.{Base, Draft, Marked, Replay, begun, command_step, commit_of, committed, edited, gone_on, inline_blob, nothing_yet, ran_by, said, step, with_branch, with_mark}
 use Rattle.push_back.specs.PushLaws.{ChainLaw, IsChain}
+use Rattle.push_back.proofs.Refusing.{at_head, passed, same-names, unmerged}
 use Rattle.push_back.specs.PushReplays.{StreamRefusal, Faulty, OtherRef, NotAtHead, MergePushed, chain_end, is_same_name, push_base, push_command, push_step, pushed_parent}
-
--- ---- values that weren't refused
-
-passed : (f : StreamRefusal) (b : Bool) (x : Result Replay StreamRefusal) (s : Replay) → (must f b >>= λ u. x) ≡ Ok s → (b ≡ true) × (x ≡ Ok s)
-passed f true x s e = (refl, e)
-passed f false x s e = cc
-
-same-names : (m n : Option Bytes) → is_same_name m n ≡ true → m ≡ n
-same-names None None e = refl
-same-names (Some m) (Some n) e = ap Some ((bytes_decides m n).0 e)
-same-names None (Some n) e = absurd (true≢false (sym e))
-same-names (Some m) None e = absurd (true≢false (sym e))
 
 -- ---- one commit more
 
@@ -106,16 +94,9 @@ module _ (base : Base) (refname : Bytes) (from : Option Bytes) where
     drafted = λ d k. sym (ap (λ (z : Draft). z.parents) (same_Some _ d k)) ∙ ap option_to_list (sym i);
   }
 
-  -- what comes behind a commit's parent
-  abbrev unmerged : Replay → CommitHead → Option Bytes → Result Replay StreamRefusal
-  unmerged r h first = must (MergePushed (length r.commits + 1)) (is_nil h.merges) >>= λ u. Ok (begun base r h first (option_to_list first))
-
-  abbrev at_head : Replay → CommitHead → Option Bytes → Result Replay StreamRefusal
-  at_head r h first = must (NotAtHead (chain_end from r) first) (is_same_name (chain_end from r) first) >>= λ u. unmerged r h first
-
-  parent-good : (r s : Replay) (h : CommitHead) (x : Result (Option Bytes) StreamRefusal) → IsGood from r → (x >>= λ first. at_head r h first) ≡ Ok s → IsGood from s
+  parent-good : (r s : Replay) (h : CommitHead) (x : Result (Option Bytes) StreamRefusal) → IsGood from r → (x >>= λ first. at_head base from r h first) ≡ Ok s → IsGood from s
   parent-good r s h (Ok first) g e =
-      let a = passed (NotAtHead (chain_end from r) first) (is_same_name (chain_end from r) first) (unmerged r h first) s e in
+      let a = passed (NotAtHead (chain_end from r) first) (is_same_name (chain_end from r) first) (unmerged base r h first) s e in
       let b = passed (MergePushed (length r.commits + 1)) (is_nil h.merges) (went (begun base r h first (option_to_list first))) s a.1 in
       is-made (begun base r h first (option_to_list first)) s (begun-good r h first g (same-names (chain_end from r) first a.0)) b.1
   parent-good r s h (Err f) g e = cc
@@ -126,7 +107,7 @@ module _ (base : Base) (refname : Bytes) (from : Option Bytes) where
   command-good : (r s : Replay) (p : Placed) (c : Command) → IsGood from r → p.command ≡ c → push_command base refname from r p c ≡ Ok s → IsGood from s
   command-good r s p (commands.Commit h) g i e =
       let x : Result (Option Bytes) StreamRefusal = refused_by Faulty (pushed_parent base r h h.from) in
-      parent-good r s h x g (passed (OtherRef p.at) (same_bytes h.refname refname) (x >>= λ first. at_head r h first) s e).1
+      parent-good r s h x g (passed (OtherRef p.at) (same_bytes h.refname refname) (x >>= λ first. at_head base from r h first) s e).1
   command-good r s p (commands.Reset name target) g i e =
       reset-good r s name (said base r target) g
       (as-is r s p (commands.Reset name target) i (passed (OtherRef p.at) (same_bytes name refname) (refused_by Faulty (step base r p)) s e).1)

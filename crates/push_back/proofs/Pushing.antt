@@ -47,7 +47,7 @@ tree-found (d ∷ g) n c h e = tree-is-at g d n (has_name n d) c h.0 (tree-found
 empty-tree : IsTree []
 empty-tree = record { sorted = tt; paths = tt; leaves = tt; apart = tt }
 
-tree-there : (g : Graph) (n : Bytes) → AreTrees g → IsTree (tree_at g n)
+pub tree-there : (g : Graph) (n : Bytes) → AreTrees g → IsTree (tree_at g n)
 tree-there g n h = by (commit_at g n) refl
   where
     by : (o : Option Snapshot) → commit_at g n ≡ o → IsTree (option_map_or (λ c. c.tree) o [])
@@ -56,16 +56,16 @@ tree-there g n h = by (commit_at g n) refl
 
 -- ---- a verdict, step by step
 
-abbrev pair_of : Bytes → Snapshot → Flat → Pair
+abbrev pub pair_of : Bytes → Snapshot → Flat → Pair
 pair_of h c u = record { pushed = c; original = original_of h c u }
 
 -- the first pair of an accepted push, and the others
-record IsMore (f : Filter) (n : ℕ) (h : Bytes) (t seen : Flat) (c : Snapshot) (cs : List Snapshot) (ps : List Pair) : Type 0 where
-  u : Flat
-  rest : List Pair
-  step : original_tree f t seen c.tree ≡ Ok u
-  later : verdict_from f (n + 1) (snapshot_name (original_of h c u)) u c.tree cs ≡ Ok rest
-  same : pair_of h c u ∷ rest ≡ ps
+pub record IsMore (f : Filter) (n : ℕ) (h : Bytes) (t seen : Flat) (c : Snapshot) (cs : List Snapshot) (ps : List Pair) : Type 0 where
+  pub u : Flat
+  pub rest : List Pair
+  pub step : original_tree f t seen c.tree ≡ Ok u
+  pub later : verdict_from f (n + 1) (snapshot_name (original_of h c u)) u c.tree cs ≡ Ok rest
+  pub same : pair_of h c u ∷ rest ≡ ps
 
 more-at : (f : Filter) (n : ℕ) (h : Bytes) (t seen : Flat) (c : Snapshot) (cs : List Snapshot) (ps : List Pair) (u : Flat) (v : Verdict) → original_tree f t seen c.tree ≡ Ok u
     → verdict_from f (n + 1) (snapshot_name (original_of h c u)) u c.tree cs ≡ v → with_pair (pair_of h c u) v ≡ Ok ps → IsMore f n h t seen c cs ps
@@ -77,13 +77,13 @@ more-of : (f : Filter) (n : ℕ) (h : Bytes) (t seen : Flat) (c : Snapshot) (cs 
 more-of f n h t seen c cs ps (Ok u) s e = more-at f n h t seen c cs ps u (verdict_from f (n + 1) (snapshot_name (original_of h c u)) u c.tree cs) s refl e
 more-of f n h t seen c cs ps (Err x) s e = cc
 
-more : (f : Filter) (n : ℕ) (h : Bytes) (t seen : Flat) (c : Snapshot) (cs : List Snapshot) (ps : List Pair) → verdict_from f n h t seen (c ∷ cs) ≡ Ok ps → IsMore f n h t seen c cs ps
+pub more : (f : Filter) (n : ℕ) (h : Bytes) (t seen : Flat) (c : Snapshot) (cs : List Snapshot) (ps : List Pair) → verdict_from f n h t seen (c ∷ cs) ≡ Ok ps → IsMore f n h t seen c cs ps
 more f n h t seen c cs ps e = more-of f n h t seen c cs ps (original_tree f t seen c.tree) refl e
 
-abbrev accepts : List Pair → Verdict
+abbrev pub accepts : List Pair → Verdict
 accepts ps = Ok ps
 
-ok-is : (ps qs : List Pair) → accepts ps ≡ accepts qs → ps ≡ qs
+pub ok-is : (ps qs : List Pair) → accepts ps ≡ accepts qs → ps ≡ qs
 ok-is ps qs e = cc
 
 -- ---- what was pushed

@@ -29,7 +29,7 @@ pub resolve-usable : (f : Filter) (t : Flat) → IsUsable f → IsUsable (resolv
 unfolding resolve
 resolve-usable f t h = with-usable f (option_and_then (at t) (place f)) h
 
-next-usable : (f : Filter) (t n : Flat) → IsUsable f → IsUsable (next f t n)
+pub next-usable : (f : Filter) (t n : Flat) → IsUsable f → IsUsable (next f t n)
 unfolding next
 next-usable f t n h = by (shown_place f t)
   where
@@ -104,16 +104,19 @@ pub record IsAccepted (f : Filter) (t n u : Flat) : Type 0 where
   pub workspace : is_bad_workspace f t n ≡ false
   pub whole : unseen (resolve f t) (next f t n) t n ≡ None
   pub is_laid : laid f t n ≡ LaidTree u
+  pub small : passed u ≡ None
 
-limits-are : (u v : Flat) (o : Option Quantity) → option_map_or (λ q. Err (TreeLimit q)) o (Ok u) ≡ Ok v → u ≡ v
-limits-are u v None e = cc
+limits-are : (u v : Flat) (o : Option Quantity) → option_map_or (λ q. Err (TreeLimit q)) o (Ok u) ≡ Ok v → (u ≡ v) × (o ≡ None)
+limits-are u v None e = (cc, refl)
 limits-are u v (Some q) e = cc
 
-judged-are : (o : Option Path) (l : Laid) (u : Flat) → judged o l ≡ Ok u → (o ≡ None) × (l ≡ LaidTree u)
+judged-are : (o : Option Path) (l : Laid) (u : Flat) → judged o l ≡ Ok u → (o ≡ None) × (l ≡ LaidTree u) × (passed u ≡ None)
 judged-are (Some p) l u e = cc
 judged-are None (NotHeld q) u e = cc
 judged-are None (Blocked p q) u e = cc
-judged-are None (LaidTree v) u e = (refl, ap LaidTree (limits-are v u (passed v) e))
+judged-are None (LaidTree v) u e =
+    let k : (v ≡ u) × (passed v ≡ None) = limits-are v u (passed v) e in
+    (refl, ap LaidTree k.0, ap passed (sym k.0) ∙ k.1)
 
 pub accepted : (f : Filter) (t seen n u : Flat) → original_tree f t seen n ≡ Ok u → IsAccepted f t n u
 accepted f t seen n u = by (same_bytes (tree_name n) (tree_name seen)) (is_bad_workspace f t n) refl
@@ -122,8 +125,8 @@ accepted f t seen n u = by (same_bytes (tree_name n) (tree_name seen)) (is_bad_w
     by true b i e = cc
     by false true i e = cc
     by false false i e =
-        let k : (unseen (resolve f t) (next f t n) t n ≡ None) × (laid f t n ≡ LaidTree u) = judged-are (unseen (resolve f t) (next f t n) t n) (laid f t n) u e in
-        record { workspace = i; whole = k.0; is_laid = k.1 }
+        let k : (unseen (resolve f t) (next f t n) t n ≡ None) × (laid f t n ≡ LaidTree u) × (passed u ≡ None) = judged-are (unseen (resolve f t) (next f t n) t n) (laid f t n) u e in
+        record { workspace = i; whole = k.0; is_laid = k.1; small = k.2 }
 
 -- the workspace's file is shown where it was
 stays-at : (f : Filter) (t n : Flat) (o : Option Path) → shown_place f t ≡ o → option_map_or (λ q. is_changed f t n q && is_bad f t n q) o false ≡ false → next_place f t n ≡ shown_place f t
@@ -199,8 +202,8 @@ accepted-upon f t n u = by (is_bad_workspace f t n) refl
     by : (b : Bool) → is_bad_workspace f t n ≡ b → cond b (Err BadWorkspace) (judged (unseen (resolve f t) (next f t n) t n) (laid f t n)) ≡ Ok u → IsAccepted f t n u
     by true i e = cc
     by false i e =
-        let k : (unseen (resolve f t) (next f t n) t n ≡ None) × (laid f t n ≡ LaidTree u) = judged-are (unseen (resolve f t) (next f t n) t n) (laid f t n) u e in
-        record { workspace = i; whole = k.0; is_laid = k.1 }
+        let k : (unseen (resolve f t) (next f t n) t n ≡ None) × (laid f t n ≡ LaidTree u) × (passed u ≡ None) = judged-are (unseen (resolve f t) (next f t n) t n) (laid f t n) u e in
+        record { workspace = i; whole = k.0; is_laid = k.1; small = k.2 }
 
 pub upon-step : (f : Filter) (t n u : Flat) → IsUsable f → IsTree t → IsTree n → tree_upon f t n ≡ Ok u → IsStep f t n u
 upon-step f t n u h v w e = accepted-step f t n u h v w (accepted-upon f t n u e)

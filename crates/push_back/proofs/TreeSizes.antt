@@ -26,11 +26,11 @@ lt-max m a b = grind (arith, nat_tests)
 none-below : (m : ℕ) → false ≡ nat_lt m 0
 none-below m = grind (arith, nat_tests)
 
-deeper : (m : ℕ) (t : Flat) → list_any (λ e. nat_lt m (length e.0)) t ≡ nat_lt m (depth t)
+pub deeper : (m : ℕ) (t : Flat) → list_any (λ e. nat_lt m (length e.0)) t ≡ nat_lt m (depth t)
 deeper m [] = none-below m
 deeper m (e ∷ t) = ap (λ b. nat_lt m (length e.0) || b) (deeper m t) ∙ sym (lt-max m (length e.0) (depth t))
 
-longer : (m : ℕ) (t : Flat) → list_any (λ e. nat_lt m (length (text e.0))) t ≡ nat_lt m (longest t)
+pub longer : (m : ℕ) (t : Flat) → list_any (λ e. nat_lt m (length (text e.0))) t ≡ nat_lt m (longest t)
 longer m [] = none-below m
 longer m (e ∷ t) = ap (λ b. nat_lt m (length (text e.0)) || b) (longer m t) ∙ sym (lt-max m (length (text e.0)) (longest t))
 

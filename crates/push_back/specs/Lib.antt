@@ -4,5 +4,10 @@ pub mod Pushes
 pub mod PushLaws
 pub mod Refusals
 pub mod Originals
+pub mod Grounds
+pub mod Replaying
+pub mod Faults
+pub mod Planning
+pub mod Given
 pub mod Examples
 pub mod StreamExamples

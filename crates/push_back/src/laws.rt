@@ -1,4 +1,5 @@
 // What accepted pushes keep to.
+ghost use Rattle.push_back.specs.Given.{BroughtLaw, GivenLaw};
 ghost use Rattle.push_back.specs.PushLaws.{AdmissibleLaw, BackLaw, ChainLaw, ElsewhereLaw, MadeLaw};
 ghost use Rattle.push_back.specs.PushLaws.{NextLaw, ProjectedLaw, PushedLaw, StepLaw, StepsLaw};
 
@@ -57,4 +58,16 @@ pub fn elsewhere_law()
 /// overwrites nothing unseen, has a place for each of its paths, and keeps within the limits of a tree.
 pub fn admissible_law()
     ensures { AdmissibleLaw }
+{}
+
+/// What a pushed stream of bytes gives, up to its first refusal or to its end, are blobs within the limits and commits of
+/// these and of the blobs that are shown, with letters that may stand in a commit.
+pub fn given_law()
+    ensures { GivenLaw }
+{}
+
+/// The originals of an accepted push of such commits may be brought to the graph: they are whole, each behind its parent,
+/// within the limits of objects, and of blobs that were given or known.
+pub fn brought_law()
+    ensures { BroughtLaw }
 {}

@@ -3,7 +3,7 @@ use Rattle.git_objects.specs.Trees.{Flat}
 use Rattle.object_store.specs.Unfolding.{flat}
 use Rattle.filter_text.specs.Shapes.{shape}
 use Rattle.push_back.specs.Originals.{AreOriginals, Grows, IsMadeFor, IsOriginalError}
-use Rattle.push_back.proofs.Heads.{head-has, head-tree, head-tree-has}
+use Rattle.history_ground.proofs.HeadLemmas.{head-has, head-tree, head-tree-has}
 use Rattle.push_back.proofs.commits.originals.Goals as goal
 
 pub originals_upon-requires-clause-head : goal.originals_upon-requires-clause-head

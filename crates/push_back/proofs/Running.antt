@@ -1,0 +1,199 @@
+-- A pushed stream so far: what its reader has told, and what came of it.
+use Rattle.std.proofs.Common.{◌≡◌, inl, inr, true, false, List, [], ◌∷◌, ◌++◌, Option, Some, None, Result, Ok, Err, IfSome, refl, sym, ap, subst, ◌∙◌, append_assoc, append-nil, true≢false}
+use Rattle.std.specs.Prelude.{ℕ, IsOkAnd}
+use Rattle.std.specs.Option.{unwrap_or}
+use Rattle.std.specs.Io.KnownBytes.{Consumes, IsAtEnd}
+use Rattle.std.proofs.KnownBytes.{Consumes-nil, Consumes-trans}
+use Rattle.git_objects.specs.Paths.{Bytes, is_bytes}
+use Rattle.git_objects.specs.Results.{◌>>=◌}
+use Rattle.object_store.specs.Growth.{IsGrownBy}
+use Rattle.object_store.specs.Objects.{Object, IsStore}
+use Rattle.object_store.proofs.Growth.{grown_as, grown_self, grown_then}
+use Rattle.stream_lex.specs.Lines.{Input}
+use Rattle.stream_lex.proofs.Passing.{grown_twice}
+use Rattle.stream_reader.specs.Readers.{IsBefore, MayFollow, Reading, verdict_with}
+use Rattle.stream_reader.specs.Verdicts.{start, verdict, verdict_from, with_command}
+use Rattle.stream_reader.specs.declared.command.Placed.{Placed}
+use Rattle.stream_reader.specs.declared.fault.StreamFault.{StreamFault}
+use Rattle.fast_import.specs.Made.{IsMadeAt, IsMadeBy}
+use Rattle.fast_import.specs.Replaying.{Replaying}
+use Rattle.fast_import.specs.Replays.{Base, Replay, nothing_yet, step}
+use Rattle.fast_import.specs.Standing.{IsReplayOf}
+use Rattle.fast_import.specs.Whole.{IsFed}
+use Rattle.fast_import.proofs.Running.{Step, after-push, after_all, after_by, both_bytes, made-behind, made-front, with_all}
+use Rattle.push_back.specs.PushReplays.{StreamRefusal}
+
+-- ---- what was read
+
+-- A reader has told these commands, of what a source has given.
+pub record IsRead (before now : Option Bytes) (rd : Reading) (commands : List Placed) : Type 0 where
+  pub taken : Bytes
+  pub are_bytes : is_bytes taken ≡ true
+  pub gone : Consumes before now taken
+  pub same : (more : Bytes) → MayFollow rd more true → verdict start (taken ++ more) ≡ with_all commands (verdict_with more rd)
+  pub at_end : rd.ended ≡ true → IsAtEnd now
+
+pub nothing_read : (before : Option Bytes) → IsRead before before (record { progress = start; input = record { at = 0; rest = [] }; ended = false }) []
+nothing_read before = record { taken = []; are_bytes = refl; gone = Consumes-nil before; same = λ more m. refl; at_end = λ e. absurd (true≢false (sym e)) }
+
+module _ (before now : Option Bytes) (old new : Reading) (cs : List Placed) (h : IsRead before now old cs) where
+  may_before : new.ended ≡ old.ended → (more : Bytes) → MayFollow new more true → MayFollow old more true
+  may_before e more m q = m (e ∙ q)
+
+  -- one command more
+  pub read_command : (p : Placed) → new.ended ≡ old.ended → ((more : Bytes) → MayFollow old more true → verdict_with more old ≡ with_command p (verdict_with more new)) → IsRead before now new (cs ++ p ∷ [])
+  read_command p ended follows = record {
+    taken = h.taken;
+    are_bytes = h.are_bytes;
+    gone = h.gone;
+    same = λ more m.
+        h.same more (may_before ended more m)
+        ∙ ap (with_all cs) (follows more (may_before ended more m))
+        ∙ ap (λ (ps : List Placed). record { commands = ps; fault = (verdict_with more new).fault }) (sym (append_assoc cs (p ∷ []) (verdict_with more new).commands));
+    at_end = λ e. h.at_end (sym ended ∙ e);
+  }
+
+  -- more is waited for
+  pub read_waiting : IsBefore old new → ((more : Bytes) → MayFollow old more true → verdict_with more old ≡ verdict_with more new) → IsRead before now new cs
+  read_waiting b follows = record {
+    taken = h.taken;
+    are_bytes = h.are_bytes;
+    gone = h.gone;
+    same = λ more m. h.same more (may_before b.ended more m) ∙ ap (with_all cs) (follows more (may_before b.ended more m));
+    at_end = λ e. h.at_end (sym b.ended ∙ e);
+  }
+
+-- before the end anything may follow
+open_follows : (rd : Reading) (more : Bytes) → rd.ended ≡ false → MayFollow rd more true
+open_follows rd more un e = absurd (true≢false (sym e ∙ un))
+
+-- and was fed
+pub read_fed : (before now later : Option Bytes) (rd new : Reading) (cs : List Placed) (most : ℕ) → rd.ended ≡ false → IsRead before now rd cs → IsFed now later rd new most → IsRead before later new cs
+read_fed before now later rd new cs most un h (inl p) = record {
+  taken = h.taken ++ p.bytes;
+  are_bytes = both_bytes h.taken p.bytes h.are_bytes p.are_bytes;
+  gone = Consumes-trans before now later h.taken p.bytes h.gone p.taken;
+  same = λ more m.
+      ap (verdict start) (append_assoc h.taken p.bytes more)
+      ∙ h.same (p.bytes ++ more) (open_follows rd (p.bytes ++ more) un)
+      ∙ ap (λ (i : Input). with_all cs (verdict_from rd.progress i)) (sym (grown_twice p.bytes more rd.input))
+      ∙ ap (λ (r : Reading). with_all cs (verdict_with more r)) (sym p.now);
+  at_end = λ e. absurd (true≢false (sym e ∙ ap (λ (r : Reading). r.ended) p.now));
+}
+read_fed before now later rd new cs most un h (inr p) = record {
+  taken = h.taken;
+  are_bytes = h.are_bytes;
+  gone = subst (Consumes before later) (append-nil h.taken) (Consumes-trans before now later h.taken [] h.gone p.none);
+  same = λ more m. h.same more (open_follows rd more un) ∙ ap (λ (r : Reading). with_all cs (verdict_with more r)) (sym p.now);
+  at_end = λ e. p.at_end;
+}
+
+-- all that the source has
+
+rest_none : (o : Option Bytes) → IsAtEnd o → unwrap_or o [] ≡ []
+rest_none None e = refl
+rest_none (Some bs) e = e
+
+rest_bytes : (o : Option Bytes) → IfSome o (λ l. is_bytes l ≡ true) → is_bytes (unwrap_or o []) ≡ true
+rest_bytes None k = refl
+rest_bytes (Some bs) k = k
+
+taken_all : (b o : Option Bytes) (taken : Bytes) → Consumes b o taken → IfSome b (λ bytes. bytes ≡ taken ++ unwrap_or o [])
+taken_all None o taken g = tt
+taken_all (Some bs) None taken g = absurd g
+taken_all (Some bs) (Some os) taken g = g
+
+module _ (before now : Option Bytes) (rd : Reading) (cs : List Placed) (h : IsRead before now rd cs) where
+  abbrev pub rest : Bytes
+  rest = unwrap_or now []
+
+  abbrev pub all : Bytes
+  all = h.taken ++ rest
+
+  pub all_told : IfSome before (λ bytes. bytes ≡ all)
+  all_told = taken_all before now h.taken h.gone
+
+  -- what a source has left are bytes
+  pub all_bytes : IfSome now (λ l. is_bytes l ≡ true) → is_bytes all ≡ true
+  all_bytes k = both_bytes h.taken rest h.are_bytes (rest_bytes now k)
+
+  pub may_rest : MayFollow rd rest true
+  may_rest e = (rest_none now (h.at_end e), refl)
+
+-- ---- what came of it
+
+ok-same : {A E : Type 0} (x y : A) → ◌≡◌ {A = Result A E} (Ok x) (Ok y) → x ≡ y
+ok-same x y e = cc
+
+not-ok : {A E : Type 0} (f : E) (y : A) → ◌≡◌ {A = Result A E} (Err f) (Ok y) → ⊥
+not-ok f y e = cc
+
+-- where a command goes on, it does what it does in any replay
+abbrev pub Goes : Base → Step StreamRefusal → Type 0
+Goes base one = (r s : Replay) (p : Placed) → one r p ≡ Ok s → step base r p ≡ Ok s
+
+module _ (base : Base) (one : Step StreamRefusal) (goes : Goes base one) where
+  along_from : (r s : Replay) (p : Placed) (ps : List Placed) (x : Result Replay StreamRefusal) → ((t : Replay) → after_by one t ps ≡ Ok s → after_all base t ps ≡ Ok s) → one r p ≡ x → (x >>= λ t. after_by one t ps) ≡ Ok s
+      → (step base r p >>= λ t. after_all base t ps) ≡ Ok s
+  along_from r s p ps (Ok t) next q k = ap (λ (x : Result Replay StreamFault). x >>= λ t. after_all base t ps) (goes r t p q) ∙ next t k
+  along_from r s p ps (Err f) next q k = absurd (not-ok f s k)
+
+  -- any replay comes as far
+  pub goes-along : (r s : Replay) (ps : List Placed) → after_by one r ps ≡ Ok s → after_all base r ps ≡ Ok s
+  goes-along r s [] e = ap (λ (x : Replay). Ok x) (ok-same r s e)
+  goes-along r s (p ∷ ps) e = along_from r s p ps (one r p) (λ t. goes-along t s ps) refl e
+
+-- By what one command does, over a base: S and before are the store and what the source had at first; T, now, rd and v are the
+-- store, the source, the reader and the replay as they are.
+pub record IsRunSoFar (base : Base) (one : Step StreamRefusal) (S T : List Object) (before now : Option Bytes) (rd : Reading) (v : Replaying) : Type 0 where
+  pub commands : List Placed
+  pub read : IsRead before now rd commands
+  pub state : Replay
+  pub run : after_by one nothing_yet commands ≡ Ok state
+  pub stands : IsReplayOf T v state
+  pub grown : IsGrownBy (IsMadeBy base nothing_yet commands) S T
+
+pub nothing_run : (base : Base) (one : Step StreamRefusal) (S : List Object) (before : Option Bytes) (v : Replaying) → IsStore S → IsReplayOf S v nothing_yet
+    → IsRunSoFar base one S S before before (record { progress = start; input = record { at = 0; rest = [] }; ended = false }) v
+nothing_run base one S before v s h = record {
+  commands = [];
+  read = nothing_read before;
+  state = nothing_yet;
+  run = refl;
+  stands = h;
+  grown = grown_self (IsMadeBy base nothing_yet []) S s;
+}
+
+module _ (base : Base) (one : Step StreamRefusal) (S T : List Object) (before now : Option Bytes) (old : Reading) (v : Replaying) (h : IsRunSoFar base one S T before now old v) where
+  -- a command was carried out
+  module _ (goes : Goes base one) (p : Placed) (new : Reading) (ended : new.ended ≡ old.ended) (follows : (more : Bytes) → MayFollow old more true → verdict_with more old ≡ with_command p (verdict_with more new)) where
+    grown_more : (R : List Object) → IsGrownBy (IsMadeAt h.state p.command) T R → IsGrownBy (IsMadeBy base nothing_yet (h.commands ++ p ∷ [])) S R
+    grown_more R g = grown_then (IsMadeBy base nothing_yet (h.commands ++ p ∷ [])) S T R
+        (grown_as (IsMadeBy base nothing_yet h.commands) (IsMadeBy base nothing_yet (h.commands ++ p ∷ [])) S T (made-front base nothing_yet h.commands (p ∷ [])) h.grown)
+        (grown_as (IsMadeAt h.state p.command) (IsMadeBy base nothing_yet (h.commands ++ p ∷ [])) T R (λ o m. made-behind base nothing_yet h.state h.commands p [] o (goes-along base one goes nothing_yet h.state h.commands h.run) m) g)
+
+    one_from : (R : List Object) (w : Replaying) (x : Result Replay StreamRefusal) → one h.state p ≡ x → IsOkAnd x (IsReplayOf R w) → IsGrownBy (IsMadeAt h.state p.command) T R → IsRunSoFar base one S R before now new w
+    one_from R w (Err f) q d g = absurd d
+    one_from R w (Ok s) q d g = record {
+      commands = h.commands ++ p ∷ [];
+      read = read_command before now old new h.commands h.read p ended follows;
+      state = s;
+      run = after-push one nothing_yet h.state h.commands p h.run ∙ q;
+      stands = d;
+      grown = grown_more R g;
+    }
+
+    pub one_run : (R : List Object) (w : Replaying) → IsOkAnd (one h.state p) (IsReplayOf R w) → IsGrownBy (IsMadeAt h.state p.command) T R → IsRunSoFar base one S R before now new w
+    one_run R w d g = one_from R w (one h.state p) refl d g
+
+  -- more was waited for, and then fed
+  pub fed_run : (later : Option Bytes) (rd new : Reading) (most : ℕ) → IsBefore old rd → ((more : Bytes) → MayFollow old more true → verdict_with more old ≡ verdict_with more rd) → rd.ended ≡ false → IsFed now later rd new most
+      → IsRunSoFar base one S T before later new v
+  fed_run later rd new most b follows un fed = record {
+    commands = h.commands;
+    read = read_fed before now later rd new h.commands most un (read_waiting before now old rd h.commands h.read b follows) fed;
+    state = h.state;
+    run = h.run;
+    stands = h.stands;
+    grown = h.grown;
+  }

@@ -1,0 +1,103 @@
+use Rattle.std.proofs.Common.{◌≡◌, ◌<◌, ◌≤◌, Ok, Result, sym, subst, ap, arith}
+use Rattle.std.specs.Prelude.{IsOkAnd}
+use Rattle.std.specs.Result.{result_err}
+use Rattle.git_objects.specs.declared.limits.TheConstants.{STREAM_BYTES}
+use Rattle.object_store.specs.Unfolding.{flat}
+use Rattle.stream_reader.specs.Readers.{Follows, OnMore, Reading, TellsNext, came}
+use Rattle.stream_reader.specs.declared.reader.Next.{Next}
+use Rattle.fast_import.specs.Made.{IsMadeAt, IsMadeBy}
+use Rattle.fast_import.specs.Replays.{Replay, nothing_yet}
+use Rattle.fast_import.specs.Standing.{IsReplayOf}
+use Rattle.fast_import.proofs.Stopping.{ahead, ahead_fed, more_open, within_fed}
+use Rattle.push_back.specs.Grounds.{from_of}
+use Rattle.push_back.specs.PushReplays.{StreamRefusal, push_base}
+use Rattle.push_back.specs.Replaying.{IsPushFault}
+use Rattle.push_back.proofs.Grounding.{ground-grown, step-grown}
+use Rattle.push_back.proofs.PushedSoFar.{IsPushSoFar, all_given, end_refused, fed_waiting, feeding_refused, nothing_so_far, one_more, reading_refused, step_refused}
+use Rattle.push_back.proofs.replay.replay_by.Goals as goal
+
+pub stream-init : goal.stream-init
+stream-init g c = record {
+  so_far = subst (λ (rd : Reading). IsPushSoFar c.args.base.now.refname (from_of c.args.base.now) (flat c.args.store.now c.args.base.now.shown.0) c.args.store.now c.args.store.now (g.S.Source.left c.args.input.now) (g.S.Source.left c.args.input.now) rd c.new-replay.result) (sym c.new-reader.ensures)
+      (nothing_so_far c.args.base.now.refname (from_of c.args.base.now) (flat c.args.store.now c.args.base.now.shown.0) c.args.store.now (g.S.Source.left c.args.input.now) c.new-replay.result c.get.ensures.store (c.new-replay.ensures c.args.store.now));
+  told = (λ x. x, λ x. x);
+  later = omega arith;
+  within = let e : came c.new-reader.result ≡ 0 = ap came c.new-reader.ensures in omega arith;
+}
+
+pub returns-in-Err-clause-stream : goal.returns-in-Err-clause-stream
+returns-in-Err-clause-stream g c =
+    let h = c.stream.invariant.so_far in
+    reading_refused c.args.base.now.refname (from_of c.args.base.now) (flat c.args.store.now c.args.base.now.shown.0) c.args.store.now c.stream.store (g.S.Source.left c.args.input.now) (g.S.Source.left c.stream.input) c.stream.reader c.stream.replay h (g.met.S.Source.bytes c.stream.input) c.in-Err.fault c.in-Err.ensures.follows
+
+pub returns-in-Err-end_judged-clause-stream : goal.returns-in-Err-end_judged-clause-stream
+returns-in-Err-end_judged-clause-stream g c =
+    let h = c.stream.invariant.so_far in
+    end_refused c.args.base.now.refname (from_of c.args.base.now) (flat c.args.store.now c.args.base.now.shown.0) c.args.store.now c.stream.store (g.S.Source.left c.args.input.now) (g.S.Source.left c.stream.input) c.stream.reader c.stream.replay h (g.met.S.Source.bytes c.stream.input) (subst (λ (n : Next). Follows (Ok n) c.stream.reader c.next.new.self) c.in-Ok-Ended.field-0-is c.in-Ok-Ended.ensures.follows) c.in-Err-end_judged.error (c.in-Err-end_judged.ensures.judged.refused c.stream.store h.state h.stands)
+
+pub returns-in-Ok-clause-stream : goal.returns-in-Ok-clause-stream
+returns-in-Ok-clause-stream g c =
+    let h = c.stream.invariant.so_far in
+    all_given c.args.base.now.refname (from_of c.args.base.now) (flat c.args.store.now c.args.base.now.shown.0) c.args.store.now c.stream.store (g.S.Source.left c.args.input.now) (g.S.Source.left c.stream.input) c.stream.reader c.stream.replay h (g.met.S.Source.bytes c.stream.input) (subst (λ (n : Next). Follows (Ok n) c.stream.reader c.next.new.self) c.in-Ok-Ended.field-0-is c.in-Ok-Ended.ensures.follows) (c.in-Ok.ensures.judged.passed c.stream.store h.state h.stands) c.finish.result (c.finish.ensures.gives c.stream.store h.state h.stands)
+
+pub push_on-requires-clause-base : goal.push_on-requires-clause-base
+push_on-requires-clause-base g c =
+    let h = c.stream.invariant.so_far in
+    ground-grown {made = IsMadeBy (push_base c.args.base.now.refname (from_of c.args.base.now) (flat c.args.store.now c.args.base.now.shown.0)) nothing_yet h.commands} c.args.store.now c.stream.store h.grown c.args.base.now c.requires.base
+
+pub returns-in-Err-push_on-clause-stream : goal.returns-in-Err-push_on-clause-stream
+returns-in-Err-push_on-clause-stream g c =
+    let h = c.stream.invariant.so_far in
+    let p = c.in-Ok-Command.placed in
+    let k = c.in-Err-push_on.ensures.stepped h.state h.stands in
+    step_refused c.args.base.now.refname (from_of c.args.base.now) (flat c.args.store.now c.args.base.now.shown.0) c.args.store.now c.stream.store (g.S.Source.left c.args.input.now) (g.S.Source.left c.stream.input) c.stream.reader c.stream.replay h (g.met.S.Source.bytes c.stream.input) p c.next.new.self (subst (λ (n : Next). Follows (Ok n) c.stream.reader c.next.new.self) c.in-Ok-Command.field-0-is c.in-Ok-Command.ensures.follows)
+    c.push_on.new.store c.in-Err-push_on.error
+    (subst (λ (x : Result Replay StreamRefusal). IsPushFault (result_err x) (IsMadeAt h.state p.command) c.push_on.new.store c.in-Err-push_on.error) (step-grown {made = IsMadeBy (push_base c.args.base.now.refname (from_of c.args.base.now) (flat c.args.store.now c.args.base.now.shown.0)) nothing_yet h.commands} c.args.store.now c.stream.store h.grown c.args.base.now c.requires.base h.state p) k.refused)
+    k.grown
+
+pub stream-preserved-in-Ok-push_on : goal.stream-preserved-in-Ok-push_on
+stream-preserved-in-Ok-push_on g c =
+    let h = c.stream.invariant.so_far in
+    let p = c.in-Ok-Command.placed in
+    let t = subst (λ (n : Next). TellsNext (Ok n) c.stream.reader c.next.new.self) c.in-Ok-Command.field-0-is c.in-Ok-Command.ensures.told in
+    let k = c.in-Ok-push_on.ensures.stepped h.state h.stands in
+    record {
+      so_far = one_more c.args.base.now.refname (from_of c.args.base.now) (flat c.args.store.now c.args.base.now.shown.0) c.args.store.now c.stream.store (g.S.Source.left c.args.input.now) (g.S.Source.left c.stream.input) c.stream.reader c.stream.replay h p c.next.new.self t.1
+          (subst (λ (n : Next). Follows (Ok n) c.stream.reader c.next.new.self) c.in-Ok-Command.field-0-is c.in-Ok-Command.ensures.follows)
+          c.push_on.new.store c.push_on.new.replay
+          (subst (λ (x : Result Replay StreamRefusal). IsOkAnd x (IsReplayOf c.push_on.new.store c.push_on.new.replay)) (step-grown {made = IsMadeBy (push_base c.args.base.now.refname (from_of c.args.base.now) (flat c.args.store.now c.args.base.now.shown.0)) nothing_yet h.commands} c.args.store.now c.stream.store h.grown c.args.base.now c.requires.base h.state p) k.done)
+          k.grown;
+      told = c.stream.invariant.told;
+      later = c.stream.invariant.later;
+      within = omega (arith, c.in-Ok-Command.ensures.came, c.stream.invariant.within);
+    }
+
+pub feed-requires-clause-open : goal.feed-requires-clause-open
+feed-requires-clause-open g c =
+    more_open c.stream.reader c.next.new.self (subst (λ (n : Next). TellsNext (Ok n) c.stream.reader c.next.new.self) c.in-Ok-More.field-0-is c.in-Ok-More.ensures.told)
+
+pub returns-in-Err-feed-clause-stream : goal.returns-in-Err-feed-clause-stream
+returns-in-Err-feed-clause-stream g c =
+    let h = c.stream.invariant.so_far in
+    feeding_refused c.args.base.now.refname (from_of c.args.base.now) (flat c.args.store.now c.args.base.now.shown.0) c.args.store.now c.stream.store (g.S.Source.left c.args.input.now) (g.S.Source.left c.stream.input) c.stream.reader c.stream.replay h (g.met.S.Source.bytes c.stream.input) c.in-Err-feed.error c.in-Err-feed.ensures.err
+
+pub stream-smaller : goal.stream-smaller
+stream-smaller g c =
+    let t = subst (λ (n : Next). TellsNext (Ok n) c.stream.reader c.next.new.self) c.in-Ok-More.field-0-is c.in-Ok-More.ensures.told in
+    let w = subst (λ (n : Next). OnMore (Ok n) (came c.stream.reader ≤ STREAM_BYTES)) c.in-Ok-More.field-0-is c.in-Ok-More.ensures.more in
+    let s : ahead c.feed.new.reader < ahead c.stream.reader = ahead_fed (g.S.Source.left c.stream.input) (g.S.Source.left c.feed.new.input) c.stream.reader c.next.new.self c.feed.new.reader _ c.in-Ok-More.ensures.came t.1.ended (more_open c.stream.reader c.next.new.self t) w (omega (arith, c.requires.few, c.stream.auto.piece)) c.in-Ok-feed.ensures.fed in
+    s
+
+pub stream-preserved : goal.stream-preserved
+stream-preserved g c =
+    let h = c.stream.invariant.so_far in
+    let t = subst (λ (n : Next). TellsNext (Ok n) c.stream.reader c.next.new.self) c.in-Ok-More.field-0-is c.in-Ok-More.ensures.told in
+    let w = subst (λ (n : Next). OnMore (Ok n) (came c.stream.reader ≤ STREAM_BYTES)) c.in-Ok-More.field-0-is c.in-Ok-More.ensures.more in
+    record {
+      so_far = fed_waiting c.args.base.now.refname (from_of c.args.base.now) (flat c.args.store.now c.args.base.now.shown.0) c.args.store.now c.stream.store (g.S.Source.left c.args.input.now) (g.S.Source.left c.stream.input) c.stream.reader c.stream.replay h (g.S.Source.left c.feed.new.input) c.next.new.self c.feed.new.reader _ t.1
+          (subst (λ (n : Next). Follows (Ok n) c.stream.reader c.next.new.self) c.in-Ok-More.field-0-is c.in-Ok-More.ensures.follows)
+          (more_open c.stream.reader c.next.new.self t) c.in-Ok-feed.ensures.fed;
+      told = (λ x. c.stream.invariant.told.0 (c.in-Ok-feed.ensures.told.0 x), λ x. c.in-Ok-feed.ensures.told.1 (c.stream.invariant.told.1 x));
+      later = omega (arith, c.stream.invariant.later, c.in-Ok-feed.ensures.cause.later);
+      within = within_fed (g.S.Source.left c.stream.input) (g.S.Source.left c.feed.new.input) c.next.new.self c.feed.new.reader _ (omega (arith, w, c.in-Ok-More.ensures.came)) c.in-Ok-feed.ensures.fed (omega (arith, c.requires.few, c.stream.auto.piece));
+    }

@@ -1,0 +1,96 @@
+// The replay of a pushed stream.
+ghost use Rattle.std.specs.Prelude.{◌≡◌, ◌⊎◌, ◌<◌, ◌≤◌, ◌↔◌, false, true, length, IfErr, IfOk, IfSome, IsErrOf, OnErr, OnOk};
+ghost use Rattle.git_objects.specs.Paths.{Bytes, is_bytes};
+ghost use Rattle.git_objects.specs.declared.limits.TheConstants.{STREAM_BYTES};
+ghost use Rattle.object_store.specs.Unfolding.{flat};
+ghost use Rattle.proj_io.specs.Counts.{Counts};
+ghost use Rattle.fast_import.specs.Whole.{IsFed};
+ghost use Rattle.push_back.specs.Grounds.{IsGroundIn, from_of};
+ghost use Rattle.push_back.specs.Replaying.{IsPushedWhole};
+ghost use Rattle.stream_reader.specs.declared.fault.StreamFault.TheVariants.{OutOfMemory};
+
+use crate::commands::{end_judged, push_on};
+use crate::{PushBase, PushError};
+use fast_import::{Next, Reader, Replay, ReplayError, Replayed, feed_on};
+use git_objects::Name;
+use object_store::Store;
+use proj_io::Source;
+use std::alloc::Global;
+
+// Bytes of the largest piece that is read at once.
+const PIECE: usize = 65_536;
+
+/// Replays a stream that is pushed to the base's ref. Its commits stand in line upon the projection. It is read in
+/// pieces, up to its end, its `done` line or its first refusal.
+pub fn replay_push<S: Source>(
+    alloc: Global,
+    input: &mut S,
+    base: &PushBase,
+    store: &mut Store,
+) -> Result<Replayed, PushError>
+    requires { IsGroundIn store.old base.now }
+    ensures stream { (all : Bytes) × (is_bytes all ≡ true) × IfSome (S.left input.old) (λ bytes. bytes ≡ all) ×
+        IsPushedWhole base.now.refname (from_of base.now) (flat store.old base.now.shown.0) store.old store.new all result }
+    ensures few { IfOk result (λ g. length g.commits.items ≤ STREAM_BYTES) }
+    ensures told { S.tells input.new ↔ S.tells input.old }
+    ensures cause { Counts (S.faults input.old) (S.faults input.new) (IsErrOf result PushError.ReadFault) }
+{
+    let mut piece = [0u8; PIECE];
+    replay_by(alloc, input, base, store, &mut piece)
+}
+
+// Replays a pushed stream, read in pieces of at most the buffer's length.
+fn replay_by<S: Source>(
+    alloc: Global,
+    input: &mut S,
+    base: &PushBase,
+    store: &mut Store,
+    piece: &mut [u8],
+) -> Result<Replayed, PushError>
+    requires base { IsGroundIn store.old base.now }
+    requires some { 0 < length piece.old }
+    requires few { length piece.old ≤ 65536 }
+    ensures stream { (all : Bytes) × (is_bytes all ≡ true) × IfSome (S.left input.old) (λ bytes. bytes ≡ all) ×
+        IsPushedWhole base.now.refname (from_of base.now) (flat store.old base.now.shown.0) store.old store.new all result }
+    ensures few { IfOk result (λ g. length g.commits.items ≤ STREAM_BYTES) }
+    ensures told { S.tells input.new ↔ S.tells input.old }
+    ensures cause { Counts (S.faults input.old) (S.faults input.new) (IsErrOf result PushError.ReadFault) }
+{
+    // The store is looked at so that the proof has what each store keeps.
+    let _ = store.get(&Name([0; 20]));
+    let mut reader = Reader::new(alloc);
+    let mut replay = Replay::new(alloc);
+    'stream: loop {
+        match reader.next() {
+            Err(fault) => return Err(PushError::Stream(fault)),
+            Ok(Next::Ended) => match end_judged(&replay, base) {
+                Err(error) => return Err(error),
+                Ok(()) => return Ok(replay.finish()),
+            },
+            Ok(Next::Command(placed)) => match push_on(&mut replay, base, store, placed) {
+                Err(error) => return Err(error),
+                Ok(()) => {}
+            },
+            Ok(Next::More) => match feed(input, &mut reader, piece) {
+                Err(error) => return Err(error),
+                Ok(()) => {}
+            },
+        }
+    }
+}
+
+// Feeds a reader with the next piece, or tells it that the stream ends.
+fn feed<S: Source>(input: &mut S, reader: &mut Reader, piece: &mut [u8]) -> Result<(), PushError>
+    requires open { reader.old.ended ≡ false }
+    requires room { 0 < length piece.old }
+    ensures fed { OnOk result (IsFed (S.left input.old) (S.left input.new) reader.old reader.new (length piece.old)) }
+    ensures err { IfErr result (λ e. (e ≡ PushError.ReadFault) ⊎ (e ≡ PushError.Stream OutOfMemory)) }
+    ensures told { S.tells input.new ↔ S.tells input.old }
+    ensures cause { Counts (S.faults input.old) (S.faults input.new) (IsErrOf result PushError.ReadFault) }
+{
+    match feed_on(input, reader, piece) {
+        Ok(()) => Ok(()),
+        Err(ReplayError::ReadFault) => Err(PushError::ReadFault),
+        Err(ReplayError::Stream(fault)) => Err(PushError::Stream(fault)),
+    }
+}
