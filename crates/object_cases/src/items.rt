@@ -1,21 +1,17 @@
-// Items of a keeper, loaded and committed.
-use crate::commits::{Made, commit};
+// Items of a keeper, loaded.
 use crate::keepers::Misjudging;
-use crate::stores::{count, held, object_of};
+use crate::stores::{count, held};
 use crate::values::{digits_or_none, text, word_and_digits};
-use case_lines::{
-    Fault, Texts, Word, add_item, failing_of, items_said, number_of, ref_name_of, reopened,
-};
+use case_lines::{Fault, Texts, Word, add_item, failing_of, number_of, ref_name_of, reopened};
 use proj_io::{Keeper, MemKeeper};
-use repo_state::{LoadError, State};
+use repo_ground::{LoadError, State};
 use std::alloc::{AllocError, Global};
 
-/// A keeper, what was loaded of its items, and objects that are to be committed.
+/// A keeper, and what was loaded of its items.
 #[derive(Drop)]
 pub struct Kept {
     pub keeper: MemKeeper,
     pub state: State,
-    pub made: Vec<Made>,
 }
 
 impl Kept {
@@ -24,7 +20,6 @@ impl Kept {
         Ok(Kept {
             keeper: MemKeeper::new(alloc, Vec::new(alloc)),
             state,
-            made: Vec::new(alloc),
         })
     }
 }
@@ -40,10 +35,8 @@ pub fn answer(
     match form {
         "new" => renew(alloc, kept, words),
         "add" => add(alloc, texts, kept, words),
-        "make" => make(texts, kept, words),
         "load" => load(alloc, kept).map(Some),
         "judged" => judged(alloc, kept, words).map(Some),
-        "commit" => commit(alloc, texts, kept, words).map(Some),
         _ => asked(alloc, texts, kept, form, words).map(Some),
     }
 }
@@ -58,10 +51,9 @@ fn asked(
 ) -> Result<String, Fault> {
     match form {
         "fronts" => fronts(alloc, texts, words),
-        "get" => held(alloc, texts, &kept.state.store, words),
-        "count" => count(alloc, &kept.state.store),
+        "get" => held(alloc, texts, &kept.state.ground.store, words),
+        "count" => count(alloc, &kept.state.ground.store),
         "head" => head(alloc, &kept.state, words),
-        "list" => items_said(alloc, texts, &kept.keeper),
         _ => Err(Fault::BadLine),
     }
 }
@@ -82,12 +74,6 @@ fn add(
 ) -> Result<Option<String>, Fault> {
     let item = texts.spelled(words)?;
     add_item(alloc, &mut kept.keeper, &item)?;
-    Ok(None)
-}
-
-fn make(texts: &Texts, kept: &mut Kept, words: &[Word]) -> Result<Option<String>, Fault> {
-    let (kind, body) = object_of(texts, words)?;
-    kept.made.push(Made { kind, body })?;
     Ok(None)
 }
 
@@ -112,7 +98,7 @@ fn fault_text(alloc: Global, error: LoadError) -> Result<String, Fault> {
 // What came of loading.
 fn state_text(alloc: Global, loaded: &Result<State, LoadError>) -> Result<String, Fault> {
     match loaded {
-        Ok(state) => count(alloc, &state.store),
+        Ok(state) => count(alloc, &state.ground.store),
         Err(error) => fault_text(alloc, *error),
     }
 }

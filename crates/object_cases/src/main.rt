@@ -1,11 +1,9 @@
-//! Answers cases of objects, stores, trees, graphs, refs, items and projections, a line each, from standard input.
+//! Answers cases of objects, stores, trees, graphs, refs and items, a line each, from standard input.
 #![tactic(auto)]
 
 mod bodies;
-mod commits;
 mod graphs;
 mod held;
-mod histories;
 mod items;
 mod keepers;
 mod names;

@@ -1,10 +1,10 @@
 // What lines of cases work on.
 use crate::items::Kept;
 use crate::refs::TwoRefs;
-use crate::stores::Objects;
-use crate::{bodies, graphs, histories, items, names, refs, stores, trees};
+use crate::{bodies, graphs, items, names, refs, stores, trees};
 use case_lines::{Fault, Line, Texts, Word, number_of, read_line, said};
 use commit_graph::Graph;
+use object_store::Store;
 use std::alloc::Global;
 
 /// What earlier lines made.
@@ -13,7 +13,7 @@ pub struct Session {
     alloc: Global,
     // Named texts, among them the names of trees that `tree` lines made.
     texts: Texts,
-    objects: Objects,
+    store: Store,
     graph: Graph,
     refs: TwoRefs,
     kept: Kept,
@@ -25,7 +25,7 @@ impl Session {
         Ok(Session {
             alloc,
             texts: Texts::new(alloc),
-            objects: Objects::new(alloc),
+            store: Store::new(alloc),
             graph: Graph::new(alloc),
             refs: TwoRefs::new(alloc),
             kept,
@@ -84,12 +84,11 @@ impl Session {
         match subject {
             "object" => names::answer(alloc, texts, form, words).map(Some),
             "body" => bodies::answer(alloc, texts, form, words).map(Some),
-            "store" => stores::answer(alloc, texts, &mut self.objects, form, words),
-            "tree" => trees::answer(alloc, texts, &mut self.objects.store, form, words).map(Some),
+            "store" => stores::answer(alloc, texts, &mut self.store, form, words),
+            "tree" => trees::answer(alloc, texts, &mut self.store, form, words).map(Some),
             "graph" => graphs::answer(alloc, texts, &mut self.graph, form, words),
             "refs" => refs::answer(alloc, texts, &self.graph, &mut self.refs, form, words),
             "items" => items::answer(alloc, texts, &mut self.kept, form, words),
-            "history" => histories::answer(alloc, texts, &self.objects, form, words).map(Some),
             _ => Err(Fault::BadLine),
         }
     }

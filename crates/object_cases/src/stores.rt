@@ -5,38 +5,22 @@ use git_objects::{Kind, Name};
 use object_store::{PutError, Store};
 use std::alloc::{AllocError, Global};
 
-/// A store, and the commits that were put into it, in order.
-#[derive(Drop)]
-pub struct Objects {
-    pub store: Store,
-    pub commits: Vec<Name>,
-}
-
-impl Objects {
-    pub fn new(alloc: Global) -> Objects {
-        Objects {
-            store: Store::new(alloc),
-            commits: Vec::new(alloc),
-        }
-    }
-}
-
 /// The answer to a line on the store.
 pub fn answer(
     alloc: Global,
     texts: &mut Texts,
-    objects: &mut Objects,
+    store: &mut Store,
     form: &str,
     words: &[Word],
 ) -> Result<Option<String>, Fault> {
     match form {
         "new" => {
-            *objects = Objects::new(alloc);
+            *store = Store::new(alloc);
             Ok(None)
         }
-        "put" => put(alloc, texts, objects, words, false).map(Some),
-        "lend" => put(alloc, texts, objects, words, true).map(Some),
-        _ => asked(alloc, texts, &objects.store, form, words).map(Some),
+        "put" => put(alloc, texts, store, words, false).map(Some),
+        "lend" => put(alloc, texts, store, words, true).map(Some),
+        _ => asked(alloc, texts, store, form, words).map(Some),
     }
 }
 
@@ -66,8 +50,8 @@ fn object_name(texts: &Texts, words: &[Word]) -> Result<Name, Fault> {
     }
 }
 
-/// A kind, and the body that pieces spell.
-pub fn object_of(texts: &Texts, words: &[Word]) -> Result<(Kind, Vec<u8>), Fault> {
+// A kind, and the body that pieces spell.
+fn object_of(texts: &Texts, words: &[Word]) -> Result<(Kind, Vec<u8>), Fault> {
     let [kind, pieces @ ..] = words else {
         return Err(Fault::BadLine);
     };
@@ -79,14 +63,14 @@ pub fn object_of(texts: &Texts, words: &[Word]) -> Result<(Kind, Vec<u8>), Fault
 fn put(
     alloc: Global,
     texts: &mut Texts,
-    objects: &mut Objects,
+    store: &mut Store,
     words: &[Word],
     is_lent: bool,
 ) -> Result<String, Fault> {
     let (kind, body) = object_of(texts, words)?;
-    let result = taken(&mut objects.store, kind, body, is_lent);
+    let result = taken(store, kind, body, is_lent);
     if let Ok(name) = result {
-        remember(alloc, texts, objects, kind, name)?;
+        texts.set(b"last", name.bytes().to_vec(alloc)?)?;
     }
     told(alloc, result)
 }
@@ -96,19 +80,6 @@ fn taken(store: &mut Store, kind: Kind, body: Vec<u8>, is_lent: bool) -> Result<
         return store.put_slice(kind, &body);
     }
     store.put(kind, body)
-}
-
-fn remember(
-    alloc: Global,
-    texts: &mut Texts,
-    objects: &mut Objects,
-    kind: Kind,
-    name: Name,
-) -> Result<(), AllocError> {
-    if kind == Kind::Commit {
-        objects.commits.push(name)?;
-    }
-    texts.set(b"last", name.bytes().to_vec(alloc)?)
 }
 
 // What a store says to an object.

@@ -10,14 +10,18 @@ M 100644 inline a/f\n\
 data 6\n\
 hello\n";
 
-pub(crate) const SECOND: &[u8] = b"commit refs/heads/main\n\
+// Its blob stands in front of the commit, which names it by its mark.
+pub(crate) const SECOND: &[u8] = b"blob\n\
+mark :1\n\
+data 2\n\
+2\n\
+commit refs/heads/main\n\
+mark :2\n\
 committer A <a@x> 1700000000 +0000\n\
 data 4\n\
 two\n\
 from 5990ba6163d77f77071ca2e8e9899c368dbc6eb7\n\
-M 100644 inline a/g\n\
-data 2\n\
-2\n";
+M 100644 :1 a/g\n";
 
 pub(crate) const THIRD: &[u8] = b"commit refs/heads/main\n\
 committer A <a@x> 1700000000 +0000\n\
@@ -43,6 +47,8 @@ pub(crate) const IMPORT: &[&str] = &["import"];
 pub(crate) const PUSH: &[&str] = &["push", "refs/heads/main", ":/a"];
 
 pub(crate) const PROJECT: &[&str] = &["project", "refs/heads/main", ":/a"];
+
+pub(crate) const RULE: &[&str] = &["rule", "2"];
 
 pub(crate) fn strings(alloc: Global, words: &[&str]) -> Result<Vec<String>, AllocError> {
     let mut all = Vec::new(alloc);

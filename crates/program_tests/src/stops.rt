@@ -1,31 +1,38 @@
-// Four commands on one store, and what a stop at each call of its disk leaves.
+// Six commands on one store, and what a stop at each call of its disk leaves.
 ghost use Rattle.std.specs.Prelude.{◌≡◌, ◌<◌, ◌≤◌, true, Some, IfOk};
 ghost use Rattle.proj_disk.specs.MemDisks.{MemDiskState, view_of};
 ghost use Rattle.proj_journal.specs.Journals.{IsOpen};
 
-use crate::calls::{FIRST, IMPORT, PUSH, PUSHED, SECOND, THIRD, sink, source, strings};
+use crate::calls::{
+    FIRST, IMPORT, PROJECT, PUSH, PUSHED, RULE, SECOND, THIRD, sink, source, strings,
+};
 use git_objects::Name;
 use path_names::RefName;
 use proj_cli::{Outcome, run};
 use proj_disk::{Fill, MemDisk};
 use proj_io::Keeper;
 use proj_journal::Journal;
-use repo_state::State;
+use repo_ground::State;
 use std::alloc::{AllocError, Global};
 use std::test::Fail;
 
-const COMMANDS: [(&[&str], &[u8]); 4] = [
+// Each appends one item: objects and a ref, a rule, or kept projections.
+const COMMANDS: [(&[&str], &[u8]); 6] = [
     (IMPORT, FIRST),
     (IMPORT, SECOND),
+    (RULE, b""),
     (IMPORT, THIRD),
+    (PROJECT, b""),
     (PUSH, PUSHED),
 ];
 
 // The commit of the ref after each number of the commands, as Git names it.
-const HEADS: [&[u8]; 5] = [
+const HEADS: [&[u8]; 7] = [
     b"",
     b"5990ba6163d77f77071ca2e8e9899c368dbc6eb7",
     b"592cd3665c8a2250cf7988e22686ce308524df8c",
+    b"592cd3665c8a2250cf7988e22686ce308524df8c",
+    b"fcfc493607bfc8dbf616768af28cd698dfb8108a",
     b"fcfc493607bfc8dbf616768af28cd698dfb8108a",
     b"c0087f5ed9a3c59cccefdc3ba1fe9cbbb5ab8376",
 ];
@@ -95,7 +102,7 @@ fn leaves_state(
     before: u64,
     number: usize,
 ) -> Result<bool, AllocError>
-    requires { number < 4 }
+    requires { number < 6 }
 {
     let after = disk.calls();
     for calls in before..after {
@@ -122,7 +129,7 @@ fn each_image_has_the_acknowledged_commands(rt: HostRuntime) -> Result<(), Fail>
     let Ok(mut journal) = Journal::create(alloc, disk) else {
         return Err(Fail::from("no journal"));
     };
-    for number in 0..4usize {
+    for number in 0..6usize {
         let (words, input) = &COMMANDS[number];
         let before = journal.disk().calls();
         assert!(rt; is_done(alloc, &mut journal, words, input)?, "{number}");

@@ -19,13 +19,16 @@ use std::{env, io};
 
 const HELP: &[u8] = b"proj shows parts of a monorepo as Git repositories of their own.\n\
 \n\
-\x20 proj STORE import               put the commits of a stream into the store\n\
+\x20 proj STORE import [--force]     put the commits of a stream into the store\n\
 \x20 proj STORE project REF FILTER   print the name of what the filter shows of a ref\n\
-\x20 proj STORE push REF FILTER      take a pushed commit back into the ref's history\n\
-\x20 proj name REF FILTER            print that name for a stream alone, without a store\n\
+\x20 proj STORE export REF FILTER    print the history of what it shows, as a stream\n\
+\x20 proj STORE push REF FILTER      take pushed commits back into the ref's history\n\
+\x20 proj STORE rule (1 | 2)         set the rule by which merges are shown\n\
+\x20 proj name REF FILTER            print such a name for a stream alone, without a store\n\
 \n\
 STORE is a file, which is made where there is none. A stream is read from the standard\n\
-input, in the form of git fast-export. A store named --help is given as ./--help.\n";
+input, in the form of git fast-export; what export prints is one for git fast-import.\n\
+With --force a ref may move anywhere. A store named --help is given as ./--help.\n";
 
 const VERSION: &[u8] = b"proj 0.1\n";
 

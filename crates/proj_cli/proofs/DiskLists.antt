@@ -1,10 +1,10 @@
 -- A call of the program on a disk.
-use Rattle.std.proofs.Common.{◌≡◌, ◌⊎◌, ◌+◌, ◌≢◌, inl, inr, ⊎_elim, ◌++◌, [], ◌∷◌, ℕ, List, length, Option, Some, None, Ok, Err, Result, IfSome, ◌↔◌, refl, sym, ap, subst, ◌∙◌, arith, length-append, replicate}
+use Rattle.std.proofs.Common.{◌≡◌, ◌⊎◌, ◌+◌, ◌≤◌, ◌≢◌, inl, inr, ⊎_elim, ◌++◌, [], ◌∷◌, ℕ, List, length, Option, Some, None, Ok, Err, Result, IfSome, ◌↔◌, refl, sym, ap, subst, ◌∙◌, arith, length-append, replicate}
 use Rattle.std.proofs.lemmas.List.{length-replicate}
-use Rattle.std.specs.Prelude.{IfOk, IsSome, MatchResult, unwrap_or, ⊤}
+use Rattle.std.specs.Prelude.{IfOk, IsSome, MatchResult, ⊤}
 use Rattle.std.specs.Option.{option_map}
 use Rattle.git_objects.specs.Paths.{Bytes}
-use Rattle.repo_state.specs.Changes.{plan_text}
+use Rattle.state_items.specs.Changes.{ChangePlan, KeepPlan, NoPlan, Plan, RulePlan, plan_items}
 use Rattle.proj_io.specs.Stops.{OnlyAdds, Nothing}
 use Rattle.proj_disk.specs.Disks.{DiskView, IsImage, IsLeftBy, furthest, stable}
 use Rattle.proj_journal.specs.Journals.{IsBrokenAt, IsEmpty, ListsLeft, SpellsItsItems, TellsWhy, items_of}
@@ -13,11 +13,11 @@ use Rattle.proj_journal.specs.Spelling.{list_in, listed, spelled}
 use Rattle.proj_journal.specs.Spelled.{spelled-other}
 use Rattle.proj_journal.specs.declared.opening.JournalError.{JournalError}
 use Rattle.proj_journal.specs.declared.opening.JournalError.TheVariants.{Failed, Broken, OutOfMemory as NoMemory}
-use Rattle.proj_cli.specs.Step.{Step}
+use Rattle.proj_words.specs.Words.{Command}
 use Rattle.proj_cli.specs.Served.{HasList, IsOnlySynced, IsSteady, IsWhole, LeavesList, LeavesWhole, SaysWhy, Spells}
 use Rattle.proj_cli.specs.Stopped.{ForInput, MayLeave}
 use Rattle.proj_cli.proofs.ListLengths.{list_short}
-use Rattle.proj_cli.proofs.Makes.{long, told_input}
+use Rattle.proj_cli.proofs.Lengthening.{for-any}
 
 -- ---- an empty disk
 
@@ -130,49 +130,52 @@ many_long : (disk : DiskView) → length (many disk) ≡ number_of disk
 unfolding many
 many_long disk = length-replicate {A = Bytes} (number_of disk) []
 
-none_so_many : (s : Step) (disk : DiskView) → Spells disk (many disk) ⊎ MayLeave s (listed disk.bytes) (many disk) → ⊥
-none_so_many s disk (inl is) = omega (arith, ap length is.2, many_long disk, list_short is.0, is.1.no_longer)
-none_so_many s disk (inr (inl same)) = omega (arith, ap length same, many_long disk)
-none_so_many s disk (inr (inr more)) =
-    omega (arith, ap length more.behind, many_long disk, length-append (listed disk.bytes) (plan_text s.change ∷ []))
+one_at_most : (p : Plan) → length (plan_items p) ≤ 1
+one_at_most NoPlan = omega arith
+one_at_most (ChangePlan objects refs) = omega arith
+one_at_most (RulePlan n) = omega arith
+one_at_most (KeepPlan n text es) = omega arith
+
+none_so_many : (asked : Command) (input : Bytes) (disk : DiskView) → Spells disk (many disk) ⊎ MayLeave asked (listed disk.bytes) input (many disk) → ⊥
+none_so_many asked input disk (inl is) = omega (arith, ap length is.2, many_long disk, list_short is.0, is.1.no_longer)
+none_so_many asked input disk (inr (inl same)) = omega (arith, ap length same, many_long disk)
+none_so_many asked input disk (inr (inr more)) =
+    omega (arith, ap length more.behind, many_long disk, length-append (listed disk.bytes) (plan_items more.plan), one_at_most more.plan)
 
 -- a list that a whole disk leaves is one of its lists
 whole_list : (disk : DiskView) (whole : IsWhole disk) (image : List ℕ) (list : List Bytes) → IsImage disk image → Leaves image list → Spells disk list
 whole_list disk whole image list is leaves =
     (image, is, subst (λ (r : Result (List Bytes) ℕ). MatchResult r (λ items. items ≡ list) (λ _. ⊤)) (whole image is) leaves)
 
-module _ (left : Option Bytes) (asks : Bytes → Step) (view : DiskView) (o : Option DiskView) (told : o ≡ Some view) (whole : IsWhole view) (d j : ℕ) (x y : ℕ → List ℕ → Type 0)
+module _ (left : Option Bytes) (asked : Command) (view : DiskView) (o : Option DiskView) (told : o ≡ Some view) (whole : IsWhole view) (d j : ℕ) (x y : ℕ → List ℕ → Type 0)
     (only : (image : List ℕ) → x d image → IsLeftBy o image) (opened : OnlyAdds d j x y Nothing) where
   -- what the disk left at entry
   at_entry : (image : List ℕ) → y d image → IsImage view image
   at_entry image since = subst (λ (p : Option DiskView). IsLeftBy p image) told (⊎_elim (λ was. only image was) (λ new. absurd new) (opened.each d image (omega arith) since))
 
   -- a stop during a call on the journal
-  pub run_stops : (e : ℕ) (z : ℕ → List ℕ → Type 0) → ForInput left (λ all. OnlyAdds j e (ListsLeft y) (ListsLeft z) (MayLeave (asks all) (listed view.bytes)))
-      → ForInput left (λ all. (image : List ℕ) → z d image → LeavesWhole (asks all) view image)
+  pub run_stops : (e : ℕ) (z : ℕ → List ℕ → Type 0) → ForInput left (λ all. OnlyAdds j e (ListsLeft y) (ListsLeft z) (MayLeave asked (listed view.bytes) all))
+      → ForInput left (λ all. (image : List ℕ) → z d image → LeavesWhole asked all view image)
   run_stops e z adds = record {
     all = adds.all;
     told = adds.told;
     says = λ image since.
-        whole_as (spelled image) (λ list. Spells view list ⊎ MayLeave (asks adds.all) (listed view.bytes) list) (many view) (none_so_many (asks adds.all) view) (λ list leaves.
+        whole_as (spelled image) (λ list. Spells view list ⊎ MayLeave asked (listed view.bytes) adds.all list) (many view) (none_so_many asked adds.all view) (λ list leaves.
         ⊎_elim (λ was. inl (whole_list view whole was.0 list (at_entry was.0 was.1) was.2)) (λ new. inr new) (adds.says.each d list opened.later (image, since, leaves)));
   }
 
   -- a stop where there is no journal
-  pub unopened_stops : ForInput left (λ all. (image : List ℕ) → y d image → LeavesWhole (asks all) view image)
-  unopened_stops = record {
-    all = unwrap_or left long;
-    told = told_input left long;
-    says = λ image since. (whole image (at_entry image since), inl (image, at_entry image since, refl));
-  }
+  pub unopened_stops : ForInput left (λ all. (image : List ℕ) → y d image → LeavesWhole asked all view image)
+  unopened_stops = for-any left (λ all. (image : List ℕ) → y d image → LeavesWhole asked all view image)
+      (λ all image since. (whole image (at_entry image since), inl (image, at_entry image since, refl)))
 
 -- a steady disk is whole
 pub steady_whole : (disk : DiskView) → IsSteady disk → IsWhole disk
 steady_whole disk steady image is = steady image is ∙ ap Ok (sym (ap list_in (steady image is)))
 
 -- of a steady disk a stop leaves its list, or that with the item
-pub steady_stops : (left : Option Bytes) (asks : Bytes → Step) (disk : DiskView) (z : List ℕ → Type 0) → IsSteady disk → ForInput left (λ all. (image : List ℕ) → z image → LeavesWhole (asks all) disk image)
-    → ForInput left (λ all. (image : List ℕ) → z image → LeavesList (asks all) (listed disk.bytes) image)
+pub steady_stops : (left : Option Bytes) (asked : Command) (disk : DiskView) (z : List ℕ → Type 0) → IsSteady disk → ForInput left (λ all. (image : List ℕ) → z image → LeavesWhole asked all disk image)
+    → ForInput left (λ all. (image : List ℕ) → z image → LeavesList asked all (listed disk.bytes) image)
 steady_stops left asks disk z steady stops = record {
   all = stops.all;
   told = stops.told;

@@ -1,169 +1,305 @@
--- What an import answers stands on what is held and on the input.
-use Rattle.std.proofs.Common.{◌≡◌, ◌⊎◌, true, false, cond, List, [], ◌∷◌, length, map, slice_get, Option, Some, None, refl, sym, ap, subst, ◌∙◌}
-use Rattle.std.specs.Prelude.{IfSome, Contains, nat_le, ◌^◌, ◌||◌}
-use Rattle.std.specs.FinMap.{find}
-use Rattle.std.specs.Option.{option_map, option_map_or, option_to_list}
-use Rattle.std.specs.List.{list_all, list_any}
-use Rattle.std.proofs.lemmas.Bool.{le-leb}
-use Rattle.std.proofs.lemmas.Option.{same_Some}
-use Rattle.git_objects.specs.Paths.{Bytes, same_bytes}
-use Rattle.git_objects.specs.Parts.{name_bytes}
-use Rattle.git_objects.specs.declared.kind.Kind.TheVariants.{Blob, Commit}
-use Rattle.git_objects.specs.declared.name.Name.{Name}
-use Rattle.object_store.specs.Objects.{Object, body_of, has}
-use Rattle.repo_state.specs.Items.{Held}
-use Rattle.git_objects.specs.Refs.{bytes_cmp}
-use Rattle.repo_state.specs.Loads.{IsStored, Stored}
-use Rattle.repo_state.specs.Repos.{repo_of}
-use Rattle.repo_state.specs.Changes.{IsChange, are_distinct, commit_fits, fresh, has_parents, moved, objects_of, plan}
-use Rattle.object_store.specs.StoredSnapshots.{commit_named}
-use Rattle.repo_state.specs.declared.commit.Setting.{Setting}
-use Rattle.repo_state.specs.Commits.{change_of, setting}
-use Rattle.proj_cli.specs.Answer.{IsInImport}
-use Rattle.proj_cli.specs.Prepared.{FitsItems, IsBatchOf, IsPrepared, IsSameBut, room_in}
-use Rattle.small_streams.specs.Replay.{IsMadeBy, replayed}
-use Rattle.small_streams.specs.Replays.{IsReplayed, parent_of}
-use Rattle.history_project.specs.Snapshots.{base_tree}
-use Rattle.proj_cli.specs.Step.{Room, changing, import_made, import_smalls, import_upon, input_max, refused}
-use Rattle.history_project.specs.Histories.{is_same_name, tree_upon}
-use Rattle.small_streams.specs.Views.{head_value, small_value}
-use Rattle.proj_words.specs.declared.outcome.Outcome.TheVariants.{NotBuilt}
-use Rattle.small_streams.specs.declared.replay.Replayed.{Replayed}
-use Rattle.proj_cli.specs.declared.saving.Prepared.{Prepared}
-use Rattle.small_streams.specs.declared.streams.SmallCommit.{SmallCommit}
-use Rattle.history_project.proofs.AllCommits.{both_true}
-use Rattle.proj_cli.proofs.ImportFits.{import-within}
-use Rattle.proj_cli.proofs.Importing.{import-change, import-step}
+-- What becomes of an import.
+use Rattle.std.proofs.Common.{◌≡◌, ◌∙◌, ℕ, Bool, true, false, T, List, [], ◌++◌, map, reverse, Contains, IsOkAnd, Option, None, Some, Result, Ok, Err, inl, inr, ⊎_elim, refl, sym, ap, subst}
+use Rattle.std.specs.Prelude.{◌≢◌, ◌⊎◌}
+use Rattle.std.specs.FinMap.{is_sorted}
+use Rattle.std.specs.List.{flat_map}
+use Rattle.std.proofs.lemmas.List.Quantifiers.{Any-push}
+use Rattle.git_objects.specs.Paths.{Bytes, is_bytes}
+use Rattle.git_objects.specs.Refs.{Refs, bytes_cmp}
+use Rattle.git_objects.specs.Results.{◌>>=◌, refused_by}
+use Rattle.git_objects.specs.Snapshots.{Snapshot}
+use Rattle.object_store.specs.Growth.{IsClash, IsGrownBy}
+use Rattle.object_store.specs.Objects.{Object}
+use Rattle.object_store.proofs.Growth.{grown_as}
+use Rattle.stream_reader.specs.Verdicts.{start, verdict}
+use Rattle.stream_reader.specs.declared.fault.StreamFault.{StreamFault}
+use Rattle.stream_reader.specs.declared.fault.StreamFault.TheVariants as streams
+use Rattle.fast_import.specs.Made.{IsPutFault}
+use Rattle.fast_import.specs.Replays.{Replay, Replayed, given_by, heads_of, outcome_of, ran, replay}
+use Rattle.fast_import.specs.Replaying.{setting_value}
+use Rattle.fast_import.specs.Standing.{IsReplayedOf}
+use Rattle.fast_import.specs.Whole.{IsMadeOfStream, IsStreamError}
+use Rattle.fast_import.specs.declared.replayed.Replayed.{Replayed as ReplayedNames}
+use Rattle.fast_import.specs.declared.whole.ReplayError.{ReplayError}
+use Rattle.fast_import.specs.declared.whole.ReplayError.TheVariants as replays
+use Rattle.history_ground.specs.Grounds.{IsGround}
+use Rattle.proj_io.specs.Stops.{IsPresent, OnlyAdds, adds_as}
+use Rattle.proj_io.specs.Views.{KeeperView}
+use Rattle.state_items.specs.Changes.{NoPlan, Plan, Room, change_plan, objects_of, passed}
+use Rattle.state_items.specs.Hands.{IsTwice}
+use Rattle.state_items.specs.Imported.{AreRefsTo, with_commits}
+use Rattle.state_items.specs.Items.{Held}
+use Rattle.state_items.specs.Repos.{repo}
+use Rattle.state_items.proofs.Kepts.{kept-law}
+use Rattle.state_items.proofs.Limits.{change-law}
+use Rattle.state_items.proofs.ReadEntries.{read-law}
+use Rattle.state_items.proofs.ReadObjects.{ok-same}
+use Rattle.state_items.proofs.Twices.{clash-twice}
+use Rattle.repo_ground.specs.Changes.{Appends, IsBatchOf, IsCommitted, IsRefusal as IsRefusedBy, IsRefused, IsStopOf, KeepsItems, batch_plan, settings_of}
+use Rattle.repo_ground.specs.Contents.{Contents, room_in}
+use Rattle.repo_ground.specs.Laws.{base_of}
+use Rattle.repo_ground.specs.Moves.{Move, first_backward}
+use Rattle.repo_ground.specs.declared.commit.Batch.{Batch}
+use Rattle.repo_ground.specs.declared.commit.CommitError.{CommitError}
+use Rattle.repo_ground.proofs.Stopping.{adds_none}
+use Rattle.import_laws.proofs.SortedHeads.{sorted-heads}
+use Rattle.proj_words.specs.Faults.{stream_outcome}
+use Rattle.proj_words.specs.declared.outcome.Outcome.{Outcome}
+use Rattle.proj_words.specs.declared.outcome.Outcome.TheVariants as outcomes
+use Rattle.proj_cli.specs.Cases.{Case, ImportCase, Made, all_forward, import_plan, made, no_backward, ref_line, within}
+use Rattle.proj_cli.specs.Filters.{project_by}
+use Rattle.proj_cli.specs.Hands.{IsInHand, IsInHands, hand}
+use Rattle.proj_cli.specs.Makes.{IsAtHand, IsMadeOf, IsRefusal, IsStateAfter, IsStateOf, IsStored, PlansFor, hands_of}
+use Rattle.proj_cli.specs.Refusals.{commit_outcome, replay_outcome}
+use Rattle.proj_cli.specs.Replaying.{IsPrepared, IsReplayedUpon}
+use Rattle.proj_cli.proofs.Committing.{IsCase, keeps-self, made-done, made-refused, made-untouched, made-without, planned_by, stop-as, stops-by}
+use Rattle.proj_cli.proofs.StatesAfter.{passed-same}
+use Rattle.proj_cli.proofs.Staying.{stay}
+use Rattle.proj_cli.proofs.StreamBatches.{stream-batch, stream-replayed, whole-trees}
+use Rattle.proj_cli.proofs.StreamHands.{stream-in-hand}
 
--- the parents that a name or none says
-pub parents-are : (head : Option Name) → option_to_list (option_map name_bytes head) ≡ parent_of head
-parents-are None = refl
-parents-are (Some n) = refl
-
--- a held head gives held parents
-pub parents-held : (H : List Object) (head : Option Name) → IfSome head (λ n. has Commit H n.0 ≡ true) → list_all (has Commit H) (parent_of head) ≡ true
-parents-held H None h = refl
-parents-held H (Some n) h = both_true _ _ h refl
-
-head-held : (H : List Object) (head : Option Name) → IfSome head (λ n. has Commit H n.0 ≡ true) → IfSome (option_map name_bytes head) (λ n. has Commit H n ≡ true)
-head-held H None h = tt
-head-held H (Some n) h = h
-
--- ---- a stream of no commits
-
-pub first-none : (v : List SmallCommit) → None ≡ slice_get v 0 → v ≡ []
-first-none [] e = refl
-first-none (x ∷ v) e = cc
-
-pub nothing-prepared : (s : Stored) (v : List SmallCommit) (p : Prepared) → v ≡ [] → p.report ≡ [] → p.batch.blobs.items ≡ [] → p.batch.commits.items ≡ [] → p.batch.refs.items ≡ []
-    → IsPrepared s (import_smalls s.held (room_in s) (map small_value v)) p
-unfolding fresh
-nothing-prepared s v p e r b c f =
-    let report = sym r in
-    let blobs = sym b in
-    let commits = sym c in
-    let refs = sym f in
-    record {
-      step_is = ap (λ (w : List SmallCommit). import_smalls s.held (room_in s) (map small_value w)) e
-          ∙ (λ i. changing s.held (room_in s) (report i) (record {
-            objects = fresh s.held.objects (objects_of s.objects (record { blobs = map name_bytes (blobs i); commits = map name_bytes (commits i); refs = map setting (refs i) }));
-            refs = moved s.held.refs (map setting (refs i));
-          }));
-      change = record {
-        blobs = ap (λ (ns : List Name). list_all (has Blob s.objects) (map name_bytes ns)) b;
-        commits = ap (λ (ns : List Name). list_all (has Commit s.objects) (map name_bytes ns)) c;
-        parents = ap (λ (ns : List Name). has_parents s.objects s.held.objects [] (map name_bytes ns)) c;
-        refs = ap (λ (rs : List Setting). are_distinct (map setting rs)) f;
-        heads = ap (λ (rs : List Setting). list_all (λ (e : Bytes × Bytes). has Commit s.held.objects e.1 || list_any (same_bytes e.1) (map name_bytes p.batch.commits.items)) (map setting rs)) f;
-      };
-    }
-
-pub nothing-fits : (s : Stored) (v : List SmallCommit) (p : Prepared) → p.batch.blobs.items ≡ [] → p.batch.commits.items ≡ [] → FitsItems s (map small_value v) p
-nothing-fits s v p b c = λ items input read short spelled. record {
-  blobs = ap (λ (ns : List Name). list_all (λ n. nat_le (length (body_of Blob s.objects n)) (2 ^ 24)) (map name_bytes ns)) b;
-  commits = ap (λ (ns : List Name). list_all (λ n. option_map_or (commit_fits s.objects s.held.objects (map name_bytes p.batch.blobs.items)) (commit_named s.objects n) false) (map name_bytes ns)) c;
+-- two different objects of a kind are so of a wider one
+pub twice-as : (P Q : Object → Type 0) (n : Bytes) → ((o : Object) → P o → Q o) → IsTwice P n → IsTwice Q n
+twice-as P Q n f t = record {
+  first = t.first;
+  second = t.second;
+  first_there = f t.first t.first_there;
+  second_there = f t.second t.second_there;
+  apart = t.apart;
+  first_named = t.first_named;
+  second_named = t.second_named;
 }
 
--- ---- a stream of some commits
+-- ---- results
 
--- its first commit says the ref
-first-upon : (h : Held) (room : Room) (v : List SmallCommit) (f : SmallCommit) → Some f ≡ slice_get v 0
-    → import_smalls h room (map small_value v) ≡ import_upon h room (map small_value v) (small_value f).head (find bytes_cmp (small_value f).head.refname h.refs)
-first-upon h room [] f e = cc
-first-upon h room (x ∷ v) f e =
-    let same : x ≡ f = sym (same_Some f x e) in
-    λ i. import_upon h room (map small_value (x ∷ v)) (small_value (same i)).head (find bytes_cmp (small_value (same i)).head.refname h.refs)
+no-fault : {A E : Type 0} (a : A) (e : E) → Ok a ≡ Err e → ⊥
+no-fault a e q = cc
 
-first-hand : (h : Held) (v : List SmallCommit) (f : SmallCommit) (o : Object) → Some f ≡ slice_get v 0
-    → IsInImport h (map small_value v) o ≡ (let head = find bytes_cmp (small_value f).head.refname h.refs in Contains h.objects o ⊎ IsMadeBy (tree_upon (repo_of h).commits head) (option_to_list head) (map small_value v) o)
-first-hand h [] f o e = cc
-first-hand h (x ∷ v) f o e =
-    let same : x ≡ f = sym (same_Some f x e) in
-    λ i. (let head = find bytes_cmp (small_value (same i)).head.refname h.refs in Contains h.objects o ⊎ IsMadeBy (tree_upon (repo_of h).commits head) (option_to_list head) (map small_value (x ∷ v)) o)
+abbrev fault-or : {A E : Type 0} → E → Result A E → E
+fault-or d (Ok a) = d
+fault-or d (Err e) = e
 
-module _ (h : Held) (room : Room) (v : List SmallCommit) (f : SmallCommit) (head : Option Name) (e : Some f ≡ slice_get v 0) (found : option_map name_bytes head ≡ find bytes_cmp (head_value f.head).refname h.refs) where
-  abbrev pub asks : Bytes
-  asks = (head_value f.head).refname
+-- ---- refs that don't move forward
 
-  -- the first commit names another parent
-  pub other-parent : is_same_name (head_value f.head).from (option_map name_bytes head) ≡ false → import_smalls h room (map small_value v) ≡ refused NotBuilt
-  other-parent differs =
-      first-upon h room v f e
-      ∙ ap (λ b. cond b (import_made h room (map small_value v) asks (replayed (tree_upon (repo_of h).commits (find bytes_cmp asks h.refs)) (option_to_list (find bytes_cmp asks h.refs)) (map small_value v))) (refused NotBuilt))
-      (ap (is_same_name (head_value f.head).from) (sym found) ∙ differs)
+moved-so : (P : Object → Type 0) (o : Option Move) (e : Outcome) (r : Result Made Outcome) → no_backward o ≡ Err e → r ≡ Err e → IsRefusal P e r
+moved-so P None e r q i = absurd (no-fault {A = Unit {0}} {E = Outcome} tt e q)
+moved-so P (Some m) e r q i =
+    let n : Outcome = outcomes.NotForward m.refname (record { 0 = m.old }) (record { 0 = m.new }) in
+    let same : n ≡ e = ap (fault-or {A = Unit {0}} {E = Outcome} e) q in
+    subst (λ x. r ≡ Err x → IsRefusal P x r) same (λ w. w) i
 
-  -- it names this one
-  pub same-parent : is_same_name (head_value f.head).from (option_map name_bytes head) ≡ true → tree_upon (repo_of h).commits (option_map name_bytes head) ≡ base_tree h.objects head
-      → import_smalls h room (map small_value v) ≡ import_made h room (map small_value v) asks (replayed (base_tree h.objects head) (parent_of head) (map small_value v))
-  same-parent matches base =
-      let upon = ap (tree_upon (repo_of h).commits) (sym found) ∙ base in
-      let parents = ap option_to_list (sym found) ∙ parents-are head in
-      first-upon h room v f e
-      ∙ ap (λ b. cond b (import_made h room (map small_value v) asks (replayed (tree_upon (repo_of h).commits (find bytes_cmp asks h.refs)) (option_to_list (find bytes_cmp asks h.refs)) (map small_value v))) (refused NotBuilt))
-      (ap (is_same_name (head_value f.head).from) (sym found) ∙ matches)
-      ∙ (λ i. import_made h room (map small_value v) asks (replayed (upon i) (parents i) (map small_value v)))
+backward-so : (P : Object → Type 0) (force : Bool) (cs : List Snapshot) (refs es : Refs) (e : Outcome) (r : Result Made Outcome)
+    → all_forward force cs refs es ≡ Err e → r ≡ Err e → IsRefusal P e r
+backward-so P true cs refs es e r q i = absurd (no-fault {A = Unit {0}} {E = Outcome} tt e q)
+backward-so P false cs refs es e r q i = moved-so P (first_backward cs refs es) e r q i
 
-  -- what comes up on the way
-  pub in-hand : tree_upon (repo_of h).commits (option_map name_bytes head) ≡ base_tree h.objects head → (o : Object)
-      → IsInImport h (map small_value v) o ≡ (Contains h.objects o ⊎ IsMadeBy (base_tree h.objects head) (parent_of head) (map small_value v) o)
-  in-hand base o =
-      let upon = ap (tree_upon (repo_of h).commits) (sym found) ∙ base in
-      let parents = ap option_to_list (sym found) ∙ parents-are head in
-      first-hand h v f o e ∙ (λ i. Contains h.objects o ⊎ IsMadeBy (upon i) (parents i) (map small_value v) o)
+-- what a stream gives that has no fault
+given-whole : (x : Replay) (f : Option StreamFault) (r : Replayed) → outcome_of x f ≡ Ok r → given_by x ≡ r
+given-whole x None r e = ok-same (given_by x) r e
+given-whole x (Some f) r e = absurd (no-fault r f (sym e))
 
-  -- a tree has too many files
-  pub too-many : is_same_name (head_value f.head).from (option_map name_bytes head) ≡ true → tree_upon (repo_of h).commits (option_map name_bytes head) ≡ base_tree h.objects head
-      → replayed (base_tree h.objects head) (parent_of head) (map small_value v) ≡ None → import_smalls h room (map small_value v) ≡ refused NotBuilt
-  too-many matches base none = same-parent matches base ∙ ap (import_made h room (map small_value v) asks) none
+-- the value of a result that has one
+record IsGiven {A E : Type 0} (x : Result A E) (P : A → Type 0) : Type 0 where
+  value : A
+  is : x ≡ Ok value
+  holds : P value
 
-  -- what was replayed is prepared
-  pub stream-prepared : (s s' : Stored) (r : Replayed) (p : Prepared) → s.held ≡ h → room_in s ≡ room → IsSameBut s s' → IsStored s' → is_same_name (head_value f.head).from (option_map name_bytes head) ≡ true
-      → IfSome head (λ n. has Commit h.objects n.0 ≡ true) → tree_upon (repo_of h).commits (option_map name_bytes head) ≡ base_tree h.objects head
-      → IsReplayed s'.objects (base_tree h.objects head) (parent_of head) (map small_value v) r → IsBatchOf asks r p → IsPrepared s' (import_smalls h room (map small_value v)) p
-  stream-prepared s s' r p eh er same stored matches held base q b =
-      let ss = map small_value v in
-      let now : s'.held ≡ h = same.held ∙ eh in
-      let room_now : room_in s' ≡ room = (λ i. record { number = same.number i; size = same.size i }) ∙ er in
-      let made = import-step s'.objects stored.whole h (base_tree h.objects head) (parent_of head) ss asks r p q b room in
-      let back = sym now in
-      let room_back = sym room_now in
-      record {
-        step_is = same-parent matches base ∙ made ∙ (λ i. changing (back i) (room_back i) p.report (plan s'.objects (back i) (change_of p.batch)));
-        change = subst (λ (g : Held). IsChange s'.objects g.objects (change_of p.batch)) back
-            (import-change s'.objects stored.whole h (base_tree h.objects head) (parent_of head) ss asks r p q b (parents-held h.objects head held));
-      }
+given-value : {A E : Type 0} (x : Result A E) (P : A → Type 0) → IsOkAnd x P → IsGiven x P
+given-value (Ok a) P h = record { value = a; is = refl; holds = h }
+given-value (Err e) P h = absurd h
 
-  -- and is within the limits
-  pub stream-fits : (s s' : Stored) (r : Replayed) (p : Prepared) → s.held ≡ h → IsSameBut s s' → IsStored s' → IfSome head (λ n. has Commit h.objects n.0 ≡ true)
-      → tree_upon (repo_of h).commits (option_map name_bytes head) ≡ base_tree h.objects head
-      → IsReplayed s'.objects (base_tree h.objects head) (parent_of head) (map small_value v) r → IsBatchOf asks r p → FitsItems s' (map small_value v) p
-  stream-fits s s' r p eh same stored held base q b = λ items input read short spelled.
-      let now : h ≡ s'.held = sym (same.held ∙ eh) in
-      let parents = parents-are head in
-      let again : replayed (tree_upon (repo_of h).commits (option_map name_bytes head)) (option_to_list (option_map name_bytes head)) (map small_value v) ≡ Some q.snapshots =
-      (λ i. replayed (base i) (parents i) (map small_value v)) ∙ q.replayed in
-      import-within items s'.held s'.objects read stored.whole stored.held stored.within input (map small_value v) (option_map name_bytes head) q.snapshots r.commits.items r.blobs.items (change_of p.batch)
-      (le-leb (length input) input_max short) spelled
-      (subst (λ (g : Held). IfSome (option_map name_bytes head) (λ n. has Commit g.objects n ≡ true)) now (head-held h.objects head held))
-      (subst (λ (g : Held). replayed (tree_upon (repo_of g).commits (option_map name_bytes head)) (option_to_list (option_map name_bytes head)) (map small_value v) ≡ Some q.snapshots) now again)
-      q.commits q.blobs (ap (map name_bytes) b.blobs) (ap (map name_bytes) b.commits)
+module _ (items : List Bytes) (h : Held) (all : Bytes) (bytes : is_bytes all ≡ true) (force : Bool) (s : Contents) (st : IsStateOf items h s) where
+  abbrev asked : Case
+  asked = ImportCase force h (ran (base_of h) all)
+
+  abbrev S : List Object
+  S = s.basis.store
+
+  abbrev Hand_here : Object → Type 0
+  Hand_here o = IsAtHand S (Ok asked) o
+
+  -- what the stream brings is in hand
+  brought-in-hand : (o : Object) → IsMadeOfStream (base_of h) all o → IsInHands (hands_of (Ok asked)) o
+  brought-in-hand o m =
+      Any-push (λ k. IsInHand k o) [] (hand asked)
+      (stream-in-hand h.objects (repo h).commits (base_of h) (verdict start all).commands (verdict start all).fault [] o
+      (whole-trees (repo h).commits (ran (base_of h) all).state.commits (stream-replayed h all st.spells.store bytes).commits) m)
+
+  store-grown : (T : List Object) → IsGrownBy (IsMadeOfStream (base_of h) all) S T → IsGrownBy (IsInHands (hands_of (Ok asked))) S T
+  store-grown T g = grown_as (IsMadeOfStream (base_of h) all) (IsInHands (hands_of (Ok asked))) S T brought-in-hand g
+
+  clashes : (T : List Object) (n : Bytes) → IsGrownBy (IsMadeOfStream (base_of h) all) S T → IsClash (IsMadeOfStream (base_of h) all) T n → IsTwice Hand_here n
+  clashes T n g c =
+      twice-as (λ o. Contains S o ⊎ IsMadeOfStream (base_of h) all o) Hand_here n (λ o m. either o m) (clash-twice (IsMadeOfStream (base_of h) all) S T n g c)
+    where
+      either : (o : Object) → Contains S o ⊎ IsMadeOfStream (base_of h) all o → Hand_here o
+      either o (inl m) = inl m
+      either o (inr m) = inr (brought-in-hand o m)
+
+  -- a fault of the stream is the step's
+  made-fault : (f : StreamFault) → replay (base_of h) all ≡ Err f → made (room_in s) asked ≡ Err (stream_outcome f)
+  made-fault f e = ap (λ (x : Result Replayed StreamFault). refused_by stream_outcome x >>= rest) e
+    where
+      rest : Replayed → Result Made Outcome
+      rest r = all_forward force (reverse r.commits ++ (repo h).commits) h.refs r.heads >>= λ _. within (room_in s) h (flat_map ref_line r.heads) (import_plan h r)
+
+  refused-by-stream : (f : StreamFault) → replay (base_of h) all ≡ Err f → IsRefusal Hand_here (stream_outcome f) (made (room_in s) asked)
+  refused-by-stream (streams.Syntax at) e = made-fault (streams.Syntax at) e
+  refused-by-stream (streams.Unsupported at what) e = made-fault (streams.Unsupported at what) e
+  refused-by-stream (streams.Unresolved at) e = made-fault (streams.Unresolved at) e
+  refused-by-stream (streams.BadPath at) e = made-fault (streams.BadPath at) e
+  refused-by-stream (streams.NoSource at) e = made-fault (streams.NoSource at) e
+  refused-by-stream (streams.Limit at which) e = made-fault (streams.Limit at which) e
+  refused-by-stream (streams.Collision n) e = inl (made-fault (streams.Collision n) e)
+  refused-by-stream streams.OutOfMemory e = tt
+
+  refused-by-put : (T : List Object) (f : StreamFault) → IsGrownBy (IsMadeOfStream (base_of h) all) S T → IsPutFault (IsMadeOfStream (base_of h) all) T f
+      → IsRefusal Hand_here (stream_outcome f) (made (room_in s) asked)
+  refused-by-put T f g (inl e) = subst (λ x. IsRefusal Hand_here (stream_outcome x) (made (room_in s) asked)) (sym e) tt
+  refused-by-put T f g (inr (m, e, c)) = subst (λ x. IsRefusal Hand_here (stream_outcome x) (made (room_in s) asked)) (sym e) (inr (clashes T m.0 g c))
+
+  -- why a stream isn't replayed is why there is no report
+  replay-refused : (T : List Object) (f : ReplayError) → IsGrownBy (IsMadeOfStream (base_of h) all) S T → IsStreamError (base_of h) T all f
+      → IsRefusal Hand_here (replay_outcome f) (made (room_in s) asked)
+  replay-refused T replays.ReadFault g i = tt
+  replay-refused T (replays.Stream f) g (inl e) = refused-by-stream f e
+  replay-refused T (replays.Stream f) g (inr p) = refused-by-put T f g p
+
+  -- ---- what is said of an import
+
+  abbrev pub IsImported : Contents → KeeperView → KeeperView → ℕ → ℕ → (ℕ → List Bytes → Type 0) → (ℕ → List Bytes → Type 0) → Result Bytes Outcome → Type 0
+  IsImported after before now a b x y result =
+      (p : Plan) × IsMadeOf (Ok asked) items h s after before now p result × OnlyAdds a b x y (IsStopOf h s p before.items)
+
+  -- ---- the keeper is as it was
+
+  module _ (before : KeeperView) (a : ℕ) (x : ℕ → List Bytes → Type 0) (s1 : Contents) where
+    untouched : (e : Outcome) → IsRefusal Hand_here e (made (room_in s) asked) → e ≢ outcomes.StoreFault → IsStateOf items h s1 → IsGrownBy (IsMadeOfStream (base_of h) all) S s1.basis.store
+        → IsImported s1 before before a a x x (Err e)
+    untouched e i n t g = (
+      NoPlan,
+      made-untouched asked items h s s1 before e i n t (store-grown s1.basis.store g),
+      adds_none a x (IsStopOf h s NoPlan before.items),
+    )
+
+    -- the stream isn't replayed
+    pub unreplayed : (e : Outcome) (result : Result Bytes Outcome) → result ≡ Err e → IsReplayedUpon items h all s s1 (Err e) → e ≢ outcomes.StoreFault → IsImported s1 before before a a x x result
+    unreplayed e result q u n =
+        let why = u.refused in
+        subst (IsImported s1 before before a a x x) (sym q)
+        (untouched e (subst (λ (o : Outcome). IsRefusal Hand_here o (made (room_in s) asked)) (sym why.1) (replay-refused s1.basis.store why.0 u.grown why.2)) n u.state u.grown)
+
+    -- there was no memory behind it
+    pub no-memory : (g : ReplayedNames) → IsReplayedUpon items h all s s1 (Ok g) → IsImported s1 before before a a x x (Err outcomes.OutOfMemory)
+    no-memory g u = (NoPlan, made-without asked items h s s1 before (store-grown s1.basis.store u.grown), adds_none a x (IsStopOf h s NoPlan before.items))
+
+  -- ---- a stream that was replayed
+
+  module _ (s1 : Contents) (g : ReplayedNames) (report : Bytes) (b : Batch) (u : IsReplayedUpon items h all s s1 (Ok g)) (p : IsPrepared g report b) where
+    given : IsGiven (replay (base_of h) all) (IsReplayedOf s1.basis.store g)
+    given = given-value (replay (base_of h) all) (IsReplayedOf s1.basis.store g) u.given
+
+    abbrev r : Replayed
+    r = given.value
+
+    by-state : IsReplayedOf s1.basis.store g (given_by (ran (base_of h) all).state) → IsBatchOf h s1 b (ran (base_of h) all).state.blobs (ran (base_of h) all).state.commits
+    by-state i =
+        let w = stream-replayed h all st.spells.store bytes in
+        let set : settings_of b ≡ heads_of (ran (base_of h) all).state = ap (map setting_value) p.refs ∙ i.settings in
+        stream-batch h all st.spells.store bytes s1 g b u.state.spells u.state.ground.graph.store (read-law.sound items h st.current.read).trees i p.blobs p.commits
+        (subst (λ (es : Refs). T (is_sorted bytes_cmp es)) (sym set) (sorted-heads (base_of h) (verdict start all).commands (verdict start all).fault))
+        (subst (λ (es : Refs). AreRefsTo (with_commits (repo h).commits (ran (base_of h) all).state.commits) es) (sym set) w.heads)
+
+    batch : IsBatchOf h s1 b r.blobs r.commits
+    batch =
+        let same : given_by (ran (base_of h) all).state ≡ r = given-whole (ran (base_of h) all).state (ran (base_of h) all).fault r given.is in
+        subst (λ (r : Replayed). IsBatchOf h s1 b r.blobs r.commits) same (by-state (subst (IsReplayedOf s1.basis.store g) (sym same) given.holds))
+
+    pub is-batch : (k : Held) × (blobs : List Bytes) × (cs : List Snapshot) × IsBatchOf k s1 b blobs cs
+    is-batch = (h, r.blobs, r.commits, batch)
+
+    -- of each list of blobs and of commits that the batch brings
+    abbrev pub ForBatch : (List Bytes → List Snapshot → Type 0) → Type 0
+    ForBatch P = (blobs : List Bytes) (cs : List Snapshot) → IsBatchOf h s1 b blobs cs → P blobs cs
+
+    same-room : room_in s1 ≡ room_in s
+    same-room = ap room_in u.same
+
+    settings : settings_of b ≡ r.heads
+    settings = ap (map setting_value) p.refs ∙ given.holds.settings
+
+    same-plan : batch_plan h b r.blobs r.commits ≡ import_plan h r
+    same-plan = ap (λ es. change_plan h (objects_of r.blobs r.commits) es) settings
+
+    abbrev forward : Result (Unit {0}) Outcome
+    forward = all_forward force (reverse r.commits ++ (repo h).commits) h.refs (settings_of b)
+
+    -- what comes of it, by the refs
+    made-so : made (room_in s) asked ≡ (forward >>= λ _. within (room_in s) h (flat_map ref_line r.heads) (batch_plan h b r.blobs r.commits))
+    made-so =
+        ap (λ (y : Result Replayed Outcome). y >>= rest) (ap (refused_by stream_outcome) given.is)
+        ∙ (λ i. all_forward force (reverse r.commits ++ (repo h).commits) h.refs (sym settings i) >>= λ _. within (room_in s) h (flat_map ref_line r.heads) (sym same-plan i))
+      where
+        rest : Replayed → Result Made Outcome
+        rest r = all_forward force (reverse r.commits ++ (repo h).commits) h.refs r.heads >>= λ _. within (room_in s) h (flat_map ref_line r.heads) (import_plan h r)
+
+    abbrev onward : Result (Unit {0}) Outcome → Result Made Outcome
+    onward y = y >>= λ _. within (room_in s) h (flat_map ref_line r.heads) (batch_plan h b r.blobs r.commits)
+
+    -- a ref would not move forward
+    backward-refusal : (e : Outcome) → forward ≡ Err e → IsRefusal Hand_here e (made (room_in s) asked)
+    backward-refusal e f =
+        backward-so Hand_here force (reverse r.commits ++ (repo h).commits) h.refs (settings_of b) e (made (room_in s) asked) f (made-so ∙ ap onward f)
+
+    pub not-forward : (before : KeeperView) (a : ℕ) (x : ℕ → List Bytes → Type 0) (e : Outcome) (result : Result Bytes Outcome) → result ≡ Err e
+        → ForBatch (λ blobs cs. (e ≡ outcomes.OutOfMemory) ⊎ (all_forward force (reverse cs ++ (repo h).commits) h.refs (settings_of b) ≡ Err e)) → e ≢ outcomes.StoreFault
+        → IsImported s1 before before a a x x result
+    not-forward before a x e result q f n =
+        subst (IsImported s1 before before a a x x) (sym q) (⊎_elim
+        (λ k. subst (λ (o : Outcome). IsImported s1 before before a a x x (Err o)) (sym k) (no-memory before a x s1 g u))
+        (λ k. untouched before a x s1 e (backward-refusal e k) n u.state u.grown) (f r.blobs r.commits batch))
+
+    -- ---- what it brings is to be committed
+
+    import-case : forward ≡ Ok tt → IsCase asked items h s s1 (flat_map ref_line r.heads) (batch_plan h b r.blobs r.commits)
+    import-case f = record {
+      state = u.state;
+      room = same-room;
+      step = made-so ∙ ap onward f;
+      plan = λ e. refl;
+      addition = change-law h r.blobs r.commits (settings_of b) batch.brought batch.small batch.refs;
+      kept = λ e k.
+          (kept-law project_by).change items h r.blobs r.commits (settings_of b) stay k batch.brought batch.small batch.refs
+          (passed-same items h (batch_plan h b r.blobs r.commits) s st.current e);
+      grown = store-grown s1.basis.store u.grown;
+    }
+
+    module _ (f : ForBatch (λ blobs cs. all_forward force (reverse cs ++ (repo h).commits) h.refs (settings_of b) ≡ Ok tt)) (after : Contents) (before now : KeeperView)
+        (a c : ℕ) (x y : ℕ → List Bytes → Type 0) (stops : ForBatch (λ blobs cs. OnlyAdds a c x y (IsStopOf h s1 (batch_plan h b blobs cs) before.items))) where
+      abbrev plan : Plan
+      plan = batch_plan h b r.blobs r.commits
+
+      of-case : IsCase asked items h s s1 (flat_map ref_line r.heads) plan
+      of-case = import-case (f r.blobs r.commits batch)
+
+      -- a stop during the commit is one of the import
+      stops-as : (p : Plan) → OnlyAdds a c x y (IsStopOf h s1 p before.items) → OnlyAdds a c x y (IsStopOf h s p before.items)
+      stops-as p adds = adds_as a c x y (IsStopOf h s1 p before.items) (IsStopOf h s p before.items) (λ left k. stop-as h s s1 p before.items left same-room k) adds
+
+      pub commit-refused : (e : CommitError) (o : Outcome) → o ≡ commit_outcome e → ForBatch (λ blobs cs. IsRefused h (batch_plan h b blobs cs) s1 after e) → after.basis.store ≡ s1.basis.store
+          → ForBatch (λ blobs cs. Appends (batch_plan h b blobs cs) before now (Err e)) → (IsRefusedBy (Err e) → OnlyAdds a c x y (IsPresent before.items)) → IsImported after before now a c x y (Err o)
+      commit-refused e o q why same got refused =
+          subst (λ (d : Outcome). IsImported after before now a c x y (Err d)) (sym q) (
+            planned_by plan (Err e),
+            made-refused asked items h s s1 (flat_map ref_line r.heads) plan of-case after before now e (why r.blobs r.commits batch) same (got r.blobs r.commits batch),
+            stops-as (planned_by plan (Err e)) (stops-by h s1 plan before.items a c x y (Err e) (stops r.blobs r.commits batch) refused),
+          )
+
+      pub commit-done : (w : Unit {0}) → ForBatch (λ blobs cs. IsCommitted h (batch_plan h b blobs cs) s1 after × IsGround after.basis)
+          → ForBatch (λ blobs cs. Appends (batch_plan h b blobs cs) before now (Ok w)) → IsImported after before now a c x y (Ok report)
+      commit-done w done got = (
+        plan,
+        made-done asked items h s s1 (flat_map ref_line r.heads) plan of-case after w before now report (sym (p.line ∙ ap (flat_map ref_line) given.holds.settings))
+            (done r.blobs r.commits batch).0 (done r.blobs r.commits batch).1 (got r.blobs r.commits batch),
+        stops-as plan (stops r.blobs r.commits batch),
+      )

@@ -1,25 +1,46 @@
-pub mod Twice
-pub mod Bringing
-pub mod Makes
-pub mod Joins
-pub mod Importing
+pub mod CommitGraphs
+pub mod Staying
+pub mod Recalling
+mod Judging
+pub mod StatesAfter
 pub mod Committing
-pub mod Inputs
-pub mod Imports
-pub mod ImportFits
-pub mod PushPlans
-pub mod PushFits
-pub mod SetRefs
-pub mod PushLaws
-pub mod PushStarts
-pub mod PushAnswers
-pub mod PushStreams
-pub mod LaidCommits
-pub mod PushedCommits
-pub mod ShownRoots
-pub mod Laws
-pub mod Stopping
+mod RulesSet
+mod InHands
+mod StatesShown
+mod Exports
+mod SoundTexts
+mod Lengths
+mod NewRows
+mod Keeps
+mod Projects
+pub mod StreamHands
+pub mod StreamBatches
+pub mod StateBases
+mod Imports
+pub mod KeptTexts
+pub mod RecalledTexts
+pub mod Forming
+pub mod Refusing
+pub mod CasePlans
+pub mod Delivering
+pub mod Answering
+pub mod Joining
+pub mod Lengthening
+pub mod ExportAnswers
+pub mod NameForms
+pub mod Making
+pub mod Opening
+pub mod RuleForms
+pub mod Outcomes
+mod HeadsFound
+mod NameCases
+mod NamesTold
+mod NamesGiven
+pub mod RepeatedCommits
+pub mod ListLengths
 pub mod DiskLists
-mod ListLengths
 pub mod Lifting
-pub mod StoredTrees
+mod PushHands
+mod PushedLaws
+mod PushPlans
+mod Pushes

@@ -1,86 +1,56 @@
--- What an accepted push commits is the change that its verdict asks for.
-use Rattle.std.proofs.Common.{◌≡◌, true, false, not, cond, ◌||◌, ◌&&◌, List, [], ◌∷◌, ◌++◌, map, refl, sym, ap, subst, ◌∙◌, append-nil}
-use Rattle.std.specs.List.{flat_map, list_all, list_any}
-use Rattle.std.specs.Option.{option_map_or}
-use Rattle.std.proofs.lemmas.Bool.{or_left, or_right}
-use Rattle.git_objects.specs.Paths.{Bytes, same_bytes}
-use Rattle.git_objects.specs.Commits.{Commit}
-use Rattle.git_objects.specs.Parts.{name_bytes}
-use Rattle.git_objects.specs.declared.kind.Kind.TheVariants.{Blob, Commit as CommitKind}
-use Rattle.git_objects.specs.declared.name.Name.{Name}
-use Rattle.git_objects.proofs.Basics.{same_bytes-self}
-use Rattle.object_store.specs.Objects.{Object, IsStore, has}
-use Rattle.filter_routes.specs.Lenses.{Lens}
-use Rattle.repo_state.specs.Items.{Held}
-use Rattle.git_objects.specs.Snapshots.{Snapshot, snapshot_name}
-use Rattle.repo_state.specs.Changes as changes
-use Rattle.repo_state.specs.Changes.{IsChange, are_distinct, fresh, has_parents, moved, objects_of, plan}
-use Rattle.repo_state.specs.Commits.{change_of}
-use Rattle.small_streams.specs.Replay.{contents, contents_in, stream_objects}
-use Rattle.small_streams.specs.Replays.{AreBlobs}
-use Rattle.history_project.specs.Snapshots.{AreSnapshots}
-use Rattle.proj_cli.specs.Push as push
-use Rattle.proj_cli.specs.Push.{by_laid, judged, original_commit, pushed_commit}
-use Rattle.proj_cli.specs.Pushes.{IsAccepted, IsPushBatch}
-use Rattle.proj_cli.specs.Step.{Room, changing, import_plan, push_line, push_made}
-use Rattle.small_streams.specs.Streams.{Small}
-use Rattle.proj_cli.specs.declared.pushing.Pushed.{Pushed}
-use Rattle.proj_cli.specs.declared.saving.Prepared.{Prepared}
-use Rattle.history_project.proofs.AllCommits.{both_true}
-use Rattle.proj_cli.proofs.Bringing.{blobs-are, blobs-held, commits-are, stands}
-use Rattle.history_project.proofs.MadeLines.{commit-read, made-held}
+-- What a push brings to a state, by what it brings over its ground.
+use Rattle.std.proofs.Common.{◌≡◌, List, [], Result, Ok, Err, append-nil, refl, sym, subst, ◌∙◌}
+use Rattle.git_objects.specs.Paths.{Bytes}
+use Rattle.git_objects.specs.Snapshots.{Graph}
+use Rattle.object_store.specs.Growth.{IsGrownBy}
+use Rattle.filter_text.specs.Filters.{Filter}
+use Rattle.commit_map.specs.declared.rule.Rule.{Rule}
+use Rattle.history_ground.specs.Grounds.{commits_of}
+use Rattle.history_ground.specs.declared.ground.Ground.{Ground}
+use Rattle.push_back.specs.Faults.{IsPushFault}
+use Rattle.push_back.specs.Planning.{IsPlanOf, IsPlanned}
+use Rattle.push_back.specs.Pushes.{pushing}
+use Rattle.push_back.specs.declared.fault.PushFault.{PushFault}
+use Rattle.push_back.specs.declared.brought.Plan.{Plan}
+use Rattle.state_items.specs.Items.{Held}
+use Rattle.state_items.specs.Repos.{repo}
+use Rattle.repo_ground.specs.Contents.{Contents}
+use Rattle.proj_words.specs.declared.outcome.Outcome.{Outcome}
+use Rattle.proj_cli.specs.Filters.{rule_by}
+use Rattle.proj_cli.specs.Makes.{IsStateOf}
+use Rattle.proj_cli.specs.Pushing.{IsMadeOver, IsPlannedUpon, fault_outcome}
+use Rattle.proj_cli.proofs.StatesShown.{commits-are, rule-is, state-grown}
 
-module _ (S : List Object) (s : IsStore S) (h : Held) (f : Lens) (start : push.Start) (m : Small) (refname : Bytes) (r : Pushed) (p : Prepared) (a : IsAccepted S f start m r) where
-  -- the original commit
-  abbrev pub original : Snapshot
-  original = original_commit start m.head.letter a.original.tree
+module _ (items : List Bytes) (h : Held) (s : Contents) (f : Filter) (refname n all : Bytes) (w : IsStateOf items h s) where
+  -- by what is held
+  over : (P : Rule → Graph → Type 0) → P s.basis.rule (commits_of s.basis) → P (rule_by h.rule) (repo h).commits
+  over P p = subst (λ (cs : Graph). P (rule_by h.rule) cs) (commits-are items h s f n w) (subst (λ (k : Rule). P k (commits_of s.basis)) (rule-is h s w.spells) p)
 
-  pub made : AreSnapshots S (r.original ∷ []) (original ∷ [])
-  made = (a.original.commit, tt)
+  module _ (g : Ground) where
+    abbrev s2 : Contents
+    s2 = record s { basis = g }
 
-  pub brought : AreBlobs S r.blobs.items (contents (m ∷ []))
-  brought = subst (AreBlobs S r.blobs.items) (sym (append-nil (contents_in m.changes))) a.blobs
+    of-plan : (p : Plan) → IsPlanned f refname n all s.basis g (Ok p) → IsPlannedUpon items h f refname n all s s2 (Ok p)
+    of-plan p q = record {
+      given = over (λ k cs. IsPlanOf g.store p (pushing k f cs n refname all)) q.ok;
+      refused = tt;
+      state = state-grown items h s f n w (IsMadeOver f refname n all s.basis.rule (commits_of s.basis)) g [] q.same (append-nil s.basis.map ∙ sym q.map);
+      grown = over (λ k cs. IsGrownBy (IsMadeOver f refname n all k cs) s.basis.store g.store) q.same.store;
+      same = refl;
+    }
 
-  -- it is what the verdict accepts
-  pub judged-is : judged f start m ≡ push.Accepted original
-  judged-is =
-      (λ i. cond (not (a.small i)) push.TooLarge (cond (a.differs i) push.NoChange (by_laid start m.head.letter (a.original.laid i))))
-      ∙ ap (λ b. cond b (push.Accepted original) push.TooLarge) a.original.fits
+    pub planned-ok : (p : Plan) (result : Result Plan Outcome) → result ≡ Ok p → IsPlanned f refname n all s.basis g (Ok p) → IsPlannedUpon items h f refname n all s s2 result
+    planned-ok p result e q = subst (IsPlannedUpon items h f refname n all s s2) (sym e) (of-plan p q)
 
-  module _ (b : IsPushBatch refname r p) where
-    -- it may be committed
-    pub push-change : has CommitKind h.objects start.head ≡ true → IsChange S h.objects (change_of p.batch)
-    push-change held =
-        let one : stands h.objects [] start.head ≡ true = or_left _ _ held in
-        let own : list_any (same_bytes r.original.0) (r.original.0 ∷ []) ≡ true = or_left _ _ (same_bytes-self r.original.0) in
-        record {
-          blobs = ap (λ (ns : List Name). list_all (has Blob S) (map name_bytes ns)) b.blobs ∙ blobs-held S s r.blobs.items (contents (m ∷ [])) brought;
-          commits = ap (λ (ns : List Name). list_all (has CommitKind S) (map name_bytes ns)) b.commits ∙ made-held S s (r.original ∷ []) (original ∷ []) made;
-          parents = ap (λ (ns : List Name). has_parents S h.objects [] (map name_bytes ns)) b.commits
-              ∙ ap (λ o. option_map_or (λ (d : Commit). list_all (stands h.objects []) d.parents) o false && true) (commit-read S s r.original.0 original a.original.commit)
-              ∙ both_true _ _ (both_true _ _ one refl) refl;
-          refs = ap are_distinct b.refs;
-          heads = ap (λ (rs : List (Bytes × Bytes)). list_all (λ (e : Bytes × Bytes). has CommitKind h.objects e.1 || list_any (same_bytes e.1) (map name_bytes p.batch.commits.items)) rs) b.refs
-              ∙ both_true _ _ (or_right _ _ (ap (λ (ns : List Name). list_any (same_bytes r.original.0) (map name_bytes ns)) b.commits ∙ own)) refl;
-        }
+    of-fault : (e : PushFault) → IsPlanned f refname n all s.basis g (Err e) → IsPlannedUpon items h f refname n all s s2 (Err (fault_outcome e))
+    of-fault e q = record {
+      given = tt;
+      refused = (e, refl, over (λ k cs. IsPushFault (pushing k f cs n refname all).refusal (IsMadeOver f refname n all k cs) g.store e) q.err);
+      state = state-grown items h s f n w (IsMadeOver f refname n all s.basis.rule (commits_of s.basis)) g [] q.same (append-nil s.basis.map ∙ sym q.map);
+      grown = over (λ k cs. IsGrownBy (IsMadeOver f refname n all k cs) s.basis.store g.store) q.same.store;
+      same = refl;
+    }
 
-    objects-are : objects_of S (change_of p.batch) ≡ stream_objects (m ∷ []) (original ∷ [])
-    objects-are =
-        let front = ap (λ (ns : List Name). map (changes.blob_object S) (map name_bytes ns)) b.blobs ∙ blobs-are S s r.blobs.items (contents (m ∷ [])) brought in
-        let back = ap (λ (ns : List Name). flat_map (changes.commit_objects S) (map name_bytes ns)) b.commits ∙ commits-are S s (r.original ∷ []) (original ∷ []) made in
-        λ i. front i ++ back i
-
-    head-is : r.original.0 ≡ snapshot_name original
-    head-is = sym a.original.commit.named
-
-    plan-is : plan S h (change_of p.batch) ≡ import_plan h (m ∷ []) refname (original ∷ [])
-    plan-is =
-        let refs = b.refs ∙ ap (λ (n : Bytes). (refname, n) ∷ []) head-is in
-        λ i. record { objects = fresh h.objects (objects-are i); refs = moved h.refs (refs i) }
-
-    -- and is the change of the step
-    pub push-step : (room : Room) → push_made h room refname start m (judged f start m) ≡ changing h room p.report (plan S h (change_of p.batch))
-    push-step room =
-        let report : push_line (snapshot_name (pushed_commit start m)) (snapshot_name original) ≡ p.report = (let q = sym a.pushed in let o = sym head-is in λ i. push_line (q i) (o i)) ∙ sym b.report in
-        let says = sym plan-is in
-        ap (push_made h room refname start m) judged-is ∙ (λ i. changing h room (report i) (says i))
+    pub planned-err : (e : PushFault) (o : Outcome) (result : Result Plan Outcome) → result ≡ Err o → o ≡ fault_outcome e → IsPlanned f refname n all s.basis g (Err e) → IsPlannedUpon items h f refname n all s s2 result
+    planned-err e o result r q p =
+        subst (IsPlannedUpon items h f refname n all s s2) (sym r) (subst (λ (x : Outcome). IsPlannedUpon items h f refname n all s s2 (Err x)) (sym q) (of-fault e p))

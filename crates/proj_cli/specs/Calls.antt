@@ -1,8 +1,7 @@
 -- What the clauses of a command see of its devices.
-use Rattle.std.specs.Prelude.{ℕ, List}
-use Rattle.std.specs.declared.option.Option.{Option}
+use Rattle.std.specs.Prelude.{ℕ, List, Option}
 use Rattle.proj_io.specs.Views.{source_view, sink_view, keeper_view}
-use Rattle.proj_cli.specs.Answer.{Devices}
+use Rattle.proj_cli.specs.Answers.{Devices}
 
 abbrev pub devices : {S O K : Type 0} → (S → Option (List ℕ)) → (S → ℕ) → (O → Option (List ℕ)) → (O → ℕ) → (O → ℕ) → (K → Option (List (List ℕ))) → (K → ℕ) → (K → ℕ) → S → O → K → Devices
 devices left read written faults refusals items number kept source sink keeper =

@@ -1,38 +1,249 @@
--- Worked examples: a store on a disk, and what a stop leaves of it.
-use Rattle.std.specs.Prelude.{◌≡◌, [], ◌∷◌, refl, codes, List, Some}
-use Rattle.std.proofs.Common.{inl, inr, true≢false}
+-- Worked examples of commands.
+use Rattle.std.specs.Prelude.{◌≡◌, refl, false, true, List, [], ◌∷◌, ◌++◌, codes, length, map, Option, None, Some, Result, Ok, Err}
 use Rattle.std.specs.Fmt.{digits}
-use Rattle.git_objects.specs.Paths.{Bytes}
-use Rattle.proj_disk.specs.Disks.{stable}
-use Rattle.proj_journal.specs.Journals.{items_of}
-use Rattle.proj_journal.specs.Spelling.{spelled}
-use Rattle.proj_journal.specs.declared.opening.JournalError.TheVariants.{Broken, Failed, OutOfMemory}
-use Rattle.proj_cli.specs.Step.{done, refused}
-use Rattle.proj_cli.specs.Stopped.{MayLeave}
-use Rattle.proj_cli.specs.Served.{error_code, error_text}
-use Rattle.proj_words.specs.declared.outcome.Outcome.TheVariants.{NotBuilt}
+use Rattle.hex.specs.Hex.{decode_pairs}
+use Rattle.git_objects.specs.Paths.{Bytes, Path}
+use Rattle.git_objects.specs.Trees.{FileLeaf, put, remove}
+use Rattle.git_objects.specs.Bodies.{tree_entries}
+use Rattle.git_objects.specs.Commits.{hex}
+use Rattle.git_objects.specs.CommitBodies.{commit_from, digits_name}
+use Rattle.git_objects.specs.Idents.{is_ident}
+use Rattle.git_objects.specs.Results.{◌>>=◌}
+use Rattle.git_objects.specs.Snapshots.{Snapshot, snapshot_name}
+use Rattle.git_objects.specs.declared.quantity.Quantity.TheVariants as limits
+use Rattle.path_names.specs.Quoting.{quote, quoted_byte}
+use Rattle.path_names.specs.RefNames.{is_ref_name}
+use Rattle.path_names.specs.Words.{number}
+use Rattle.object_store.specs.Objects.{find_named, has, has_name, body_of}
+use Rattle.object_store.specs.TreeObjects.{tree_objects}
+use Rattle.object_store.specs.Unfolding.{flat}
+use Rattle.filter_text.specs.Filters.{sub}
+use Rattle.filter_text.specs.Limits.{read}
+use Rattle.filter_routes.specs.FaultTests.{fault}
+use Rattle.stream_lex.specs.Lines.{any_line, line_at, block_at}
+use Rattle.stream_reader.specs.Words.{first_word, mark}
+use Rattle.stream_reader.specs.Reading.{option_line, need_line}
+use Rattle.stream_reader.specs.Names.{target}
+use Rattle.stream_reader.specs.Blocks.{data_behind, blob_data, message_data}
+use Rattle.stream_reader.specs.PathWords.{last_path, first_path, two_paths}
+use Rattle.stream_reader.specs.Changes.{mode, dataref, modify_line, modify, change_line, change}
+use Rattle.stream_reader.specs.Heads.{mark_lines, blob, people, ref_line, parents, head, reset}
+use Rattle.stream_reader.specs.Commands.{command_line, turn, read_command}
+use Rattle.stream_reader.specs.Verdicts.{verdict_from}
+use Rattle.fast_export.specs.ExportTexts.{export_text}
+use Rattle.state_items.specs.Items.{change_text, is_canonical, kept_text, read_item, read_items, rule_text}
+use Rattle.state_items.specs.Changes.{fresh, plan_items, room_of}
+use Rattle.push_back.specs.Examples.{commit, naming, reading, showing}
+use Rattle.proj_words.specs.Words.{Import, Project, Export, Push, Name, Rule, Trial, Batch, Unknown}
+use Rattle.proj_words.specs.declared.outcome.Outcome.{Outcome}
+use Rattle.proj_words.specs.declared.outcome.Outcome.TheVariants.{Usage, UnknownRef, NotForward, NotAtHead, Limit, FilterFault, Overlap, NotBuilt, Damaged}
+use Rattle.proj_words.specs.declared.outcome.FilterWhat.TheVariants as filters
+use Rattle.proj_cli.specs.Cases.{Made, ProjectCase, head_of, loaded, name_or_none}
+use Rattle.proj_cli.specs.Makes.{recalled_made}
+use Rattle.proj_cli.specs.Filters.{sound}
+use Rattle.proj_cli.specs.Steps.{step}
 
--- an empty disk has the empty list
-pub nothing_on_an_empty_disk : items_of (Some (stable [])) ≡ Some []
-unfolding spelled
-nothing_on_an_empty_disk = refl
+-- what a theorem about texts of filters unfolds, so that it computes
+unfoldable judging : Option Path
+unfolding sound read reading fault
+judging = None
 
--- the texts and the numbers where there is no journal
-pub a_damaged_journal : error_text (Broken 8) ≡ codes "damaged: journal at 8\n"
-unfolding digits
-a_damaged_journal = refl
+-- the same of items
+unfoldable loading : Option Path
+unfolding read_items read_item is_canonical read
+loading = None
 
-pub a_disk_that_fails : error_text Failed ≡ codes "store fault\n"
-a_disk_that_fails = refl
+-- the same of what is held and what is new of it
+unfoldable holding : Option Path
+unfolding change_text kept_text fresh find_named has has_name body_of flat tree_entries commit_from tree_objects
+holding = None
 
-pub the_numbers : error_code Failed ∷ error_code (Broken 8) ∷ error_code OutOfMemory ∷ [] ≡ 24 ∷ 25 ∷ 1 ∷ []
-the_numbers = refl
+-- the same of streams
+unfoldable replaying : Option Path
+unfolding put remove any_line line_at block_at option_line need_line first_word number mark target data_behind blob_data
+    message_data last_path first_path two_paths is_ref_name is_ident mode dataref modify_line modify change_line change
+    mark_lines blob people ref_line parents head reset command_line turn read_command verdict_from decode_pairs
+replaying = None
 
--- a stop during a step that is refused, or that changes nothing, leaves the items
-pub a_refusal_leaves_the_items : (items list : List Bytes) → MayLeave (refused NotBuilt) items list → list ≡ items
-a_refusal_leaves_the_items items list (inl same) = same
-a_refusal_leaves_the_items items list (inr more) = absurd (true≢false more.says)
+abbrev main : Bytes
+main = codes "refs/heads/main"
 
-pub no_change_leaves_the_items : (output : Bytes) (items list : List Bytes) → MayLeave (done output) items list → list ≡ items
-no_change_leaves_the_items output items list (inl same) = same
-no_change_leaves_the_items output items list (inr more) = absurd (true≢false more.says)
+-- what is written
+abbrev output_of : Result Made Outcome → Result Bytes Outcome
+output_of r = r >>= λ m. Ok m.output
+
+-- what is appended
+abbrev items_of : Result Made Outcome → Result (List Bytes) Outcome
+items_of r = r >>= λ m. Ok (plan_items m.plan)
+
+abbrev items_or_none : Result (List Bytes) Outcome → List Bytes
+items_or_none (Ok items) = items
+items_or_none (Err e) = []
+
+-- an item of no kind
+abbrev damaged : List Bytes
+damaged = (255 ∷ []) ∷ []
+
+-- ---- the first refusal
+
+pub no_form : step Unknown damaged [] ≡ Err Usage
+no_form = refl
+
+pub a_batch : step Batch [] [] ≡ Err NotBuilt
+a_batch = refl
+
+pub a_trial : step (Trial 1) [] [] ≡ Err NotBuilt
+a_trial = refl
+
+pub filters_come_first : step (Project main (codes ":c")) damaged [] ≡ Err (FilterFault filters.Syntax)
+unfolding judging
+filters_come_first = refl
+
+-- both show their files at the top
+pub branches_that_clash : step (Project main (codes ":[:/a,:/b]")) damaged [] ≡ Err (Overlap 0 0 1)
+unfolding judging
+branches_that_clash = refl
+
+pub then_items : step (Project main (codes ":/a")) damaged [] ≡ Err (Damaged 0 0)
+unfolding judging loading
+then_items = refl
+
+pub then_the_ref : step (Export main (codes ":/a")) [] [] ≡ Err UnknownRef
+unfolding judging loading
+then_the_ref = refl
+
+pub no_push_to_no_ref : step (Push main (codes ":/a")) [] (codes "no stream") ≡ Err UnknownRef
+unfolding judging loading
+no_push_to_no_ref = refl
+
+-- of a stream the ref comes last
+pub nothing_to_name : step (Name main (codes ":/a")) damaged [] ≡ Err UnknownRef
+unfolding judging holding replaying
+nothing_to_name = refl
+
+-- ---- rules
+
+pub a_rule_is_new : output_of (step (Rule 2) [] []) ≡ Ok (codes "rule 2\n")
+unfolding loading digits
+a_rule_is_new = refl
+
+pub a_rule_has_an_item : items_of (step (Rule 2) [] []) ≡ Ok (rule_text 2 ∷ [])
+unfolding loading
+a_rule_has_an_item = refl
+
+pub the_state's_rule : items_of (step (Rule 2) (rule_text 2 ∷ []) []) ≡ Ok []
+unfolding loading
+the_state's_rule = refl
+
+pub the_first_rule : items_of (step (Rule 1) [] []) ≡ Ok []
+unfolding loading
+the_first_rule = refl
+
+-- ---- the import of a commit of one file
+
+abbrev stream : Bytes
+stream = codes "commit refs/heads/main\ncommitter A <a@x> 1700000000 +0000\ndata 5\ninit\nM 100644 inline a/f\ndata 6\nhello\n"
+
+abbrev original : Snapshot
+original = commit ((codes "a" ∷ codes "f" ∷ [], FileLeaf (codes "hello\n")) ∷ []) [] (codes "init\n")
+
+-- its items
+abbrev imported : List Bytes
+imported = items_or_none (items_of (step (Import false) [] stream))
+
+pub an_import_is_reported : output_of (step (Import false) [] stream) ≡ Ok (codes "refs/heads/main 5990ba6163d77f77071ca2e8e9899c368dbc6eb7\n")
+unfolding loading holding replaying reading naming digits
+an_import_is_reported = refl
+
+pub an_import_has_an_item : (items_of (step (Import false) [] stream) >>= λ items. Ok (map length items)) ≡ Ok (249 ∷ [])
+unfolding loading holding replaying reading naming digits
+an_import_has_an_item = refl
+
+pub the_import_again : items_of (step (Import false) imported stream) ≡ Ok []
+unfolding loading holding replaying reading naming digits
+the_import_again = refl
+
+pub a_blob_that_is_too_long : step (Import false) [] (codes "blob\ndata 16777217\n") ≡ Err (Limit limits.Blob (Some 5))
+unfolding loading holding replaying reading naming digits
+a_blob_that_is_too_long = refl
+
+-- another root on the same ref
+abbrev other_stream : Bytes
+other_stream = codes "commit refs/heads/main\ncommitter A <a@x> 1700000000 +0000\ndata 0\n"
+
+abbrev other : Snapshot
+other = commit [] [] []
+
+pub not_forward : step (Import false) imported other_stream ≡ Err (NotForward main (record { 0 = snapshot_name original }) (record { 0 = snapshot_name other }))
+unfolding loading holding replaying reading naming digits
+not_forward = refl
+
+pub by_force : output_of (step (Import true) imported other_stream) ≡ Ok (main ++ 32 ∷ (hex (snapshot_name other) ++ 10 ∷ []))
+unfolding loading holding replaying reading naming digits
+by_force = refl
+
+-- ---- projections of it
+
+pub what_is_projected : output_of (step (Project main (codes ":/a")) imported []) ≡ Ok (codes "6a27ff6de5d45a65cc66723c6ae6227ea6004aa6\n")
+unfolding judging showing loading holding replaying reading naming digits
+what_is_projected = refl
+
+pub nothing_is_projected : output_of (step (Project main (codes ":/b")) imported []) ≡ Ok (codes "none\n")
+unfolding judging showing loading holding replaying reading naming digits
+nothing_is_projected = refl
+
+pub named_without_a_state : output_of (step (Name main (codes ":/a")) damaged stream) ≡ Ok (codes "6a27ff6de5d45a65cc66723c6ae6227ea6004aa6\n")
+unfolding judging showing loading holding replaying reading naming digits
+named_without_a_state = refl
+
+pub what_is_exported : output_of (step (Export main (codes ":/a")) imported [])
+    ≡ Ok (codes "blob\nmark :1\ndata 6\nhello\n\nreset refs/heads/main\ncommit refs/heads/main\nmark :2\nauthor A <a@x> 1700000000 +0000\ncommitter A <a@x> 1700000000 +0000\ndata 5\ninit\n\ndeleteall\nM 100644 :1 f\n\nreset refs/heads/main\nfrom :2\n\n")
+unfolding judging showing loading holding replaying reading naming digits export_text quote quoted_byte
+what_is_exported = refl
+
+pub an_empty_push : items_of (step (Push main (codes ":/a")) imported []) ≡ Ok []
+unfolding judging showing loading holding replaying reading naming digits
+an_empty_push = refl
+
+-- ---- what is kept
+
+-- an item that keeps no projection of it, which isn't true
+abbrev untrue : List Bytes
+untrue = imported ++ kept_text 1 (codes ":/a") ((snapshot_name original, None) ∷ []) ∷ []
+
+pub a_step_asks_nothing_kept : output_of (step (Project main (codes ":/a")) untrue []) ≡ Ok (codes "6a27ff6de5d45a65cc66723c6ae6227ea6004aa6\n")
+unfolding judging showing loading holding replaying reading naming digits
+a_step_asks_nothing_kept = refl
+
+pub what_is_kept_is_recalled : output_of (loaded untrue >>= λ h. head_of main h.refs >>= λ n. recalled_made (room_of untrue) (ProjectCase h (sub (codes "a" ∷ [])) n)) ≡ Ok (codes "none\n")
+unfolding judging showing loading holding replaying reading naming digits
+what_is_kept_is_recalled = refl
+
+-- ---- pushes through `:/a`
+
+-- a commit of a/f and b/k
+abbrev two_imported : List Bytes
+two_imported = items_or_none (items_of (step (Import false) [] (stream ++ codes "M 100644 inline b/k\ndata 6\nhello\n")))
+
+-- one writes g, and the next one, upon it, removes f
+abbrev pushed : Bytes
+pushed = codes "commit refs/heads/main\ncommitter A <a@x> 1700000001 +0000\ndata 3\np1\nfrom 6a27ff6de5d45a65cc66723c6ae6227ea6004aa6\nM 100644 inline g\ndata 2\n1\n\ncommit refs/heads/main\ncommitter A <a@x> 1700000002 +0000\ndata 3\np2\nD f\n"
+
+pub two_originals : output_of (step (Push main (codes ":/a")) two_imported pushed)
+    ≡ Ok (codes "21c8dcd98bd914d4a202c87b6f55917c9606761b ef035742e8efa619a31f71f4f95d2397e1479642\n603e327e45d6237f0ea929264b187f78ba56c8de 4e68c535c067753715bf12b4b89df544b63c1362\n")
+unfolding judging showing loading holding replaying reading naming digits
+two_originals = refl
+
+abbrev after_the_push : List Bytes
+after_the_push = two_imported ++ items_or_none (items_of (step (Push main (codes ":/a")) two_imported pushed))
+
+-- the ref's commit is then projected to the last pushed one
+pub projected_again : output_of (step (Project main (codes ":/a")) after_the_push []) ≡ Ok (codes "603e327e45d6237f0ea929264b187f78ba56c8de\n")
+unfolding judging showing loading holding replaying reading naming digits
+projected_again = refl
+
+-- the same push again stands upon the old projection
+pub not_at_the_head : step (Push main (codes ":/a")) after_the_push pushed
+    ≡ Err (NotAtHead (name_or_none (digits_name (codes "603e327e45d6237f0ea929264b187f78ba56c8de"))) (name_or_none (digits_name (codes "6a27ff6de5d45a65cc66723c6ae6227ea6004aa6"))))
+unfolding judging showing loading holding replaying reading naming digits
+not_at_the_head = refl

@@ -9,13 +9,12 @@ use Rattle.proj_journal.specs.Spelling.{listed, spelled}
 use Rattle.proj_journal.specs.Journals.{items_of}
 use Rattle.proj_journal.specs.declared.opening.JournalError.{JournalError}
 use Rattle.proj_journal.specs.declared.opening.JournalError.TheVariants.{Failed, Broken, OutOfMemory as NoMemory}
-use Rattle.proj_words.specs.Words.{Command}
+use Rattle.proj_words.specs.Words.{Command, loads, reads}
 use Rattle.proj_words.specs.Outcomes.{code_of, text_of}
 use Rattle.proj_words.specs.declared.outcome.Outcome.{Outcome}
-use Rattle.proj_words.specs.declared.outcome.Outcome.TheVariants.{Done, OutOfMemory, StoreFault}
-use Rattle.proj_cli.specs.Step.{Step, loads, reads, step, writes}
-use Rattle.proj_cli.specs.Answer.{Devices, GetsText, IsAnswer, IsComplete, IsInHand}
-use Rattle.proj_cli.specs.Pushed.{IsLawful}
+use Rattle.proj_words.specs.declared.outcome.Outcome.TheVariants.{OutOfMemory, StoreFault}
+use Rattle.proj_cli.specs.Answers.{Devices, GetsText, IsAnswer, IsComplete, outcome_of}
+use Rattle.proj_cli.specs.Steps.{step}
 use Rattle.proj_cli.specs.Stopped.{MayLeave}
 
 -- what a call sees of its devices at one moment
@@ -64,13 +63,14 @@ IsWhole disk = (image : List ℕ) → IsImage disk image → spelled image ≡ O
 abbrev pub Spells : DiskView → List Bytes → Type 0
 Spells disk list = (image : List ℕ) × IsImage disk image × (listed image ≡ list)
 
--- the bytes spell a list, which is one that a stop may have left of the disk before, or may leave during the step
-abbrev pub LeavesWhole : Step → DiskView → List ℕ → Type 0
-LeavesWhole step disk image = (spelled image ≡ Ok (listed image)) × (Spells disk (listed image) ⊎ MayLeave step (listed disk.bytes) (listed image))
+-- the bytes spell a list, which is one that a stop may have left of the disk before, or may leave during the command with this input
+abbrev pub LeavesWhole : Command → Bytes → DiskView → List ℕ → Type 0
+LeavesWhole asked input disk image =
+    (spelled image ≡ Ok (listed image)) × (Spells disk (listed image) ⊎ MayLeave asked (listed disk.bytes) input (listed image))
 
--- the bytes spell a list, which is one that a stop during the step may leave
-abbrev pub LeavesList : Step → List Bytes → List ℕ → Type 0
-LeavesList step items image = (spelled image ≡ Ok (listed image)) × MayLeave step items (listed image)
+-- the bytes spell a list, which is one that a stop during the command may leave
+abbrev pub LeavesList : Command → Bytes → List Bytes → List ℕ → Type 0
+LeavesList asked input items image = (spelled image ≡ Ok (listed image)) × MayLeave asked items input (listed image)
 
 -- ---- a journal
 
@@ -85,11 +85,10 @@ pub record IsRan (asked : Command) (before after : Seen) (exit : ℕ) : Type 0 w
   pub number_now : ℕ
   pub counted : IfSome (items_of before.content) (λ all. length all ≡ number)
   pub counted_now : IfSome (items_of after.content) (λ all. length all ≡ number_now)
-  pub answer : IsAnswer (IsInHand asked) (step asked) (loads asked) (writes asked) (over_disk before number) (over_disk after number_now) outcome
-  pub complete : IsComplete (IsInHand asked) (step asked) (loads asked) (over_disk before number) (over_disk after number_now) outcome
-  pub lawful : (items : List Bytes) (all : Bytes) → items_of before.content ≡ Some items → before.input.left ≡ Some all → outcome ≡ Done → IsLawful asked items all (step asked items all)
+  pub answer : IsAnswer asked (over_disk before number) (over_disk after number_now) outcome
+  pub complete : IsComplete asked (over_disk before number) (over_disk after number_now) outcome
   pub unloaded : loads asked ≡ false → IsOnlySynced before.content after.content
-  pub idle : reads asked ≡ false → loads asked ≡ false → (outcome ≡ OutOfMemory) ⊎ (outcome ≡ (step asked [] []).outcome)
+  pub idle : reads asked ≡ false → loads asked ≡ false → (outcome ≡ OutOfMemory) ⊎ (outcome ≡ outcome_of (step asked [] []))
   pub text : GetsText before.err after.err (text_of outcome)
   pub settled : outcome ≢ StoreFault → IfSome after.content IsSteady
 

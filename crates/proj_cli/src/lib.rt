@@ -1,17 +1,32 @@
-//! The commands of `proj`, and `run`, which does all that the program does.
+//! What the program does: commands over a store, and their answers.
 #![tactic(auto)]
 
-mod import;
+mod deliver;
+mod exporting;
+mod filters;
+mod forms;
+mod importing;
+mod laws;
+mod lines;
 mod loading;
-mod name;
+mod naming;
 mod program;
-mod project;
-mod push;
+mod projecting;
 mod pushing;
-mod saving;
+mod refusals;
+mod rule;
 mod serving;
-mod texts;
 
+pub use deliver::{conclude, finish, tell};
+pub use exporting::export;
+pub use filters::sound_filter;
+pub use importing::import;
+pub use laws::{recall_law, stay_law};
+pub use lines::{projection_report, refs_report, rule_report};
+pub use naming::name;
 pub use program::run;
 pub use proj_words::{Outcome, outcome_code, outcome_text};
+pub use projecting::project;
+pub use pushing::push;
+pub use rule::set_rule;
 pub use serving::{Served, serve};

@@ -1,12 +1,32 @@
+// Loading what a command works with.
+ghost use Rattle.std.specs.Prelude.{◌≡◌, ◌⊎◌, ◌↔◌, List, Err, Ok, Some, IfErr, IfOk, true};
+ghost use Rattle.git_objects.specs.Paths.{Bytes};
+ghost use Rattle.path_names.specs.RefNames.{is_ref_name};
+ghost use Rattle.proj_io.specs.Counts.{Counts};
+ghost use Rattle.proj_io.specs.Items.{Stays};
+ghost use Rattle.proj_io.specs.Stops.{OnlyAdds, Nothing};
+ghost use Rattle.repo_ground.specs.Loads.{IsLoaded};
+ghost use Rattle.proj_cli.specs.Cases.{loaded};
+ghost use Rattle.proj_cli.specs.Forms.{IsBeforeDevices, IsEarly, IsOpened, load_outcome, opening};
+
+use crate::filters::sound_filter;
+use filter_text::Filter;
+use path_names::{RefFault, RefName};
+use proj_io::Keeper;
+use proj_words::Outcome;
+use repo_ground::{LoadError, State};
+use std::alloc::Global;
+
+/// A sound filter, a ref name, and what the items of a store hold.
+#[derive(Drop)]
+pub(crate) struct Opened {
+    pub(crate) filter: Filter,
+    pub(crate) refname: RefName,
+    pub(crate) state: State,
+}
+
 // The outcome of items that are not loaded.
-ghost use Rattle.std.specs.Prelude.{◌≡◌};
-ghost use Rattle.proj_cli.specs.Step.{load_outcome};
-
-use crate::Outcome;
-use repo_state::LoadError;
-
-/// The outcome of items that are not loaded.
-pub fn load_outcome(error: LoadError) -> Outcome
+fn load_outcome(error: LoadError) -> Outcome
     ensures { result ≡ load_outcome error }
 {
     match error {
@@ -14,5 +34,77 @@ pub fn load_outcome(error: LoadError) -> Outcome
         LoadError::Damaged { item, at } => Outcome::Damaged { item, at },
         LoadError::Collision { name } => Outcome::Collision { name },
         LoadError::OutOfMemory => Outcome::OutOfMemory,
+    }
+}
+
+/// Loads what the items of a store hold.
+pub(crate) fn load<K: Keeper>(alloc: Global, store: &mut K) -> Result<State, Outcome>
+    requires { K.is_open store.old }
+    ensures ok { IfOk result (IsLoaded (K.items store.old) (K.number store.old)) }
+    ensures err { (items : List Bytes) → K.items store.old ≡ Some items → IfErr result (IsEarly (loaded items)) }
+    ensures early { IsBeforeDevices result }
+    ensures number { K.number store.new ≡ K.number store.old }
+    ensures items { Stays (K.items store.old) (K.items store.new) }
+    ensures is_open { K.is_open store.new }
+    ensures told { K.tells store.new ↔ K.tells store.old }
+    ensures stops { OnlyAdds (K.moment store.old) (K.moment store.new) (K.left_since store.old) (K.left_since store.new)
+        Nothing }
+    ensures cause { Counts (K.faults store.old) (K.faults store.new) (result ≡ Err Outcome.StoreFault) }
+{
+    match State::load(alloc, store) {
+        Err(error) => Err(load_outcome(error)),
+        Ok(state) => Ok(state),
+    }
+}
+
+/// The ref name that a text is.
+pub(crate) fn ref_name(alloc: Global, text: &[u8]) -> Result<RefName, Outcome>
+    requires { is_ref_name text.now ≡ true }
+    ensures ok { IfOk result (λ name. name ≡ text.now) }
+    ensures err { IfErr result (λ e. e ≡ Outcome.OutOfMemory) }
+{
+    match RefName::parse(alloc, text) {
+        Ok(refname) => Ok(refname),
+        Err(RefFault::OutOfMemory) => Err(Outcome::OutOfMemory),
+        Err(RefFault::Bad) => unreachable!(),
+    }
+}
+
+/// Judges a filter, and then loads what the items of a store hold.
+pub(crate) fn open<K: Keeper>(
+    alloc: Global,
+    refname: &[u8],
+    filter: &[u8],
+    store: &mut K,
+) -> Result<Opened, Outcome>
+    requires open { K.is_open store.old }
+    requires refname { is_ref_name refname.now ≡ true }
+    ensures ok { IfOk result (IsOpened (K.items store.old) (K.number store.old) filter.now refname.now) }
+    ensures err { (items : List Bytes) → K.items store.old ≡ Some items →
+        IfErr result (IsEarly (opening filter.now items)) }
+    ensures early { IsBeforeDevices result }
+    ensures number { K.number store.new ≡ K.number store.old }
+    ensures items { Stays (K.items store.old) (K.items store.new) }
+    ensures is_open { K.is_open store.new }
+    ensures told { K.tells store.new ↔ K.tells store.old }
+    ensures stops { OnlyAdds (K.moment store.old) (K.moment store.new) (K.left_since store.old) (K.left_since store.new)
+        Nothing }
+    ensures cause { Counts (K.faults store.old) (K.faults store.new) (result ≡ Err Outcome.StoreFault) }
+{
+    let filter = match sound_filter(alloc, filter) {
+        Err(outcome) => return Err(outcome),
+        Ok(filter) => filter,
+    };
+    let refname = match ref_name(alloc, refname) {
+        Err(outcome) => return Err(outcome),
+        Ok(refname) => refname,
+    };
+    match load(alloc, store) {
+        Err(outcome) => Err(outcome),
+        Ok(state) => Ok(Opened {
+            filter,
+            refname,
+            state,
+        }),
     }
 }

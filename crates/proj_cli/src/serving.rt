@@ -7,19 +7,19 @@ ghost use Rattle.proj_io.specs.Views.{sink_view};
 ghost use Rattle.proj_disk.specs.Disks.{DiskView};
 ghost use Rattle.proj_journal.specs.Journals.{IsOpen, disk_of, items_of};
 ghost use Rattle.proj_journal.specs.Spelling.{listed};
-ghost use Rattle.proj_words.specs.Words.{command};
-ghost use Rattle.proj_cli.specs.Answer.{GetsText};
-ghost use Rattle.proj_cli.specs.Step.{loads, reads, step};
+ghost use Rattle.proj_words.specs.Words.{command, loads, reads};
+ghost use Rattle.proj_cli.specs.Answers.{GetsText};
 ghost use Rattle.proj_cli.specs.Stopped.{ForInput};
 ghost use Rattle.proj_cli.specs.Served.{HasList, IsOnlySynced, IsServed, IsSteady, IsWhole, LeavesList};
 ghost use Rattle.proj_cli.specs.Served.{LeavesWhole, SaysWhy, error_code, error_text, seen};
 
-use crate::program::{run, tell};
-use crate::{Outcome, outcome_code};
+use crate::deliver::tell;
+use crate::program::run;
 use itoa::Buffer;
 use proj_disk::Disk;
 use proj_io::{Sink, Source};
 use proj_journal::{Journal, JournalError, NoJournal};
+use proj_words::outcome_code;
 use std::alloc::{AllocError, Global};
 
 /// How a call ended: the exit status, and the disk.
@@ -130,17 +130,17 @@ pub fn serve<S: Source, O: Sink, E: Sink, D: Disk>(
     ensures idle { let asked = command (map (λ word. string_bytes word) words.now) in reads asked ≡ false →
         loads asked ≡ false → out.new ≡ out.old }
     // Of a disk of which no stop at entry leaves a broken journal, a stop at any moment since leaves none: it leaves a
-    // list that a stop at entry might have left, or the list that the bytes spell, or this with the item of the step's
-    // change behind it.
+    // list that a stop at entry might have left, or the list that the bytes spell, or this with the command's item
+    // behind it.
     ensures stops { let asked = command (map (λ word. string_bytes word) words.now) in
         (view : DiskView) → D.content disk ≡ Some view → IsWhole view → ForInput (S.left input.old) (λ all.
         (image : List ℕ) → D.left_since result.disk (D.moment disk) image →
-        LeavesWhole (step asked (listed view.bytes) all) view image) }
+        LeavesWhole asked all view image) }
     // Where a stop at entry leaves the list that the bytes spell, it is this or this with the item.
     ensures steady { let asked = command (map (λ word. string_bytes word) words.now) in
         (view : DiskView) → D.content disk ≡ Some view → IsSteady view → ForInput (S.left input.old) (λ all.
         (image : List ℕ) → D.left_since result.disk (D.moment disk) image →
-        LeavesList (step asked (listed view.bytes) all) (listed view.bytes) image) }
+        LeavesList asked all (listed view.bytes) image) }
 {
     match journal_on(alloc, disk) {
         Ok(mut journal) => {

@@ -14,7 +14,7 @@ use Rattle.stream_reader.specs.declared.fault.Feature.TheVariants as features
 use Rattle.stream_reader.specs.declared.fault.StreamFault.TheVariants as streams
 use Rattle.filter_text.specs.declared.filter.FilterFault.TheVariants as texts
 use Rattle.filter_routes.specs.declared.fault.RouteFault.TheVariants as routes
-use Rattle.proj_words.specs.Words.{Import, Project, Push, Export, Name, Batch, Trial, Unknown}
+use Rattle.proj_words.specs.Words.{Import, Project, Push, Export, Name, Batch, Trial, Rule, Unknown}
 use Rattle.proj_words.specs.Words.{command, line_command, line_words, loads, reads, writes}
 use Rattle.proj_words.specs.Outcomes.{code_of, text_of, usage}
 use Rattle.proj_words.specs.Faults.{filter_outcome, route_outcome, stream_outcome}
@@ -83,8 +83,14 @@ a_trial_of_nothing = refl
 pub a_leading_zero : command (codes "trial" ∷ codes "07" ∷ []) ≡ Unknown
 a_leading_zero = refl
 
-pub no_rule_yet : command (codes "rule" ∷ codes "1" ∷ []) ≡ Unknown
-no_rule_yet = refl
+pub a_rule : command (codes "rule" ∷ codes "1" ∷ []) ≡ Rule 1
+a_rule = refl
+
+pub the_second_rule : command (codes "rule" ∷ codes "2" ∷ []) ≡ Rule 2
+the_second_rule = refl
+
+pub no_third_rule : command (codes "rule" ∷ codes "3" ∷ []) ≡ Unknown
+no_third_rule = refl
 
 pub no_words : command [] ≡ Unknown
 no_words = refl

@@ -1,5 +1,5 @@
 -- The forms of the words on the command line, and of the lines of words in a batch.
-use Rattle.std.specs.Prelude.{ℕ, Bool, true, false, ◌&&◌, nat_eq, nat_le, if◌then◌else◌}
+use Rattle.std.specs.Prelude.{ℕ, Bool, true, false, ◌&&◌, ◌||◌, ◌==◌, nat_eq, nat_le, if◌then◌else◌}
 use Rattle.std.specs.Prelude.{List, [], ◌∷◌, codes, Option, Some, None}
 use Rattle.std.specs.List.{starts_with}
 use Rattle.std.specs.Option.{option_and_then}
@@ -19,7 +19,7 @@ pub data Command : Type 0 where
   Name : Bytes → Bytes → Command
   Batch : Command
   Trial : ℕ → Command
-  -- of the number of a rule; no words have this form yet
+  -- of the number of a rule
   Rule : ℕ → Command
   -- no form
   Unknown : Command
@@ -35,6 +35,10 @@ abbrev pub trial_of : Option ℕ → Command
 trial_of None = Unknown
 trial_of (Some n) = Trial n
 
+-- the digit 1 or 2
+abbrev pub rule_word : Bytes → Command
+rule_word v = if same_bytes v (codes "1") then Rule 1 else (if same_bytes v (codes "2") then Rule 2 else Unknown)
+
 abbrev pub one_word : Bytes → Command
 one_word w =
     if same_bytes w (codes "import") then Import false else
@@ -43,7 +47,8 @@ one_word w =
 abbrev pub two_words : Bytes → Bytes → Command
 two_words w v =
     if same_bytes w (codes "import") then (if same_bytes v (codes "--force") then Import true else Unknown) else
-    (if same_bytes w (codes "trial") then trial_of (trial_number v) else Unknown)
+    (if same_bytes w (codes "trial") then trial_of (trial_number v) else
+    (if same_bytes w (codes "rule") then rule_word v else Unknown))
 
 abbrev pub three_words : Bytes → Bytes → Bytes → Command
 three_words w r f =
@@ -59,12 +64,13 @@ command (w ∷ v ∷ []) = two_words w v
 command (w ∷ r ∷ f ∷ []) = if is_ref_name r then three_words w r f else Unknown
 command _ = Unknown
 
--- whether the ref of a command is a ref name
+-- whether the ref of a command is a ref name, and the number of a rule 1 or 2
 abbrev pub is_formed : Command → Bool
 is_formed (Project r f) = is_ref_name r
 is_formed (Push r f) = is_ref_name r
 is_formed (Export r f) = is_ref_name r
 is_formed (Name r f) = is_ref_name r
+is_formed (Rule k) = k == 1 || k == 2
 is_formed _ = true
 
 -- ---- in a batch

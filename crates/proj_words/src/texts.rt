@@ -12,8 +12,8 @@ use std::alloc::{AllocError, Global};
 use stream_reader::Feature;
 
 const USAGE: &[u8] =
-    b"usage: proj STORE (import [--force] | project REF FILTER | push REF FILTER | export REF FILTER | batch), \
-    proj name REF FILTER, proj trial N\n";
+    b"usage: proj STORE (import [--force] | project REF FILTER | push REF FILTER | export REF FILTER | batch | \
+    rule (1 | 2)), proj name REF FILTER, proj trial N\n";
 
 /// The line for the error stream where it says no number, name, path or other cause. It takes no memory.
 pub fn plain_text(outcome: &Outcome) -> Option<&'static [u8]>

@@ -1,7 +1,7 @@
 // The forms of the words.
 ghost use Rattle.std.specs.Prelude.{◌≡◌, true, map, string_bytes};
 ghost use Rattle.proj_words.specs.Views.{command_of};
-ghost use Rattle.proj_words.specs.Words.{command, is_formed, one_word, two_words, three_words, trial_number};
+ghost use Rattle.proj_words.specs.Words.{command, is_formed, one_word, rule_word, two_words, three_words, trial_number};
 
 use path_names::{is_ref_name, number};
 
@@ -20,7 +20,7 @@ pub enum Command<'a> {
     Batch,
     /// How many commits, from 1 to 100,000.
     Trial(u64),
-    /// The number of a rule. No words have this form yet.
+    /// The number of a rule, 1 or 2.
     Rule(u8),
     /// The words have none of the forms.
     Unknown,
@@ -51,8 +51,21 @@ fn trial_number(text: &[u8]) -> Option<u64>
     }
 }
 
+// The digit 1 or 2.
+fn rule_word<'a>(word: &str) -> Command<'a>
+    ensures command { command_of result ≡ rule_word word.now }
+    ensures formed { is_formed (command_of result) ≡ true }
+{
+    match word {
+        "1" => Command::Rule(1),
+        "2" => Command::Rule(2),
+        _ => Command::Unknown,
+    }
+}
+
 fn two_words<'a>(word: &'a str, next: &'a str) -> Command<'a>
-    ensures { command_of result ≡ two_words word.now next.now }
+    ensures command { command_of result ≡ two_words word.now next.now }
+    ensures formed { is_formed (command_of result) ≡ true }
 {
     if word == "import" {
         if next == "--force" {
@@ -65,6 +78,9 @@ fn two_words<'a>(word: &'a str, next: &'a str) -> Command<'a>
             Some(n) => Command::Trial(n),
             None => Command::Unknown,
         };
+    }
+    if word == "rule" {
+        return rule_word(next);
     }
     Command::Unknown
 }

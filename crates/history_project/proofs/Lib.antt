@@ -1,9 +1,0 @@
-pub mod FoundObjects
-pub mod Gathering
-pub mod HeldCommits
-pub mod ShownTrees
-pub mod AllCommits
-pub mod MadeLines
-pub mod HeldTrees
-pub mod ProjectedCommits
-pub mod ProjectedNames

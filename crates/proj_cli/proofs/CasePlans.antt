@@ -1,0 +1,192 @@
+-- Where a case comes from, and what a plan of it is.
+use Rattle.std.proofs.Common.{◌≡◌, ◌⊎◌, inl, inr, true, false, List, [], ◌∷◌, All, Option, None, Result, Ok, Err, refl, sym, ap, subst, ◌∙◌, true≢false}
+use Rattle.std.specs.Prelude.{reverse}
+use Rattle.std.proofs.lemmas.List.Elements.{All-cons, All-nil}
+use Rattle.git_objects.specs.Paths.{Bytes}
+use Rattle.git_objects.specs.Results.{◌>>=◌, refused_by}
+use Rattle.object_store.specs.Objects.{IsStore}
+use Rattle.filter_text.specs.Filters.{Filter}
+use Rattle.filter_text.specs.Printing.{printed}
+use Rattle.commit_map.specs.Shown.{Entries, Shown}
+use Rattle.stream_reader.specs.declared.fault.StreamFault.{StreamFault}
+use Rattle.fast_import.specs.Replays.{Ran, empty_base, ran}
+use Rattle.push_back.specs.Pushes.{pushing}
+use Rattle.state_items.specs.Items.{Break, Held, nothing, read_items}
+use Rattle.state_items.specs.Repos.{repo}
+use Rattle.state_items.specs.Changes.{KeepPlan, NoPlan, Plan, Room, fresh, held_after, objects_of, passed_by_objects, room_of}
+use Rattle.state_items.proofs.ReadObjects.{ok-same, value-of}
+use Rattle.repo_ground.specs.Laws.{base_of}
+use Rattle.proj_words.specs.Words.{Command, Import, Project, Push, Export, Name, Batch, Trial, Rule, Unknown, loads}
+use Rattle.proj_words.specs.declared.outcome.Outcome.{Outcome}
+use Rattle.proj_cli.specs.Answers.{ArePlanned, IsSameState, changes_state}
+use Rattle.proj_cli.specs.Cases.{Case, ImportCase, ProjectCase, ExportCase, PushCase, NameCase, RuleCase, Made, break_outcome, case, head_of, loaded, made, name_line, no_limit, streamed, unchanged}
+use Rattle.proj_cli.specs.Filters.{entries_of, projected, projection, recalled, rule_by, sound}
+use Rattle.proj_cli.specs.Hands.{hand}
+use Rattle.proj_cli.specs.Lawful.{IsLawful}
+use Rattle.proj_cli.specs.Makes.{IsKeepOf, IsKeepPlanOf, IsPlanIn, recalled_made}
+use Rattle.proj_cli.specs.Plans.{AreKept, IsKeepPlan, IsPlanOf, RecallLaw}
+use Rattle.proj_cli.proofs.RecalledTexts.{recalled-same}
+
+-- ---- where a case comes from
+
+pub record IsProject (asked : Command) (items : List Bytes) (h : Held) (f : Filter) : Type 0 where
+  pub refname : Bytes
+  pub text : Bytes
+  pub asked_is : asked ≡ Project refname text
+  pub read : read_items items ≡ Ok h
+  pub sound_is : sound text ≡ Ok f
+
+abbrev pub IsFrom : Command → List Bytes → Case → Type 0
+IsFrom asked items (ProjectCase h f n) = IsProject asked items h f
+IsFrom asked items (ImportCase force h x) = changes_state asked ≡ true
+IsFrom asked items (ExportCase h f refname n) = Unit {0}
+IsFrom asked items (PushCase h f refname n p) = changes_state asked ≡ true
+IsFrom asked items (NameCase f refname x) = Unit {0}
+IsFrom asked items (RuleCase h k) = changes_state asked ≡ true
+
+was-read : (r : Result Held Break) (h : Held) → refused_by break_outcome r ≡ Ok h → r ≡ Ok h
+was-read (Ok g) h e = cc
+was-read (Err d) h e = cc
+
+pub read-from : (items : List Bytes) (h : Held) → loaded items ≡ Ok h → read_items items ≡ Ok h
+read-from items h e = was-read (read_items items) h e
+
+no-case : (asked : Command) (items : List Bytes) (x : Outcome) (c : Case) → Err x ≡ Ok c → IsFrom asked items c
+no-case asked items x c g = absurd (let no : ⊥ = cc in no)
+
+pub from : (asked : Command) (items : List Bytes) (all : Bytes) (c : Case) → case asked (loaded items) all ≡ Ok c → IsFrom asked items c
+from (Import force) items all c g =
+    let h = value-of (loaded items) (λ h. Ok (ImportCase force h (ran (base_of h) all))) c g in
+    subst (IsFrom (Import force) items) (ok-same (ImportCase force h.value (ran (base_of h.value) all)) c h.rest) refl
+from (Project r t) items all c g =
+    let f = value-of (sound t) (λ f. loaded items >>= λ h. head_of r h.refs >>= λ n. Ok (ProjectCase h f n)) c g in
+    let h = value-of (loaded items) (λ h. head_of r h.refs >>= λ n. Ok (ProjectCase h f.value n)) c f.rest in
+    let n = value-of (head_of r h.value.refs) (λ n. Ok (ProjectCase h.value f.value n)) c h.rest in
+    subst (IsFrom (Project r t) items) (ok-same (ProjectCase h.value f.value n.value) c n.rest)
+    (record { refname = r; text = t; asked_is = refl; read = read-from items h.value h.was; sound_is = f.was })
+from (Export r t) items all c g =
+    let f = value-of (sound t) (λ f. loaded items >>= λ h. head_of r h.refs >>= λ n. Ok (ExportCase h f r n)) c g in
+    let h = value-of (loaded items) (λ h. head_of r h.refs >>= λ n. Ok (ExportCase h f.value r n)) c f.rest in
+    let n = value-of (head_of r h.value.refs) (λ n. Ok (ExportCase h.value f.value r n)) c h.rest in
+    subst (IsFrom (Export r t) items) (ok-same (ExportCase h.value f.value r n.value) c n.rest) tt
+from (Push r t) items all c g =
+    let f = value-of (sound t) (λ f. loaded items >>= λ h. head_of r h.refs >>= λ n. Ok (PushCase h f r n (pushing (rule_by h.rule) f (repo h).commits n r all))) c g in
+    let h = value-of (loaded items) (λ h. head_of r h.refs >>= λ n. Ok (PushCase h f.value r n (pushing (rule_by h.rule) f.value (repo h).commits n r all))) c f.rest in
+    let n = value-of (head_of r h.value.refs) (λ n. Ok (PushCase h.value f.value r n (pushing (rule_by h.value.rule) f.value (repo h.value).commits n r all))) c h.rest in
+    subst (IsFrom (Push r t) items) (ok-same (PushCase h.value f.value r n.value (pushing (rule_by h.value.rule) f.value (repo h.value).commits n.value r all)) c n.rest) refl
+from (Name r t) items all c g =
+    let f = value-of (sound t) (λ f. Ok (NameCase f r (ran empty_base all))) c g in
+    subst (IsFrom (Name r t) items) (ok-same (NameCase f.value r (ran empty_base all)) c f.rest) tt
+from (Rule k) items all c g =
+    let h = value-of (loaded items) (λ h. Ok (RuleCase h k)) c g in
+    subst (IsFrom (Rule k) items) (ok-same (RuleCase h.value k) c h.rest) refl
+from Batch items all c g = no-case Batch items _ c g
+from (Trial n) items all c g = no-case (Trial n) items _ c g
+from Unknown items all c g = no-case Unknown items _ c g
+
+-- ---- plans
+
+name-plan : (room : Room) (f : Filter) (refname : Bytes) (x : Ran StreamFault) (m : Made) → made room (NameCase f refname x) ≡ Ok m → m.plan ≡ NoPlan
+name-plan room f refname x m g =
+    let r = value-of (streamed x)
+    (λ r. no_limit (passed_by_objects (fresh [] (objects_of r.blobs r.commits)) None) >>= λ _. head_of refname r.heads >>= λ n. Ok (unchanged nothing (name_line (projection 1 f (reverse r.commits) n)))) m g in
+    let l = value-of (no_limit (passed_by_objects (fresh [] (objects_of r.value.blobs r.value.commits)) None))
+    (λ _. head_of refname r.value.heads >>= λ n. Ok (unchanged nothing (name_line (projection 1 f (reverse r.value.commits) n)))) m r.rest in
+    let n = value-of (head_of refname r.value.heads) (λ n. Ok (unchanged nothing (name_line (projection 1 f (reverse r.value.commits) n)))) m l.rest in
+    sym (ap (λ (y : Made). y.plan) (ok-same (unchanged nothing (name_line (projection 1 f (reverse r.value.commits) n.value))) m n.rest))
+
+pub name-made-plan : (room : Room) (f : Filter) (refname : Bytes) (x : Ran StreamFault) (m : Made) → made room (NameCase f refname x) ≡ Ok m → NoPlan ≡ m.plan
+name-made-plan room f refname x m g = sym (name-plan room f refname x m g)
+
+-- items of which what is held is kept, where a form loads it
+abbrev pub HoldWhatTheyShould : Command → List Bytes → Type 0
+HoldWhatTheyShould asked items = (h : Held) → loads asked ≡ true → read_items items ≡ Ok h → AreKept items h
+
+module _ (law : RecallLaw) (asked : Command) (items : List Bytes) (kept : HoldWhatTheyShould asked items) where
+  project-same : (h : Held) (f : Filter) (n : Bytes) → IsProject asked items h f → IsStore h.objects → recalled (entries_of h f) h.rule f (repo h).commits n ≡ projected h f n
+  project-same h f n w store = recalled-same law items h w.text f n (kept h (ap loads w.asked_is) w.read) store w.sound_is
+
+  pub recalled-made : (room : Room) (c : Case) → IsFrom asked items c → IsStore (hand c).held → recalled_made room c ≡ made room c
+  recalled-made room (ProjectCase h f n) w store = ap (λ (p : Option Shown). Ok (unchanged h (name_line p))) (project-same h f n w store)
+  recalled-made room (ImportCase force h x) w store = refl
+  recalled-made room (ExportCase h f refname n) w store = refl
+  recalled-made room (PushCase h f refname n p) w store = refl
+  recalled-made room (NameCase f refname x) w store = refl
+  recalled-made room (RuleCase h k) w store = refl
+
+  keep-plan : (h : Held) (f : Filter) (n : Bytes) (p : Plan) → IsProject asked items h f → IsStore h.objects → IsKeepPlanOf h f n (room_of items) p → IsKeepPlan h f items p
+  keep-plan h f n p w store k = by k.plan
+    where
+      by : (p ≡ NoPlan) ⊎ ((es : Entries) × (p ≡ KeepPlan h.rule (printed f) es) × IsKeepOf h f (room_of items) es) → IsKeepPlan h f items p
+      by (inl e) = subst (IsKeepPlan h f items) (sym e) tt
+      by (inr x) =
+          subst (IsKeepPlan h f items) (sym x.1) (record {
+            current = refl;
+            canonical = refl;
+            some = x.2.some;
+            order = x.2.order;
+            fresh = x.2.fresh;
+            true_ones = λ i d lt. x.2.values i d lt ∙ project-same h f _ w store;
+            fits = x.2.within;
+          })
+
+  pub kept-plan : (c : Case) (m : Made) (p : Plan) → IsFrom asked items c → IsStore (hand c).held → IsPlanIn (room_of items) c m p → IsPlanOf items c m p
+  kept-plan (ProjectCase h f n) m p w store k = keep-plan h f n p w store k
+  kept-plan (ImportCase force h x) m p w store k = k
+  kept-plan (ExportCase h f refname n) m p w store k = k
+  kept-plan (PushCase h f refname n x) m p w store k = k.0
+  kept-plan (NameCase f refname x) m p w store k = k
+  kept-plan (RuleCase h j) m p w store k = k
+
+pub lawful-plan : (items : List Bytes) (c : Case) (m : Made) (p : Plan) → IsPlanIn (room_of items) c m p → IsLawful items p c
+lawful-plan items (ProjectCase h f n) m p k = k.holds
+lawful-plan items (ImportCase force h x) m p k = tt
+lawful-plan items (ExportCase h f refname n) m p k = tt
+lawful-plan items (PushCase h f refname n x) m p k = k.1
+lawful-plan items (NameCase f refname x) m p k = tt
+lawful-plan items (RuleCase h j) m p k = tt
+
+-- ---- forms that leave the state
+
+same-none : (h : Held) (p : Plan) → p ≡ NoPlan → IsSameState h (held_after h p)
+same-none h p e = subst (λ (q : Plan). IsSameState h (held_after h q)) (sym e) (record { objects = refl; refs = refl; rule = refl })
+
+same-kept : (g h : Held) (f : Filter) (n : Bytes) (room : Room) (p : Plan) → IsKeepPlanOf g f n room p → IsSameState h (held_after h p)
+same-kept g h f n room p k = by k.plan
+  where
+    by : (p ≡ NoPlan) ⊎ ((es : Entries) × (p ≡ KeepPlan g.rule (printed f) es) × IsKeepOf g f room es) → IsSameState h (held_after h p)
+    by (inl e) = same-none h p e
+    by (inr x) = subst (λ (q : Plan). IsSameState h (held_after h q)) (sym x.1) (record { objects = refl; refs = refl; rule = refl })
+
+no-change : {A : Type 0} (asked : Command) → changes_state asked ≡ true → changes_state asked ≡ false → A
+no-change asked t f = absurd (true≢false (sym t ∙ f))
+
+pub stays-plan : (asked : Command) (items : List Bytes) (room : Room) (c : Case) (m : Made) (p : Plan) → IsFrom asked items c → recalled_made room c ≡ Ok m → IsPlanIn room c m p
+    → changes_state asked ≡ false → (h : Held) → IsSameState h (held_after h p)
+stays-plan asked items room (ProjectCase g f n) m p w done k leaves h = same-kept g h f n room p k
+stays-plan asked items room (ImportCase force g x) m p w done k leaves h = no-change asked w leaves
+stays-plan asked items room (ExportCase g f refname n) m p w done k leaves h = same-none h p (k ∙ sym (ap (λ (y : Made). y.plan) (ok-same _ m done)))
+stays-plan asked items room (PushCase g f refname n x) m p w done k leaves h = no-change asked w leaves
+stays-plan asked items room (NameCase f refname x) m p w done k leaves h = same-none h p (k ∙ name-plan room f refname x m done)
+stays-plan asked items room (RuleCase g j) m p w done k leaves h = no-change asked w leaves
+
+-- ---- a step's own plan
+
+abbrev pub own_plan : Result Made Outcome → Plan
+own_plan (Ok m) = m.plan
+own_plan (Err e) = NoPlan
+
+pub all-one : {A : Type 0} (P : A → Type 0) (x : A) → P x → All P (x ∷ [])
+all-one P x h = All-cons P x [] h (All-nil P)
+
+own-in : (items : List Bytes) (c : Case) → ((m : Made) → IsPlanOf items c m m.plan) → (s : Result Made Outcome) → ArePlanned items (c ∷ []) s (own_plan s)
+own-in items c f (Ok m) = all-one (λ d. IsPlanOf items d m m.plan) c (f m)
+own-in items c f (Err e) = tt
+
+pub own-planned : (items : List Bytes) (room : Room) (c : Case) → ArePlanned items (c ∷ []) (made room c) (own_plan (made room c))
+own-planned items room (ProjectCase h f n) = all-one (λ d. IsPlanOf items d (unchanged h (name_line (projected h f n))) NoPlan) (ProjectCase h f n) tt
+own-planned items room (ImportCase force h x) = own-in items (ImportCase force h x) (λ m. refl) (made room (ImportCase force h x))
+own-planned items room (ExportCase h f refname n) = own-in items (ExportCase h f refname n) (λ m. refl) (made room (ExportCase h f refname n))
+own-planned items room (PushCase h f refname n p) = own-in items (PushCase h f refname n p) (λ m. refl) (made room (PushCase h f refname n p))
+own-planned items room (NameCase f refname x) = own-in items (NameCase f refname x) (λ m. refl) (made room (NameCase f refname x))
+own-planned items room (RuleCase h k) = own-in items (RuleCase h k) (λ m. refl) (made room (RuleCase h k))

@@ -1,0 +1,191 @@
+-- An export, and what it wrote, is an answer.
+use Rattle.std.proofs.Common.{◌≡◌, ◌≢◌, ◌⊎◌, inl, inr, ◌≤◌, ℕ, true, false, List, [], All, Some, Result, Ok, Err, refl, subst, true≢false, arith}
+use Rattle.std.specs.Option.{option_to_list}
+use Rattle.std.specs.Result.{result_ok}
+use Rattle.std.proofs.lemmas.List.Elements.{All-nil}
+use Rattle.git_objects.specs.Paths.{Bytes}
+use Rattle.git_objects.specs.Results.{◌>>=◌}
+use Rattle.object_store.specs.Objects.{Object}
+use Rattle.filter_text.specs.Filters.{Filter}
+use Rattle.fast_export.specs.ExportTexts.{export_text}
+use Rattle.state_items.specs.Repos.{repo}
+use Rattle.proj_io.specs.Counts.{Counts}
+use Rattle.proj_io.specs.Views.{SourceView, SinkView, KeeperView}
+use Rattle.state_items.specs.Items.{Held}
+use Rattle.state_items.specs.Changes.{NoPlan, Room, room_of}
+use Rattle.repo_ground.specs.Changes.{KeepsItems}
+use Rattle.proj_words.specs.Words.{Export}
+use Rattle.proj_words.specs.declared.outcome.Outcome.{Outcome}
+use Rattle.proj_words.specs.declared.outcome.Outcome.TheVariants.{Done, OutOfMemory, ReadFault, WriteFault, StoreFault}
+use Rattle.proj_cli.specs.Answers.{ArePlanned, Devices, Follows, IsAnswer, IsAnswered, IsDelivered, IsLonger, IsOutcome, IsRecalledCase, IsSafe, IsStepDelivered}
+use Rattle.proj_cli.specs.Cases.{Case, ImportCase, ProjectCase, ExportCase, PushCase, NameCase, RuleCase, Made, case, head_of, loaded, made, unchanged}
+use Rattle.proj_cli.specs.Filters.{history, sound}
+use Rattle.proj_cli.specs.Forms.{IsExport, IsFormFlowed}
+use Rattle.proj_cli.specs.Hands.{IsInHands}
+use Rattle.proj_cli.specs.Lawful.{IsLawful}
+use Rattle.repo_ground.specs.Contents.{Contents, room_in}
+use Rattle.proj_cli.specs.Makes.{IsAtHand, IsExported, IsFlowed, hands_of, step_in}
+use Rattle.proj_cli.specs.Plans.{IsPlanOf}
+use Rattle.proj_cli.specs.Steps.{step}
+use Rattle.proj_cli.proofs.CasePlans.{all-one}
+use Rattle.proj_cli.proofs.Delivering.{after, before, got, idle-delivered, idle-step, kept-if, refusal-outcome}
+use Rattle.proj_cli.proofs.Lengthening.{told-input}
+use Rattle.std.specs.Prelude.{unwrap_or}
+
+-- ---- exports
+
+-- it is the case of an export, or none came up
+abbrev IsExportCase : Result Case Outcome → Type 0
+IsExportCase (Ok (ExportCase h f refname n)) = Unit {0}
+IsExportCase (Ok (ImportCase force h x)) = ⊥
+IsExportCase (Ok (ProjectCase h f n)) = ⊥
+IsExportCase (Ok (PushCase h f refname n p)) = ⊥
+IsExportCase (Ok (NameCase f refname x)) = ⊥
+IsExportCase (Ok (RuleCase h k)) = ⊥
+IsExportCase (Err e) = Unit {0}
+
+at-head : (refname : Bytes) (h : Held) (f : Filter) (n : Result Bytes Outcome) → IsExportCase (n >>= λ m. Ok (ExportCase h f refname m))
+at-head refname h f (Ok n) = tt
+at-head refname h f (Err e) = tt
+
+of-both : (refname : Bytes) (s : Result Filter Outcome) (l : Result Held Outcome) → IsExportCase (s >>= λ f. l >>= λ h. head_of refname h.refs >>= λ n. Ok (ExportCase h f refname n))
+of-both refname (Ok f) (Ok h) = at-head refname h f (head_of refname h.refs)
+of-both refname (Ok f) (Err e) = tt
+of-both refname (Err e) l = tt
+
+export-case : (r t : Bytes) (items : List Bytes) (all : Bytes) → IsExportCase (case (Export r t) (loaded items) all)
+export-case r t items all = of-both r (sound t) (loaded items)
+
+step-same : (room : Room) (r : Result Case Outcome) → IsExportCase r → step_in room r ≡ (r >>= made room)
+step-same room (Ok (ExportCase h f refname n)) w = refl
+step-same room (Ok (ImportCase force h x)) w = absurd w
+step-same room (Ok (ProjectCase h f n)) w = absurd w
+step-same room (Ok (PushCase h f refname n p)) w = absurd w
+step-same room (Ok (NameCase f refname x)) w = absurd w
+step-same room (Ok (RuleCase h k)) w = absurd w
+step-same room (Err e) w = refl
+
+none-planned : (items : List Bytes) (room : Room) (r : Result Case Outcome) → IsExportCase r → ArePlanned items (option_to_list (result_ok r)) (r >>= made room) NoPlan
+none-planned items room (Ok (ExportCase h f refname n)) w =
+    all-one (λ c. IsPlanOf items c (unchanged h (export_text (history h.rule f (repo h).commits n) refname)) NoPlan) (ExportCase h f refname n) refl
+none-planned items room (Ok (ImportCase force h x)) w = absurd w
+none-planned items room (Ok (ProjectCase h f n)) w = absurd w
+none-planned items room (Ok (PushCase h f refname n p)) w = absurd w
+none-planned items room (Ok (NameCase f refname x)) w = absurd w
+none-planned items room (Ok (RuleCase h k)) w = absurd w
+none-planned items room (Err e) w = tt
+
+none-lawful : (items : List Bytes) (r : Result Case Outcome) → IsExportCase r → All (IsLawful items NoPlan) (option_to_list (result_ok r))
+none-lawful items (Ok (ExportCase h f refname n)) w = all-one (IsLawful items NoPlan) (ExportCase h f refname n) tt
+none-lawful items (Ok (ImportCase force h x)) w = absurd w
+none-lawful items (Ok (ProjectCase h f n)) w = absurd w
+none-lawful items (Ok (PushCase h f refname n p)) w = absurd w
+none-lawful items (Ok (NameCase f refname x)) w = absurd w
+none-lawful items (Ok (RuleCase h k)) w = absurd w
+none-lawful items (Err e) w = All-nil (IsLawful items NoPlan)
+
+none-recalled : (b a : Devices) (r : Result Case Outcome) → IsExportCase r → IsRecalledCase r b a
+none-recalled b a (Ok (ExportCase h f refname n)) w = tt
+none-recalled b a (Ok (ImportCase force h x)) w = absurd w
+none-recalled b a (Ok (ProjectCase h f n)) w = absurd w
+none-recalled b a (Ok (PushCase h f refname n p)) w = absurd w
+none-recalled b a (Ok (NameCase f refname x)) w = absurd w
+none-recalled b a (Ok (RuleCase h k)) w = absurd w
+none-recalled b a (Err e) w = tt
+
+-- ---- what was written
+
+flowed-only : (H : Object → Type 0) (o q : SinkView) (s : Result Made Outcome) (outcome : Outcome) → IsFlowed H s o q outcome → IsOutcome H outcome s
+flowed-only H o q (Ok m) Done h = refl
+flowed-only H o q (Ok m) WriteFault h = refl
+flowed-only H o q (Ok m) OutOfMemory h = tt
+flowed-only H o q (Ok m) e h = refusal-outcome H e (Ok m) h.0
+flowed-only H o q (Err x) OutOfMemory h = tt
+flowed-only H o q (Err x) e h = refusal-outcome H e (Err x) h.0
+
+flowed-outcome : (H : Object → Type 0) (o q : SinkView) (s : Result Made Outcome) (outcome : Outcome) → IsFormFlowed H s o q outcome → IsOutcome H outcome s
+flowed-outcome H o q s outcome (inl h) = refusal-outcome H outcome s h.0
+flowed-outcome H o q s outcome (inr h) = flowed-only H o q s outcome h
+
+-- neither the input nor the store
+pub flowed-not-read : (H : Object → Type 0) (o q : SinkView) (s : Result Made Outcome) → IsFlowed H s o q ReadFault → ⊥
+flowed-not-read H o q (Ok m) h = h.1
+flowed-not-read H o q (Err e) h = h.1
+
+pub flowed-not-store : (H : Object → Type 0) (o q : SinkView) (s : Result Made Outcome) → IsFlowed H s o q StoreFault → ⊥
+flowed-not-store H o q (Ok m) h = h.1
+flowed-not-store H o q (Err e) h = h.1
+
+-- of an export that was made upon a state
+module _ (r : Result Case Outcome) (items : List Bytes) (h : Held) (s s' : Contents) (o q : SinkView) (outcome : Outcome) (made : IsExported r items h s s' o q outcome) where
+  pub no-read : outcome ≢ ReadFault
+  no-read e = flowed-not-read (IsAtHand s.basis.store r) o q (step_in (room_in s) r) (subst (IsFlowed (IsAtHand s.basis.store r) (step_in (room_in s) r) o q) e made.flowed)
+
+  not-store : outcome ≢ StoreFault
+  not-store e = flowed-not-store (IsAtHand s.basis.store r) o q (step_in (room_in s) r) (subst (IsFlowed (IsAtHand s.basis.store r) (step_in (room_in s) r) o q) e made.flowed)
+
+  pub no-store : (f g : ℕ) (R : Type 0) → Counts f g R → Counts f g (outcome ≡ StoreFault)
+  no-store f g R counts = record { later = counts.later; rose = λ e. absurd (not-store e) }
+
+module _ (r t : Bytes) (i : SourceView) (o q : SinkView) (k l : KeeperView) (g : KeepsItems k l) (H : Object → Type 0) where
+  flowed-step : (s : Result Made Outcome) (outcome : Outcome) → IsFlowed H s o q outcome → IsStepDelivered (Export r t) s NoPlan (before i i o q k l) (after i i o q k l) outcome
+  flowed-step (Ok m) Done h = (h, got i i o q k l NoPlan g)
+  flowed-step (Ok m) WriteFault h = (h, got i i o q k l NoPlan g)
+  flowed-step (Ok m) OutOfMemory h = inr (inl (refl, h, g))
+  flowed-step (Ok m) e h = idle-delivered i i o q k l (Export r t) m.output [] H (Ok m) e h.0 h.2 g
+  flowed-step (Err x) OutOfMemory h = (h, g)
+  flowed-step (Err x) e h = (h.2, g)
+
+  step-delivered : (s : Result Made Outcome) (outcome : Outcome) → IsFormFlowed H s o q outcome → IsStepDelivered (Export r t) s NoPlan (before i i o q k l) (after i i o q k l) outcome
+  step-delivered s outcome (inl h) = idle-step i i o q k l (Export r t) NoPlan s H s outcome h.0 h.1 g
+  step-delivered s outcome (inr h) = flowed-step s outcome h
+
+  flowed-idle : (x : Outcome) (outcome : Outcome) → IsFlowed H (Err x) o q outcome → IsDelivered (Export r t) [] [] (before i i o q k l) (after i i o q k l) outcome
+  flowed-idle x OutOfMemory h = inl (h, g)
+  flowed-idle x e h = idle-delivered i i o q k l (Export r t) [] [] H (Err x) e h.0 h.2 g
+
+  some-delivered : (s : Result Made Outcome) (outcome : Outcome) → IsFormFlowed H s o q outcome → (report : Bytes) × IsDelivered (Export r t) report [] (before i i o q k l) (after i i o q k l) outcome
+  some-delivered (Ok m) outcome h = (m.output, step-delivered (Ok m) outcome h)
+  some-delivered (Err x) outcome (inl h) = ([], idle-delivered i i o q k l (Export r t) [] [] H (Err x) outcome h.0 h.1 g)
+  some-delivered (Err x) outcome (inr h) = ([], flowed-idle x outcome h)
+
+-- ---- the answer
+
+module _ (r t : Bytes) (i : SourceView) (o q : SinkView) (k l : KeeperView) (outcome : Outcome) where
+  export-answered : (items : List Bytes) (all : Bytes) → KeepsItems k l → IsExport (case (Export r t) (loaded items) all) items o q outcome
+      → IsAnswered (Export r t) items all (before i i o q k l) (after i i o q k l) outcome
+  export-answered items all g h =
+      let same : step_in (room_of items) (case (Export r t) (loaded items) all) ≡ step (Export r t) items all =
+      step-same (room_of items) (case (Export r t) (loaded items) all) (export-case r t items all) in
+      record {
+        allowed =
+            subst (IsOutcome (IsInHands (hands_of (case (Export r t) (loaded items) all))) outcome) same
+            (flowed-outcome (IsInHands (hands_of (case (Export r t) (loaded items) all))) o q (step_in (room_of items) (case (Export r t) (loaded items) all)) outcome h);
+        plan = NoPlan;
+        planned = none-planned items (room_of items) (case (Export r t) (loaded items) all) (export-case r t items all);
+        delivered =
+            subst (λ (s : Result Made Outcome). IsStepDelivered (Export r t) s NoPlan (before i i o q k l) (after i i o q k l) outcome) same
+            (step-delivered r t i o q k l g (IsInHands (hands_of (case (Export r t) (loaded items) all))) (step_in (room_of items) (case (Export r t) (loaded items) all)) outcome h);
+        lawful = λ e. none-lawful items (case (Export r t) (loaded items) all) (export-case r t items all);
+        follows = λ told. kept-if items k l NoPlan told (Follows items NoPlan) (λ h kept. inl refl) g;
+      }
+
+  export-safe : (items : List Bytes) (all : Bytes) (h : Held) → k.items ≡ Some items → KeepsItems k l → IsExport (case (Export r t) (loaded items) all) items o q outcome
+      → IsSafe (Export r t) items h (before i i o q k l) (after i i o q k l) outcome
+  export-safe items all h told g e =
+      let d = some-delivered r t i o q k l g (IsInHands (hands_of (case (Export r t) (loaded items) all))) (step_in (room_of items) (case (Export r t) (loaded items) all)) outcome e in
+      record { report = d.0; more = []; delivered = d.1; spelled = kept-if items k l NoPlan told (λ now. (now ≡ items) ⊎ IsLonger (Export r t) items [] h now) (inl refl) g }
+
+  pub export-answer : outcome ≢ ReadFault → Counts o.faults q.faults (outcome ≡ WriteFault) → Counts k.faults l.faults (outcome ≡ StoreFault) → o.refusals ≤ q.refusals → KeepsItems k l
+      → ((items : List Bytes) (all : Bytes) → k.items ≡ Some items → IsExport (case (Export r t) (loaded items) all) items o q outcome)
+      → IsAnswer (Export r t) (before i i o q k l) (after i i o q k l) outcome
+  export-answer unread write keep memory g exported = record {
+    cause = record { read = record { later = omega arith; rose = λ e. absurd (unread e) }; write = write; keep = keep; memory = memory };
+    unread = λ no. unread;
+    unloaded = λ no e. true≢false no;
+    unwritten = λ no. g;
+    answered = λ items these.
+        record { input = unwrap_or i.left []; told = told-input i.left; answered = export-answered items (unwrap_or i.left []) g (exported items (unwrap_or i.left []) (these.told refl)) };
+    safe = λ items h told read. export-safe items [] h told g (exported items [] told);
+    recalled = λ items told e. none-recalled (before i i o q k l) (after i i o q k l) (case (Export r t) (loaded items) []) (export-case r t items []);
+  }

@@ -1,0 +1,95 @@
+-- What a projection and a history make is in hand.
+use Rattle.std.proofs.Common.{◌≡◌, inl, inr, zero, List, [], ◌∷◌, ◌++◌, map, reverse, flat_map, Contains, refl, sym, subst, arith}
+use Rattle.std.specs.Prelude.{◌⊎◌}
+use Rattle.std.proofs.lemmas.List.{reverse-append}
+use Rattle.std.proofs.lemmas.List.Elements.{Contains-append_cases, Contains-append_left, Contains-append_right}
+use Rattle.git_objects.specs.Paths.{Bytes}
+use Rattle.git_objects.specs.Trees.{Leaf}
+use Rattle.git_objects.specs.Snapshots.{Snapshot}
+use Rattle.object_store.specs.Growth.{IsClash, IsGrownBy}
+use Rattle.object_store.specs.Hands.{IsLeafOf}
+use Rattle.object_store.specs.Objects.{Object}
+use Rattle.object_store.specs.StoredSnapshots.{snapshot_object}
+use Rattle.filter_text.specs.Filters.{Filter}
+use Rattle.filter_apply.specs.Hands.{IsNamedIn, parts_in}
+use Rattle.filter_apply.proofs.Members.{in-flat_map}
+use Rattle.filter_apply.proofs.Overs.{made_as}
+use Rattle.workspace.specs.Workspaces.{resolve}
+use Rattle.history_ground.specs.Grounds.{IsShownOf}
+use Rattle.state_items.specs.Hands.{IsTwice}
+use Rattle.state_items.specs.Items.{Held}
+use Rattle.state_items.specs.Repos.{repo}
+use Rattle.state_items.proofs.Twices.{clash-twice}
+use Rattle.proj_cli.specs.Hands.{CommitMade, Hand, IsInHand, IsInHands, TreeMade, all_components, all_leaves, components_for, still_hand}
+
+contains-reverse : {A : Type 0} (xs : List A) (x : A) → Contains xs x → Contains (reverse xs) x
+contains-reverse [] x m = m
+contains-reverse {A = A} (y ∷ xs) x m =
+    subst (λ (zs : List A). Contains zs x) (sym (reverse-append (y ∷ []) xs)) (by (λ k. contains-reverse xs x k) (Contains-append_cases (y ∷ []) xs x m))
+  where
+    by : (Contains xs x → Contains (reverse xs) x) → Contains (y ∷ []) x ⊎ Contains xs x → Contains (reverse xs ++ y ∷ []) x
+    by later (inl a) = Contains-append_right (reverse xs) (y ∷ []) x a
+    by later (inr b) = Contains-append_left (reverse xs) (y ∷ []) x (later b)
+
+pub in-reverse : {A : Type 0} (xs : List A) (x : A) → Contains xs x → Contains (reverse xs) x
+in-reverse xs x m = contains-reverse xs x m
+
+-- ---- what a filter shows of the commits that are held, and commits that are made
+
+module _ (f : Filter) (h : Held) (made : List Snapshot) where
+  -- with these commits
+  abbrev pub shown_hand : Hand
+  shown_hand = still_hand h.objects ((repo h).commits ++ made) (components_for f (repo h).commits)
+
+  leaves_of : Snapshot → List Leaf
+  leaves_of c = map (λ e. e.1) c.tree
+
+  leaf-in : (c : Snapshot) → Contains (repo h).commits c → (x : Leaf) → IsLeafOf c.tree x → Contains (all_leaves shown_hand) x
+  unfolding leaves_of
+  leaf-in c m x l = in-flat_map leaves_of ((repo h).commits ++ made) c x (Contains-append_left (repo h).commits made c m) l
+
+  components_of : Snapshot → List Bytes
+  components_of c = flat_map (λ e. e.0) c.tree
+
+  parts_for : Snapshot → List Bytes
+  parts_for c = parts_in (resolve f c.tree)
+
+  component-in : (c : Snapshot) → Contains (repo h).commits c → (b : Bytes) → IsNamedIn (resolve f c.tree) c.tree b → Contains (all_components shown_hand) b
+  unfolding components_of parts_for
+  component-in c m b (inl own) =
+      Contains-append_right (components_for f (repo h).commits) (flat_map components_of ((repo h).commits ++ made)) b
+      (in-flat_map components_of ((repo h).commits ++ made) c b (Contains-append_left (repo h).commits made c m) own)
+  component-in c m b (inr part) =
+      Contains-append_left (components_for f (repo h).commits) (flat_map components_of ((repo h).commits ++ made)) b
+      (Contains-append_right (parts_in f) (flat_map parts_for (repo h).commits) b (in-flat_map parts_for (repo h).commits c b m part))
+
+  pub shown-in : (o : Object) → IsShownOf f (repo h).commits o → IsInHand shown_hand o
+  shown-in o w =
+      TreeMade
+      (made_as (IsLeafOf w.0.tree) (Contains (all_leaves shown_hand)) (IsNamedIn (resolve f w.0.tree) w.0.tree) (Contains (all_components shown_hand)) (leaf-in w.0 w.1) (component-in w.0 w.1) o w.2)
+
+  pub made-in : (c : Snapshot) → Contains made c → (o : Object) → snapshot_object c ≡ o → IsInHand shown_hand o
+  made-in c m o e = CommitMade c (Contains-append_right (repo h).commits made c m) (sym e)
+
+-- ---- hands
+
+pub in-hands : (k : Hand) (o : Object) → IsInHand k o → IsInHands (k ∷ []) o
+in-hands k o w = (zero, k, omega arith, refl, w)
+
+-- a clash in a store that has grown is of two objects at hand
+pub twice-at : (some more : Object → Type 0) (S T : List Object) (n : Bytes) → ((o : Object) → some o → more o) → IsGrownBy some S T → IsClash some T n → IsTwice (λ o. Contains S o ⊎ more o) n
+twice-at some more S T n f g c =
+    let t = clash-twice some S T n g c in
+    record {
+      first = t.first;
+      second = t.second;
+      first_there = more-of t.first t.first_there;
+      second_there = more-of t.second t.second_there;
+      apart = t.apart;
+      first_named = t.first_named;
+      second_named = t.second_named;
+    }
+  where
+    more-of : (o : Object) → Contains S o ⊎ some o → Contains S o ⊎ more o
+    more-of o (inl m) = inl m
+    more-of o (inr w) = inr (f o w)

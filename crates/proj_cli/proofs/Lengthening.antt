@@ -1,0 +1,106 @@
+-- What a stop may leave during a command.
+use Rattle.std.proofs.Common.{◌≡◌, ◌≢◌, ◌⊎◌, inl, inr, ⊎_elim, ◌++◌, ℕ, List, [], append-nil, Option, None, Some, Result, Ok, Err, IfSome, refl, sym, ap, subst, ◌∙◌, arith}
+use Rattle.std.specs.Prelude.{unwrap_or}
+use Rattle.git_objects.specs.Paths.{Bytes}
+use Rattle.proj_io.specs.Stops.{OnlyAdds, IsPresent, adds_as}
+use Rattle.proj_io.specs.Views.{KeeperView}
+use Rattle.state_items.specs.Items.{Held, read_items}
+use Rattle.state_items.specs.Changes.{ChangePlan, KeepPlan, NoPlan, Plan, RulePlan, held_after, plan_items, room_of}
+use Rattle.state_items.proofs.ReadObjects.{ok-same}
+use Rattle.proj_words.specs.Words.{Command}
+use Rattle.proj_words.specs.declared.outcome.Outcome.{Outcome}
+use Rattle.proj_words.specs.declared.outcome.Outcome.TheVariants.{OutOfMemory, StoreFault}
+use Rattle.proj_cli.specs.Answers.{ArePlanned, IsLonger}
+use Rattle.proj_cli.specs.Cases.{Made, case, loaded}
+use Rattle.proj_cli.specs.Forms.{FormPlan, IsForm, IsFormMade, IsFormPlanned, IsFormStop}
+use Rattle.proj_cli.specs.Makes.{IsGoodPlan}
+use Rattle.proj_cli.specs.Plans.{AreKept, RecallLaw}
+use Rattle.proj_cli.specs.Sent.{TakesMemory}
+use Rattle.proj_cli.specs.Steps.{cases, step}
+use Rattle.proj_cli.specs.Stopped.{ForInput, IsLengthened, MayLeave}
+use Rattle.proj_cli.proofs.Answering.{plan-longer, plan-planned, step-done}
+use Rattle.proj_cli.proofs.CasePlans.{HoldWhatTheyShould}
+
+module _ (law : RecallLaw) (asked : Command) (items : List Bytes) (all : Bytes) where
+  kept-by : (h : Held) → AreKept items h → HoldWhatTheyShould asked items
+  kept-by h kept g loads read = subst (AreKept items) (ok-same h g (sym kept.spelled ∙ read)) kept
+
+  module _ (p : Plan) (w : IsFormPlanned (room_of items) (case asked (loaded items) all) p) (good : (h : Held) → read_items items ≡ Ok h → IsGoodPlan items h (room_of items) p) (list : List Bytes)
+      (behind : list ≡ items ++ plan_items p) where
+    lengthened : plan_items p ≢ [] → IsLengthened asked items all list
+    lengthened says = record {
+      plan = p;
+      says = says;
+      behind = behind;
+      spelled = λ h read.
+          subst (IsLonger asked items (plan_items p) h) (sym behind) (plan-longer asked items all p w good h read);
+      done = λ h kept. (
+        w.planned.step,
+        step-done law asked items all (kept-by h kept) p w,
+        subst (λ (s : Result Made Outcome). ArePlanned items (cases asked items all) s p) (step-done law asked items all (kept-by h kept) p w) (plan-planned law asked items all (kept-by h kept) p w),
+        subst (λ (xs : List Bytes). AreKept xs (held_after h p)) (sym behind) ((good h kept.spelled).kept kept),
+      );
+    }
+
+  one-more : (p : Plan) → IsFormPlanned (room_of items) (case asked (loaded items) all) p → ((h : Held) → read_items items ≡ Ok h → IsGoodPlan items h (room_of items) p) → (list : List Bytes)
+      → list ≡ items ++ plan_items p → MayLeave asked items all list
+  one-more NoPlan w good list e = inl (e ∙ append-nil items)
+  one-more (ChangePlan objects refs) w good list e = inr (lengthened (ChangePlan objects refs) w good list e (λ g. cc))
+  one-more (RulePlan n) w good list e = inr (lengthened (RulePlan n) w good list e (λ g. cc))
+  one-more (KeepPlan n text es) w good list e = inr (lengthened (KeepPlan n text es) w good list e (λ g. cc))
+
+  none-more : (p : Plan) → p ≡ NoPlan → (list : List Bytes) → list ≡ items ++ plan_items p → MayLeave asked items all list
+  none-more p n list e = inl (e ∙ ap (λ (x : Plan). items ++ plan_items x) n ∙ append-nil items)
+
+  planned-leaves : (result : Result Bytes Outcome) (p : Plan) → FormPlan (room_of items) (case asked (loaded items) all) p result
+      → ((h : Held) → read_items items ≡ Ok h → IsGoodPlan items h (room_of items) p) → (list : List Bytes) → list ≡ items ++ plan_items p → MayLeave asked items all list
+  planned-leaves (Ok report) p w good list e = one-more p w good list e
+  planned-leaves (Err StoreFault) p (inl n) good list e = none-more p n list e
+  planned-leaves (Err StoreFault) p (inr w) good list e = one-more p w good list e
+  planned-leaves (Err _) p n good list e = none-more p n list e
+
+  form-leaves : (result : Result Bytes Outcome) (k l : KeeperView) (p : Plan) → IsFormMade (case asked (loaded items) all) items k l p result → (list : List Bytes) → IsFormStop items p list
+      → MayLeave asked items all list
+  form-leaves result k l p f list (inl e) = inl e
+  form-leaves result k l p f list (inr e) = planned-leaves result p f.planned f.good list e
+
+-- a form leaves what the command may leave
+pub form-adds : RecallLaw → (asked : Command) (items : List Bytes) (left : Option Bytes) (k l : KeeperView) (result : Result Bytes Outcome) (a b : ℕ) (x y : ℕ → List Bytes → Type 0)
+    → ForInput left (λ all. IsForm asked items all k l (OnlyAdds a b x y) result) → ForInput left (λ all. OnlyAdds a b x y (MayLeave asked items all))
+form-adds law asked items left k l result a b x y f = record {
+  all = f.all;
+  told = f.told;
+  says = adds_as a b x y (IsFormStop items f.says.plan) (MayLeave asked items f.all) (form-leaves law asked items f.all result k l f.says.plan f.says.made) f.says.stops;
+}
+
+-- ---- the input
+
+pub told-input : (left : Option Bytes) → IfSome left (λ l. unwrap_or left [] ≡ l)
+told-input None = tt
+told-input (Some l) = refl
+
+-- what holds of every input
+pub for-any : (left : Option Bytes) (Says : Bytes → Type 0) → ((all : Bytes) → Says all) → ForInput left Says
+for-any left Says h = record { all = unwrap_or left []; told = told-input left; says = h (unwrap_or left []) }
+
+-- ---- a call
+
+-- what it leaves at its beginning
+pub still-there : (o : Option (List Bytes)) (items list : List Bytes) → o ≡ Some items → IsPresent o list → list ≡ items
+still-there o items list told is = by (subst (λ (p : Option (List Bytes)). IsPresent p list) told is)
+  where
+    by : IsPresent (Some items) list → list ≡ items
+    by same = same
+
+-- and since then
+pub since-began : (left : Option Bytes) (asked : Command) (items : List Bytes) (a b : ℕ) (x y : ℕ → List Bytes → Type 0) → ForInput left (λ all. OnlyAdds a b x y (MayLeave asked items all))
+    → ((list : List Bytes) → x a list → list ≡ items) → ForInput left (λ all. (list : List Bytes) → y a list → MayLeave asked items all list)
+since-began left asked items a b x y adds at_first = record {
+  all = adds.all;
+  told = adds.told;
+  says = λ list since. ⊎_elim (λ was. inl (at_first list was)) (λ new. new) (adds.says.each a list (omega arith) since);
+}
+
+-- where the call doesn't answer a fault of the store, the command didn't
+pub no-fault : (outcome result : Outcome) → (result ≡ outcome) ⊎ ((result ≡ OutOfMemory) × TakesMemory outcome) → result ≢ StoreFault → outcome ≢ StoreFault
+no-fault outcome result finished apart e = ⊎_elim (λ same. apart (same ∙ e)) (λ none. subst TakesMemory e none.1) finished

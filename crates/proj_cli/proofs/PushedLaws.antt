@@ -1,0 +1,313 @@
+-- What a push that is committed has done.
+use Rattle.std.proofs.Common.{◌≡◌, ◌+◌, ◌≤◌, ◌<◌, ℕ, zero, suc, Bool, true, false, cond, ◌||◌, List, [], ◌∷◌, ◌++◌, map, length, Option, None, Some, Result, Ok, Err, refl, sym, ap, ap₂, subst, ◌∙◌, true≢false, arith}
+use Rattle.std.specs.Prelude.{slice_get, unwrap_or}
+use Rattle.std.specs.Cmp.Lexicographic.{bytes_decides, texts_ties}
+use Rattle.std.specs.FinMap.{find}
+use Rattle.std.specs.List.{last_or}
+use Rattle.std.specs.Option.{option_map, option_map_or, option_or}
+use Rattle.std.specs.Ordering.{is_eq}
+use Rattle.std.proofs.lemmas.Option.{none-some, same_Some}
+use Rattle.git_objects.specs.Lists.{Each}
+use Rattle.git_objects.specs.Paths.{Bytes, same_bytes}
+use Rattle.git_objects.specs.Refs.{Refs, bytes_cmp}
+use Rattle.git_objects.specs.Snapshots.{Graph, Snapshot, add, add_all, commit_at, has, has_name, is_graph, snapshot_name, tree_at}
+use Rattle.git_objects.specs.Trees.{Flat, IsTree}
+use Rattle.git_objects.proofs.Basics.{same_bytes-back, same_bytes-self}
+use Rattle.object_store.specs.Objects.{IsStore, Object}
+use Rattle.filter_text.specs.Filters.{Filter}
+use Rattle.workspace.specs.Laws.{IsUsable}
+use Rattle.workspace.specs.Workspaces.{shown}
+use Rattle.commit_graph.specs.Graphs.{Row}
+use Rattle.commit_map.specs.Shown.{Shown}
+use Rattle.commit_map.specs.declared.rule.Rule.{Rule}
+use Rattle.history_ground.specs.Projections.{projection, shown_of}
+use Rattle.history_ground.specs.StoredGraphs.{IsGraphIn, graph_of, snapshot_named}
+use Rattle.history_ground.proofs.GraphLemmas.{has-newer, has-self}
+use Rattle.history_ground.proofs.StoredGraphs.{at-row, older, older-all, older-suc, row-at}
+use Rattle.push_back.specs.PushLaws.{Agrees, AreFound, AreTrees, EachStep, IsChain, IsPush, IsStep, commit_of, last_of, originals}
+use Rattle.push_back.specs.PushReplays.{StreamRefusal}
+use Rattle.push_back.specs.PushVerdicts.{Pair, Refusal, Verdict, original_of, original_tree, upon, verdict, verdict_from, with_pair}
+use Rattle.push_back.specs.Pushes.{Pushing, StreamRefused, CommitRefused, pushing, refusal_of}
+use Rattle.push_back.proofs.Chains.{chain-law}
+use Rattle.push_back.proofs.Pushing.{elsewhere-law, made-law, projected-law, pushed-law, steps-law}
+use Rattle.state_items.specs.Changes.{NoPlan, Plan, change_plan, held_after, objects_of, with_refs}
+use Rattle.state_items.specs.Imported.{IsBrought, has_leaves}
+use Rattle.state_items.specs.Items.{Held}
+use Rattle.state_items.specs.Repos.{repo}
+use Rattle.state_items.proofs.Imports.{imported-law}
+use Rattle.state_items.proofs.ReadObjects.{ok-same}
+use Rattle.import_laws.proofs.EditLeaves.{held-trees}
+use Rattle.proj_cli.specs.Cases.{push_plan}
+use Rattle.proj_cli.specs.Filters.{projected, rule_by}
+use Rattle.proj_cli.specs.Lawful.{ArePairs, IsPair, IsPushed}
+use Rattle.proj_cli.proofs.CommitGraphs.{stored-graph}
+use Rattle.proj_cli.proofs.Staying.{with-added}
+
+-- ---- an accepted push
+
+pub record IsAccepted (o : Option StreamRefusal) (v : Verdict) : Type 0 where
+  pub whole : o ≡ None
+  pub pairs : List Pair
+  pub verdict_is : v ≡ Ok pairs
+
+pub accepted : (o : Option StreamRefusal) (v : Verdict) → option_or (option_map StreamRefused o) (refusal_of v) ≡ None → IsAccepted o v
+accepted None (Ok ps) e = record { whole = refl; pairs = ps; verdict_is = refl }
+accepted None (Err x) e = absurd (none-some (CommitRefused x.0 x.1) (sym e))
+accepted (Some y) v e = absurd (none-some (StreamRefused y) (sym e))
+
+-- a pair whose original stands upon a commit, with the pushed commit's letter
+record IsLine (before : Bytes) (p : Pair) : Type 0 where
+  parents : p.original.parents ≡ before ∷ []
+  letter : p.original.letter ≡ p.pushed.letter
+
+abbrev AreLines : Bytes → List Pair → Type 0
+AreLines b [] = Unit {0}
+AreLines b (p ∷ ps) = IsLine b p × AreLines (snapshot_name p.original) ps
+
+abbrev pair_of : Bytes → Snapshot → Flat → Pair
+pair_of h c u = record { pushed = c; original = original_of h c u }
+
+line-first : (h : Bytes) (c : Snapshot) (u : Flat) (ps : List Pair) (v : Verdict) → ((qs : List Pair) → v ≡ Ok qs → AreLines (snapshot_name (original_of h c u)) qs)
+    → with_pair (pair_of h c u) v ≡ Ok ps → AreLines h ps
+line-first h c u ps (Ok qs) later e = subst (AreLines h) (ok-same (pair_of h c u ∷ qs) ps e) (record { parents = refl; letter = refl }, later qs refl)
+line-first h c u ps (Err x) later e = let no : Err x ≡ Ok ps = e in cc
+
+line-one : (k : ℕ) (h : Bytes) (c : Snapshot) (ps : List Pair) (next : Flat → Verdict) (r : Result Flat Refusal) → ((u : Flat) (qs : List Pair) → next u ≡ Ok qs → AreLines (snapshot_name (original_of h c u)) qs)
+    → upon k r (λ u. with_pair (pair_of h c u) (next u)) ≡ Ok ps → AreLines h ps
+line-one k h c ps next (Ok u) later e = line-first h c u ps (next u) (later u) e
+line-one k h c ps next (Err x) later e = let no : Err (k, x) ≡ Ok ps = e in cc
+
+lines-of : (f : Filter) (cs : List Snapshot) (k : ℕ) (h : Bytes) (t seen : Flat) (ps : List Pair) → verdict_from f k h t seen cs ≡ Ok ps → AreLines h ps
+lines-of f [] k h t seen ps e = subst (AreLines h) (ok-same [] ps e) tt
+lines-of f (c ∷ cs) k h t seen ps e =
+    line-one k h c ps (λ u. verdict_from f (k + 1) (snapshot_name (original_of h c u)) u c.tree cs) (original_tree f t seen c.tree)
+    (λ u qs q. lines-of f cs (k + 1) (snapshot_name (original_of h c u)) u c.tree qs q) e
+
+in-line : (h : Bytes) (ps : List Pair) → AreLines h ps → IsChain (Some h) (originals ps)
+in-line h [] w = tt
+in-line h (p ∷ ps) w = (w.0.parents, in-line (snapshot_name p.original) ps w.1)
+
+-- ---- the last of them
+
+last-some : (o : Snapshot) (os : List Snapshot) (m : Option Bytes) → unwrap_or (option_or (option_map snapshot_name (last_or (Some o) os)) m) [] ≡ last_of (snapshot_name o) os
+last-some o [] m = refl
+last-some o (p ∷ os) m = last-some p os m
+
+last-name : (n : Bytes) (os : List Snapshot) → unwrap_or (option_or (option_map snapshot_name (last_or None os)) (Some n)) [] ≡ last_of n os
+last-name n [] = refl
+last-name n (o ∷ os) = last-some o os (Some n)
+
+last-there : (o : Snapshot) (os : List Snapshot) → last_or (Some o) os ≡ None → ⊥
+last-there o [] e = none-some o (sym e)
+last-there o (p ∷ os) e = last-there p os e
+
+-- none is last where there is none
+none-last : (os : List Snapshot) → last_or None os ≡ None → os ≡ []
+none-last [] e = refl
+none-last (o ∷ os) e = absurd (last-there o os e)
+
+-- ---- commits by their names
+
+has-kept : (os : List Snapshot) (g : Graph) (n : Bytes) → has g n ≡ true → has (add_all g os) n ≡ true
+has-kept [] g n e = e
+has-kept (o ∷ os) g n e = has-kept os (add g o) n (by (has g (snapshot_name o)))
+  where
+    by : (b : Bool) → has (cond b g (o ∷ g)) n ≡ true
+    by true = e
+    by false = has-newer o g n e
+
+pub has-added : (os : List Snapshot) (g : Graph) → Each (λ o. has (add_all g os) (snapshot_name o) ≡ true) os
+has-added [] g = tt
+has-added (o ∷ os) g = (has-kept os (add g o) (snapshot_name o) (by (has g (snapshot_name o)) refl), has-added os (add g o))
+  where
+    by : (b : Bool) → has g (snapshot_name o) ≡ b → has (cond b g (o ∷ g)) (snapshot_name o) ≡ true
+    by true e = e
+    by false e = has-self o g
+
+each-added : (P : Snapshot → Type 0) (os : List Snapshot) (g : Graph) → Each P g → Each P os → Each P (add_all g os)
+each-added P [] g a b = a
+each-added P (o ∷ os) g a b = each-added P os (add g o) (by (has g (snapshot_name o))) b.1
+  where
+    by : (x : Bool) → Each P (cond x g (o ∷ g))
+    by true = a
+    by false = (b.0, a)
+
+-- that the store has a commit under its own name
+abbrev pub IsNamedIn : List Object → Snapshot → Type 0
+IsNamedIn S c = snapshot_named S (snapshot_name c) ≡ Some c
+
+module _ (S : List Object) where
+  found-one : (g : Graph) (o : Snapshot) → Each (IsNamedIn S) g → IsNamedIn S o → has g (snapshot_name o) ≡ true → commit_at g (snapshot_name o) ≡ Some o
+  found-one [] o w k e = absurd (true≢false (sym e))
+  found-one (c ∷ g) o w k e = by (λ f. found-one g o w.1 k f) (has_name (snapshot_name o) c) refl e
+    where
+      by : (has g (snapshot_name o) ≡ true → commit_at g (snapshot_name o) ≡ Some o) → (b : Bool) → has_name (snapshot_name o) c ≡ b → (b || has g (snapshot_name o)) ≡ true → cond b (Some c) (commit_at g (snapshot_name o)) ≡ Some o
+      by later true q f = sym w.0 ∙ ap (snapshot_named S) (sym ((bytes_decides (snapshot_name o) (snapshot_name c)).0 q)) ∙ k
+      by later false q f = later f
+
+  found-each : (g : Graph) (os : List Snapshot) → Each (IsNamedIn S) g → Each (IsNamedIn S) os → Each (λ o. has g (snapshot_name o) ≡ true) os → AreFound g os
+  found-each g [] w a b = tt
+  found-each g (o ∷ os) w a b = (found-one g o w a.0 b.0, found-each g os w a.1 b.1)
+
+  pub are-found : (g : Graph) (os : List Snapshot) → Each (IsNamedIn S) g → Each (IsNamedIn S) os → AreFound (add_all g os) os
+  are-found g os w a = found-each (add_all g os) os (each-added (IsNamedIn S) os g w a) a (has-added os g)
+
+  none-named : Each (IsNamedIn S) (graph_of S [])
+  unfolding graph_of
+  none-named = tt
+
+  -- the commits of rows are there
+  older-named : (rows : List Row) (w : IsGraphIn S rows) (k : ℕ) → k ≤ length rows → Each (IsNamedIn S) (older S rows w k)
+  older-named rows w zero le = none-named
+  older-named rows w (suc k) le =
+      let r = row-at S rows w k (omega (arith, le)) in
+      let c = at-row S rows w k r.0 r.1 in
+      subst (Each (IsNamedIn S)) (sym (older-suc S rows w k r.0 c.0 r.1 c.1)) (ap (snapshot_named S) c.1.name ∙ c.1.found, older-named rows w k (omega (arith, le)))
+
+  pub graph-named : (rows : List Row) → IsGraphIn S rows → Each (IsNamedIn S) (graph_of S rows)
+  graph-named rows w = subst (Each (IsNamedIn S)) (older-all S rows w) (older-named rows w (length rows) (omega arith))
+
+-- ---- a push
+
+each-tree : (cs : List Snapshot) (P : Flat → Type 0) → Each (λ c. IsTree c.tree × P c.tree) cs → AreTrees cs
+each-tree [] P w = tt
+each-tree (c ∷ cs) P w = (w.0.0, each-tree cs P w.1)
+
+pub held-are-trees : (h : Held) → IsStore h.objects → AreTrees (repo h).commits
+held-are-trees h s = each-tree (repo h).commits (λ t. has_leaves (repo h).blobs t ≡ true) (held-trees h.objects s)
+
+-- the tree of a head, and its blobs are known
+head-good : (blobs : List Bytes) (g : Graph) (n : Bytes) → Each (λ c. IsTree c.tree × (has_leaves blobs c.tree ≡ true)) g → IsTree (tree_at g n) × (has_leaves blobs (tree_at g n) ≡ true)
+head-good blobs [] n w = (record { sorted = tt; paths = tt; leaves = tt; apart = tt }, refl)
+head-good blobs (c ∷ g) n w = by (head-good blobs g n w.1) (has_name n c)
+  where
+    by : IsTree (tree_at g n) × (has_leaves blobs (tree_at g n) ≡ true) → (b : Bool) → IsTree (option_map_or (λ (d : Snapshot). d.tree) (cond b (Some c) (commit_at g n)) []) × (has_leaves blobs (option_map_or (λ (d : Snapshot). d.tree) (cond b (Some c) (commit_at g n)) []) ≡ true)
+    by later true = w.0
+    by later false = later
+
+pub head-tree : (h : Held) (n : Bytes) → IsStore h.objects → IsTree (tree_at (repo h).commits n) × (has_leaves (repo h).blobs (tree_at (repo h).commits n) ≡ true)
+head-tree h n s = head-good (repo h).blobs (repo h).commits n (held-trees h.objects s)
+
+tied : (q k : Bytes) → q ≡ k → is_eq (bytes_cmp q k) ≡ true
+tied q k e = sym (texts_ties q k) ∙ same_bytes-back q k ∙ ap (λ (x : Bytes). same_bytes k x) e ∙ same_bytes-self k
+
+module _ (h : Held) (f : Filter) (refname n all : Bytes) where
+  abbrev G : Graph
+  G = (repo h).commits
+
+  abbrev k : Rule
+  k = rule_by h.rule
+
+  abbrev x : Pushing
+  x = pushing k f G n refname all
+
+  -- a push that isn't refused, whose originals and the commits before are those of a store by their names
+  pub record IsTaken (S : List Object) : Type 0 where
+    pub usable : IsUsable f
+    pub store : IsStore h.objects
+    pub at_ref : find bytes_cmp refname h.refs ≡ Some n
+    pub placed : has G n ≡ true
+    pub named : Each (IsNamedIn S) G
+    pub trees : AreTrees x.stream.state.commits
+    pub accepted : x.refusal ≡ None
+    pub own : Each (IsNamedIn S) x.originals
+
+  -- the state after it has its originals too, and the ref at the last of them
+  record IsAfter (g : Held) : Type 0 where
+    rule : g.rule ≡ h.rule
+    commits : (repo g).commits ≡ add_all G x.originals
+    head : find bytes_cmp refname g.refs ≡ option_or (option_map snapshot_name (last_or None x.originals)) (Some n)
+
+  module _ (S : List Object) (w : IsTaken S) where
+    given : IsAccepted x.stream.fault (verdict f G n x.stream.state.commits)
+    given = accepted x.stream.fault (verdict f G n x.stream.state.commits) w.accepted
+
+    ps : List Pair
+    ps = given.pairs
+
+    verdict-is : verdict f G n x.stream.state.commits ≡ Ok ps
+    unfolding ps
+    verdict-is = given.verdict_is
+
+    graph : is_graph G ≡ true
+    graph = stored-graph h.objects w.store
+
+    graph-trees : AreTrees G
+    graph-trees = held-are-trees h w.store
+
+    made : x.originals ≡ originals ps
+    made = made-law f G n refname (commit_of (projection k (shown f) G n)) x.stream ps verdict-is
+
+    found : AreFound (add_all G (originals ps)) (originals ps)
+    found = subst (λ (os : List Snapshot). AreFound (add_all G os) os) made (are-found S G x.originals w.named w.own)
+
+    push : IsPush k f G n x.stream.state.commits ps
+    push = record {
+      usable = w.usable;
+      graph = graph;
+      trees = graph-trees;
+      head = w.placed;
+      pushed = w.trees;
+      upon = chain-law refname (commit_of (projection k (shown f) G n)) (shown f (tree_at G n)) all;
+      accepted = verdict-is;
+      found = found;
+    }
+
+    abbrev IsProjectedIn : Graph → Pair → Type 0
+    IsProjectedIn g p = projection k (shown f) g (snapshot_name p.original) ≡ Some (shown_of p.pushed)
+
+    -- pairs one by one
+    pairs-from : (g : Held) (b : Bytes) (t : Flat) (qs : List Pair) → AreLines b qs → EachStep (λ t p. IsStep f t p.pushed.tree p.original.tree) t qs
+        → Each (λ p. projected g f (snapshot_name p.original) ≡ Some (shown_of p.pushed)) qs → ArePairs g f b t (map (λ p. p.pushed) qs) (map (λ p. p.original) qs)
+    pairs-from g b t [] l s p = tt
+    pairs-from g b t (q ∷ qs) l s p =
+        (record { parents = l.0.parents; letter = l.0.letter; step = s.0; projected = p.0 }, pairs-from g (snapshot_name q.original) q.original.tree qs l.1 s.1 p.1)
+
+    module _ (g : Held) (a : IsAfter g) where
+      -- what is projected then is projected over the commits before and the originals
+      projected-over : (q : Filter) (m : Bytes) → projected g q m ≡ projection k (shown q) (add_all G (originals ps)) m
+      projected-over q m = ap₂ (λ (r : ℕ) (cs : Graph). projection (rule_by r) (shown q) cs m) a.rule (a.commits ∙ ap (add_all G) made)
+
+      projected-each : (qs : List Pair) → Each (IsProjectedIn (add_all G (originals ps))) qs → Each (λ p. projected g f (snapshot_name p.original) ≡ Some (shown_of p.pushed)) qs
+      projected-each [] e = tt
+      projected-each (p ∷ qs) e = (projected-over f (snapshot_name p.original) ∙ e.0, projected-each qs e.1)
+
+      pairs : ArePairs g f n (tree_at G n) x.stream.state.commits x.originals
+      pairs =
+          subst (ArePairs g f n (tree_at G n) x.stream.state.commits) (sym made)
+          (subst (λ (cs : List Snapshot). ArePairs g f n (tree_at G n) cs (originals ps)) (pushed-law f G n x.stream.state.commits ps verdict-is)
+          (pairs-from g n (tree_at G n) ps (lines-of f x.stream.state.commits 1 n (tree_at G n) (shown f (tree_at G n)) ps verdict-is)
+          (steps-law f G n x.stream.state.commits ps w.usable graph-trees w.trees verdict-is)
+          (projected-each ps (projected-law k f G n x.stream.state.commits ps push))))
+
+      others : (q : Filter) → IsUsable q → Each (λ o. Agrees q (tree_at G n) o.tree) x.originals → projected g q (unwrap_or (find bytes_cmp refname g.refs) []) ≡ projected h q n
+      others q u e =
+          ap (λ (o : Option Bytes). projected g q (unwrap_or o [])) a.head
+          ∙ ap (projected g q) (last-name n x.originals ∙ ap (last_of n) made)
+          ∙ projected-over q (last_of n (originals ps))
+          ∙ elsewhere-law k q G n (originals ps) u graph graph-trees w.placed
+          (in-line n ps (lines-of f x.stream.state.commits 1 n (tree_at G n) (shown f (tree_at G n)) ps verdict-is))
+          (subst (Each (λ o. Agrees q (tree_at G n) o.tree)) made e) found
+
+      pushed-after : IsPushed h g f refname n x
+      pushed-after = record { head = a.head; pairs = pairs; others = others }
+
+    -- the ref's new commit is found
+    new-head : (m : Bytes) (refs : Refs) → option_or (find bytes_cmp refname (with_refs [] ((refname, m) ∷ []))) (find bytes_cmp refname refs) ≡ Some m
+    new-head m refs = ap (λ (b : Bool). option_or (cond b (Some m) None) (find bytes_cmp refname refs)) (tied refname refname refl)
+
+    after : (o : Option Snapshot) → last_or None x.originals ≡ o → IsBrought h x.stream.state.blobs x.originals → IsAfter (held_after h (push_plan h refname x o))
+    after None e b =
+        let none = none-last x.originals e in
+        record { rule = refl; commits = ap (add_all G) (sym none); head = w.at_ref ∙ sym (ap (λ (o : Option Snapshot). option_or (option_map snapshot_name o) (Some n)) e) }
+    after (Some c) e b =
+        let i = imported-law h x.stream.state.blobs x.originals ((refname, snapshot_name c) ∷ []) b in
+        record {
+          rule = i.rule;
+          commits = i.commits ∙ with-added x.originals G;
+          head = i.refs refname ∙ new-head (snapshot_name c) h.refs ∙ sym (ap (λ (o : Option Snapshot). option_or (option_map snapshot_name o) (Some n)) e);
+        }
+
+    -- it is done
+    pub pushed : IsBrought h x.stream.state.blobs x.originals → IsPushed h (held_after h (push_plan h refname x (last_or None x.originals))) f refname n x
+    pushed b = pushed-after (held_after h (push_plan h refname x (last_or None x.originals))) (after (last_or None x.originals) refl b)

@@ -1,0 +1,111 @@
+-- What is made of a form of the words, before anything is written to the output.
+use Rattle.std.specs.Prelude.{◌≡◌, ◌≢◌, ◌⊎◌, ◌++◌, ℕ, true, false, List, Option, Some, Result, Ok, Err}
+use Rattle.std.specs.Io.KnownBytes.{Keeps}
+use Rattle.git_objects.specs.Paths.{Bytes}
+use Rattle.git_objects.specs.Results.{◌>>=◌}
+use Rattle.object_store.specs.Objects.{Object, IsStore}
+use Rattle.filter_text.specs.Filters.{Filter}
+use Rattle.filter_text.specs.Shapes.{shape}
+use Rattle.workspace.specs.Laws.{IsUsable}
+use Rattle.proj_io.specs.Counts.{Counts}
+use Rattle.proj_io.specs.Views.{SourceView, SinkView, KeeperView}
+use Rattle.state_items.specs.Items.{Held, read_items}
+use Rattle.state_items.specs.Changes.{NoPlan, Plan, Room, plan_items, room_of}
+use Rattle.repo_ground.specs.Changes.{KeepsItems}
+use Rattle.repo_ground.specs.Loads.{IsLoaded}
+use Rattle.repo_ground.specs.declared.state.LoadError.{LoadError}
+use Rattle.repo_ground.specs.declared.state.LoadError.TheVariants as load
+use Rattle.proj_words.specs.Words.{Command, loads, reads, writes}
+use Rattle.proj_words.specs.declared.outcome.Outcome.{Outcome}
+use Rattle.proj_words.specs.declared.outcome.Outcome.TheVariants.{Collision, Damaged, OutOfMemory, ReadFault, StoreFault, WriteFault}
+use Rattle.proj_cli.specs.Cases.{Case, Made, case, loaded}
+use Rattle.proj_cli.specs.Filters.{sound}
+use Rattle.proj_cli.specs.Hands.{IsInHands, hand}
+use Rattle.proj_cli.specs.Makes.{IsFlowed, IsGoodPlan, IsPlanned, IsRefusal, IsReported, IsStored, hands_of, step_in}
+use Rattle.proj_cli.specs.Stopped.{ForInput}
+use Rattle.proj_cli.specs.declared.loading.Opened.{Opened}
+
+-- ---- before a case comes up
+
+abbrev pub load_outcome : LoadError → Outcome
+load_outcome load.StoreFault = StoreFault
+load_outcome (load.Damaged item at) = Damaged item at
+load_outcome (load.Collision n) = Collision n
+load_outcome load.OutOfMemory = OutOfMemory
+
+-- the filter of a text, and what the items hold, or the first refusal
+abbrev pub opening : Bytes → List Bytes → Result (Filter × Held) Outcome
+opening text items = do
+  f ← sound text
+  h ← loaded items
+  Ok (f, h)
+
+-- why it isn't there: that refusal, want of memory, or a fault of the store
+abbrev pub IsEarly : {A : Type 0} → Result A Outcome → Outcome → Type 0
+IsEarly r e = (e ≡ OutOfMemory) ⊎ (e ≡ StoreFault) ⊎ (r ≡ Err e)
+
+-- neither the input nor the output has failed
+abbrev pub IsBeforeDevices : {A : Type 0} → Result A Outcome → Type 0
+IsBeforeDevices result = (result ≢ Err WriteFault) × (result ≢ Err ReadFault)
+
+-- a filter that a text is, a ref name, and a state that was loaded
+pub record IsOpened (told : Option (List Bytes)) (number : ℕ) (text refname : Bytes) (x : Opened) : Type 0 where
+  pub judged : sound text ≡ Ok (shape x.filter)
+  pub usable : IsUsable (shape x.filter)
+  pub named : x.refname ≡ refname
+  pub loaded : IsLoaded told number x.state
+
+-- ---- reports
+
+-- A plan comes of the case that came up, and what is held there is a store.
+pub record IsFormPlanned (room : Room) (r : Result Case Outcome) (p : Plan) : Type 0 where
+  pub planned : IsPlanned room r p
+  pub store : IsStore (hand planned.case).held
+
+-- Where there is a report, the plan comes of the case. Where the store failed, it does, or nothing is planned: it may have failed while
+-- it was loaded. Else nothing is planned.
+abbrev pub FormPlan : Room → Result Case Outcome → Plan → Result Bytes Outcome → Type 0
+FormPlan room r p (Ok report) = IsFormPlanned room r p
+FormPlan room r p (Err StoreFault) = (p ≡ NoPlan) ⊎ IsFormPlanned room r p
+FormPlan room r p (Err e) = p ≡ NoPlan
+
+-- What became of a case for these items, or of its refusal: its report, and its plan, which is appended.
+pub record IsFormMade (r : Result Case Outcome) (items : List Bytes) (before after : KeeperView) (p : Plan) (result : Result Bytes Outcome) : Type 0 where
+  pub reported : IsReported (IsInHands (hands_of r)) (step_in (room_of items) r) result
+  pub planned : FormPlan (room_of items) r p result
+  pub good : (h : Held) → read_items items ≡ Ok h → IsGoodPlan items h (room_of items) p
+  pub stored : IsStored result p before after
+
+-- what a stop leaves of these items while a plan is appended: them, or them with the plan's item
+abbrev pub IsFormStop : List Bytes → Plan → List Bytes → Type 0
+IsFormStop items p list = (list ≡ items) ⊎ (list ≡ items ++ plan_items p)
+
+-- What became of a form for these items and this input. What a stop may leave since then is of a kind.
+pub record IsForm (asked : Command) (items : List Bytes) (input : Bytes) (before after : KeeperView) (Adds : (List Bytes → Type 0) → Type 0) (result : Result Bytes Outcome) : Type 0 where
+  pub plan : Plan
+  pub made : IsFormMade (case asked (loaded items) input) items before after plan result
+  pub stops : Adds (IsFormStop items plan)
+
+-- What became of a form that gives a report.
+pub record IsMade (asked : Command) (input input_now : SourceView) (store store_now : KeeperView) (Adds : (List Bytes → Type 0) → Type 0) (result : Result Bytes Outcome) : Type 0 where
+  pub read : Counts input.faults input_now.faults (result ≡ Err ReadFault)
+  pub keep : Counts store.faults store_now.faults (result ≡ Err StoreFault)
+  pub early : result ≢ Err WriteFault
+  -- a form that doesn't read or load is at no fault of the input or the store
+  pub unread : reads asked ≡ false → result ≢ Err ReadFault
+  pub unloaded : loads asked ≡ false → result ≢ Err StoreFault
+  -- a form that doesn't write leaves the items
+  pub unwritten : writes asked ≡ false → KeepsItems store store_now
+  -- of the items that the store tells, and of any for a form that doesn't load them
+  pub formed : (items : List Bytes) → (loads asked ≡ true → store.items ≡ Some items)
+      → ForInput input.left (λ all. IsForm asked items all store store_now Adds result)
+
+-- ---- reports that are written while they are made
+
+-- nothing was written before a refusal, or what was written is of the step
+abbrev pub IsFormFlowed : (Object → Type 0) → Result Made Outcome → SinkView → SinkView → Outcome → Type 0
+IsFormFlowed hand r before after outcome = (IsRefusal hand outcome r × Keeps before.written after.written) ⊎ IsFlowed hand r before after outcome
+
+-- What became of an export for these items.
+abbrev pub IsExport : Result Case Outcome → List Bytes → SinkView → SinkView → Outcome → Type 0
+IsExport r items before after outcome = IsFormFlowed (IsInHands (hands_of r)) (step_in (room_of items) r) before after outcome

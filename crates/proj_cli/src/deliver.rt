@@ -1,0 +1,67 @@
+// Writing reports, and the texts of outcomes.
+ghost use Rattle.std.specs.Prelude.{◌≡◌, ◌≤◌, ◌⊎◌, IsErr};
+ghost use Rattle.proj_io.specs.Counts.{Counts};
+ghost use Rattle.proj_io.specs.Views.{sink_view};
+ghost use Rattle.proj_words.specs.Outcomes.{text_of};
+ghost use Rattle.proj_cli.specs.Answers.{GetsText};
+ghost use Rattle.proj_cli.specs.Sent.{IsConcluded, IsSent, TakesMemory};
+
+use git_objects::Bytes;
+use proj_io::{Sink, SinkError, write_whole};
+use proj_words::{Outcome, outcome_text};
+use std::alloc::Global;
+
+// Writes a report.
+fn deliver<O: Sink>(report: &[u8], out: &mut O) -> Outcome
+    ensures sent { let seen = sink_view O.written O.faults O.refusals in IsSent result report.now (seen out.old)
+        (seen out.new) }
+    ensures cause { Counts (O.faults out.old) (O.faults out.new) (result ≡ Outcome.WriteFault) }
+    ensures memory { O.refusals out.old ≤ O.refusals out.new }
+{
+    match write_whole(out, report) {
+        Ok(()) => Outcome::Done,
+        Err(SinkError::Failed) => Outcome::WriteFault,
+        Err(SinkError::OutOfMemory) => Outcome::OutOfMemory,
+    }
+}
+
+/// Writes the report that was made, and nothing after a refusal.
+pub fn conclude<O: Sink>(made: Result<Bytes, Outcome>, out: &mut O) -> Outcome
+    ensures concluded { let seen = sink_view O.written O.faults O.refusals in IsConcluded made (seen out.old)
+        (seen out.new) result }
+    ensures same { IsErr made → out.new ≡ out.old }
+{
+    match made {
+        Ok(report) => deliver(report.bytes(), out),
+        Err(outcome) => outcome,
+    }
+}
+
+/// Writes a text as far as the sink takes it.
+pub fn tell<E: Sink>(text: &[u8], err: &mut E)
+    ensures { let seen = sink_view E.written E.faults E.refusals in GetsText (seen err.old) (seen err.new) text.now }
+{
+    let _ = write_whole(err, text);
+}
+
+/// Writes the outcome's text. Where there is no memory for it, the outcome is that.
+pub fn finish<E: Sink>(alloc: Global, outcome: Outcome, err: &mut E) -> Outcome
+    ensures outcome { (result ≡ outcome) ⊎ ((result ≡ Outcome.OutOfMemory) × TakesMemory outcome) }
+    ensures text { let seen = sink_view E.written E.faults E.refusals in GetsText (seen err.old) (seen err.new)
+        (text_of result) }
+{
+    match outcome {
+        Outcome::Done => {}
+        Outcome::OutOfMemory => tell(b"out of memory\n", err),
+        Outcome::WriteFault => tell(b"write fault\n", err),
+        Outcome::StoreFault => tell(b"store fault\n", err),
+        _ => match outcome_text(alloc, &outcome) {
+            Ok(text) => tell(&text, err),
+            Err(_) => {
+                tell(b"out of memory\n", err);
+                return Outcome::OutOfMemory;
+            }
+        },
+    }
+    outcome
+}

@@ -1,0 +1,137 @@
+// What a stream brings to the store.
+ghost use Rattle.std.specs.Prelude.{◌≡◌, ◌≢◌, ◌⊎◌, ◌↔◌, ◌++◌, List, Err, Ok, map, reverse, true, IfOk, IfSome, MatchResult};
+ghost use Rattle.git_objects.specs.Paths.{Bytes, is_bytes};
+ghost use Rattle.git_objects.specs.Snapshots.{Snapshot};
+ghost use Rattle.fast_import.specs.Replays.{ran};
+ghost use Rattle.history_ground.specs.Grounds.{IsGround};
+ghost use Rattle.proj_io.specs.Counts.{Counts};
+ghost use Rattle.proj_io.specs.Stops.{OnlyAdds};
+ghost use Rattle.proj_io.specs.Views.{keeper_view};
+ghost use Rattle.repo_ground.specs.Changes.{IsBatchOf, IsStopOf, settings_of};
+ghost use Rattle.repo_ground.specs.Laws.{base_of};
+ghost use Rattle.state_items.specs.Changes.{Plan};
+ghost use Rattle.state_items.specs.Items.{Held};
+ghost use Rattle.state_items.specs.Repos.{repo};
+ghost use Rattle.proj_cli.specs.Cases.{ImportCase, all_forward};
+ghost use Rattle.proj_cli.specs.Makes.{IsMadeOf, IsState, IsStateOf};
+ghost use Rattle.proj_cli.specs.Replaying.{IsPrepared, IsReplayedUpon};
+
+use crate::lines::refs_report;
+use crate::naming::commit_names;
+use crate::refusals::{commit_outcome, replay_outcome};
+use fast_import::{Replayed, replay_all};
+use git_objects::Bytes;
+use proj_io::{Keeper, Source};
+use proj_words::Outcome;
+use repo_ground::{Backward, Batch, State, StateView};
+use std::alloc::{AllocError, Global};
+
+// Replays a stream upon a state, into its store.
+fn replay_upon<S: Source>(
+    alloc: Global,
+    state: &mut State,
+    input: &mut S,
+) -> Result<Replayed, Outcome>
+    requires { IsState state.old }
+    ensures replayed { (items : List Bytes) (h : Held) → IsStateOf items h state.old →
+        (all : Bytes) × (is_bytes all ≡ true) × IfSome (S.left input.old) (λ l. all ≡ l) ×
+        IsReplayedUpon items h all state.old state.new result }
+    ensures early { (result ≢ Err Outcome.WriteFault) × (result ≢ Err Outcome.StoreFault) }
+    ensures told { S.tells input.new ↔ S.tells input.old }
+    ensures read { Counts (S.faults input.old) (S.faults input.new) (result ≡ Err Outcome.ReadFault) }
+{
+    let view = StateView::of(&state.ground.graph, &state.refs, &state.blobs);
+    match replay_all(alloc, input, &view, &mut state.ground.store) {
+        Ok(replayed) => Ok(replayed),
+        Err(error) => Err(replay_outcome(error)),
+    }
+}
+
+// The report of what a stream gives, and what is to be committed.
+fn prepared(alloc: Global, replayed: Replayed) -> Result<(Bytes, Batch), AllocError>
+    ensures { IfOk result (λ x. IsPrepared replayed x.0 x.1) }
+{
+    let report = refs_report(alloc, &replayed.heads)?;
+    let commits = commit_names(alloc, &replayed.commits)?;
+    let Replayed {
+        blobs,
+        commits: _,
+        heads,
+    } = replayed;
+    let batch = Batch {
+        blobs,
+        commits,
+        refs: heads,
+    };
+    Ok((Bytes::of(report), batch))
+}
+
+// The refusal of a ref that would move elsewhere than forward.
+fn backward(first: Backward) -> Outcome
+    ensures { result ≡ Outcome.NotForward first.refname first.old_commit first.new_commit }
+{
+    Outcome::NotForward {
+        refname: first.refname,
+        old: first.old_commit,
+        new: first.new_commit,
+    }
+}
+
+// Unless `force`, each ref of a batch that is there has to move forward.
+fn all_forward(state: &mut State, batch: &Batch, force: bool) -> Result<(), Outcome>
+    requires ground { IsGround state.old.basis }
+    requires batch { (h : Held) × (blobs : List Bytes) × (cs : List Snapshot) ×
+        IsBatchOf h state.old batch.now blobs cs }
+    ensures forward { (h : Held) (blobs : List Bytes) (cs : List Snapshot) →
+        IsBatchOf h state.old batch.now blobs cs →
+        let asked = all_forward force (reverse cs ++ (repo h).commits) h.refs (settings_of batch.now) in
+        MatchResult result (λ _. asked ≡ Ok tt) (λ e. (e ≡ Outcome.OutOfMemory) ⊎ (asked ≡ Err e)) }
+    ensures same { state.new ≡ state.old }
+    ensures early { (result ≢ Err Outcome.ReadFault) × (result ≢ Err Outcome.WriteFault) ×
+        (result ≢ Err Outcome.StoreFault) }
+{
+    if force {
+        return Ok(());
+    }
+    match state.first_backward(batch) {
+        Err(_) => Err(Outcome::OutOfMemory),
+        Ok(None) => Ok(()),
+        Ok(Some(first)) => Err(backward(first)),
+    }
+}
+
+/// Replays a stream upon the state and commits what it brings. The report has a line for each ref that it sets, in byte
+/// order. Unless `force`, a ref that is there may only move forward.
+pub fn import<S: Source, K: Keeper>(
+    alloc: Global,
+    state: &mut State,
+    input: &mut S,
+    store: &mut K,
+    force: bool,
+) -> Result<Bytes, Outcome>
+    requires open { K.is_open store.old }
+    requires number { state.old.number ≡ K.number store.old }
+    requires state { IsState state.old }
+    ensures made { let seen = keeper_view K.items K.number K.faults in
+        (items : List Bytes) (h : Held) → IsStateOf items h state.old →
+        (all : Bytes) × IfSome (S.left input.old) (λ l. all ≡ l) × (p : Plan) ×
+        IsMadeOf (Ok (ImportCase force h (ran (base_of h) all))) items h
+        state.old state.new (seen store.old) (seen store.new) p result ×
+        OnlyAdds (K.moment store.old) (K.moment store.new) (K.left_since store.old) (K.left_since store.new)
+        (IsStopOf h state.old p (K.items store.old)) }
+    ensures early { result ≢ Err Outcome.WriteFault }
+    ensures is_open { result ≢ Err Outcome.StoreFault → K.is_open store.new }
+    ensures told { K.tells store.new ↔ K.tells store.old }
+    ensures read { Counts (S.faults input.old) (S.faults input.new) (result ≡ Err Outcome.ReadFault) }
+    ensures cause { Counts (K.faults store.old) (K.faults store.new) (result ≡ Err Outcome.StoreFault) }
+{
+    let replayed = replay_upon(alloc, state, input)?;
+    let Ok((report, batch)) = prepared(alloc, replayed) else {
+        return Err(Outcome::OutOfMemory);
+    };
+    all_forward(state, &batch, force)?;
+    match state.commit(store, batch) {
+        Ok(()) => Ok(report),
+        Err(error) => Err(commit_outcome(error)),
+    }
+}

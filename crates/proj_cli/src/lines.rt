@@ -1,0 +1,83 @@
+// The lines of reports.
+ghost use Rattle.std.specs.Prelude.{◌≡◌, ◌++◌, map, IfOk, OnOk};
+ghost use Rattle.std.specs.List.{flat_map};
+ghost use Rattle.std.specs.Option.{option_map};
+ghost use Rattle.fast_import.specs.Replaying.{setting_value};
+ghost use Rattle.commit_map.specs.Rules.{rule_number};
+ghost use Rattle.commit_map.specs.Shown.{shown_value};
+ghost use Rattle.proj_cli.specs.Cases.{name_line, ref_line, rule_line};
+ghost use Rattle.proj_cli.specs.Pushing.{digits_line};
+
+use commit_map::{Rule, Shown};
+use fast_import::Setting;
+use push_back::Pair;
+use std::alloc::{AllocError, Global};
+
+// Adds the line of a ref and its commit.
+fn add_ref_line(report: &mut Vec<u8>, set: &Setting) -> Result<(), AllocError>
+    ensures { OnOk result (report.new.items ≡ report.old.items ++ ref_line (setting_value set.now)) }
+{
+    report.extend_from_slice(set.refname.text())?;
+    report.push(b' ')?;
+    report.extend_from_slice(&set.head.hex())?;
+    report.push(b'\n')?;
+    Ok(())
+}
+
+/// The lines of refs with their commits.
+pub fn refs_report(alloc: Global, refs: &[Setting]) -> Result<Vec<u8>, AllocError>
+    ensures { IfOk result (λ report. report.items ≡ flat_map ref_line (map setting_value refs.now)) }
+{
+    let mut report = Vec::new(alloc);
+    for set in refs {
+        add_ref_line(&mut report, set)?;
+    }
+    Ok(report)
+}
+
+// Adds the line of a pushed commit and its original.
+fn add_pair_line(report: &mut Vec<u8>, pair: &Pair) -> Result<(), AllocError>
+    ensures { OnOk result (report.new.items ≡ report.old.items ++ digits_line pair.now.pushed.0 pair.now.original.0) }
+{
+    report.extend_from_slice(&pair.pushed.hex())?;
+    report.push(b' ')?;
+    report.extend_from_slice(&pair.original.hex())?;
+    report.push(b'\n')?;
+    Ok(())
+}
+
+/// The lines of pushed commits with their originals.
+pub fn pairs_report(alloc: Global, pairs: &[Pair]) -> Result<Vec<u8>, AllocError>
+    ensures { IfOk result (λ report.
+        report.items ≡ flat_map (λ c. digits_line c.pushed.0 c.original.0) pairs.now) }
+{
+    let mut report = Vec::new(alloc);
+    for pair in pairs {
+        add_pair_line(&mut report, pair)?;
+    }
+    Ok(report)
+}
+
+/// The line of a projection, or that there is none.
+pub fn projection_report(alloc: Global, shown: Option<Shown>) -> Result<Vec<u8>, AllocError>
+    ensures { IfOk result (λ report. report.items ≡ name_line (option_map shown_value shown)) }
+{
+    match shown {
+        None => b"none\n".to_vec(alloc),
+        Some(shown) => {
+            let mut report = shown.commit.hex().to_vec(alloc)?;
+            report.push(b'\n')?;
+            Ok(report)
+        }
+    }
+}
+
+/// The line of a rule.
+pub fn rule_report(alloc: Global, rule: Rule) -> Result<Vec<u8>, AllocError>
+    ensures { IfOk result (λ report. report.items ≡ rule_line (rule_number rule)) }
+{
+    match rule {
+        Rule::One => b"rule 1\n".to_vec(alloc),
+        Rule::Two => b"rule 2\n".to_vec(alloc),
+    }
+}

@@ -1,0 +1,62 @@
+// The outcomes of what lower crates refuse.
+ghost use Rattle.std.specs.Prelude.{◌≡◌};
+ghost use Rattle.proj_cli.specs.Pushing.{fault_outcome};
+ghost use Rattle.proj_cli.specs.Refusals.{apply_outcome, commit_outcome, replay_outcome};
+
+use fast_import::ReplayError;
+use filter_apply::ApplyError;
+use proj_words::Outcome;
+use push_back::PushFault;
+use repo_ground::CommitError;
+
+/// Why nothing was committed.
+pub(crate) fn commit_outcome(error: CommitError) -> Outcome
+    ensures { result ≡ commit_outcome error }
+{
+    match error {
+        CommitError::StoreFault => Outcome::StoreFault,
+        CommitError::Limit { which } => Outcome::Limit { which, at: None },
+        CommitError::OutOfMemory => Outcome::OutOfMemory,
+    }
+}
+
+/// Why nothing is shown.
+pub(crate) fn apply_outcome(error: ApplyError) -> Outcome
+    ensures { result ≡ apply_outcome error }
+{
+    match error {
+        ApplyError::Collision { name } => Outcome::Collision { name },
+        ApplyError::OutOfMemory => Outcome::OutOfMemory,
+    }
+}
+
+/// Why a stream isn't replayed.
+pub(crate) fn replay_outcome(error: ReplayError) -> Outcome
+    ensures { result ≡ replay_outcome error }
+{
+    match error {
+        ReplayError::ReadFault => Outcome::ReadFault,
+        ReplayError::Stream(fault) => Outcome::from(fault),
+    }
+}
+
+/// Why a push brings nothing.
+pub(crate) fn fault_outcome(fault: PushFault) -> Outcome
+    ensures { result ≡ fault_outcome fault }
+{
+    match fault {
+        PushFault::ReadFault => Outcome::ReadFault,
+        PushFault::Stream(fault) => Outcome::from(fault),
+        PushFault::OtherRef { at } => Outcome::OtherRef { at },
+        PushFault::NotAtHead { expected, got } => Outcome::NotAtHead { expected, got },
+        PushFault::MergePushed { n } => Outcome::MergePushed { n },
+        PushFault::NoChange { n } => Outcome::NoChange { n },
+        PushFault::BadWorkspace { n } => Outcome::BadWorkspace { n },
+        PushFault::Unseen { n, path } => Outcome::Unseen { n, path },
+        PushFault::NotHeld { n, path } => Outcome::NotHeld { n, path },
+        PushFault::Blocked { n, path, by } => Outcome::Blocked { n, path, by },
+        PushFault::TreeLimit { n: _, which } => Outcome::Limit { which, at: None },
+        PushFault::Collision { name } => Outcome::Collision { name },
+        PushFault::OutOfMemory => Outcome::OutOfMemory,
+    }
+}

@@ -1,4 +1,0 @@
-pub mod Streams
-pub mod Views
-pub mod Replay
-pub mod Replays
