@@ -61,11 +61,13 @@ expected() {
 
 { commit init a/f hello ''; commit beside b/g 1 ''; commit within a/f again ''; } >"$work/history"
 git fast-import --quiet <"$work/history"
-same 'the last commit of an import' "refs/heads/main $(git rev-parse main)" "$("$proj" "$work/store" import <"$work/history")"
+same 'the last commit of an import' "refs/heads/main $(git rev-parse main)" \
+    "$("$proj" "$work/store" import <"$work/history")"
 first=$(upon init "$(git rev-parse main~2:a)")
 last=$(upon within "$(git rev-parse main:a)" -p "$first")
 same 'a projection of three commits' "$last" "$("$proj" name refs/heads/main :/a <"$work/history")"
-same 'a projection of one of them' "$(upon beside "$(git rev-parse main:b)")" "$("$proj" name refs/heads/main :/b <"$work/history")"
+same 'a projection of one of them' "$(upon beside "$(git rev-parse main:b)")" \
+    "$("$proj" name refs/heads/main :/b <"$work/history")"
 
 # ---- a commit that is pushed, and the original one
 
@@ -79,9 +81,56 @@ same 'a push into a directory' "$pushed $original" "$(expected 'run push refs/he
 same 'the original commit' "refs/heads/main $original" "$("$proj" "$work/pushed" import <"$work/history")"
 same 'the projection of the original commit' "$pushed" "$("$proj" name refs/heads/main :/a <"$work/history")"
 again=$(upon push "$(with_file "$pushed" g 2)" -p "$pushed")
-same 'a push upon the first' "$again $(upon push "$(with_file "$original" a/g 2)" -p "$original")" "$(expected 'run push refs/heads/main :/a < $second')"
+same 'a push upon the first' "$again $(upon push "$(with_file "$original" a/g 2)" -p "$original")" \
+    "$(expected 'run push refs/heads/main :/a < $second')"
 anew=$(upon push "$(with_file '' x x)")
-same 'a push of a new directory' "$anew $(upon push "$(with_file "$head" new/x x)" -p "$head")" "$(expected 'run push refs/heads/main :/new < $x')"
+same 'a push of a new directory' "$anew $(upon push "$(with_file "$head" new/x x)" -p "$head")" \
+    "$(expected 'run push refs/heads/main :/new < $x')"
+
+# ---- a part that is published, cloned, worked on by Git, and pushed back
+
+# Git outside of the repository above
+plain() {
+    env -u GIT_DIR -u GIT_INDEX_FILE git -c init.defaultBranch=main "$@"
+}
+
+# the store's ref through a filter, as a bare repository
+publish() {
+    plain init -q --bare "$2"
+    "$proj" "$work/store" export refs/heads/main "$1" | plain -C "$2" fast-import --quiet
+}
+
+publish :/a "$work/part"
+base=$("$proj" "$work/store" project refs/heads/main :/a)
+same 'the head of an export' "$(plain -C "$work/part" rev-parse main)" "$base"
+publish ':[x=:/a,y=:/b]' "$work/both"
+same 'the head of an export of two directories' "$(plain -C "$work/both" rev-parse main)" \
+    "$("$proj" "$work/store" project refs/heads/main ':[x=:/a,y=:/b]')"
+publish :nop "$work/before"
+same 'an export of everything' "$(plain -C "$work/before" rev-parse main)" \
+    "$("$proj" "$work/store" project refs/heads/main :nop)"
+hidden=$(plain -C "$work/before" rev-parse main:b)
+plain clone -q "$work/part" "$work/clone"
+mkdir "$work/clone/d"
+printf 'new\n' >"$work/clone/d/new file"
+plain -C "$work/clone" add d
+plain -C "$work/clone" commit -q -m 'a file more'
+plain -C "$work/clone" mv f moved
+ln -s moved "$work/clone/link"
+plain -C "$work/clone" add link
+plain -C "$work/clone" commit -q -m 'a file that is moved, and a link'
+plain -C "$work/clone" fast-export --reference-excluded-parents refs/heads/main "^$base" |
+    "$proj" "$work/store" push refs/heads/main :/a >"$work/lines"
+same 'the commits of a push' "$(plain -C "$work/clone" rev-list --reverse "$base..main")" \
+    "$(cut -d ' ' -f 1 "$work/lines")"
+same 'the projection behind a push' "$(plain -C "$work/clone" rev-parse main)" \
+    "$("$proj" "$work/store" project refs/heads/main :/a)"
+publish :nop "$work/after"
+same 'the originals of a push' "$(plain -C "$work/after" rev-list --reverse main | tail -n 2)" \
+    "$(cut -d ' ' -f 2 "$work/lines")"
+same 'the tree of a push' "$(plain -C "$work/clone" rev-parse 'main^{tree}')" \
+    "$(plain -C "$work/after" rev-parse main:a)"
+same 'what is not shown' "$hidden" "$(plain -C "$work/after" rev-parse main:b)"
 
 printf 'git: %d passed, %d failed\n' "$passed" "$failed"
 [ "$failed" -eq 0 ]

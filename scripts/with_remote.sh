@@ -1,0 +1,267 @@
+#!/usr/bin/env bash
+# Clones, fetches and pushes parts of a store with an ordinary Git, through contrib/git-remote-proj. It takes the
+# program that `PROJ` names, or the built one, and builds that where it isn't there.
+set -u
+cd "$(dirname "$0")/.." || exit 1
+proj=${PROJ:-$PWD/crates/proj/out/proj}
+if [ ! -x "$proj" ]; then
+    (cd crates/proj && rt run -- name) </dev/null >/dev/null 2>&1
+    [ -x "$proj" ] || { printf 'remote: the program is not built\n'; exit 1; }
+fi
+work=$(mktemp -d) || exit 1
+trap 'rm -rf "$work"' EXIT
+mkdir "$work/bin"
+ln -s "$(realpath "$proj")" "$work/bin/proj"
+ln -s "$PWD/contrib/git-remote-proj" "$work/bin/git-remote-proj"
+PATH=$work/bin:$PATH
+export PATH GIT_CONFIG_NOSYSTEM=1 GIT_CONFIG_GLOBAL=$work/config HOME=$work
+git config --file "$work/config" user.name A
+git config --file "$work/config" user.email a@x
+git config --file "$work/config" init.defaultBranch main
+git config --file "$work/config" push.default simple
+git config --file "$work/config" pull.rebase true
+git config --file "$work/config" protocol.allow always
+git config --file "$work/config" core.quotePath false
+store=$work/store
+main=refs/heads/main
+passed=0
+failed=0
+
+right() {
+    passed=$((passed + 1))
+}
+
+wrong() {
+    failed=$((failed + 1))
+    printf 'remote: %s\n' "$1"
+    [ ! -s "$work/out" ] || sed 's/^/    /' "$work/out"
+}
+
+# Runs the words, which must end well.
+does() {
+    what=$1
+    shift
+    if "$@" >"$work/out" 2>&1; then right; else wrong "$what"; fi
+}
+
+# Runs the words, which must fail, and tell the text.
+refused() {
+    what=$1
+    text=$2
+    shift 2
+    if ! "$@" >"$work/out" 2>&1 && grep -qF -- "$text" "$work/out"; then right; else wrong "$what: not refused by \`$text\`"; fi
+}
+
+# what is compared, what is expected, what is there
+same() {
+    : >"$work/out"
+    if [ -n "$2" ] && [ "$2" = "$3" ]; then right; else wrong "$1: $2, but here: $3"; fi
+}
+
+address() {
+    printf 'proj::%s#%s#%s' "$store" "$main" "$1"
+}
+
+# A clone's files are sound, and its head is what the program says of the filter.
+settled() {
+    does "$1: fsck" git -C "$work/$2" fsck --strict --no-dangling
+    same "$1: nothing else in it" "$(git -C "$work/$2" status --porcelain; printf clean)" clean
+    same "$1: its name" "$(proj "$store" project $main "$3")" "$(git -C "$work/$2" rev-parse HEAD)"
+}
+
+# The mode, the kind and the content of a path in what is original.
+original() {
+    rm -rf "$work/all"
+    git clone -q "$(address :nop)" "$work/all" || return
+    git -C "$work/all" ls-tree HEAD -- "$1" | cut -f 1 | cut -d ' ' -f 1,2
+    git -C "$work/all" cat-file blob "HEAD:$1"
+}
+
+# Commits a file of a clone: its path and its content.
+change() {
+    mkdir -p "$(dirname "$work/$1/$2")"
+    printf '%s\n' "$3" >"$work/$1/$2"
+    git -C "$work/$1" add -A
+    git -C "$work/$1" commit -q -m "$2"
+}
+
+# ---- a store
+
+git init -q "$work/mono"
+mkdir -p "$work/mono/a" "$work/mono/b" "$work/mono/w"
+printf 'one\n' >"$work/mono/a/f"
+printf 'two\n' >"$work/mono/b/g"
+printf 'x = :/a\ny = :/b\n' >"$work/mono/w/workspace.josh"
+git -C "$work/mono" add -A
+git -C "$work/mono" commit -q -m first
+git -C "$work/mono" fast-export --all >"$work/stream"
+does 'an import' "$proj" "$store" import <"$work/stream"
+
+# ---- clones of what is shown
+
+does 'a clone' git clone -q "$(address :/a)" "$work/a"
+settled 'a clone' a :/a
+same 'the files of a clone' f "$(git -C "$work/a" ls-files)"
+does 'a clone of a list' git clone -q "$(address ':[x=:/a,y=:/b]')" "$work/list"
+settled 'a clone of a list' list ':[x=:/a,y=:/b]'
+same 'the files of a clone of a list' 'x/f y/g' "$(git -C "$work/list" ls-files | paste -sd ' ')"
+does 'a clone of a workspace' git clone -q "$(address :workspace=w)" "$work/space"
+settled 'a clone of a workspace' space :workspace=w
+same 'the files of a clone of a workspace' 'workspace.josh x/f y/g' "$(git -C "$work/space" ls-files | paste -sd ' ')"
+does 'a clone of everything' git clone -q "proj::$store" "$work/whole"
+same 'the name of everything' "$(git -C "$work/mono" rev-parse HEAD)" "$(git -C "$work/whole" rev-parse HEAD)"
+does 'a clone of nothing' git clone -q "$(address :/none)" "$work/none"
+same 'a clone of nothing has no commit' none "$(git -C "$work/none" rev-parse -q --verify HEAD || printf none)"
+refused 'a store that is not there' 'there is no store' git clone -q "proj::$work/other" "$work/other.clone"
+same 'a store that is not there is not made' no "$([ -e "$work/other" ] && printf yes || printf no)"
+refused 'a filter that is none' 'filter: ' git clone -q "$(address :/a:)" "$work/bad"
+
+# ---- a push, and what others see of it
+
+change a h 'of a clone'
+does 'a push' git -C "$work/a" push -q
+settled 'a push' a :/a
+same 'the original of a push' '100644 blob of a clone' "$(original a/h | paste -sd ' ')"
+same 'what is not shown stays' two "$(original b/g | tail -n 1)"
+does 'another clone' git clone -q "$(address :/a)" "$work/late"
+change a h 'of a clone again'
+does 'a push upon a push' git -C "$work/a" push -q
+change late k late
+refused 'a late push' 'fetch first' git -C "$work/late" push
+does 'a pull' git -C "$work/late" pull -q --rebase
+does 'a push after a pull' git -C "$work/late" push -q
+settled 'a push after a pull' late :/a
+does 'a pull of that' git -C "$work/a" pull -q
+settled 'a pull of that' a :/a
+
+# Another clone pushes while Git asks its hook: the store has a commit more when the push comes to it.
+racing() {
+    printf '#!/bin/sh\nunset GIT_DIR\ncd "%s" && git push -q\n%s\n' "$work/a" "$1" >"$work/late/.git/hooks/pre-push"
+    chmod +x "$work/late/.git/hooks/pre-push"
+}
+change late n racing
+change a m first
+racing ''
+refused 'a push that comes second' 'fetch first' git -C "$work/late" push
+change a m again
+racing "cd '$work/late' && git fetch -q"
+refused 'a push that comes second, after a fetch' 'not at head' git -C "$work/late" push
+rm "$work/late/.git/hooks/pre-push"
+does 'a pull after that' git -C "$work/late" pull -q --rebase
+does 'a push after that' git -C "$work/late" push -q
+settled 'a push after that' late :/a
+does 'a pull of a list' git -C "$work/list" pull -q
+settled 'a pull of a list' list ':[x=:/a,y=:/b]'
+change list y/more 'in b'
+does 'a push of a list' git -C "$work/list" push -q
+settled 'a push of a list' list ':[x=:/a,y=:/b]'
+same 'the original of a push of a list' '100644 blob in b' "$(original b/more | paste -sd ' ')"
+does 'a pull of a workspace' git -C "$work/space" pull -q
+change space y/most 'in b too'
+does 'a push of a workspace' git -C "$work/space" push -q
+settled 'a push of a workspace' space :workspace=w
+same 'the original of a push of a workspace' '100644 blob in b too' "$(original b/most | paste -sd ' ')"
+does 'a push of a first directory' git -C "$work/list" pull -q
+change none f 'of a new directory'
+does 'a push of a new directory' git -C "$work/none" push -q origin main
+settled 'a push of a new directory' none :/none
+same 'the original of a new directory' '100644 blob of a new directory' "$(original none/f | paste -sd ' ')"
+
+# ---- modes, links and names
+
+does 'a pull before that' git -C "$work/a" pull -q
+printf 'run\n' >"$work/a/f"
+chmod +x "$work/a/f"
+ln -s 'a place' "$work/a/a link"
+name=$(printf 'a \303\251 "\\ \377 name')
+printf 'named\n' >"$work/a/$name"
+git -C "$work/a" add -A
+git -C "$work/a" commit -q -m 'modes, a link, a name'
+does 'a push of modes' git -C "$work/a" push -q
+settled 'a push of modes' a :/a
+same 'the mode of a file' '100755 blob run' "$(original a/f | paste -sd ' ')"
+same 'a link' '120000 blob a place' "$(original 'a/a link' | paste -sd ' ')"
+same 'a name' '100644 blob named' "$(original "a/$name" | paste -sd ' ')"
+
+# ---- many commits
+
+for i in $(seq 200); do
+    printf '%d\n' "$i" >"$work/a/count"
+    git -C "$work/a" add count
+    git -C "$work/a" commit -q -m "$i"
+done
+does 'a push of 200 commits' git -C "$work/a" push -q
+settled 'a push of 200 commits' a :/a
+same 'the original of the last' '100644 blob 200' "$(original a/count | paste -sd ' ')"
+
+# ---- what is refused
+
+does 'a pull before a path that is not held' git -C "$work/list" pull -q
+change list z/out 'nowhere'
+refused 'a path that is not held' 'not held: commit 1: z/out' git -C "$work/list" push
+git -C "$work/list" reset -q --hard '@{upstream}'
+refused 'a forced push' 'never forced' git -C "$work/a" push -f origin +HEAD~1:main
+refused 'a new branch' "only $main" git -C "$work/a" push origin HEAD:refs/heads/other
+refused 'a branch that goes' 'cannot be deleted' git -C "$work/a" push origin :main
+git -C "$work/a" tag -a -m tag v1
+refused 'a tag' "only $main" git -C "$work/a" push origin v1
+git -C "$work/a" checkout -q -b side HEAD~1
+change a side 'of a side'
+git -C "$work/a" checkout -q main
+git -C "$work/a" merge -q -m merge side
+refused 'a merge' 'a merge cannot be pushed' git -C "$work/a" push origin main
+git -C "$work/a" reset -q --hard '@{upstream}'
+git -C "$work/a" -c i18n.commitEncoding=latin1 commit -q --allow-empty -m "$(printf '\351')"
+refused 'an encoding' 'names an encoding' git -C "$work/a" push
+git -C "$work/a" reset -q --hard '@{upstream}'
+change a signed signed
+signed=$(git -C "$work/a" cat-file commit HEAD | awk '/^$/ && !n++ { print "gpgsig -----BEGIN PGP SIGNATURE-----\n  \n -----END PGP SIGNATURE-----" } 1' |
+    git -C "$work/a" hash-object -t commit -w --stdin)
+git -C "$work/a" reset -q --hard "$signed"
+refused 'a signed commit' 'is signed' git -C "$work/a" push
+git -C "$work/a" reset -q --hard '@{upstream}'
+git -C "$work/a" commit -q --allow-empty -m 'nothing'
+refused 'a commit without a change' 'no change: commit 1' git -C "$work/a" push
+git -C "$work/a" reset -q --hard '@{upstream}'
+settled 'after what was refused' a :/a
+
+# ---- a fetch that was cut off
+
+# A program whose export ends in the middle.
+mkdir "$work/short"
+cat >"$work/short/proj" <<END
+#!/bin/sh
+[ "\$2" = export ] || exec "$work/bin/proj" "\$@"
+"$work/bin/proj" "\$@" | head -c 2000
+END
+chmod +x "$work/short/proj"
+git init -q "$work/half"
+git -C "$work/half" remote add origin "$(address :/a)"
+refused 'a fetch that is cut off' '' env PATH="$work/short:$PATH" git -C "$work/half" fetch -q
+same 'no ref of a fetch that was cut off' none "$(git -C "$work/half" for-each-ref; printf none)"
+does 'a fetch after that' git -C "$work/half" fetch -q
+does 'its files' git -C "$work/half" reset -q --hard origin/main
+settled 'a fetch after that' half :/a
+does 'a clone that is cut off begins' git clone -q --no-checkout "$(address :/a)" "$work/cut"
+rm -rf "$work/cut/.git/objects/pack" "$work/cut/.git/refs/remotes"
+mkdir "$work/cut/.git/objects/pack"
+does 'what is lost is fetched again' git -C "$work/cut" fetch -q
+does 'a clone that was cut off' git -C "$work/cut" reset -q --hard '@{upstream}'
+settled 'a clone that was cut off' cut :/a
+
+# ---- the commands that README tells first
+
+mkdir -p "$work/story"
+cd "$work/story" || exit 1
+git init -q mono
+mkdir mono/lib mono/other
+printf 'notes\n' | tee mono/lib/notes >mono/other/notes
+git -C mono add -A
+git -C mono commit -q -m first
+awk '/^## / { on = /from day to day/ } on && sub(/^    /, "")' "$OLDPWD/README.md" >commands
+does 'the commands of README' bash -e commands
+same 'what they change' 'lib/notes' "$(git -C mono diff --name-only main~1 main)"
+same 'what the clone has' "$(git -C mono rev-parse main:lib)" "$(git -C lib rev-parse 'main^{tree}')"
+
+printf 'remote: %d passed, %d failed\n' "$passed" "$failed"
+[ "$failed" -eq 0 ]
