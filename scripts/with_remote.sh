@@ -49,7 +49,11 @@ refused() {
     what=$1
     text=$2
     shift 2
-    if ! "$@" >"$work/out" 2>&1 && grep -qF -- "$text" "$work/out"; then right; else wrong "$what: not refused by \`$text\`"; fi
+    if ! "$@" >"$work/out" 2>&1 && grep -qF -- "$text" "$work/out"; then
+        right
+    else
+        wrong "$what: not refused by \`$text\`"
+    fi
 }
 
 # what is compared, what is expected, what is there
@@ -88,7 +92,8 @@ change() {
 # ---- a store
 
 git init -q "$work/mono"
-mkdir -p "$work/mono/a" "$work/mono/b" "$work/mono/w"
+mkdir -p "$work/mono/a" "$work/mono/b" "$work/mono/w" "$work/mono/hidden/a"
+printf 'nobody sees it\n' | tee "$work/mono/hidden/a/f" >"$work/mono/top"
 printf 'one\n' >"$work/mono/a/f"
 printf 'two\n' >"$work/mono/b/g"
 printf 'x = :/a\ny = :/b\n' >"$work/mono/w/workspace.josh"
@@ -161,7 +166,26 @@ change space y/most 'in b too'
 does 'a push of a workspace' git -C "$work/space" push -q
 settled 'a push of a workspace' space :workspace=w
 same 'the original of a push of a workspace' '100644 blob in b too' "$(original b/most | paste -sd ' ')"
-does 'a push of a first directory' git -C "$work/list" pull -q
+
+# Work on a workspace: files that are added, changed, moved and deleted, a mode, a link, and the workspace file itself.
+git -C "$work/space" mv x/h x/moved
+git -C "$work/space" rm -q y/more
+chmod +x "$work/space/x/f"
+ln -s f "$work/space/x/to f"
+change space y/deep/er 'a new one'
+printf 'code = :/a\ny = :/b\n' >"$work/space/workspace.josh"
+git -C "$work/space" mv x code
+git -C "$work/space" commit -q -a -m 'another place'
+change space code/n 'changed there'
+does 'a push of another workspace' git -C "$work/space" push -q
+settled 'a push of another workspace' space :workspace=w
+same 'the original of a file that is moved' '100644 blob of a clone again' "$(original a/moved | paste -sd ' ')"
+same 'the original of a mode' '100755 blob one' "$(original a/f | paste -sd ' ')"
+same 'the original of a link' '120000 blob f' "$(original 'a/to f' | paste -sd ' ')"
+same 'the original of a file behind the workspace file' '100644 blob changed there' "$(original a/n | paste -sd ' ')"
+same 'the files of the originals' 'b/deep/er b/g b/most' "$(git -C "$work/all" ls-files b | paste -sd ' ')"
+
+does 'a pull behind a workspace' git -C "$work/list" pull -q
 change none f 'of a new directory'
 does 'a push of a new directory' git -C "$work/none" push -q origin main
 settled 'a push of a new directory' none :/none
@@ -215,7 +239,8 @@ git -C "$work/a" -c i18n.commitEncoding=latin1 commit -q --allow-empty -m "$(pri
 refused 'an encoding' 'names an encoding' git -C "$work/a" push
 git -C "$work/a" reset -q --hard '@{upstream}'
 change a signed signed
-signed=$(git -C "$work/a" cat-file commit HEAD | awk '/^$/ && !n++ { print "gpgsig -----BEGIN PGP SIGNATURE-----\n  \n -----END PGP SIGNATURE-----" } 1' |
+signature='gpgsig -----BEGIN PGP SIGNATURE-----\n -----END PGP SIGNATURE-----'
+signed=$(git -C "$work/a" cat-file commit HEAD | awk -v line="$signature" '/^$/ && !n++ { print line } 1' |
     git -C "$work/a" hash-object -t commit -w --stdin)
 git -C "$work/a" reset -q --hard "$signed"
 refused 'a signed commit' 'is signed' git -C "$work/a" push
@@ -224,6 +249,15 @@ git -C "$work/a" commit -q --allow-empty -m 'nothing'
 refused 'a commit without a change' 'no change: commit 1' git -C "$work/a" push
 git -C "$work/a" reset -q --hard '@{upstream}'
 settled 'after what was refused' a :/a
+
+# ---- what is not shown
+
+does 'a fetch of everything' git -C "$work/whole" fetch -q
+same 'the first commit is there still' "$(git -C "$work/mono" rev-parse HEAD)" \
+    "$(git -C "$work/whole" rev-list --max-parents=0 origin/main)"
+same 'what all of this has changed' 'a b none w' \
+    "$(git -C "$work/whole" diff -z --name-only HEAD origin/main | tr '\0' '\n' | cut -d / -f 1 | LC_ALL=C sort -u |
+        paste -sd ' ')"
 
 # ---- a fetch that was cut off
 

@@ -1,0 +1,88 @@
+#!/usr/bin/env bash
+# Compares what each directory of this very repository is projected to with what Git makes of it: by rule 1 with commits that
+# Git's plumbing writes one by one, by rule 2 with `git subtree split`; and what `export` writes of it goes through `git
+# fast-import`. It takes the program that `PROJ` names, or the built one, and builds that where it isn't there.
+set -u
+cd "$(dirname "$0")/.." || exit 1
+proj=${PROJ:-$PWD/crates/proj/out/proj}
+if [ ! -x "$proj" ]; then
+    (cd crates/proj && rt run -- name) </dev/null >/dev/null 2>&1
+    [ -x "$proj" ] || { printf 'parts: the program is not built\n'; exit 1; }
+fi
+if [ ! -d .git ] || [ "$(git rev-parse --is-shallow-repository)" != false ]; then
+    printf 'parts: not tried, for want of a whole history\n'
+    exit 0
+fi
+work=$(mktemp -d) || exit 1
+trap 'rm -rf "$work"' EXIT
+export GIT_CONFIG_NOSYSTEM=1 GIT_CONFIG_GLOBAL=$work/config HOME=$work
+git config --file "$work/config" safe.directory '*'
+git config --file "$work/config" init.defaultBranch main
+passed=0
+failed=0
+
+# what is compared, what Git says, what is said here
+same() {
+    if [ -n "$2" ] && [ "$2" = "$3" ]; then
+        passed=$((passed + 1))
+    else
+        failed=$((failed + 1))
+        printf 'parts: %s: %s, but here: %s\n' "$1" "$2" "$3"
+    fi
+}
+
+# The name of the projection of `main` to a directory by rule 1, each of its commits written by Git: with the directory's
+# tree, upon the projections of the parents, each once; left out where that would be its only parent's tree again.
+by_hand() {
+    local empty commit parents parent tree one new head
+    local -A shown=() trees=()
+    empty=$(git hash-object -t tree --stdin </dev/null)
+    git rev-list --topo-order --reverse --parents main >"$work/list"
+    cut -d ' ' -f 1 "$work/list" | sed "s|\$|:$1|" | git cat-file --batch-check='%(objectname)' |
+        sed "s/.* missing\$/$empty/" | paste -d ' ' - "$work/list" >"$work/lines"
+    while read -r tree commit parents; do
+        new=()
+        for parent in $parents; do
+            one=${shown[$parent]}
+            [ -z "$one" ] || [[ " ${new[*]} " == *" $one "* ]] || new+=("$one")
+        done
+        if [ "${#new[@]}" -eq 0 ] && [ "$tree" = "$empty" ]; then
+            shown[$commit]=
+        elif [ "${#new[@]}" -eq 1 ] && [ "$tree" = "${trees[${new[0]}]}" ]; then
+            shown[$commit]=${new[0]}
+        else
+            one=$({
+                printf 'tree %s\n' "$tree"
+                [ "${#new[@]}" -eq 0 ] || printf 'parent %s\n' "${new[@]}"
+                git cat-file commit "$commit" | sed -n '/^author /,$p'
+            } | git hash-object -t commit -w --stdin)
+            shown[$commit]=$one
+            trees[$one]=$tree
+        fi
+        # The head comes last.
+        head=${shown[$commit]}
+    done <"$work/lines"
+    printf '%s' "$head"
+}
+
+git clone -q . "$work/repo" && cd "$work/repo" && git checkout -q -B main || exit 1
+git fast-export refs/heads/main | "$proj" "$work/store" import >/dev/null
+same 'an import' "$(git rev-parse main)" "$("$proj" "$work/store" project refs/heads/main :nop)"
+for rule in 1 2; do
+    "$proj" "$work/store" rule "$rule" >/dev/null
+    for dir in $(git ls-tree -d --name-only main); do
+        name=$("$proj" "$work/store" project refs/heads/main ":/$dir")
+        if [ "$rule" -eq 1 ]; then
+            same "$dir by plumbing" "$(by_hand "$dir")" "$name"
+        elif git subtree 2>&1 | grep -q split; then
+            same "$dir by subtree" "$(git subtree split -q -P "$dir" main 2>/dev/null)" "$name"
+        fi
+        rm -rf "$work/part"
+        git init -q --bare "$work/part"
+        "$proj" "$work/store" export refs/heads/main ":/$dir" | git -C "$work/part" fast-import --quiet
+        same "the export of $dir" "$(git -C "$work/part" rev-parse main)" "$name"
+    done
+done
+
+printf 'parts: %d passed, %d failed\n' "$passed" "$failed"
+[ "$failed" -eq 0 ]
