@@ -1,0 +1,75 @@
+#!/usr/bin/env bash
+# Times whole calls of `proj` on a journal, beside Git's of the same kind: commits of 10 changes over 1,000 files, of which
+# half lie below `a`. Its word is the number of commits (5700). It takes the program that `PROJ` names, or the built one.
+set -u
+cd "$(dirname "$0")/.." || exit 1
+proj=${PROJ:-$PWD/crates/proj/out/proj}
+[ -x "$proj" ] || { printf 'the program is not built: (cd crates/proj && rt run -- name)\n'; exit 1; }
+commits=${1:-5700}
+work=$(mktemp -d) || exit 1
+trap 'rm -rf "$work"' EXIT
+export GIT_CONFIG_NOSYSTEM=1 GIT_CONFIG_GLOBAL=/dev/null HOME=$work
+main=refs/heads/main
+
+# The commits with these numbers, upon the one before the first.
+history() {
+    awk -v first="$1" -v last="$2" -v from="$3" -v dir="$4" 'BEGIN {
+        for (i = first; i <= last; i++) {
+            printf "commit refs/heads/main\nmark :%d\ncommitter A <a@x> %d +0000\ndata 7\nchange\n", i, 1700000000 + i
+            if (i > first) printf "from :%d\n", i - 1
+            else if (from != "") printf "from %s\n", from
+            for (j = 0; j < 10; j++) {
+                k = (i * 7 + j * 101) % 1000
+                text = "line " i " " j " of a file that is changed, and that has a few words more than its number\n"
+                top = dir != "" ? dir : k % 2 ? "a/" : "b/"
+                printf "M 100644 inline %sd%d/f%d\ndata %d\n%s\n", top, int(k / 20), k, length(text), text
+            }
+        }
+    }'
+}
+
+# what it is, and words whose time is taken: of the processor, and of the clock
+timed() {
+    local what=$1 TIMEFORMAT='%U %S %R'
+    shift
+    { time "$@" >"$work/out" 2>"$work/err"; } 2>"$work/time"
+    printf '%-44s %6.2f s of the processor, %6.2f s\n' "$what" \
+        "$(awk '{ print $1 + $2 }' "$work/time")" "$(awk '{ print $3 }' "$work/time")"
+}
+
+git_import() {
+    rm -rf "${work:?}/$1"
+    git init -q --bare "$work/$1" && git -C "$work/$1" -c core.compression=0 -c pack.compression=0 fast-import --quiet --depth=0
+}
+
+ours() {
+    "$proj" "$work/store" "$@"
+}
+
+part_by_git() {
+    git -C "$work/git" fast-export -- $main -- a | git_import part
+}
+
+export_by_git() {
+    ours export $main :/a | git_import part
+}
+
+history 1 "$commits" '' '' >"$work/stream"
+printf '%d commits, a stream of %d MB\n' "$commits" $(($(wc -c <"$work/stream") / 1000000))
+timed 'git fast-import' git_import git <"$work/stream"
+timed 'git hash-object of as many bytes' git hash-object --stdin <"$work/stream"
+timed 'import' ours import <"$work/stream"
+printf 'a journal of %d MB\n' $(($(wc -c <"$work/store") / 1000000))
+timed 'the same import again' ours import <"$work/stream"
+timed 'loading alone (a rule that is set already)' ours rule 1
+timed 'project :/a, first' ours project $main :/a
+timed 'project :/a again' ours project $main :/a
+timed 'project :[x=:/a,y=:/b], first' ours project $main ':[x=:/a,y=:/b]'
+timed 'export :/a' ours export $main :/a
+timed 'export :/a into git fast-import' export_by_git
+timed 'git fast-export -- a into git fast-import' part_by_git
+history 1 1 "$(ours project $main :/a)" d0/ >"$work/pushed"
+timed 'push of one commit through :/a' ours push $main :/a <"$work/pushed"
+history 1 1000 "$(ours project $main :/a)" d1/ >"$work/pushed"
+timed 'push of 1,000 commits through :/a' ours push $main :/a <"$work/pushed"
+timed 'git fast-import of these' git_import pushed < <(history 1 1000 '' d1/)
