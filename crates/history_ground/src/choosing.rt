@@ -160,8 +160,8 @@ fn last_lacking(ground: &Ground, places: &[u32]) -> Option<u32>
     None
 }
 
-// Whether m leads the other projections of the parents of the commit at a place, from the first parent that is projected
-// to it.
+// Whether m leads the other projections of the parents of the commit at a place, from the first parent that is
+// projected to it.
 fn leads(ground: &Ground, place: u32, projected: &[Shown], m: &Shown) -> Result<Test, AllocError>
     requires ground { IsGround ground.now }
     requires place { place < length ground.now.graph }
@@ -202,8 +202,8 @@ fn has_and_leads(
     leads(ground, place, projected, m)
 }
 
-// The first of the parents' projections that has the tree and leads the others, for the commit at a place; or a commit of
-// its own.
+// The first of the parents' projections that has the tree and leads the others, for the commit at a place; or a
+// commit of its own.
 fn first_leading(
     ground: &Ground,
     place: u32,

@@ -86,8 +86,8 @@ fn add_original(
     Ok(made)
 }
 
-// Works out the originals of pushed commits upon an original commit, the first of them upon that one, each other upon the
-// original before it.
+// Works out the originals of pushed commits upon an original commit, the first of them upon that one, each other upon
+// the original before it.
 fn originals_upon(
     alloc: Global,
     ground: &mut Ground,
@@ -131,8 +131,8 @@ fn originals_upon(
 }
 
 /// Works out the originals of pushed commits and puts them into the store: the first upon the commit `head`, each other
-/// upon the original before it. `seen` is the tree that is shown of the head. At the first commit that is refused it ends;
-/// what was put before stays.
+/// upon the original before it. `seen` is the tree that is shown of the head. At the first commit that is refused it
+/// ends; what was put before stays.
 pub fn originals(
     alloc: Global,
     ground: &mut Ground,

@@ -3,8 +3,8 @@ ghost use Rattle.push_back.specs.Given.{BroughtLaw, GivenLaw};
 ghost use Rattle.push_back.specs.PushLaws.{AdmissibleLaw, BackLaw, ChainLaw, ElsewhereLaw, MadeLaw};
 ghost use Rattle.push_back.specs.PushLaws.{NextLaw, ProjectedLaw, PushedLaw, StepLaw, StepsLaw};
 
-/// A tree that was laid asks for the filter by which it was laid, as long as that filter shows the workspace's file at the
-/// place where the filter before it does, or both hide it.
+/// A tree that was laid asks for the filter by which it was laid, as long as that filter shows the workspace's file
+/// at the place where the filter before it does, or both hide it.
 pub fn next_law()
     ensures { NextLaw }
 {}
@@ -30,8 +30,8 @@ pub fn made_law()
     ensures { MadeLaw }
 {}
 
-/// The commits of a pushed stream, up to its first refusal, are in line upon the projection: each has the commit before it
-/// as its only parent, and the first one the projection, or no parent where there is none.
+/// The commits of a pushed stream, up to its first refusal, are in line upon the projection: each has the commit
+/// before it as its only parent, and the first one the projection, or no parent where there is none.
 pub fn chain_law()
     ensures { ChainLaw }
 {}
@@ -42,14 +42,14 @@ pub fn projected_law()
     ensures { ProjectedLaw }
 {}
 
-/// A push that goes back to what was shown at first gives back the first original tree, as long as no original on the way
-/// has another workspace file.
+/// A push that goes back to what was shown at first gives back the first original tree, as long as no original on the
+/// way has another workspace file.
 pub fn back_law()
     ensures { BackLaw }
 {}
 
-/// Original commits that agree with the tree below them on all that another filter shows, and on its workspace file, leave
-/// that filter's projection as it was.
+/// Original commits that agree with the tree below them on all that another filter shows, and on its workspace file,
+/// leave that filter's projection as it was.
 pub fn elsewhere_law()
     ensures { ElsewhereLaw }
 {}
@@ -60,14 +60,14 @@ pub fn admissible_law()
     ensures { AdmissibleLaw }
 {}
 
-/// What a pushed stream of bytes gives, up to its first refusal or to its end, are blobs within the limits and commits of
-/// these and of the blobs that are shown, with letters that may stand in a commit.
+/// What a pushed stream of bytes gives, up to its first refusal or to its end, are blobs within the limits and
+/// commits of these and of the blobs that are shown, with letters that may stand in a commit.
 pub fn given_law()
     ensures { GivenLaw }
 {}
 
-/// The originals of an accepted push of such commits may be brought to the graph: they are whole, each behind its parent,
-/// within the limits of objects, and of blobs that were given or known.
+/// The originals of an accepted push of such commits may be brought to the graph: they are whole, each behind its
+/// parent, within the limits of objects, and of blobs that were given or known.
 pub fn brought_law()
     ensures { BroughtLaw }
 {}
