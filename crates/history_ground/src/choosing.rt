@@ -1,5 +1,6 @@
 // What becomes of a commit, from what is kept of older ones.
-ghost use Rattle.std.specs.Prelude.{◌≡◌, ◌+◌, ◌<◌, ◌≤◌, ◌&&◌, ℕ, true, All, Contains, IfOk, IfSome, IfNone, None, OnOk, length, map, is_none};
+ghost use Rattle.std.specs.Prelude.{◌≡◌, ◌+◌, ◌<◌, ◌≤◌, ◌&&◌, ℕ, true, All};
+ghost use Rattle.std.specs.Prelude.{Contains, IfOk, IfSome, IfNone, None, OnOk, length, map, is_none};
 ghost use Rattle.std.specs.List.{find, list_all, list_any};
 ghost use Rattle.std.specs.Option.{option_map};
 ghost use Rattle.git_objects.specs.Paths.{is_nil, same_bytes};
@@ -41,7 +42,8 @@ pub(crate) enum Choice {
 // What is kept of the commit at a place, if anything is.
 fn kept(ground: &Ground, place: u32) -> Option<Option<Shown>>
     requires { place < length ground.now.graph }
-    ensures { option_map (λ s. option_map shown_value s) result ≡ kept_at (name_at ground.now.graph place) ground.now.map }
+    ensures { option_map (λ s. option_map shown_value s) result
+        ≡ kept_at (name_at ground.now.graph place) ground.now.map }
 {
     ground.map.get(&ground.graph.name(place))
 }
@@ -73,7 +75,8 @@ pub(crate) fn lacking_parent(ground: &Ground, place: u32) -> Option<u32>
 
 // Adds a projection, where there is one and none of its name was added before.
 fn add_known(onto: &mut Vec<Shown>, shown: Option<Shown>) -> Result<(), AllocError>
-    ensures shown { OnOk result (map shown_value onto.new.items ≡ with_known (map shown_value onto.old.items) (option_map shown_value shown)) }
+    ensures shown { OnOk result (map shown_value onto.new.items
+        ≡ with_known (map shown_value onto.old.items) (option_map shown_value shown)) }
     ensures few { OnOk result (length onto.new.items ≤ length onto.old.items + 1) }
 {
     let Some(shown) = shown else {
@@ -100,7 +103,8 @@ pub(crate) fn members(
     parents: &[u32],
 ) -> Result<Vec<Shown>, AllocError>
     requires { All (λ p. p < length ground.now.graph) parents.now }
-    ensures members { IfOk result (λ ms. map shown_value ms.items ≡ members ground.now.map (names_at ground.now.graph parents.now)) }
+    ensures members { IfOk result (λ ms. map shown_value ms.items
+        ≡ members ground.now.map (names_at ground.now.graph parents.now)) }
     ensures few { IfOk result (λ ms. length ms.items ≤ length parents.now) }
 {
     let mut found = Vec::new(alloc);
@@ -124,7 +128,8 @@ fn is_shown_as(ground: &Ground, place: u32, m: &Shown) -> bool
 // The first of these places with the commit that is projected to m.
 fn first_shown_as(ground: &Ground, places: &[u32], m: &Shown) -> Option<u32>
     requires { All (λ p. p < length ground.now.graph) places.now }
-    ensures { result ≡ find (λ p. is_shown_as ground.now.map (shown_value m.now) (name_at ground.now.graph p)) places.now }
+    ensures { result ≡ find (λ p. is_shown_as ground.now.map (shown_value m.now)
+        (name_at ground.now.graph p)) places.now }
 {
     places.iter().copied().find(|p| is_shown_as(ground, *p, m))
 }
@@ -132,7 +137,8 @@ fn first_shown_as(ground: &Ground, places: &[u32], m: &Shown) -> Option<u32>
 // Whether one of the commits at these places is projected to m.
 fn is_among(ground: &Ground, places: &[u32], m: &Shown) -> bool
     requires { All (λ p. p < length ground.now.graph) places.now }
-    ensures { result ≡ list_any (λ p. is_shown_as ground.now.map (shown_value m.now) (name_at ground.now.graph p)) places.now }
+    ensures { result ≡ list_any (λ p. is_shown_as ground.now.map (shown_value m.now)
+        (name_at ground.now.graph p)) places.now }
 {
     places.iter().any(|p| is_shown_as(ground, *p, m))
 }
@@ -149,7 +155,8 @@ fn are_among(ground: &Ground, places: &[u32], members: &[Shown]) -> bool
 // The last of these places of whose commit nothing is kept.
 fn last_lacking(ground: &Ground, places: &[u32]) -> Option<u32>
     requires { All (λ p. p < length ground.now.graph) places.now }
-    ensures some { IfSome result (λ p. Contains places.now p × (kept_at (name_at ground.now.graph p) ground.now.map ≡ None)) }
+    ensures some { IfSome result (λ p. Contains places.now p
+        × (kept_at (name_at ground.now.graph p) ground.now.map ≡ None)) }
     ensures none { IfNone result (AreKept ground.now places.now) }
 {
     for i in (0..places.len()).rev() {
@@ -216,7 +223,8 @@ fn first_leading(
     requires members { map shown_value projected.now
         ≡ members ground.now.map (names_at ground.now.graph (parents_at ground.now.graph place)) }
     ensures { (d : Snapshot) → IfOk result (IsChoice ground.now place d
-        (λ ks. member_or (find (λ m. same_bytes m.tree tree.now.0 && leads_at ground.now place ks m) (map shown_value projected.now)) d)) }
+        (λ ks. member_or (find (λ m. same_bytes m.tree tree.now.0 && leads_at ground.now place ks m)
+        (map shown_value projected.now)) d)) }
 {
     for m in projected {
         match has_and_leads(ground, place, projected, tree, m)? {
@@ -254,7 +262,8 @@ pub(crate) fn chosen(
     requires tree { has Tree ground.now.store tree.now.0 ≡ true }
     ensures { (letter : Letter) → IfOk result (IsChoice ground.now place
         (own (flat ground.now.store tree.now.0) letter (map shown_value projected.now))
-        (λ ks. chosen ground.now.rule (leads_at ground.now place ks) (flat ground.now.store tree.now.0) letter (map shown_value projected.now))) }
+        (λ ks. chosen ground.now.rule (leads_at ground.now place ks)
+        (flat ground.now.store tree.now.0) letter (map shown_value projected.now))) }
 {
     match projected {
         [] => {
