@@ -11,3 +11,5 @@ mod disks;
 mod journals;
 #[cfg(test)]
 mod opened;
+#[cfg(test)]
+mod unfailing;
