@@ -1,5 +1,5 @@
 -- The ground of a state has the commits that are held, and a stream may name what is held.
-use Rattle.std.proofs.Common.{◌≡◌, true, List, [], ◌∷◌, ◌++◌, map, reverse, Option, Some, refl, sym, ap, ◌∙◌}
+use Rattle.std.proofs.Common.{◌≡◌, true, List, [], ◌∷◌, ◌++◌, map, reverse, Option, Some, refl, sym, ap, subst, ◌∙◌}
 use Rattle.std.specs.List.{cons_option, filter_map}
 use Rattle.std.specs.Option.{option_map, option_to_list}
 use Rattle.std.proofs.lemmas.List.{reverse-append}
@@ -29,6 +29,7 @@ use Rattle.state_items.specs.Items.{Held}
 use Rattle.state_items.specs.Repos.{repo}
 use Rattle.repo_ground.specs.Contents.{Contents, Spells}
 use Rattle.repo_ground.specs.Laws.{GroundLaw, base_of, trees_of}
+use Rattle.repo_ground.specs.Selecting.{IsPutAway}
 use Rattle.repo_ground.proofs.RowsGround.{are-in}
 
 -- ---- one commit
@@ -133,3 +134,9 @@ ground-base h s w g =
 
 pub ground-law : GroundLaw
 ground-law = record { commits = ground-commits; base = ground-base }
+
+-- ---- no map
+
+-- the ground of a state in which no filter is selected any more is a ground still
+pub ground-away : {before after : Contents} → IsGround before.basis → IsPutAway before after → IsGround after.basis
+ground-away g a = subst (λ (s : Contents). IsGround s.basis) (sym a.same) (record { graph = g.graph; memo = g.memo })

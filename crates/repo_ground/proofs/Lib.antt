@@ -3,6 +3,7 @@ pub mod GroundLaws
 pub mod GrownLaws
 pub mod Rules
 pub mod Keeping
+pub mod FreshPlaces
 pub mod RefsFound
 pub mod StatesRead
 pub mod ItemRuns

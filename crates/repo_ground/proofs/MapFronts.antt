@@ -15,7 +15,7 @@ use Rattle.state_items.specs.Items.{Held, is_rule}
 use Rattle.state_items.specs.KeptMaps.{RuleMaps, entries_at, entries_for, with_map_by}
 use Rattle.state_items.proofs.MapsKept.{entries-set}
 use Rattle.repo_ground.specs.Contents.{Contents, Spells, is_selected}
-use Rattle.repo_ground.specs.Selecting.{IsSelected}
+use Rattle.repo_ground.specs.Selecting.{IsPutAway, IsSelected}
 
 -- ---- the first entries of a map
 
@@ -155,3 +155,36 @@ pub chosen-as : (text : Bytes) (s : Contents) (selected : Option (Bytes × ℕ))
     → IsSelected text s (chosen s selected found maps kept)
 chosen-as text s selected found maps kept e f other is put =
     subst₂ (λ (o : Option (Bytes × ℕ)) (k : ℕ). IsSelected text s (chosen s o found maps k)) (sym e) (sym f) (chosen-now text s found maps other is put)
+
+-- ---- no filter, selected
+
+put-away : (s : Contents) (maps : RuleMaps)
+    → ((m : Bytes) (j : ℕ) (n : Bytes) → is_rule j ≡ true → kept_at n (entries_at j m maps)
+    ≡ kept_at n (cond (is_selected s.selected m j) (take s.kept s.basis.map) (entries_at j m s.maps)))
+    → IsPutAway s (chosen s None [] maps 0)
+put-away s maps put = record {
+  none = refl;
+  empty = refl;
+  same = refl;
+  spells = λ h w. record {
+    store = w.store;
+    room = w.room;
+    within = w.within;
+    names = w.names;
+    graph = w.graph;
+    known = w.known;
+    distinct = w.distinct;
+    refs = w.refs;
+    heads = w.heads;
+    entries = λ m j n g. put m j n g ∙ w.entries m j n g;
+    few = omega arith;
+    rule = w.rule;
+  };
+}
+
+pub put-away-as : (s : Contents) (selected : Option (Bytes × ℕ)) (found : Entries) (maps : RuleMaps) → selected ≡ None → found ≡ []
+    → ((m : Bytes) (j : ℕ) (n : Bytes) → is_rule j ≡ true → kept_at n (entries_at j m maps)
+    ≡ kept_at n (cond (is_selected s.selected m j) (take s.kept s.basis.map) (entries_at j m s.maps)))
+    → IsPutAway s (chosen s selected found maps 0)
+put-away-as s selected found maps e f put =
+    subst₂ (λ (o : Option (Bytes × ℕ)) (es : Entries). IsPutAway s (chosen s o es maps 0)) (sym e) (sym f) (put-away s maps put)

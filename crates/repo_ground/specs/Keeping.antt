@@ -1,5 +1,5 @@
 -- The entries of a filter that are to be kept.
-use Rattle.std.specs.Prelude.{◌≡◌, ◌≢◌, ℕ, Bool, true, ◌&&◌, not, if◌then◌else◌, [], ◌∷◌, drop, filter_map, IsSome, Option, None, Some}
+use Rattle.std.specs.Prelude.{◌≡◌, ◌≢◌, ◌≤◌, ℕ, Bool, true, ◌&&◌, not, if◌then◌else◌, List, [], ◌∷◌, drop, filter_map, IfSome, IsSome, Option, None, Some}
 use Rattle.std.specs.Global.{Vec}
 use Rattle.std.specs.List.{list_all}
 use Rattle.std.specs.Option.{is_none, is_some, option_map}
@@ -36,6 +36,10 @@ AreNamed es = list_all (λ e. is_result e.1) es ≡ true
 -- each entry of the map that no item holds is of a commit of the graph
 abbrev pub AreOfGraph : Contents → Type 0
 AreOfGraph s = Each (λ e. IsSome (place_of e.0 s.basis.graph)) (unheld s)
+
+-- no commit of these entries stands before that place of the graph
+abbrev pub AreFrom : List Row → ℕ → Entries → Type 0
+AreFrom rows low es = Each (λ e. IfSome (place_of e.0 rows) (λ p. low ≤ p)) es
 
 -- whether there are any, the text is canonical, and no limit is passed
 abbrev pub may_keep : Held → Contents → Bytes → Bool

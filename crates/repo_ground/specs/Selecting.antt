@@ -1,5 +1,5 @@
 -- The map of one filter in the ground's place.
-use Rattle.std.specs.Prelude.{◌≡◌, ◌⊎◌, length, Some}
+use Rattle.std.specs.Prelude.{◌≡◌, ◌⊎◌, [], length, None, Some}
 use Rattle.git_objects.specs.Paths.{Bytes}
 use Rattle.commit_map.specs.Rules.{rule_number}
 use Rattle.commit_map.specs.Shown.{kept_at}
@@ -24,3 +24,10 @@ pub record IsSelected (text : Bytes) (before after : Contents) : Type 0 where
   pub spells : (h : Held) → Spells h before → Spells h after
   pub map : (after ≡ before) ⊎ ((h : Held) (n : Bytes) → Spells h before → kept_at n after.basis.map ≡ kept_at n (entries_for text h.rule h.kept))
   pub held : (after ≡ before) ⊎ (after.kept ≡ length after.basis.map)
+
+-- No filter is selected, and the ground's map has nothing. What items hold is as it was, and nothing but the maps has changed.
+pub record IsPutAway (before after : Contents) : Type 0 where
+  pub none : after.selected ≡ None
+  pub empty : after.basis.map ≡ []
+  pub same : after ≡ with_maps before after
+  pub spells : (h : Held) → Spells h before → Spells h after

@@ -19,7 +19,7 @@ ghost use Rattle.state_items.specs.Appending.{is_result};
 ghost use Rattle.state_items.specs.Items.{Held, entry_text, is_canonical, kept_text};
 ghost use Rattle.repo_ground.specs.Changes.{Appends, IsCommitted, IsStopOf, keep_error_result};
 ghost use Rattle.repo_ground.specs.Contents.{Spells, SpellsSomething, room_in};
-ghost use Rattle.repo_ground.specs.Keeping.{AreNamed, AreOfGraph, IsItemOf, IsKeepRefused, keep_plan};
+ghost use Rattle.repo_ground.specs.Keeping.{AreFrom, AreNamed, AreOfGraph, IsItemOf, IsKeepRefused, keep_plan};
 ghost use Rattle.repo_ground.specs.Keeping.{new_entries, new_entry, unheld};
 
 use crate::State;
@@ -109,7 +109,7 @@ impl State {
     {
         let fresh = self.fresh()?;
         let mut news = Vec::new(self.alloc);
-        for place in 0..self.ground.graph.len() {
+        for place in self.lowest(&fresh)..self.ground.graph.len() {
             let name = self.ground.graph.name(place);
             match self.new_entry(&fresh, name) {
                 None => {}
@@ -131,6 +131,27 @@ impl State {
             }
         }
         Ok(fresh)
+    }
+
+    // A place before which no commit has an entry in `fresh`: the lowest of those that have one, or else how many
+    // places there are.
+    fn lowest(&self, fresh: &CommitMap) -> u32
+        ensures within { result ≤ length self.now.basis.graph }
+        ensures before { AreFrom self.now.basis.graph result fresh.now }
+    {
+        let mut lowest = self.ground.graph.len();
+        for i in 0..fresh.len() {
+            let (original, _) = fresh.entry(i);
+            match self.ground.graph.index_of(&original) {
+                None => {}
+                Some(place) => {
+                    if place < lowest {
+                        lowest = place;
+                    }
+                }
+            }
+        }
+        lowest
     }
 
     // What the map has of a commit, where no item holds it.

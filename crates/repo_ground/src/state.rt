@@ -16,7 +16,7 @@ ghost use Rattle.state_items.specs.Readings.{Holds};
 ghost use Rattle.commit_map.specs.Rules.{rule_number};
 ghost use Rattle.repo_ground.specs.Contents.{Spells, is_selected};
 ghost use Rattle.repo_ground.specs.Loads.{IsEmpty, IsLoaded, IsLoadFault};
-ghost use Rattle.repo_ground.specs.Selecting.{IsSelected};
+ghost use Rattle.repo_ground.specs.Selecting.{IsPutAway, IsSelected};
 
 use crate::loading::{load_items, reserve_items};
 use crate::selecting::put_back;
@@ -218,6 +218,20 @@ impl State {
         let last = std::mem::replace(&mut self.selected, selected);
         put_back(self.alloc, &mut self.maps, last, map, self.kept)?;
         self.kept = kept;
+        Ok(())
+    }
+
+    /// Puts the map of the filter that is selected back among the others, with the entries that items hold, so that
+    /// none is selected. After want of memory the state is of no more use.
+    pub fn put_away(&mut self) -> Result<(), AllocError>
+        ensures away { OnOk result (IsPutAway self.old self.new) }
+        ensures store { self.new.basis.store ≡ self.old.basis.store }
+    {
+        let empty = CommitMap::new(self.alloc);
+        let map = std::mem::replace(&mut self.ground.map, empty);
+        let last = std::mem::replace(&mut self.selected, None);
+        put_back(self.alloc, &mut self.maps, last, map, self.kept)?;
+        self.kept = 0;
         Ok(())
     }
 

@@ -1,14 +1,24 @@
 -- Proves what src/keep.rt needs of `news`.
-use Rattle.std.proofs.Common.{◌≡◌, ◌∙◌, ◌<◌, Some, None, IfSome, append-nil, ap, subst, sym}
+use Rattle.std.proofs.Common.{◌≡◌, ◌∙◌, ◌<◌, ◌++◌, Some, None, IfSome, append-nil, ap, drop, subst, sym}
+use Rattle.std.specs.List.{filter_map}
 use Rattle.std.specs.Option.{option_map}
 use Rattle.commit_graph.specs.Graphs.{Row}
-use Rattle.commit_map.specs.Shown.{entry_value}
+use Rattle.commit_map.specs.Shown.{Entries, entry_value, entry_values}
 use Rattle.repo_ground.specs.Contents.{Contents}
 use Rattle.repo_ground.specs.Keeping.{new_entries, new_entry}
 use Rattle.repo_ground.specs.contracts.state.State.{the_view}
+use Rattle.repo_ground.proofs.FreshPlaces.{news-from}
 use Rattle.repo_ground.proofs.Keeping.{news-more, row-at}
 use Rattle.repo_ground.proofs.state.State.news.Goals as goal
 use Rattle.repo_ground.proofs.state.State.news.Goals.{in-None, in-Some+in_ok-push-in-Some}
+
+pub loop-place-init : goal.loop-place-init
+loop-place-init c =
+    let s : Contents = the_view c.self.inside in
+    let low = c.lowest-place.result in
+    ap (λ (es : Entries). es ++ filter_map (new_entry s) (drop low s.basis.graph)) (ap entry_values c.new-news.ensures.items)
+    ∙ subst (λ (x : Contents). filter_map (new_entry x) (drop low x.basis.graph) ≡ new_entries x) (sym c.self.view_is)
+    (news-from c.args.self.now c.in_ok-fresh.fresh low c.in_ok-fresh.ensures c.lowest-place.ensures.before)
 
 pub loop-place-preserved : goal.loop-place-preserved
 loop-place-preserved c =
