@@ -37,7 +37,6 @@ fn plain_outcome(name: &str) -> Result<Outcome, Fault> {
         "read-fault" => Ok(Outcome::ReadFault),
         "write-fault" => Ok(Outcome::WriteFault),
         "store-fault" => Ok(Outcome::StoreFault),
-        "not-built" => Ok(Outcome::NotBuilt),
         _ => Err(Fault::BadLine),
     }
 }

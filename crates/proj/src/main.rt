@@ -24,7 +24,9 @@ const HELP: &[u8] = b"proj shows parts of a monorepo as Git repositories of thei
 \x20 proj STORE export REF FILTER    print the history of what it shows, as a stream\n\
 \x20 proj STORE push REF FILTER      take pushed commits back into the ref's history\n\
 \x20 proj STORE rule (1 | 2)         set the rule by which merges are shown\n\
+\x20 proj STORE batch                answer commands one after another, each with its input\n\
 \x20 proj name REF FILTER            print such a name for a stream alone, without a store\n\
+\x20 proj trial N                    try an import of N commits and three pushes, without a store\n\
 \n\
 STORE is a file, which is made where there is none. A stream is read from the standard\n\
 input, in the form of git fast-export; what export prints is one for git fast-import.\n\

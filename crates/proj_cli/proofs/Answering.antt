@@ -36,7 +36,7 @@ one-outcome H e room (PushCase h f refname n p) a = a
 one-outcome H e room (NameCase f refname x) a = a
 one-outcome H e room (RuleCase h k) a = a
 
-refused-outcome : (H : Object → Type 0) (e : Outcome) (room : Room) (r : Result Case Outcome) → IsOutcome H e (step_in room r) → IsOutcome H e (r >>= made room)
+pub refused-outcome : (H : Object → Type 0) (e : Outcome) (room : Room) (r : Result Case Outcome) → IsOutcome H e (step_in room r) → IsOutcome H e (r >>= made room)
 refused-outcome H e room (Ok c) a = one-outcome H e room c a
 refused-outcome H e room (Err x) a = a
 

@@ -1,5 +1,5 @@
 -- What is made of a case whose plan is committed.
-use Rattle.std.proofs.Common.{◌≡◌, ℕ, List, [], ◌++◌, Option, None, Some, Result, Ok, Err, inl, inr, ⊎_elim, refl, sym, ap, subst, ◌∙◌}
+use Rattle.std.proofs.Common.{◌≡◌, ℕ, List, ◌++◌, Option, None, Some, Result, Ok, Err, inl, inr, ⊎_elim, refl, sym, ap, subst, ◌∙◌}
 use Rattle.git_objects.specs.Paths.{Bytes}
 use Rattle.git_objects.specs.Results.{◌>>=◌}
 use Rattle.git_objects.specs.declared.quantity.Quantity.{Quantity}
@@ -151,15 +151,15 @@ module _ (k : Case) (items : List Bytes) (h : Held) (s t : Contents) (output : B
 
 -- ---- where nothing is planned
 
-none-planned : (room : Room) (r : Result Case Outcome) (e : Outcome) → e ≢ outcomes.StoreFault → PlansFor room r NoPlan (Err e)
+pub none-planned : (room : Room) (r : Result Case Outcome) (e : Outcome) → e ≢ outcomes.StoreFault → PlansFor room r NoPlan (Err e)
 none-planned room r outcomes.StoreFault n = absurd (n refl)
 none-planned room r e n = refl
 
-none-stored : (e : Outcome) (p : Plan) (before after : KeeperView) → e ≢ outcomes.StoreFault → KeepsItems before after → IsStored (Err e) p before after
+pub none-stored : (e : Outcome) (p : Plan) (before after : KeeperView) → e ≢ outcomes.StoreFault → KeepsItems before after → IsStored (Err e) p before after
 none-stored outcomes.StoreFault p before after n k = absurd (n refl)
 none-stored e p before after n k = k
 
-state-stays : (items : List Bytes) (h : Held) (s : Contents) (e : Outcome) → IsStateOf items h s → IsStateAfter items h s NoPlan (Err e)
+pub state-stays : (items : List Bytes) (h : Held) (s : Contents) (e : Outcome) → IsStateOf items h s → IsStateAfter items h s NoPlan (Err e)
 state-stays items h s outcomes.StoreFault t = tt
 state-stays items h s outcomes.OutOfMemory t = tt
 state-stays items h s e t = t

@@ -1,9 +1,11 @@
 -- A call of the program on a disk.
-use Rattle.std.proofs.Common.{◌≡◌, ◌⊎◌, ◌+◌, ◌≤◌, ◌≢◌, inl, inr, ⊎_elim, ◌++◌, [], ◌∷◌, ℕ, List, length, Option, Some, None, Ok, Err, Result, IfSome, ◌↔◌, refl, sym, ap, subst, ◌∙◌, arith, length-append, replicate}
+use Rattle.std.proofs.Common.{◌≡◌, ◌⊎◌, ◌+◌, ◌≤◌, ◌≢◌, inl, inr, ⊎_elim, ◌++◌, [], ◌∷◌, ℕ, suc, List, length, Option, Some, None, Ok, Err, Result, IfSome, ◌↔◌, refl, sym, ap, subst, ◌∙◌, arith, length-append, replicate}
 use Rattle.std.proofs.lemmas.List.{length-replicate}
 use Rattle.std.specs.Prelude.{IfOk, IsSome, MatchResult, ⊤}
 use Rattle.std.specs.Option.{option_map}
 use Rattle.git_objects.specs.Paths.{Bytes}
+use Rattle.state_items.specs.Fields.{BrokenAt}
+use Rattle.state_items.specs.Items.{Break, Held, read_item, read_items}
 use Rattle.state_items.specs.Changes.{ChangePlan, KeepPlan, NoPlan, Plan, RulePlan, plan_items}
 use Rattle.proj_io.specs.Stops.{OnlyAdds, Nothing}
 use Rattle.proj_disk.specs.Disks.{DiskView, IsImage, IsLeftBy, furthest, stable}
@@ -13,9 +15,14 @@ use Rattle.proj_journal.specs.Spelling.{list_in, listed, spelled}
 use Rattle.proj_journal.specs.Spelled.{spelled-other}
 use Rattle.proj_journal.specs.declared.opening.JournalError.{JournalError}
 use Rattle.proj_journal.specs.declared.opening.JournalError.TheVariants.{Failed, Broken, OutOfMemory as NoMemory}
-use Rattle.proj_words.specs.Words.{Command}
+use Rattle.proj_words.specs.Entries.{Entry}
+use Rattle.proj_words.specs.Words.{Batch, Command, Trial}
+use Rattle.proj_words.specs.declared.outcome.Outcome.{Outcome}
+use Rattle.proj_cli.specs.Batches.{BatchLeaves}
+use Rattle.proj_cli.specs.Runs.{MayLeave}
 use Rattle.proj_cli.specs.Served.{HasList, IsOnlySynced, IsSteady, IsWhole, LeavesList, LeavesWhole, SaysWhy, Spells}
-use Rattle.proj_cli.specs.Stopped.{ForInput, MayLeave}
+use Rattle.proj_cli.specs.Stopped.{ForInput, IsLengthened}
+use Rattle.proj_cli.specs.Turns.{AreTurns, IsSafeTurn, Turn, begun, items_after}
 use Rattle.proj_cli.proofs.ListLengths.{list_short}
 use Rattle.proj_cli.proofs.Lengthening.{for-any}
 
@@ -119,7 +126,7 @@ image_spells items image stands =
     let whole = whole_as (spelled image) (λ list. list ≡ items) (longer items) (λ same. omega (arith, ap length same, length-append items ([] ∷ [] ∷ []))) stands in
     whole.0 ∙ ap Ok whole.1
 
--- so many items more than any image of the disk spells, and than the step leaves
+-- so many items more than any image of the disk spells, and than a step leaves
 abbrev number_of : DiskView → ℕ
 number_of disk = furthest (length disk.synced) disk.ranges + length (listed disk.bytes) + 2
 
@@ -136,11 +143,46 @@ one_at_most (ChangePlan objects refs) = omega arith
 one_at_most (RulePlan n) = omega arith
 one_at_most (KeepPlan n text es) = omega arith
 
+-- no item is empty
+empty_item : (items : List Bytes) → read_items ([] ∷ items) ≡ Err (0, BrokenAt 0)
+unfolding read_items read_item
+empty_item items = refl
+
+not_read : (r : Result Held Break) (b : Break) (h : Held) → r ≡ Err b → r ≡ Ok h → ⊥
+not_read r b h broken read = cc
+
+none_spelled : (disk : DiskView) (h : Held) → read_items (many disk) ≡ Ok h → ⊥
+unfolding many
+none_spelled disk h read =
+    let less = furthest (length disk.synced) disk.ranges + length (listed disk.bytes) + 1 in
+    let same : suc less ≡ number_of disk = omega arith in
+    not_read (read_items (replicate {A = Bytes} (number_of disk) [])) (0, BrokenAt 0) h
+    (ap (λ (n : ℕ). read_items (replicate {A = Bytes} n [])) (sym same) ∙ empty_item (replicate {A = Bytes} less [])) read
+
+not_as_they_were : (disk : DiskView) → many disk ≡ listed disk.bytes → ⊥
+not_as_they_were disk same = omega (arith, ap length same, many_long disk)
+
+not_after_turns : (disk : DiskView) (ts : List Turn) → many disk ≡ items_after (listed disk.bytes) ts → AreTurns (IsSafeTurn (listed disk.bytes)) ts → ⊥
+not_after_turns disk [] same safe = not_as_they_were disk same
+not_after_turns disk (t ∷ ts) same safe = none_spelled disk safe.1.spelled.0 (ap read_items same ∙ safe.1.spelled.1)
+
+not_by_batch : (disk : DiskView) (r : Result (List Entry) Outcome) → BatchLeaves (listed disk.bytes) r (many disk) → ⊥
+not_by_batch disk (Ok es) leaves = not_after_turns disk leaves.turns leaves.behind leaves.safe
+not_by_batch disk (Err e) same = not_as_they_were disk same
+
+not_lengthened : (asked : Command) (input : Bytes) (disk : DiskView) → IsLengthened asked (listed disk.bytes) input (many disk) → ⊥
+not_lengthened asked input disk more =
+    omega (arith, ap length more.behind, many_long disk, length-append (listed disk.bytes) (plan_items more.plan), one_at_most more.plan)
+
+none_left : (asked : Command) (input : Bytes) (disk : DiskView) → MayLeave asked (listed disk.bytes) input (many disk) → ⊥
+none_left asked input disk (inl same) = not_as_they_were disk same
+none_left Batch input disk (inr leaves) = not_by_batch disk (begun (listed disk.bytes) input) leaves
+none_left (Trial n) input disk (inr none) = none
+none_left asked input disk (inr more) = not_lengthened asked input disk more
+
 none_so_many : (asked : Command) (input : Bytes) (disk : DiskView) → Spells disk (many disk) ⊎ MayLeave asked (listed disk.bytes) input (many disk) → ⊥
 none_so_many asked input disk (inl is) = omega (arith, ap length is.2, many_long disk, list_short is.0, is.1.no_longer)
-none_so_many asked input disk (inr (inl same)) = omega (arith, ap length same, many_long disk)
-none_so_many asked input disk (inr (inr more)) =
-    omega (arith, ap length more.behind, many_long disk, length-append (listed disk.bytes) (plan_items more.plan), one_at_most more.plan)
+none_so_many asked input disk (inr leaves) = none_left asked input disk leaves
 
 -- a list that a whole disk leaves is one of its lists
 whole_list : (disk : DiskView) (whole : IsWhole disk) (image : List ℕ) (list : List Bytes) → IsImage disk image → Leaves image list → Spells disk list

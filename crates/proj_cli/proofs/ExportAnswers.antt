@@ -17,7 +17,7 @@ use Rattle.repo_ground.specs.Changes.{KeepsItems}
 use Rattle.proj_words.specs.Words.{Export}
 use Rattle.proj_words.specs.declared.outcome.Outcome.{Outcome}
 use Rattle.proj_words.specs.declared.outcome.Outcome.TheVariants.{Done, OutOfMemory, ReadFault, WriteFault, StoreFault}
-use Rattle.proj_cli.specs.Answers.{ArePlanned, Devices, Follows, IsAnswer, IsAnswered, IsDelivered, IsLonger, IsOutcome, IsRecalledCase, IsSafe, IsStepDelivered}
+use Rattle.proj_cli.specs.Answers.{ArePlanned, Devices, Follows, IsCommandAnswer, IsAnswered, IsDelivered, IsLonger, IsOutcome, IsRecalledCase, IsSafe, IsStepDelivered}
 use Rattle.proj_cli.specs.Cases.{Case, ImportCase, ProjectCase, ExportCase, PushCase, NameCase, RuleCase, Made, case, head_of, loaded, made, unchanged}
 use Rattle.proj_cli.specs.Filters.{history, sound}
 use Rattle.proj_cli.specs.Forms.{IsExport, IsFormFlowed}
@@ -121,7 +121,7 @@ module _ (r : Result Case Outcome) (items : List Bytes) (h : Held) (s s' : Conte
   pub no-read : outcome ≢ ReadFault
   no-read e = flowed-not-read (IsAtHand s.basis.store r) o q (step_in (room_in s) r) (subst (IsFlowed (IsAtHand s.basis.store r) (step_in (room_in s) r) o q) e made.flowed)
 
-  not-store : outcome ≢ StoreFault
+  pub not-store : outcome ≢ StoreFault
   not-store e = flowed-not-store (IsAtHand s.basis.store r) o q (step_in (room_in s) r) (subst (IsFlowed (IsAtHand s.basis.store r) (step_in (room_in s) r) o q) e made.flowed)
 
   pub no-store : (f g : ℕ) (R : Type 0) → Counts f g R → Counts f g (outcome ≡ StoreFault)
@@ -178,7 +178,7 @@ module _ (r t : Bytes) (i : SourceView) (o q : SinkView) (k l : KeeperView) (out
 
   pub export-answer : outcome ≢ ReadFault → Counts o.faults q.faults (outcome ≡ WriteFault) → Counts k.faults l.faults (outcome ≡ StoreFault) → o.refusals ≤ q.refusals → KeepsItems k l
       → ((items : List Bytes) (all : Bytes) → k.items ≡ Some items → IsExport (case (Export r t) (loaded items) all) items o q outcome)
-      → IsAnswer (Export r t) (before i i o q k l) (after i i o q k l) outcome
+      → IsCommandAnswer (Export r t) (before i i o q k l) (after i i o q k l) outcome
   export-answer unread write keep memory g exported = record {
     cause = record { read = record { later = omega arith; rose = λ e. absurd (unread e) }; write = write; keep = keep; memory = memory };
     unread = λ no. unread;

@@ -31,7 +31,7 @@ abbrev pub HoldsAll : List Object → Result Case Outcome → Type 0
 HoldsAll S (Ok c) = (hand c).held ≡ S
 HoldsAll S (Err e) = Unit {0}
 
-twice-at : (P Q : Object → Type 0) → ((o : Object) → P o → Q o) → (n : Bytes) → IsTwice P n → IsTwice Q n
+pub twice-at : (P Q : Object → Type 0) → ((o : Object) → P o → Q o) → (n : Bytes) → IsTwice P n → IsTwice Q n
 twice-at P Q f n t = record {
   first = t.first;
   second = t.second;
@@ -42,19 +42,19 @@ twice-at P Q f n t = record {
   second_named = t.second_named;
 }
 
-at-hand : (S : List Object) (c : Case) → (hand c).held ≡ S → (o : Object) → IsAtHand S (Ok c) o → IsInHands (hands_of (Ok c)) o
+pub at-hand : (S : List Object) (c : Case) → (hand c).held ≡ S → (o : Object) → IsAtHand S (Ok c) o → IsInHands (hands_of (Ok c)) o
 at-hand S c e o (inl there) = (0, hand c, omega arith, refl, HeldObject (subst (λ (T : List Object). Contains T o) (sym e) there))
 at-hand S c e o (inr h) = h
 
 -- each object of a store has a name of its own
-abbrev AreNamed : List Object → Type 0
+abbrev pub AreNamed : List Object → Type 0
 AreNamed S = (o : Object) → Contains S o → find_named S (object_name o) ≡ Some o
 
 none-at : (S : List Object) (e : Outcome) (o : Object) → IsAtHand S (Err e) o → Contains S o
 none-at S e o (inl there) = there
 none-at S e o (inr h) = absurd (omega (arith, h.2))
 
-no-twice : (S : List Object) (e : Outcome) → AreNamed S → (n : Bytes) → IsTwice (IsAtHand S (Err e)) n → ⊥
+pub no-twice : (S : List Object) (e : Outcome) → AreNamed S → (n : Bytes) → IsTwice (IsAtHand S (Err e)) n → ⊥
 no-twice S e named n t =
     t.apart (same_Some t.first t.second
     (sym (named t.first (none-at S e t.first t.first_there))

@@ -1,16 +1,18 @@
--- What a command made, what came of writing it, and the text of the outcome are together the answer.
+-- What a single command made, what came of writing it, and the text of the outcome are together the answer.
 use Rattle.std.proofs.Common.{◌≡◌, ◌≢◌, ◌⊎◌, inl, inr, ◌≤◌, List, [], Option, Some, Result, Ok, Err, IfSome, IsErr, refl, sym, ap, subst, ◌∙◌, arith}
 use Rattle.std.specs.Prelude.{IsOk}
 use Rattle.std.specs.Io.KnownBytes.{Appends}
 use Rattle.git_objects.specs.Paths.{Bytes}
+use Rattle.git_objects.specs.declared.name.Name.{Name as NameOf}
 use Rattle.object_store.specs.Objects.{Object}
 use Rattle.proj_io.specs.Views.{SourceView, SinkView, KeeperView}
 use Rattle.state_items.specs.Items.{Held, read_items}
 use Rattle.state_items.specs.Changes.{Plan, Room, plan_items, room_of}
+use Rattle.state_items.specs.Hands.{IsTwice}
 use Rattle.proj_words.specs.Words.{Command, Import, Project, Push, Export, Name, Batch, Trial, Rule, Unknown}
 use Rattle.proj_words.specs.declared.outcome.Outcome.{Outcome}
 use Rattle.proj_words.specs.declared.outcome.Outcome.TheVariants.{Done, OutOfMemory, Collision, ReadFault, WriteFault, StoreFault}
-use Rattle.proj_cli.specs.Answers.{AreItems, Devices, IsAnswer, IsCollision, IsComplete, IsDelivered, IsOutcome, IsRecalled, IsRecalledCase, IsSafe, IsStepDelivered, HasAnswer, outcome_of}
+use Rattle.proj_cli.specs.Answers.{AreItems, Devices, IsCommandAnswer, IsCollision, IsCommandComplete, IsDelivered, IsOutcome, IsRecalled, IsRecalledCase, IsSafe, IsStepDelivered, HasAnswer, outcome_of}
 use Rattle.proj_cli.specs.Cases.{Case, ImportCase, ProjectCase, ExportCase, PushCase, NameCase, RuleCase, Made, case, loaded}
 use Rattle.proj_cli.specs.Forms.{IsForm, IsMade}
 use Rattle.proj_cli.specs.Hands.{IsInHands}
@@ -26,13 +28,13 @@ use Rattle.proj_cli.proofs.Refusing.{refusal-of}
 
 -- ---- outcomes of reports that are written
 
-not-read : (outcome : Outcome) (report : Bytes) (o q : SinkView) → IsSent outcome report o q → outcome ≢ ReadFault
+pub not-read : (outcome : Outcome) (report : Bytes) (o q : SinkView) → IsSent outcome report o q → outcome ≢ ReadFault
 not-read Done report o q h = λ e. cc
 not-read WriteFault report o q h = λ e. cc
 not-read OutOfMemory report o q h = λ e. cc
 not-read _ report o q h = absurd h
 
-not-kept : (outcome : Outcome) (report : Bytes) (o q : SinkView) → IsSent outcome report o q → outcome ≢ StoreFault
+pub not-kept : (outcome : Outcome) (report : Bytes) (o q : SinkView) → IsSent outcome report o q → outcome ≢ StoreFault
 not-kept Done report o q h = λ e. cc
 not-kept WriteFault report o q h = λ e. cc
 not-kept OutOfMemory report o q h = λ e. cc
@@ -120,7 +122,7 @@ module _ (law : RecallLaw) (asked : Command) (i j : SourceView) (o q : SinkView)
         form-safe asked items form.all i j o k l told h read q form.says.plan result outcome form.says.made ended.0 ended.1
 
   pub concluded : (result : Result Bytes Outcome) (outcome : Outcome) → IsMade asked i j k l Adds result → IsConcluded result o q outcome → (IsErr result → q ≡ o)
-      → IsAnswer asked (before i j o q k l) (after i j o q k l) outcome
+      → IsCommandAnswer asked (before i j o q k l) (after i j o q k l) outcome
   concluded (Ok report) outcome made c same = record {
     cause = record {
       read = record { later = made.read.later; rose = λ e. absurd (not-read outcome report o q c.sent e) };
@@ -156,18 +158,18 @@ module _ (law : RecallLaw) (asked : Command) (i j : SourceView) (o q : SinkView)
 -- ---- the text of an outcome
 
 module _ (asked : Command) (b a : Devices) where
-  idle-memory : (outcome : Outcome) (report : Bytes) (more : List Bytes) → TakesMemory outcome → IsDelivered asked report more b a outcome → IsDelivered asked report more b a OutOfMemory
+  pub idle-memory : (outcome : Outcome) (report : Bytes) (more : List Bytes) → TakesMemory outcome → IsDelivered asked report more b a outcome → IsDelivered asked report more b a OutOfMemory
   idle-memory Done report more t h = absurd t
   idle-memory OutOfMemory report more t h = absurd t
   idle-memory WriteFault report more t h = absurd t
   idle-memory StoreFault report more t h = absurd t
   idle-memory _ report more t h = inl h
 
-  step-memory : (s : Result Made Outcome) (p : Plan) (outcome : Outcome) → TakesMemory outcome → IsStepDelivered asked s p b a outcome → IsStepDelivered asked s p b a OutOfMemory
+  pub step-memory : (s : Result Made Outcome) (p : Plan) (outcome : Outcome) → TakesMemory outcome → IsStepDelivered asked s p b a outcome → IsStepDelivered asked s p b a OutOfMemory
   step-memory (Ok m) p outcome t h = idle-memory outcome m.output (plan_items p) t h
   step-memory (Err e) p outcome t h = h
 
-  without-memory : (outcome : Outcome) → TakesMemory outcome → IsAnswer asked b a outcome → IsAnswer asked b a OutOfMemory
+  without-memory : (outcome : Outcome) → TakesMemory outcome → IsCommandAnswer asked b a outcome → IsCommandAnswer asked b a OutOfMemory
   without-memory outcome t answer = record {
     cause = record {
       read = record { later = answer.cause.read.later; rose = λ e. absurd (let no : ⊥ = cc in no) };
@@ -198,9 +200,9 @@ module _ (asked : Command) (b a : Devices) where
     recalled = λ items told e. absurd (let no : ⊥ = cc in no);
   }
 
-  pub finished : (outcome result : Outcome) → (result ≡ outcome) ⊎ ((result ≡ OutOfMemory) × TakesMemory outcome) → IsAnswer asked b a outcome → IsAnswer asked b a result
-  finished outcome result (inl e) answer = subst (IsAnswer asked b a) (sym e) answer
-  finished outcome result (inr h) answer = subst (IsAnswer asked b a) (sym h.0) (without-memory outcome h.1 answer)
+  pub command-finished : (outcome result : Outcome) → (result ≡ outcome) ⊎ ((result ≡ OutOfMemory) × TakesMemory outcome) → IsCommandAnswer asked b a outcome → IsCommandAnswer asked b a result
+  command-finished outcome result (inl e) answer = subst (IsCommandAnswer asked b a) (sym e) answer
+  command-finished outcome result (inr h) answer = subst (IsCommandAnswer asked b a) (sym h.0) (without-memory outcome h.1 answer)
 
 -- ---- where no device failed
 
@@ -211,21 +213,22 @@ ok-outcome : (r : Result Made Outcome) → IsOk r → Done ≡ outcome_of r
 ok-outcome (Ok m) h = refl
 ok-outcome (Err e) h = absurd (let no : ⊥ = cc in no)
 
-module _ (asked : Command) (items : List Bytes) (input : Bytes) where
-  settled : (outcome : Outcome) → IsOutcome (IsInHands (hands_of (case asked (loaded items) input))) outcome (step asked items input) → outcome ≢ ReadFault → outcome ≢ WriteFault → outcome ≢ StoreFault
-      → (outcome ≡ OutOfMemory) ⊎ (outcome ≡ outcome_of (step asked items input)) ⊎ IsCollision asked items input outcome
-  settled Done h r w k = inr (inl (ok-outcome (step asked items input) h))
-  settled OutOfMemory h r w k = inl refl
-  settled ReadFault h r w k = absurd (r refl)
-  settled WriteFault h r w k = absurd (w refl)
-  settled StoreFault h r w k = absurd (k refl)
-  settled (Collision n) (inl e) r w k = inr (inl (err-outcome (Collision n) (step asked items input) e))
-  settled (Collision n) (inr t) r w k = inr (inr t)
-  settled e h r w k = inr (inl (err-outcome e (step asked items input) h))
+-- the outcome of such a result, where no device is at fault
+pub settled : (H : Object → Type 0) (s : Result Made Outcome) (Collides : Outcome → Type 0) → ((n : NameOf) → IsTwice H n.0 → Collides (Collision n)) → (outcome : Outcome) → IsOutcome H outcome s
+    → outcome ≢ ReadFault → outcome ≢ WriteFault → outcome ≢ StoreFault → (outcome ≡ OutOfMemory) ⊎ (outcome ≡ outcome_of s) ⊎ Collides outcome
+settled H s Collides twice Done h r w k = inr (inl (ok-outcome s h))
+settled H s Collides twice OutOfMemory h r w k = inl refl
+settled H s Collides twice ReadFault h r w k = absurd (r refl)
+settled H s Collides twice WriteFault h r w k = absurd (w refl)
+settled H s Collides twice StoreFault h r w k = absurd (k refl)
+settled H s Collides twice (Collision n) (inl e) r w k = inr (inl (err-outcome (Collision n) s e))
+settled H s Collides twice (Collision n) (inr t) r w k = inr (inr (twice n t))
+settled H s Collides twice e h r w k = inr (inl (err-outcome e s h))
 
-pub complete : (asked : Command) (b a : Devices) (outcome : Outcome) → IsAnswer asked b a outcome → IsComplete asked b a outcome
-complete asked b a outcome answer items input these told none =
+pub command-complete : (asked : Command) (b a : Devices) (outcome : Outcome) → IsCommandAnswer asked b a outcome → IsCommandComplete asked b a outcome
+command-complete asked b a outcome answer items input these told none =
     let q = answer.answered items these in
     let same : q.input ≡ input = subst (λ (left : Option Bytes). IfSome left (λ x. q.input ≡ x)) told q.told in
     subst (λ (x : Bytes). (outcome ≡ OutOfMemory) ⊎ (outcome ≡ outcome_of (step asked items x)) ⊎ IsCollision asked items x outcome) same
-    (settled asked items q.input outcome q.answered.allowed (λ e. none.read (answer.cause.read.rose e)) (λ e. none.write (answer.cause.write.rose e)) (λ e. none.keep (answer.cause.keep.rose e)))
+    (settled (IsInHands (hands_of (case asked (loaded items) q.input))) (step asked items q.input) (IsCollision asked items q.input) (λ n t. t) outcome q.answered.allowed
+    (λ e. none.read (answer.cause.read.rose e)) (λ e. none.write (answer.cause.write.rose e)) (λ e. none.keep (answer.cause.keep.rose e)))

@@ -15,9 +15,10 @@ use Rattle.proj_cli.specs.Cases.{Made, case, loaded}
 use Rattle.proj_cli.specs.Forms.{FormPlan, IsForm, IsFormMade, IsFormPlanned, IsFormStop}
 use Rattle.proj_cli.specs.Makes.{IsGoodPlan}
 use Rattle.proj_cli.specs.Plans.{AreKept, RecallLaw}
+use Rattle.proj_cli.specs.Runs.{MayLeave}
 use Rattle.proj_cli.specs.Sent.{TakesMemory}
 use Rattle.proj_cli.specs.Steps.{cases, step}
-use Rattle.proj_cli.specs.Stopped.{ForInput, IsLengthened, MayLeave}
+use Rattle.proj_cli.specs.Stopped.{ForInput, IsLengthened, CommandLeaves}
 use Rattle.proj_cli.proofs.Answering.{plan-longer, plan-planned, step-done}
 use Rattle.proj_cli.proofs.CasePlans.{HoldWhatTheyShould}
 
@@ -43,34 +44,34 @@ module _ (law : RecallLaw) (asked : Command) (items : List Bytes) (all : Bytes) 
     }
 
   one-more : (p : Plan) → IsFormPlanned (room_of items) (case asked (loaded items) all) p → ((h : Held) → read_items items ≡ Ok h → IsGoodPlan items h (room_of items) p) → (list : List Bytes)
-      → list ≡ items ++ plan_items p → MayLeave asked items all list
+      → list ≡ items ++ plan_items p → CommandLeaves asked items all list
   one-more NoPlan w good list e = inl (e ∙ append-nil items)
   one-more (ChangePlan objects refs) w good list e = inr (lengthened (ChangePlan objects refs) w good list e (λ g. cc))
   one-more (RulePlan n) w good list e = inr (lengthened (RulePlan n) w good list e (λ g. cc))
   one-more (KeepPlan n text es) w good list e = inr (lengthened (KeepPlan n text es) w good list e (λ g. cc))
 
-  none-more : (p : Plan) → p ≡ NoPlan → (list : List Bytes) → list ≡ items ++ plan_items p → MayLeave asked items all list
+  none-more : (p : Plan) → p ≡ NoPlan → (list : List Bytes) → list ≡ items ++ plan_items p → CommandLeaves asked items all list
   none-more p n list e = inl (e ∙ ap (λ (x : Plan). items ++ plan_items x) n ∙ append-nil items)
 
   planned-leaves : (result : Result Bytes Outcome) (p : Plan) → FormPlan (room_of items) (case asked (loaded items) all) p result
-      → ((h : Held) → read_items items ≡ Ok h → IsGoodPlan items h (room_of items) p) → (list : List Bytes) → list ≡ items ++ plan_items p → MayLeave asked items all list
+      → ((h : Held) → read_items items ≡ Ok h → IsGoodPlan items h (room_of items) p) → (list : List Bytes) → list ≡ items ++ plan_items p → CommandLeaves asked items all list
   planned-leaves (Ok report) p w good list e = one-more p w good list e
   planned-leaves (Err StoreFault) p (inl n) good list e = none-more p n list e
   planned-leaves (Err StoreFault) p (inr w) good list e = one-more p w good list e
   planned-leaves (Err _) p n good list e = none-more p n list e
 
   form-leaves : (result : Result Bytes Outcome) (k l : KeeperView) (p : Plan) → IsFormMade (case asked (loaded items) all) items k l p result → (list : List Bytes) → IsFormStop items p list
-      → MayLeave asked items all list
+      → CommandLeaves asked items all list
   form-leaves result k l p f list (inl e) = inl e
   form-leaves result k l p f list (inr e) = planned-leaves result p f.planned f.good list e
 
 -- a form leaves what the command may leave
 pub form-adds : RecallLaw → (asked : Command) (items : List Bytes) (left : Option Bytes) (k l : KeeperView) (result : Result Bytes Outcome) (a b : ℕ) (x y : ℕ → List Bytes → Type 0)
-    → ForInput left (λ all. IsForm asked items all k l (OnlyAdds a b x y) result) → ForInput left (λ all. OnlyAdds a b x y (MayLeave asked items all))
+    → ForInput left (λ all. IsForm asked items all k l (OnlyAdds a b x y) result) → ForInput left (λ all. OnlyAdds a b x y (CommandLeaves asked items all))
 form-adds law asked items left k l result a b x y f = record {
   all = f.all;
   told = f.told;
-  says = adds_as a b x y (IsFormStop items f.says.plan) (MayLeave asked items f.all) (form-leaves law asked items f.all result k l f.says.plan f.says.made) f.says.stops;
+  says = adds_as a b x y (IsFormStop items f.says.plan) (CommandLeaves asked items f.all) (form-leaves law asked items f.all result k l f.says.plan f.says.made) f.says.stops;
 }
 
 -- ---- the input

@@ -26,10 +26,12 @@ pub mod Delivering
 pub mod Answering
 pub mod Joining
 pub mod Lengthening
+pub mod Dispatching
 pub mod ExportAnswers
 pub mod NameForms
 pub mod Making
 pub mod Opening
+mod CommandsMade
 pub mod RuleForms
 pub mod Outcomes
 mod HeadsFound
@@ -44,3 +46,13 @@ mod PushHands
 mod PushedLaws
 mod PushPlans
 mod Pushes
+pub mod TurnHands
+pub mod TurnsMade
+pub mod EntriesAnswered
+pub mod Pieces
+pub mod BatchesRun
+pub mod BatchesAnswered
+mod TrialSteps
+mod TrialParts
+mod TrialPushes
+mod TrialReports

@@ -1,21 +1,26 @@
 -- What is said of a journal, said of the disk that it stands on.
-use Rattle.std.proofs.Common.{◌≡◌, ◌≢◌, ◌⊎◌, ◌≤◌, ℕ, false, List, [], length, Option, IfSome, Result, Ok, Err, sym, subst, arith}
+use Rattle.std.proofs.Common.{◌≡◌, ◌≢◌, ◌⊎◌, ◌≤◌, ℕ, false, List, [], length, None, Option, Some, IfSome, Result, Ok, Err, sym, subst, arith}
 use Rattle.git_objects.specs.Paths.{Bytes}
 use Rattle.proj_io.specs.Counts.{Counts}
 use Rattle.proj_io.specs.Views.{SourceView, SinkView, KeeperView}
 use Rattle.proj_disk.specs.Disks.{DiskView}
 use Rattle.proj_journal.specs.Journals.{items_of}
-use Rattle.state_items.specs.Changes.{Plan, plan_items}
-use Rattle.proj_words.specs.Words.{Command, loads, reads}
+use Rattle.state_items.specs.Changes.{NoPlan, Plan, plan_items}
+use Rattle.proj_words.specs.Entries.{Entry}
+use Rattle.proj_words.specs.Words.{Batch, Command, Trial, Unknown, loads}
 use Rattle.proj_words.specs.Outcomes.{code_of, text_of}
 use Rattle.proj_words.specs.declared.outcome.Outcome.{Outcome}
-use Rattle.proj_words.specs.declared.outcome.Outcome.TheVariants.{Done, OutOfMemory, StoreFault, WriteFault}
-use Rattle.proj_cli.specs.Answers.{Devices, GetsText, HasAnswer, IsAnswer, IsDelivered, IsRecalledCase, IsStepDelivered, outcome_of}
+use Rattle.proj_words.specs.declared.outcome.Outcome.TheVariants.{Done, OutOfMemory, ReadFault, StoreFault, Usage, WriteFault}
+use Rattle.proj_cli.specs.Answers.{Devices, GetsText, HasAnswer, IsCaused, IsCommandAnswer, IsDelivered, IsRecalledCase, IsStepDelivered}
+use Rattle.proj_cli.specs.Batches.{IsBatchAnswer, IsBatchBy, IsEnded}
 use Rattle.proj_cli.specs.Cases.{Case, ImportCase, ProjectCase, ExportCase, PushCase, NameCase, RuleCase, Made, case, loaded}
+use Rattle.proj_cli.specs.Runs.{IsAnswer}
 use Rattle.proj_cli.specs.Served.{HasList, IsOnlySynced, IsRan, IsSteady, Seen, over_disk}
 use Rattle.proj_cli.specs.Steps.{step}
+use Rattle.proj_cli.specs.Trials.{IsTrialAnswer, trial_made}
+use Rattle.proj_cli.specs.Turns.{Turn, begun}
 use Rattle.proj_cli.proofs.Delivering.{after, before}
-use Rattle.proj_cli.proofs.Joining.{complete}
+use Rattle.proj_cli.proofs.Dispatching.{complete}
 
 -- ---- the count of faults at entry may be an earlier one
 
@@ -63,15 +68,13 @@ module _ (f : ℕ) (i j : SourceView) (o q : SinkView) (k l : KeeperView) where
     };
   }
 
-  answer-earlier : (asked : Command) (outcome : Outcome) → f ≤ k.faults → IsAnswer asked (before i j o q k l) (after i j o q k l) outcome
-      → IsAnswer asked (before i j o q (earlier f k) l) (after i j o q k l) outcome
-  answer-earlier asked outcome le answer = record {
-    cause = record {
-      read = answer.cause.read;
-      write = answer.cause.write;
-      keep = rose-before f k.faults l.faults (outcome ≡ StoreFault) le answer.cause.keep;
-      memory = answer.cause.memory;
-    };
+  cause-earlier : (outcome : Outcome) → f ≤ k.faults → IsCaused (before i j o q k l) (after i j o q k l) outcome → IsCaused (before i j o q (earlier f k) l) (after i j o q k l) outcome
+  cause-earlier outcome le cause = record { read = cause.read; write = cause.write; keep = rose-before f k.faults l.faults (outcome ≡ StoreFault) le cause.keep; memory = cause.memory }
+
+  command-earlier : (asked : Command) (outcome : Outcome) → f ≤ k.faults → IsCommandAnswer asked (before i j o q k l) (after i j o q k l) outcome
+      → IsCommandAnswer asked (before i j o q (earlier f k) l) (after i j o q k l) outcome
+  command-earlier asked outcome le answer = record {
+    cause = cause-earlier outcome le answer.cause;
     unread = answer.unread;
     unloaded = answer.unloaded;
     unwritten = answer.unwritten;
@@ -80,6 +83,57 @@ module _ (f : ℕ) (i j : SourceView) (o q : SinkView) (k l : KeeperView) where
         let s = answer.safe items h told read in record { report = s.report; more = s.more; delivered = delivered-earlier asked s.report s.more outcome s.delivered; spelled = s.spelled };
     recalled = λ items told e. recalled-earlier (case asked (loaded items) []) (answer.recalled items told e);
   }
+
+  ended-earlier : (ts : List Turn) (last : Option Turn) (left : List Entry) (outcome : Outcome) → IsEnded ts last left (before i j o q k l) (after i j o q k l) outcome
+      → IsEnded ts last left (before i j o q (earlier f k) l) (after i j o q k l) outcome
+  ended-earlier ts None left Done h = h
+  ended-earlier ts None left OutOfMemory h = h
+  ended-earlier ts None left ReadFault h = h
+  ended-earlier ts None left StoreFault h = h
+  ended-earlier ts None left _ h = absurd h
+  ended-earlier ts (Some last) left OutOfMemory h = h
+  ended-earlier ts (Some last) left WriteFault h = h
+  ended-earlier ts (Some last) left StoreFault h = h
+  ended-earlier ts (Some last) left _ h = absurd h
+
+  run-earlier : (items : List Bytes) (r : Result (List Entry) Outcome) (outcome : Outcome) → IsBatchBy items r (before i j o q k l) (after i j o q k l) outcome
+      → IsBatchBy items r (before i j o q (earlier f k) l) (after i j o q k l) outcome
+  run-earlier items (Ok es) outcome run = record {
+    turns = run.turns;
+    last = run.last;
+    left = run.left;
+    front = run.front;
+    ended = ended-earlier run.turns run.last run.left outcome run.ended;
+    got = run.got;
+    safe = run.safe;
+    in_turn = run.in_turn;
+  }
+  run-earlier items (Err e) outcome h = h
+
+  batch-earlier : (outcome : Outcome) → f ≤ k.faults → IsBatchAnswer (before i j o q k l) (after i j o q k l) outcome
+      → IsBatchAnswer (before i j o q (earlier f k) l) (after i j o q k l) outcome
+  batch-earlier outcome le answer = record {
+    cause = cause-earlier outcome le answer.cause;
+    run = λ items told.
+        let h = answer.run items told in record { input = h.input; told = h.told; run = run-earlier items (begun items h.input) outcome h.run };
+  }
+
+  trial-earlier : (n : ℕ) (outcome : Outcome) → f ≤ k.faults → IsTrialAnswer n (before i j o q k l) (after i j o q k l) outcome
+      → IsTrialAnswer n (before i j o q (earlier f k) l) (after i j o q k l) outcome
+  trial-earlier n outcome le answer = record {
+    cause = cause-earlier outcome le answer.cause;
+    unread = answer.unread;
+    unloaded = answer.unloaded;
+    unwritten = answer.unwritten;
+    allowed = answer.allowed;
+    delivered = step-earlier (Trial n) (trial_made n) NoPlan outcome answer.delivered;
+  }
+
+  answer-earlier : (asked : Command) (outcome : Outcome) → f ≤ k.faults → IsAnswer asked (before i j o q k l) (after i j o q k l) outcome
+      → IsAnswer asked (before i j o q (earlier f k) l) (after i j o q k l) outcome
+  answer-earlier Batch outcome le answer = batch-earlier outcome le answer
+  answer-earlier (Trial n) outcome le answer = trial-earlier n outcome le answer
+  answer-earlier asked outcome le answer = command-earlier asked outcome le answer
 
 -- ---- a call over a journal, as one on its disk
 
@@ -105,7 +159,7 @@ module _ (asked : Command) (i j : SourceView) (o p : SinkView) (e f : SinkView) 
       → IfSome (items_of opened) (λ all. length all ≡ number) → IfSome (items_of end) (λ all. length all ≡ number_now)
       → IsAnswer asked journal-then (over_disk seen-after number_now) outcome
       → (loads asked ≡ false → end ≡ opened)
-      → (reads asked ≡ false → loads asked ≡ false → (outcome ≡ OutOfMemory) ⊎ (outcome ≡ outcome_of (step asked [] [])))
+      → (asked ≡ Unknown → (outcome ≡ OutOfMemory) ⊎ (outcome ≡ Usage))
       → GetsText e f (text_of outcome) → (outcome ≢ StoreFault → IfSome end IsSteady) → IsRan asked seen-before seen-after exit
   ran_on exit status list synced le counted counted_now answer unloaded idle text settled = record {
     outcome = outcome;

@@ -1,5 +1,5 @@
 -- What a push makes is in hand.
-use Rattle.std.proofs.Common.{◌≡◌, ◌⊎◌, inl, inr, ℕ, Bool, true, false, cond, List, [], ◌∷◌, ◌++◌, map, Contains, Option, None, Some, Result, Ok, Err, ⊎_elim, refl, sym, ap, subst, arith}
+use Rattle.std.proofs.Common.{◌≡◌, ◌⊎◌, inl, inr, ℕ, Bool, true, false, cond, List, [], ◌∷◌, ◌++◌, Contains, Option, None, Some, Result, Ok, Err, ⊎_elim, sym, subst, arith}
 use Rattle.std.specs.List.{flat_map}
 use Rattle.std.specs.Option.{option_map, option_map_or}
 use Rattle.std.proofs.lemmas.List.Elements.{Contains-append_cases, Contains-append_left, Contains-append_right, Contains-push, Contains-push_cases}
@@ -18,15 +18,14 @@ use Rattle.filter_apply.proofs.Members.{in-flat_map}
 use Rattle.filter_apply.proofs.Overs.{made_as}
 use Rattle.filter_unapply.specs.Hands.{IsComponentOfTwo, IsLaidMade, IsLeafOfTwo, IsNamedIn, IsNamedInAny}
 use Rattle.workspace.specs.Workspaces.{next, resolve, shown}
-use Rattle.history_ground.specs.Projections.{history_graph, own_commits, projection}
+use Rattle.history_ground.specs.Projections.{history_graph, projection}
 use Rattle.stream_reader.specs.declared.command.Command.{Command}
 use Rattle.stream_reader.specs.declared.command.Command.TheVariants as commands
 use Rattle.stream_reader.specs.declared.command.Placed.{Placed}
-use Rattle.stream_reader.specs.declared.fault.StreamFault.{StreamFault}
 use Rattle.stream_reader.specs.declared.fault.StreamFault.TheVariants.{Syntax}
 use Rattle.stream_reader.specs.Verdicts.{start, verdict}
 use Rattle.fast_import.specs.Made.{IsMadeAt, IsMadeBy, IsMadeOf}
-use Rattle.fast_import.specs.Replays.{Base, Draft, Replay, committed, nothing_yet, ran_by, step}
+use Rattle.fast_import.specs.Replays.{Base, Draft, Replay, committed, nothing_yet, ran_by}
 use Rattle.push_back.specs.Originals.{IsMadeFor, IsMadeUpon}
 use Rattle.push_back.specs.PushReplays.{StreamRefusal, Faulty, push_base, push_step}
 use Rattle.push_back.specs.PushVerdicts.{Refusal, original_of, original_tree}
@@ -34,12 +33,12 @@ use Rattle.push_back.specs.Pushes.{Pushing, made_from, made_upon, pushing}
 use Rattle.push_back.proofs.Judging.{goes-on}
 use Rattle.state_items.specs.Items.{Held}
 use Rattle.state_items.specs.Repos.{repo}
-use Rattle.proj_cli.specs.Cases.{Case, PushCase}
+use Rattle.proj_cli.specs.Cases.{PushCase}
 use Rattle.proj_cli.specs.Filters.{rule_by}
 use Rattle.proj_cli.specs.Hands.{CommitMade, Hand, IsInHand, IsInHands, TreeMade, all_components, all_leaves, blobs_read, command_components, components_for, hand, laid_parts, own, parts_upon}
-use Rattle.proj_cli.specs.Pushing.{IsMadeOver}
+use Rattle.proj_cli.specs.Pushing.{IsMadeOver, IsSeenOver}
 use Rattle.proj_cli.proofs.InHands.{in-hands}
-use Rattle.proj_cli.proofs.StreamHands.{IsBrought, brought-in-hand, component-in-hand, leaf-in-hand, refused-brought, run-brought}
+use Rattle.proj_cli.proofs.StreamHands.{IsBrought, brought-in-hand, component-in-hand, leaf-in-hand, run-brought}
 
 -- ---- lists
 
@@ -244,20 +243,24 @@ module _ (h : Held) (f : Filter) (refname n all : Bytes) where
       (Contains-append_right given (components_for f G ++ laid) b
       (Contains-append_left (components_for f G) laid b (Contains-append_right (parts_in f) (flat_map parts_for G) b (in-flat_map parts_for G c b there_is m))))
 
+  commit-in : (c : Snapshot) (o : Object) → Contains push_hand.commits c → snapshot_object c ≡ o → IsInHand push_hand o
+  commit-in c o m e = CommitMade c m (sym e)
+
+  from-history : (c : Snapshot) → Contains (history_graph (rule_by h.rule) (shown f) G n) c → Contains owned c
+  from-history c m = ⊎_elim (λ q. absurd (none-in c q)) (λ q. q) (added-in owned [] c m)
+
+  -- what projecting the commit makes is in hand
+  pub seen-in : (o : Object) → IsSeenOver f n (rule_by h.rule) G o → IsInHand push_hand o
+  seen-in o (inl (inl m)) = shown-in-hand push_hand (resolve f m.0.tree) m.0.tree o (commit-tree-in push_hand m.0 (held-in m.0 m.1)) (resolved-part m.0 m.1) m.2
+  seen-in o (inl (inr m)) = commit-in m.0 o (own-in m.0 (from-history m.0 m.1)) m.2
+  seen-in o (inr m) = commit-in m.0 o (own-in m.0 m.1) m.2
+
   -- what is made is in hand, where the trees of the pushed commits are such
   pub made-in-hand : Each (λ c. IsTree c.tree) streamed → (o : Object) → IsMadeOver f refname n all (rule_by h.rule) G o → IsInHands (push_hand ∷ []) o
   made-in-hand trees o w = in-hands push_hand o (by w)
     where
-      commit-in : (c : Snapshot) → Contains push_hand.commits c → snapshot_object c ≡ o → IsInHand push_hand o
-      commit-in c m e = CommitMade c m (sym e)
-
-      from-history : (c : Snapshot) → Contains (history_graph (rule_by h.rule) (shown f) G n) c → Contains owned c
-      from-history c m = ⊎_elim (λ q. absurd (none-in c q)) (λ q. q) (added-in owned [] c m)
-
       by : IsMadeOver f refname n all (rule_by h.rule) G o → IsInHand push_hand o
-      by (inl (inl (inl m))) = shown-in-hand push_hand (resolve f m.0.tree) m.0.tree o (commit-tree-in push_hand m.0 (held-in m.0 m.1)) (resolved-part m.0 m.1) m.2
-      by (inl (inl (inr m))) = commit-in m.0 (own-in m.0 (from-history m.0 m.1)) m.2
-      by (inl (inr m)) = commit-in m.0 (own-in m.0 m.1) m.2
+      by (inl m) = seen-in o m
       by (inr (inl m)) =
           brought-in-hand push_hand push_hand.blobs streamed o (λ b q. q) streamed-in trees
           (stream-brought refname (option_map (λ s. s.commit) (projection (rule_by h.rule) (shown f) G n)) (shown f (tree_at G n)) (option_map Faulty (verdict start all).fault) (verdict start all).commands o m)

@@ -150,7 +150,7 @@ load-open text f items e s (inr (inr g)) =
 
 -- ---- outcomes that no device tells, as results
 
-memory-own : IsOwn OutOfMemory
+pub memory-own : IsOwn OutOfMemory
 memory-own = record { done = λ e. cc; read = λ e. cc; write = λ e. cc; store = λ e. cc }
 
 pub unsound-own : (text : Bytes) (e : Outcome) → (e ≡ OutOfMemory) ⊎ (sound text ≡ Err e) → IsOwn e

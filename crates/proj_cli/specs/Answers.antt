@@ -191,8 +191,8 @@ IsRecalled asked before after outcome =
 
 -- ---- the whole answer
 
--- what `run` says of its outcome
-pub record IsAnswer (asked : Command) (before after : Devices) (outcome : Outcome) : Type 0 where
+-- what `run` says of the outcome of a command
+pub record IsCommandAnswer (asked : Command) (before after : Devices) (outcome : Outcome) : Type 0 where
   pub cause : IsCaused before after outcome
   -- a form that doesn't read or load is at no fault of the input or the store
   pub unread : reads asked ≡ false → outcome ≢ ReadFault
@@ -210,8 +210,8 @@ IsCollision asked items input outcome = ⊥
 
 -- Where items and input are told and no device failed, the outcome is the step's, or there was no memory, or two objects in hand have
 -- one name.
-abbrev pub IsComplete : Command → Devices → Devices → Outcome → Type 0
-IsComplete asked before after outcome = (items : List Bytes) (input : Bytes) → AreItems asked before items → before.input.left ≡ Some input
+abbrev pub IsCommandComplete : Command → Devices → Devices → Outcome → Type 0
+IsCommandComplete asked before after outcome = (items : List Bytes) (input : Bytes) → AreItems asked before items → before.input.left ≡ Some input
     → NoneFailed before after → (outcome ≡ OutOfMemory) ⊎ (outcome ≡ outcome_of (step asked items input)) ⊎ IsCollision asked items input outcome
 
 -- the line was written, where the error stream tells and neither of its counts rose

@@ -25,7 +25,7 @@ use Rattle.push_back.specs.PushVerdicts.{Refusal, NoChange as IsUnchanged, BadWo
 use Rattle.proj_words.specs.Faults.{stream_outcome}
 use Rattle.proj_words.specs.Words.{Command, Import, Project, Push, Export, Name, Rule}
 use Rattle.proj_words.specs.declared.outcome.Outcome.{Outcome}
-use Rattle.proj_words.specs.declared.outcome.Outcome.TheVariants.{Usage, UnknownRef, NotForward, Limit, Collision, Damaged, NotBuilt}
+use Rattle.proj_words.specs.declared.outcome.Outcome.TheVariants.{Usage, UnknownRef, NotForward, Limit, Collision, Damaged}
 use Rattle.proj_words.specs.declared.outcome.Outcome.TheVariants.{OtherRef, NotAtHead, MergePushed, NoChange, BadWorkspace, Unseen, NotHeld, Blocked}
 use Rattle.git_objects.specs.declared.name.Name.{Name as NameOf}
 use Rattle.proj_cli.specs.Filters.{history, projected, projection, rule_by, sound}
@@ -70,8 +70,8 @@ abbrev pub push_case : Held → Filter → Bytes → Bytes → Result Case Outco
 push_case h f refname input =
     head_of refname h.refs >>= λ n. Ok (PushCase h f refname n (pushing (rule_by h.rule) f (repo h).commits n refname input))
 
--- The case of a command for what is loaded and an input, or the first refusal: of the filter, of loading, and of the ref. Two forms
--- aren't built yet.
+-- The case of a command for what is loaded and an input, or the first refusal: of the filter, of loading, and of the ref. A batch and a
+-- trial are made of several commands, and are none in a batch.
 abbrev pub case : Command → Result Held Outcome → Bytes → Result Case Outcome
 case (Import force) loading input = do
   h ← loading
@@ -97,8 +97,8 @@ case (Name refname text) loading input = do
 case (Rule k) loading input = do
   h ← loading
   Ok (RuleCase h k)
-case Rattle.proj_words.specs.Words.Batch loading input = Err NotBuilt
-case (Rattle.proj_words.specs.Words.Trial n) loading input = Err NotBuilt
+case Rattle.proj_words.specs.Words.Batch loading input = Err Usage
+case (Rattle.proj_words.specs.Words.Trial n) loading input = Err Usage
 case Rattle.proj_words.specs.Words.Unknown loading input = Err Usage
 
 -- ---- what comes of a case

@@ -1,6 +1,8 @@
 -- Worked examples of commands.
 use Rattle.std.specs.Prelude.{◌≡◌, refl, false, true, List, [], ◌∷◌, ◌++◌, codes, length, map, Option, None, Some, Result, Ok, Err}
 use Rattle.std.specs.Fmt.{digits}
+use Rattle.std.specs.Str.{chars, is_utf8}
+use lib.Utf8.{encode}
 use Rattle.hex.specs.Hex.{decode_pairs}
 use Rattle.git_objects.specs.Paths.{Bytes, Path}
 use Rattle.git_objects.specs.Trees.{FileLeaf, put, remove}
@@ -34,19 +36,27 @@ use Rattle.fast_export.specs.ExportTexts.{export_text}
 use Rattle.state_items.specs.Items.{change_text, is_canonical, kept_text, read_item, read_items, rule_text}
 use Rattle.state_items.specs.Changes.{fresh, plan_items, room_of}
 use Rattle.push_back.specs.Examples.{commit, naming, reading, showing}
+use Rattle.proj_words.specs.Entries.{Entry, entries}
 use Rattle.proj_words.specs.Words.{Import, Project, Export, Push, Name, Rule, Trial, Batch, Unknown}
 use Rattle.proj_words.specs.declared.outcome.Outcome.{Outcome}
-use Rattle.proj_words.specs.declared.outcome.Outcome.TheVariants.{Usage, UnknownRef, NotForward, NotAtHead, Limit, FilterFault, Overlap, NotBuilt, Damaged}
+use Rattle.proj_words.specs.declared.outcome.Outcome.TheVariants.{Done, Usage, UnknownRef, NotForward, NotAtHead, Limit, FilterFault, Overlap, Damaged, Syntax}
 use Rattle.proj_words.specs.declared.outcome.FilterWhat.TheVariants as filters
 use Rattle.proj_cli.specs.Cases.{Made, ProjectCase, head_of, loaded, name_or_none}
 use Rattle.proj_cli.specs.Makes.{recalled_made}
 use Rattle.proj_cli.specs.Filters.{sound}
 use Rattle.proj_cli.specs.Steps.{step}
+use Rattle.proj_cli.specs.Trials.{trial_made}
+use Rattle.proj_cli.specs.Turns.{Turn, begun, items_after, turn_step, turn_text}
 
 -- what a theorem about texts of filters unfolds, so that it computes
 unfoldable judging : Option Path
 unfolding sound read reading fault
 judging = None
+
+-- the same of lines of words
+unfoldable lines_of_words : Option Path
+unfolding number is_utf8 chars encode is_ref_name
+lines_of_words = None
 
 -- the same of items
 unfoldable loading : Option Path
@@ -89,10 +99,11 @@ damaged = (255 ∷ []) ∷ []
 pub no_form : step Unknown damaged [] ≡ Err Usage
 no_form = refl
 
-pub a_batch : step Batch [] [] ≡ Err NotBuilt
+-- a batch and a trial are no commands in a batch
+pub a_batch : step Batch [] [] ≡ Err Usage
 a_batch = refl
 
-pub a_trial : step (Trial 1) [] [] ≡ Err NotBuilt
+pub a_trial : step (Trial 1) [] [] ≡ Err Usage
 a_trial = refl
 
 pub filters_come_first : step (Project main (codes ":c")) damaged [] ≡ Err (FilterFault filters.Syntax)
@@ -204,6 +215,53 @@ what_is_exported = refl
 pub an_empty_push : items_of (step (Push main (codes ":/a")) imported []) ≡ Ok []
 unfolding judging showing loading holding replaying reading naming digits
 an_empty_push = refl
+
+-- ---- batches
+
+abbrev set_the_rule : Entry
+set_the_rule = record { words = codes "rule 2"; input = [] }
+
+abbrev project_it : Entry
+project_it = record { words = codes "project refs/heads/main :/a"; input = [] }
+
+-- of two entries
+abbrev a_batch_of_two : Bytes
+a_batch_of_two = codes "rule 2\nbytes 0\n\nproject refs/heads/main :/a\nbytes 0\n\n"
+
+pub both_are_begun : begun imported a_batch_of_two ≡ Ok (set_the_rule ∷ project_it ∷ [])
+unfolding entries loading holding replaying reading naming digits
+both_are_begun = refl
+
+pub entries_come_first : begun damaged (codes "rule 2") ≡ Err (Syntax 6)
+unfolding entries loading
+entries_come_first = refl
+
+pub then_the_items_of_a_batch : begun damaged a_batch_of_two ≡ Err (Damaged 0 0)
+unfolding entries loading number
+then_the_items_of_a_batch = refl
+
+-- the turn of the first
+abbrev rule_turn : Turn
+rule_turn = record { entry = set_the_rule; outcome = Done; output = codes "rule 2\n"; appended = rule_text 2 ∷ [] }
+
+pub its_reply : turn_text rule_turn ≡ codes "status 0\nbytes 7\nrule 2\n\n"
+unfolding digits
+its_reply = refl
+
+pub its_output : output_of (turn_step imported set_the_rule) ≡ Ok (codes "rule 2\n")
+unfolding lines_of_words judging showing loading holding replaying reading naming digits
+its_output = refl
+
+-- the second stands upon what it appended
+pub behind_the_first : output_of (turn_step (items_after imported (rule_turn ∷ [])) project_it) ≡ Ok (codes "6a27ff6de5d45a65cc66723c6ae6227ea6004aa6\n")
+unfolding lines_of_words judging showing loading holding replaying reading naming digits
+behind_the_first = refl
+
+-- ---- a trial
+
+pub a_trial_is_reported : output_of (trial_made 1) ≡ Ok (codes "commits 4\n:/a 3\n::b/ 1\n:[:/a:prefix=x,:/c:prefix=y] 3\n")
+unfolding judging showing loading holding replaying reading naming digits
+a_trial_is_reported = refl
 
 -- ---- what is kept
 

@@ -13,6 +13,12 @@ pub mod StreamsGiven
 pub mod Answers
 pub mod Forms
 pub mod Stopped
+pub mod Turns
+pub mod Batches
+pub mod Trials
+pub mod Runs
+pub mod Running
+pub mod Trying
 pub mod Calls
 pub mod Served
 pub mod Examples

@@ -52,11 +52,16 @@ fault_outcome (faults.TreeLimit n q) = Limit q None
 fault_outcome (faults.Collision n) = Collision n
 fault_outcome faults.OutOfMemory = OutOfMemory
 
+-- what projecting the commit n from scratch makes, by a rule over a graph
+abbrev pub IsSeenOver : Filter → Bytes → Rule → Graph → Object → Type 0
+IsSeenOver f n r cs o =
+    (IsShownOf f cs o ⊎ ((c : Snapshot) × Contains (history_graph r (shown f) cs n) c × (snapshot_object c ≡ o)))
+    ⊎ ((c : Snapshot) × Contains (own_commits r (shown f) cs (n ∷ [])) c × (snapshot_object c ≡ o))
+
 -- what a push of a stream to the commit n makes, by a rule over a graph: of its projection, of the stream, and of its originals
 abbrev pub IsMadeOver : Filter → Bytes → Bytes → Bytes → Rule → Graph → Object → Type 0
 IsMadeOver f refname n all r cs o =
-    ((IsShownOf f cs o ⊎ ((c : Snapshot) × Contains (history_graph r (shown f) cs n) c × (snapshot_object c ≡ o)))
-    ⊎ ((c : Snapshot) × Contains (own_commits r (shown f) cs (n ∷ [])) c × (snapshot_object c ≡ o)))
+    IsSeenOver f n r cs o
     ⊎ IsMadeBy (pushing r f cs n refname all).base nothing_yet (pushing r f cs n refname all).stream.tried o
     ⊎ IsMadeFor f n (tree_at cs n) (shown f (tree_at cs n)) (pushing r f cs n refname all).stream.state.commits o
 

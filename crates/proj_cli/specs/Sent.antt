@@ -1,9 +1,10 @@
 -- What comes of writing a report, or of telling how a command ended.
-use Rattle.std.specs.Prelude.{◌≡◌, ⊤, ℕ, ◌≤◌, take, Result, Ok, Err}
+use Rattle.std.specs.Prelude.{◌≡◌, ⊤, ℕ, ◌≤◌, [], take, Result, Ok, Err}
 use Rattle.std.specs.Io.KnownBytes.{Appends}
 use Rattle.git_objects.specs.Paths.{Bytes}
 use Rattle.proj_io.specs.Counts.{Counts, Rose}
 use Rattle.proj_io.specs.Views.{SinkView}
+use Rattle.proj_words.specs.Entries.{reply_text}
 use Rattle.proj_words.specs.declared.outcome.Outcome.{Outcome}
 use Rattle.proj_words.specs.declared.outcome.Outcome.TheVariants.{Done, OutOfMemory, WriteFault, StoreFault}
 
@@ -28,6 +29,15 @@ pub record IsWritten (outcome : Outcome) (report : Bytes) (before after : SinkVi
 abbrev pub IsConcluded : Result Bytes Outcome → SinkView → SinkView → Outcome → Type 0
 IsConcluded (Ok report) before after outcome = IsWritten outcome report before after
 IsConcluded (Err refusal) before after outcome = outcome ≡ refusal
+
+-- Of a command of a batch: the reply to its report or its refusal. Where there was no memory there is none; and a fault of the store stays
+-- one, whatever comes of the reply.
+abbrev pub IsReplied : Result Bytes Outcome → Outcome → SinkView → SinkView → Type 0
+IsReplied (Ok report) outcome before after = IsSent outcome (reply_text Done report) before after
+IsReplied (Err OutOfMemory) outcome before after = (outcome ≡ OutOfMemory) × (after ≡ before)
+IsReplied (Err StoreFault) outcome before after =
+    (outcome ≡ StoreFault) × ((said : Outcome) × IsSent said (reply_text StoreFault []) before after × Counts before.faults after.faults (said ≡ WriteFault))
+IsReplied (Err e) outcome before after = IsSent outcome (reply_text e []) before after
 
 -- the outcomes whose text takes memory
 abbrev pub TakesMemory : Outcome → Type 0

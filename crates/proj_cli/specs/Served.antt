@@ -9,13 +9,12 @@ use Rattle.proj_journal.specs.Spelling.{listed, spelled}
 use Rattle.proj_journal.specs.Journals.{items_of}
 use Rattle.proj_journal.specs.declared.opening.JournalError.{JournalError}
 use Rattle.proj_journal.specs.declared.opening.JournalError.TheVariants.{Failed, Broken, OutOfMemory as NoMemory}
-use Rattle.proj_words.specs.Words.{Command, loads, reads}
+use Rattle.proj_words.specs.Words.{Command, Unknown, loads}
 use Rattle.proj_words.specs.Outcomes.{code_of, text_of}
 use Rattle.proj_words.specs.declared.outcome.Outcome.{Outcome}
-use Rattle.proj_words.specs.declared.outcome.Outcome.TheVariants.{OutOfMemory, StoreFault}
-use Rattle.proj_cli.specs.Answers.{Devices, GetsText, IsAnswer, IsComplete, outcome_of}
-use Rattle.proj_cli.specs.Steps.{step}
-use Rattle.proj_cli.specs.Stopped.{MayLeave}
+use Rattle.proj_words.specs.declared.outcome.Outcome.TheVariants.{OutOfMemory, StoreFault, Usage}
+use Rattle.proj_cli.specs.Answers.{Devices, GetsText}
+use Rattle.proj_cli.specs.Runs.{IsAnswer, IsComplete, MayLeave}
 
 -- what a call sees of its devices at one moment
 pub record Seen : Type 0 where
@@ -88,7 +87,7 @@ pub record IsRan (asked : Command) (before after : Seen) (exit : ℕ) : Type 0 w
   pub answer : IsAnswer asked (over_disk before number) (over_disk after number_now) outcome
   pub complete : IsComplete asked (over_disk before number) (over_disk after number_now) outcome
   pub unloaded : loads asked ≡ false → IsOnlySynced before.content after.content
-  pub idle : reads asked ≡ false → loads asked ≡ false → (outcome ≡ OutOfMemory) ⊎ (outcome ≡ outcome_of (step asked [] []))
+  pub idle : asked ≡ Unknown → (outcome ≡ OutOfMemory) ⊎ (outcome ≡ Usage)
   pub text : GetsText before.err after.err (text_of outcome)
   pub settled : outcome ≢ StoreFault → IfSome after.content IsSteady
 

@@ -26,5 +26,5 @@ pub record IsLengthened (asked : Command) (items : List Bytes) (input : Bytes) (
       × AreKept list (held_after h plan)
 
 -- a stop leaves the items as they are, or with the command's item behind them, whole
-abbrev pub MayLeave : Command → List Bytes → Bytes → List Bytes → Type 0
-MayLeave asked items input list = (list ≡ items) ⊎ IsLengthened asked items input list
+abbrev pub CommandLeaves : Command → List Bytes → Bytes → List Bytes → Type 0
+CommandLeaves asked items input list = (list ≡ items) ⊎ IsLengthened asked items input list

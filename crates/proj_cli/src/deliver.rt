@@ -1,14 +1,17 @@
 // Writing reports, and the texts of outcomes.
 ghost use Rattle.std.specs.Prelude.{◌≡◌, ◌≤◌, ◌⊎◌, IsErr};
+ghost use Rattle.std.specs.List.{flat_map};
 ghost use Rattle.proj_io.specs.Counts.{Counts};
 ghost use Rattle.proj_io.specs.Views.{sink_view};
+ghost use Rattle.proj_words.specs.Entries.{reply_text};
 ghost use Rattle.proj_words.specs.Outcomes.{text_of};
 ghost use Rattle.proj_cli.specs.Answers.{GetsText};
 ghost use Rattle.proj_cli.specs.Sent.{IsConcluded, IsSent, TakesMemory};
 
 use git_objects::Bytes;
+use itoa::Buffer;
 use proj_io::{Sink, SinkError, write_whole};
-use proj_words::{Outcome, outcome_text};
+use proj_words::{Outcome, outcome_code, outcome_text};
 use std::alloc::Global;
 
 // Writes a report.
@@ -35,6 +38,43 @@ pub fn conclude<O: Sink>(made: Result<Bytes, Outcome>, out: &mut O) -> Outcome
         Ok(report) => deliver(report.bytes(), out),
         Err(outcome) => outcome,
     }
+}
+
+// Writes pieces one after another.
+fn deliver_all<O: Sink>(pieces: &[&[u8]], out: &mut O) -> Outcome
+    ensures sent { let seen = sink_view O.written O.faults O.refusals in
+        IsSent result (flat_map (λ piece. piece.now) pieces.now) (seen out.old) (seen out.new) }
+    ensures cause { Counts (O.faults out.old) (O.faults out.new) (result ≡ Outcome.WriteFault) }
+    ensures memory { O.refusals out.old ≤ O.refusals out.new }
+{
+    for piece in pieces {
+        match deliver(piece, out) {
+            Outcome::Done => {}
+            outcome => return outcome,
+        }
+    }
+    Outcome::Done
+}
+
+/// Writes the reply to an entry of a batch: the number of its outcome, and its output. It takes no memory.
+pub(crate) fn write_reply<O: Sink>(outcome: &Outcome, output: &[u8], out: &mut O) -> Outcome
+    ensures sent { let seen = sink_view O.written O.faults O.refusals in
+        IsSent result (reply_text outcome.now output.now) (seen out.old) (seen out.new) }
+    ensures cause { Counts (O.faults out.old) (O.faults out.new) (result ≡ Outcome.WriteFault) }
+    ensures memory { O.refusals out.old ≤ O.refusals out.new }
+{
+    let mut code = Buffer::new();
+    let mut count = Buffer::new();
+    let pieces = [
+        b"status ".as_slice(),
+        code.format(outcome_code(outcome)).as_bytes(),
+        b"\nbytes ",
+        count.format(output.len()).as_bytes(),
+        b"\n",
+        output,
+        b"\n",
+    ];
+    deliver_all(&pieces, out)
 }
 
 /// Writes a text as far as the sink takes it.

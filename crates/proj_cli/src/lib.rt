@@ -1,6 +1,7 @@
 //! What the program does: commands over a store, and their answers.
 #![tactic(auto)]
 
+mod batching;
 mod deliver;
 mod exporting;
 mod filters;
@@ -16,7 +17,10 @@ mod pushing;
 mod refusals;
 mod rule;
 mod serving;
+mod trying;
+mod turns;
 
+pub use batching::batch;
 pub use deliver::{conclude, finish, tell};
 pub use exporting::export;
 pub use filters::sound_filter;
@@ -30,3 +34,4 @@ pub use projecting::project;
 pub use pushing::push;
 pub use rule::set_rule;
 pub use serving::{Served, serve};
+pub use trying::trial;

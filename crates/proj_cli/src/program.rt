@@ -1,20 +1,22 @@
 // The top call.
-ghost use Rattle.std.specs.Prelude.{◌≡◌, ◌≢◌, ◌⊎◌, List, [], map, string_bytes, Some, Err, true, false};
+ghost use Rattle.std.specs.Prelude.{◌≡◌, ◌≢◌, ◌⊎◌, List, map, string_bytes, Some, Err, true, false};
 ghost use Rattle.git_objects.specs.Paths.{Bytes};
 ghost use Rattle.proj_io.specs.Stops.{OnlyAdds};
 ghost use Rattle.proj_io.specs.Views.{source_view, sink_view, keeper_view};
-ghost use Rattle.proj_words.specs.Words.{command, is_formed, loads, reads};
+ghost use Rattle.proj_words.specs.Words.{Unknown, command, is_formed, loads, reads};
 ghost use Rattle.proj_words.specs.Views.{command_of};
 ghost use Rattle.proj_words.specs.Outcomes.{text_of};
-ghost use Rattle.proj_cli.specs.Answers.{GetsText, IsAnswer, IsComplete, flows, outcome_of};
+ghost use Rattle.proj_cli.specs.Answers.{GetsText};
 ghost use Rattle.proj_cli.specs.Calls.{devices};
 ghost use Rattle.proj_cli.specs.Forms.{IsMade};
-ghost use Rattle.proj_cli.specs.Steps.{step};
-ghost use Rattle.proj_cli.specs.Stopped.{ForInput, MayLeave};
+ghost use Rattle.proj_cli.specs.Runs.{IsAnswer, IsComplete, MayLeave, is_plain};
+ghost use Rattle.proj_cli.specs.Stopped.{ForInput};
 
+use crate::batching::batch;
 use crate::deliver::{conclude, finish};
 use crate::forms::{export_form, import_form, name_form, project_form, push_form, rule_form};
 use crate::laws::recall_law;
+use crate::trying::trial;
 use git_objects::Bytes;
 use proj_io::{Keeper, Sink, Source};
 use proj_words::{Command, Outcome, read_command};
@@ -29,14 +31,13 @@ fn make<S: Source, K: Keeper>(
 ) -> Result<Bytes, Outcome>
     requires open { K.is_open store.old }
     requires formed { is_formed (command_of asked) ≡ true }
-    requires whole { flows (command_of asked) ≡ false }
+    requires plain { is_plain (command_of asked) ≡ true }
     ensures made { let seen = source_view S.left S.faults in let kept = keeper_view K.items K.number K.faults in
         IsMade (command_of asked.entry) (seen input.old) (seen input.new) (kept store.old) (kept store.new)
         (OnlyAdds (K.moment store.old) (K.moment store.new) (K.left_since store.old) (K.left_since store.new)) result }
     ensures unread { reads (command_of asked.entry) ≡ false → input.new ≡ input.old }
     ensures unloaded { loads (command_of asked.entry) ≡ false → store.new ≡ store.old }
-    ensures idle { reads (command_of asked.entry) ≡ false → loads (command_of asked.entry) ≡ false →
-        result ≡ Err (outcome_of (step (command_of asked.entry) [] [])) }
+    ensures idle { command_of asked.entry ≡ Unknown → result ≡ Err Outcome.Usage }
     ensures is_open { result ≢ Err Outcome.StoreFault → K.is_open store.new }
 {
     match asked {
@@ -52,8 +53,8 @@ fn make<S: Source, K: Keeper>(
             name_form(alloc, refname.as_bytes(), filter.as_bytes(), input)
         }
         Command::Rule(number) => rule_form(alloc, number, store),
-        Command::Batch => Err(Outcome::NotBuilt),
-        Command::Trial(_) => Err(Outcome::NotBuilt),
+        Command::Batch => unreachable!(),
+        Command::Trial(_) => unreachable!(),
         Command::Unknown => Err(Outcome::Usage),
     }
 }
@@ -75,8 +76,7 @@ fn act<S: Source, O: Sink, K: Keeper>(
         (MayLeave (command_of asked.entry) items all)) }
     ensures unread { reads (command_of asked.entry) ≡ false → input.new ≡ input.old }
     ensures unloaded { loads (command_of asked.entry) ≡ false → store.new ≡ store.old }
-    ensures idle { reads (command_of asked.entry) ≡ false → loads (command_of asked.entry) ≡ false →
-        (out.new ≡ out.old) × (result ≡ outcome_of (step (command_of asked.entry) [] [])) }
+    ensures idle { command_of asked.entry ≡ Unknown → (out.new ≡ out.old) × (result ≡ Outcome.Usage) }
     ensures is_open { result ≢ Outcome.StoreFault → K.is_open store.new }
 {
     recall_law();
@@ -84,6 +84,8 @@ fn act<S: Source, O: Sink, K: Keeper>(
         Command::Export(refname, filter) => {
             export_form(alloc, refname.as_bytes(), filter.as_bytes(), out, store)
         }
+        Command::Batch => batch(alloc, input, out, store),
+        Command::Trial(count) => conclude(trial(alloc, count), out),
         _ => {
             let made = make(alloc, asked, input, store);
             conclude(made, out)
@@ -114,10 +116,9 @@ pub fn run<S: Source, O: Sink, E: Sink, K: Keeper>(
     // A form that doesn't read leaves the input, and one that doesn't load leaves the store.
     ensures unread { reads (command (map (λ word. string_bytes word) words.now)) ≡ false → input.new ≡ input.old }
     ensures unloaded { loads (command (map (λ word. string_bytes word) words.now)) ≡ false → store.new ≡ store.old }
-    // One that does neither is answered without a look at any device.
-    ensures idle { let asked = command (map (λ word. string_bytes word) words.now) in reads asked ≡ false →
-        loads asked ≡ false →
-        (out.new ≡ out.old) × ((result ≡ Outcome.OutOfMemory) ⊎ (result ≡ outcome_of (step asked [] []))) }
+    // Words without a form are answered without a look at any device.
+    ensures idle { command (map (λ word. string_bytes word) words.now) ≡ Unknown →
+        (out.new ≡ out.old) × ((result ≡ Outcome.OutOfMemory) ⊎ (result ≡ Outcome.Usage)) }
     ensures text { let seen = sink_view E.written E.faults E.refusals in GetsText (seen err.old) (seen err.new)
         (text_of result) }
     // Only after a fault of the store it may have to be opened again.

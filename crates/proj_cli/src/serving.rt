@@ -1,5 +1,5 @@
 // The program on a disk.
-ghost use Rattle.std.specs.Prelude.{◌≡◌, ◌≢◌, ◌≤◌, ◌⊎◌, ◌++◌, ◌∷◌, [], ℕ, List, map, string_bytes, codes, decimal};
+ghost use Rattle.std.specs.Prelude.{◌≡◌, ◌≢◌, ◌≤◌, ◌⊎◌, [], ℕ, List, map, string_bytes};
 ghost use Rattle.std.specs.Prelude.{false, Some, IfErr, IfOk, MatchResult};
 ghost use Rattle.proj_io.specs.Counts.{Counts};
 ghost use Rattle.proj_io.specs.Stops.{OnlyAdds, Nothing};
@@ -7,7 +7,7 @@ ghost use Rattle.proj_io.specs.Views.{sink_view};
 ghost use Rattle.proj_disk.specs.Disks.{DiskView};
 ghost use Rattle.proj_journal.specs.Journals.{IsOpen, disk_of, items_of};
 ghost use Rattle.proj_journal.specs.Spelling.{listed};
-ghost use Rattle.proj_words.specs.Words.{command, loads, reads};
+ghost use Rattle.proj_words.specs.Words.{Unknown, command, reads};
 ghost use Rattle.proj_cli.specs.Answers.{GetsText};
 ghost use Rattle.proj_cli.specs.Stopped.{ForInput};
 ghost use Rattle.proj_cli.specs.Served.{HasList, IsOnlySynced, IsServed, IsSteady, IsWhole, LeavesList};
@@ -125,10 +125,9 @@ pub fn serve<S: Source, O: Sink, E: Sink, D: Disk>(
         D.content D.faults in
         IsServed (command (map (λ word. string_bytes word) words.now)) ((input.new ≡ input.old) × (out.new ≡ out.old))
         (at input.old out.old err.old disk) (at input.new out.new err.new result.disk) result.status }
-    // A form that doesn't read leaves the input, and one that neither reads nor loads writes nothing.
+    // A form that doesn't read leaves the input, and for words without a form nothing is written.
     ensures unread { reads (command (map (λ word. string_bytes word) words.now)) ≡ false → input.new ≡ input.old }
-    ensures idle { let asked = command (map (λ word. string_bytes word) words.now) in reads asked ≡ false →
-        loads asked ≡ false → out.new ≡ out.old }
+    ensures idle { command (map (λ word. string_bytes word) words.now) ≡ Unknown → out.new ≡ out.old }
     // Of a disk of which no stop at entry leaves a broken journal, a stop at any moment since leaves none: it leaves a
     // list that a stop at entry might have left, or the list that the bytes spell, or this with the command's item
     // behind it.

@@ -1,5 +1,6 @@
 -- Worked examples: forms of words, lines of a batch, numbers and texts of outcomes.
-use Rattle.std.specs.Prelude.{◌≡◌, refl, true, false, [], ◌∷◌, ◌++◌, codes, replicate, Some, None}
+use Rattle.std.specs.Prelude.{◌≡◌, refl, true, false, [], ◌∷◌}
+use Rattle.std.specs.Prelude.{◌++◌, codes, replicate, Some, None, Ok, Err}
 use Rattle.std.specs.Fmt.{digits}
 use Rattle.std.specs.Str.{chars, is_utf8}
 use lib.Utf8.{encode}
@@ -17,9 +18,11 @@ use Rattle.filter_routes.specs.declared.fault.RouteFault.TheVariants as routes
 use Rattle.proj_words.specs.Words.{Import, Project, Push, Export, Name, Batch, Trial, Rule, Unknown}
 use Rattle.proj_words.specs.Words.{command, line_command, line_words, loads, reads, writes}
 use Rattle.proj_words.specs.Outcomes.{code_of, text_of, usage}
+use Rattle.proj_words.specs.Entries.{byte_count, entries, reply_text}
+use Rattle.proj_words.specs.TrialTexts.{first_push, third_push, push_stream, trial_commit, trial_stream}
 use Rattle.proj_words.specs.Faults.{filter_outcome, route_outcome, stream_outcome}
 use Rattle.proj_words.specs.declared.outcome.FilterWhat.TheVariants as filters
-use Rattle.proj_words.specs.declared.outcome.Outcome.TheVariants.{Done, OutOfMemory, Usage, UnknownRef, NotBuilt}
+use Rattle.proj_words.specs.declared.outcome.Outcome.TheVariants.{Done, OutOfMemory, Usage, UnknownRef}
 use Rattle.proj_words.specs.declared.outcome.Outcome.TheVariants.{Syntax, Unsupported, Unresolved, BadPath, NoSource}
 use Rattle.proj_words.specs.declared.outcome.Outcome.TheVariants.{FilterFault, Overlap, NotKeeping}
 use Rattle.proj_words.specs.declared.outcome.Outcome.TheVariants.{NotForward, OtherRef, NotAtHead, MergePushed}
@@ -122,6 +125,118 @@ a_forced_import_in_a_batch = refl
 pub a_line_that_is_no_text : line_command (255 ∷ []) ≡ Unknown
 unfolding is_utf8 chars
 a_line_that_is_no_text = refl
+
+-- ---- the input of a batch
+
+-- an import of three bytes, and a projection of none
+abbrev two_entries : Bytes
+two_entries = codes "import\nbytes 3\nabc\nproject refs/heads/main :/b\nbytes 0\n\n"
+
+pub two_of_them : entries two_entries ≡ Ok (
+    record { words = codes "import"; input = codes "abc" }
+    ∷ record { words = codes "project refs/heads/main :/b"; input = [] } ∷ []
+    )
+unfolding entries number
+two_of_them = refl
+
+pub no_entries : entries [] ≡ Ok []
+unfolding entries
+no_entries = refl
+
+-- any line is a line of words, and LFs may stand among the bytes
+pub an_empty_line_of_words : entries (codes "\nbytes 2\n\n\n\n") ≡
+    Ok (record { words = []; input = codes "\n\n" } ∷ [])
+unfolding entries number
+an_empty_line_of_words = refl
+
+pub leading_zeros : entries (codes "push\nbytes 002\nab\n") ≡
+    Ok (record { words = codes "push"; input = codes "ab" } ∷ [])
+unfolding entries number
+leading_zeros = refl
+
+pub nine_digits : byte_count (codes "bytes 000000010") ≡ Some 10
+unfolding number
+nine_digits = refl
+
+pub ten_digits : entries (codes "import\nbytes 0000000003\nabc\n") ≡ Err (Syntax 7)
+unfolding entries
+ten_digits = refl
+
+pub no_digits : entries (codes "import\nbytes \n\n") ≡ Err (Syntax 7)
+unfolding entries number
+no_digits = refl
+
+pub a_sign_before_the_digits : entries (codes "import\nbytes +1\na\n") ≡ Err (Syntax 7)
+unfolding entries number
+a_sign_before_the_digits = refl
+
+pub another_word_than_bytes : entries (codes "import\nbyte 1\na\n") ≡ Err (Syntax 7)
+unfolding entries
+another_word_than_bytes = refl
+
+-- the line `bytes N` is missing at the length of the input
+pub no_line_of_bytes : entries (codes "import\n") ≡ Err (Syntax 7)
+unfolding entries
+no_line_of_bytes = refl
+
+pub words_without_an_end : entries (codes "import") ≡ Err (Syntax 6)
+unfolding entries
+words_without_an_end = refl
+
+pub bytes_without_an_end : entries (codes "import\nbytes 0") ≡ Err (Syntax 7)
+unfolding entries number
+bytes_without_an_end = refl
+
+pub too_few_bytes : entries (codes "import\nbytes 4\nabc\n") ≡ Err (Syntax 7)
+unfolding entries number
+too_few_bytes = refl
+
+pub too_many_bytes : entries (codes "import\nbytes 2\nabc\n") ≡ Err (Syntax 7)
+unfolding entries number
+too_many_bytes = refl
+
+pub no_end_behind_the_bytes : entries (codes "import\nbytes 3\nabc") ≡ Err (Syntax 7)
+unfolding entries number
+no_end_behind_the_bytes = refl
+
+-- the place is in the whole input
+pub a_fault_in_the_second_entry : entries (codes "import\nbytes 1\na\nimport\nbytes 1\n\n") ≡ Err (Syntax 24)
+unfolding entries number
+a_fault_in_the_second_entry = refl
+
+pub a_reply : reply_text Done (codes "abc\n") ≡ codes "status 0\nbytes 4\nabc\n\n"
+unfolding digits
+a_reply = refl
+
+pub a_reply_to_a_fault : reply_text (Syntax 90) [] ≡ codes "status 3\nbytes 0\n\n"
+unfolding digits
+a_reply_to_a_fault = refl
+
+-- ---- a trial
+
+pub a_trial_of_one_commit : trial_stream 1 ≡
+    codes "commit refs/heads/main\ncommitter T <t@x> 1700000000 +0000\ndata 3\nc0\n"
+    ++ codes "M 100644 inline a/f0\ndata 2\n0\n"
+unfolding digits
+a_trial_of_one_commit = refl
+
+pub the_twelfth_commit : trial_commit 11 ≡
+    codes "commit refs/heads/main\ncommitter T <t@x> 1700000011 +0000\ndata 4\nc11\n"
+    ++ codes "M 100644 inline d/f1\ndata 3\n11\n"
+unfolding digits
+the_twelfth_commit = refl
+
+pub a_push_upon_nothing : push_stream 1700000001 first_push None ≡
+    codes "commit refs/heads/main\ncommitter T <t@x> 1700000001 +0000\ndata 3\np1\n"
+    ++ codes "M 100644 inline p\ndata 2\n1\n"
+unfolding digits
+a_push_upon_nothing = refl
+
+pub a_push_upon_a_commit : push_stream 1700000003 third_push (Some (replicate 20 255)) ≡
+    codes "commit refs/heads/main\ncommitter T <t@x> 1700000003 +0000\ndata 3\np3\n"
+    ++ codes "from ffffffffffffffffffffffffffffffffffffffff\nM 100644 inline x/q\ndata 2\n3\n"
+unfolding digits encode_with
+a_push_upon_a_commit = refl
 
 -- ---- devices
 
@@ -290,9 +405,6 @@ denied = refl
 pub a_bad_policy : text_of (BadPolicy 2) ≡ codes "bad policy: line 2\n"
 unfolding digits
 a_bad_policy = refl
-
-pub not_built : text_of NotBuilt ≡ codes "not built\n"
-not_built = refl
 
 -- ---- numbers
 

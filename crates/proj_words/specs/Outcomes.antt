@@ -11,7 +11,7 @@ use Rattle.stream_reader.specs.declared.fault.Feature.TheVariants as features
 use Rattle.proj_words.specs.declared.outcome.FilterWhat.{FilterWhat}
 use Rattle.proj_words.specs.declared.outcome.FilterWhat.TheVariants as filters
 use Rattle.proj_words.specs.declared.outcome.Outcome.{Outcome}
-use Rattle.proj_words.specs.declared.outcome.Outcome.TheVariants.{Done, OutOfMemory, Usage, UnknownRef, NotBuilt}
+use Rattle.proj_words.specs.declared.outcome.Outcome.TheVariants.{Done, OutOfMemory, Usage, UnknownRef}
 use Rattle.proj_words.specs.declared.outcome.Outcome.TheVariants.{Syntax, Unsupported, Unresolved, BadPath, NoSource}
 use Rattle.proj_words.specs.declared.outcome.Outcome.TheVariants.{FilterFault, Overlap, NotKeeping}
 use Rattle.proj_words.specs.declared.outcome.Outcome.TheVariants.{NotForward, OtherRef, NotAtHead, MergePushed}
@@ -53,7 +53,6 @@ code_of (RepeatedParent n) = 28
 code_of (NotProved n) = 30
 code_of (Denied rule) = 31
 code_of (BadPolicy line) = 32
-code_of NotBuilt = 90
 
 abbrev pub feature_words : Feature → Bytes
 feature_words features.Tag = codes "tag"
@@ -151,7 +150,6 @@ words_of (RepeatedParent n) = codes "repeated parent: commit " ++ decimal n
 words_of (NotProved n) = codes "not proved: " ++ hex n.0
 words_of (Denied rule) = codes "denied: rule " ++ decimal rule
 words_of (BadPolicy line) = codes "bad policy: line " ++ decimal line
-words_of NotBuilt = codes "not built"
 
 -- the line for the error stream, and nothing where the command is done
 abbrev pub text_of : Outcome → Bytes
@@ -167,5 +165,4 @@ is_plain UnknownRef = true
 is_plain ReadFault = true
 is_plain WriteFault = true
 is_plain StoreFault = true
-is_plain NotBuilt = true
 is_plain _ = false

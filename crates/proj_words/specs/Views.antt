@@ -1,7 +1,15 @@
--- A command that was read, as the definition of words has it.
+-- Commands, entries and pushes of a trial, as the definitions have them.
+use Rattle.std.specs.Prelude.{◌≡◌, ℕ, List, ◌∷◌, Some, Result, Ok, Err}
+use Rattle.git_objects.specs.Results.{◌>>=◌}
 use Rattle.proj_words.specs.Words.{Command, Import, Project, Push, Export, Name, Batch, Trial, Rule, Unknown}
+use Rattle.proj_words.specs.Entries.{Entry, Spot, TextLine, entries_by}
+use Rattle.proj_words.specs.TrialTexts.{TrialPush}
 use Rattle.proj_words.specs.declared.words.Command.{Command as ReadCommand}
 use Rattle.proj_words.specs.declared.words.Command.TheVariants as forms
+use Rattle.proj_words.specs.declared.entries.Entry.{Entry as ReadEntry}
+use Rattle.proj_words.specs.declared.entries.Spot.{Spot as ReadSpot}
+use Rattle.proj_words.specs.declared.entries.TextLine.{TextLine as ReadLine}
+use Rattle.proj_words.specs.declared.trial.TrialPush.{TrialPush as MadePush}
 
 abbrev pub command_of : ReadCommand → Command
 command_of (forms.Import force) = Import force
@@ -13,3 +21,29 @@ command_of forms.Batch = Batch
 command_of (forms.Trial n) = Trial n
 command_of (forms.Rule n) = Rule n
 command_of forms.Unknown = Unknown
+
+abbrev pub entry_value : ReadEntry → Entry
+entry_value e = record { words = e.words.now; input = e.input.now }
+
+abbrev pub spot_value : ReadSpot → Spot
+spot_value s = record { at = s.at; rest = s.rest.now }
+
+abbrev pub line_value : ReadLine → TextLine
+line_value l = record { bytes = l.bytes.now; ended = l.ended; next = spot_value l.next }
+
+-- the entry behind a line of words, and what follows it
+abbrev pub GivesEntry : TextLine → Entry → Spot → Type 0
+GivesEntry w e s =
+    (next : Spot → Result (List Entry) ℕ) → entries_by next (Some w) ≡ (next s >>= λ es. Ok (e ∷ es))
+
+-- no entry is behind a line of words, since the line at that place doesn't fit
+abbrev pub IsLineFault : TextLine → ℕ → Type 0
+IsLineFault w at = (next : Spot → Result (List Entry) ℕ) → entries_by next (Some w) ≡ Err at
+
+abbrev pub push_value : MadePush → TrialPush
+push_value p = record {
+  filter = p.filter.now;
+  message = p.message.now;
+  path = p.path.now;
+  content = p.content.now;
+}

@@ -64,12 +64,13 @@ command (w ∷ v ∷ []) = two_words w v
 command (w ∷ r ∷ f ∷ []) = if is_ref_name r then three_words w r f else Unknown
 command _ = Unknown
 
--- whether the ref of a command is a ref name, and the number of a rule 1 or 2
+-- whether the ref of a command is a ref name, the number of a rule 1 or 2, and that of a trial from 1 to 100,000
 abbrev pub is_formed : Command → Bool
 is_formed (Project r f) = is_ref_name r
 is_formed (Push r f) = is_ref_name r
 is_formed (Export r f) = is_ref_name r
 is_formed (Name r f) = is_ref_name r
+is_formed (Trial n) = nat_le 1 n && nat_le n 100000
 is_formed (Rule k) = k == 1 || k == 2
 is_formed _ = true
 

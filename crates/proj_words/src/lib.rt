@@ -1,11 +1,15 @@
-//! What the words of a command line ask for, and how a command ends: its outcome, the number and the text.
+//! What the words of a command line and the entries of a batch ask for, how a command ends, and the texts of a trial.
 #![tactic(auto)]
 
+mod entries;
 mod faults;
 mod outcome;
 mod texts;
+mod trial;
 mod words;
 
+pub use entries::{Entry, read_entries};
 pub use outcome::{FilterWhat, Outcome, outcome_code};
 pub use texts::{outcome_text, plain_text};
-pub use words::{Command, read_command};
+pub use trial::{TrialPush, first_push, push_stream, second_push, third_push, trial_stream};
+pub use words::{Command, line_command, read_command};

@@ -148,8 +148,6 @@ pub enum Outcome {
     BadPolicy {
         line: u32,
     },
-    /// The words have a form that this version doesn't take.
-    NotBuilt,
 }
 
 /// The status that the program ends with.
@@ -188,6 +186,5 @@ pub fn outcome_code(outcome: &Outcome) -> u8
         Outcome::NotProved { .. } => 30,
         Outcome::Denied { .. } => 31,
         Outcome::BadPolicy { .. } => 32,
-        Outcome::NotBuilt => 90,
     }
 }

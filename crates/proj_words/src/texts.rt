@@ -28,7 +28,6 @@ pub fn plain_text(outcome: &Outcome) -> Option<&'static [u8]>
         Outcome::ReadFault => Some(b"read fault\n".as_slice()),
         Outcome::WriteFault => Some(b"write fault\n".as_slice()),
         Outcome::StoreFault => Some(b"store fault\n".as_slice()),
-        Outcome::NotBuilt => Some(b"not built\n".as_slice()),
         _ => None,
     }
 }
@@ -89,8 +88,8 @@ fn limit_words(which: Quantity) -> &'static [u8]
     }
 }
 
-// Adds a number in decimal.
-fn add_number(words: &mut Vec<u8>, n: u64) -> Result<(), AllocError>
+/// Adds a number in decimal.
+pub fn add_number(words: &mut Vec<u8>, n: u64) -> Result<(), AllocError>
     ensures { OnOk result (words.new.items ≡ words.old.items ++ decimal n) }
 {
     let mut buffer = Buffer::new();
@@ -116,8 +115,8 @@ fn add_path(alloc: Global, words: &mut Vec<u8>, path: &Path) -> Result<(), Alloc
     words.extend_from_slice(&quoted)
 }
 
-// Words with a number behind them.
-fn numbered(alloc: Global, front: &[u8], n: u64) -> Result<Vec<u8>, AllocError>
+/// Words with a number behind them.
+pub fn numbered(alloc: Global, front: &[u8], n: u64) -> Result<Vec<u8>, AllocError>
     ensures { IfOk result (λ words. words.items ≡ front.now ++ decimal n) }
 {
     let mut words = front.to_vec(alloc)?;

@@ -1,7 +1,11 @@
 // The forms of the words.
-ghost use Rattle.std.specs.Prelude.{◌≡◌, true, map, string_bytes};
+ghost use Rattle.std.specs.Prelude.{◌≡◌, true, map, string_bytes, IfSome};
+ghost use Rattle.std.specs.Option.{option_map};
+ghost use Rattle.git_objects.specs.Idents.{cut_at};
 ghost use Rattle.proj_words.specs.Views.{command_of};
 ghost use Rattle.proj_words.specs.Words.{command, is_formed, one_word, rule_word, two_words, three_words, trial_number};
+ghost use Rattle.proj_words.specs.Words.{Trial};
+ghost use Rattle.proj_words.specs.Words.{in_batch, line_command, line_words};
 
 use path_names::{is_ref_name, number};
 
@@ -40,7 +44,8 @@ fn one_word<'a>(word: &'a str) -> Command<'a>
 
 // A number from 1 to 100,000 without a leading zero.
 fn trial_number(text: &[u8]) -> Option<u64>
-    ensures { result ≡ trial_number text.now }
+    ensures number { result ≡ trial_number text.now }
+    ensures formed { IfSome result (λ n. is_formed (Trial n) ≡ true) }
 {
     if text.starts_with(b"0") {
         return None;
@@ -109,5 +114,53 @@ pub fn read_command<'a>(words: &'a [String]) -> Command<'a>
             three_words(word.as_str(), refname.as_str(), filter.as_str())
         }
         _ => Command::Unknown,
+    }
+}
+
+// What stands before the first space, and what behind it.
+fn cut<'a>(text: &'a str) -> Option<(&'a str, &'a str)>
+    ensures { option_map (λ r. (r.0.now, r.1.now)) result ≡ cut_at 32 text.now }
+{
+    text.split_once(' ')
+}
+
+// What the words of a line ask for: the third is all that stands behind the second space.
+fn spaced_words<'a>(line: &'a str) -> Command<'a>
+    ensures command { command_of result ≡ command (line_words line.now) }
+    ensures formed { is_formed (command_of result) ≡ true }
+{
+    let Some((word, others)) = cut(line) else {
+        return one_word(line);
+    };
+    let Some((refname, filter)) = cut(others) else {
+        return two_words(word, others);
+    };
+    if !is_ref_name(refname.as_bytes()) {
+        return Command::Unknown;
+    }
+    three_words(word, refname, filter)
+}
+
+// A batch holds no batch and no trial.
+fn in_batch<'a>(command: Command<'a>) -> Command<'a>
+    requires { is_formed (command_of command) ≡ true }
+    ensures command { command_of result ≡ in_batch (command_of command.entry) }
+    ensures formed { is_formed (command_of result) ≡ true }
+{
+    match command {
+        Command::Batch => Command::Unknown,
+        Command::Trial(_) => Command::Unknown,
+        other => other,
+    }
+}
+
+/// What a line of words in a batch asks for; a batch and a trial are none there.
+pub fn line_command<'a>(line: &'a [u8]) -> Command<'a>
+    ensures command { command_of result ≡ line_command line.now }
+    ensures formed { is_formed (command_of result) ≡ true }
+{
+    match str::from_utf8(line) {
+        Ok(text) => in_batch(spaced_words(text)),
+        Err(_) => Command::Unknown,
     }
 }

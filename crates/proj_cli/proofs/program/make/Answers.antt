@@ -3,8 +3,8 @@ use Rattle.std.proofs.Common.{Err, refl, sym, ap, ap₂, subst, ◌∙◌}
 use Rattle.proj_io.specs.Stops.{OnlyAdds}
 use Rattle.proj_io.specs.Views.{source_view, keeper_view}
 use Rattle.proj_words.specs.Views.{command_of}
-use Rattle.proj_words.specs.Words.{Batch, Command, Import, Name, Project, Push, Rule, Trial, Unknown}
-use Rattle.proj_words.specs.declared.outcome.Outcome.TheVariants.{NotBuilt, Usage}
+use Rattle.proj_words.specs.Words.{Command, Import, Name, Project, Push, Rule, Unknown}
+use Rattle.proj_words.specs.declared.outcome.Outcome.TheVariants.{Usage}
 use Rattle.proj_cli.specs.Forms.{IsMade}
 use Rattle.proj_cli.proofs.Making.{loaded-made, name-made, none-made, whole-made}
 use Rattle.proj_cli.proofs.program.make.Goals as goal
@@ -76,24 +76,6 @@ returns-in-Rule-clause-made g c =
     let does = c.rule_form.ensures in
     subst (λ (a : Command). IsMade a (read c.args.input.now) (read c.args.input.now) (kept then) (kept now) (OnlyAdds (at then) (at now) (since then) (since now)) c.rule_form.result) (sym (ap command_of c.in-Rule.is))
     (loaded-made (read c.args.input.now) (kept then) (kept now) (at then) (at now) (since then) (since now) c.rule_form.result (Rule c.in-Rule.number) refl refl does.cause does.early does.made)
-
-pub returns-in-Batch-clause-made : goal.returns-in-Batch-clause-made
-returns-in-Batch-clause-made g c =
-    let i = source_view g.S.Source.left g.S.Source.faults c.args.input.now in
-    let k = keeper_view g.K.Keeper.items g.K.Keeper.number g.K.Keeper.faults c.args.store.now in
-    let m = g.K.Keeper.moment c.args.store.now in
-    let x = g.K.Keeper.left_since c.args.store.now in
-    subst (λ (a : Command). IsMade a i i k k (OnlyAdds m m x x) (Err NotBuilt)) (sym (ap command_of c.in-Batch.is))
-    (none-made i k m x Batch NotBuilt (λ e. cc) (λ e. cc) (λ e. cc) (λ items all. refl))
-
-pub returns-in-Trial-clause-made : goal.returns-in-Trial-clause-made
-returns-in-Trial-clause-made g c =
-    let i = source_view g.S.Source.left g.S.Source.faults c.args.input.now in
-    let k = keeper_view g.K.Keeper.items g.K.Keeper.number g.K.Keeper.faults c.args.store.now in
-    let m = g.K.Keeper.moment c.args.store.now in
-    let x = g.K.Keeper.left_since c.args.store.now in
-    subst (λ (a : Command). IsMade a i i k k (OnlyAdds m m x x) (Err NotBuilt)) (sym (ap command_of c.in-Trial.is))
-    (none-made i k m x (Trial _) NotBuilt (λ e. cc) (λ e. cc) (λ e. cc) (λ items all. refl))
 
 pub returns-in-Unknown-clause-made : goal.returns-in-Unknown-clause-made
 returns-in-Unknown-clause-made g c =

@@ -3,10 +3,10 @@ use Rattle.std.proofs.Common.{List, subst, map, string_bytes}
 use Rattle.git_objects.specs.Paths.{Bytes}
 use Rattle.proj_io.specs.Stops.{OnlyAdds}
 use Rattle.proj_words.specs.Words.{command}
-use Rattle.proj_cli.specs.Answers.{IsAnswer}
 use Rattle.proj_cli.specs.Calls.{devices}
-use Rattle.proj_cli.specs.Stopped.{ForInput, MayLeave}
-use Rattle.proj_cli.proofs.Joining.{complete, finished}
+use Rattle.proj_cli.specs.Runs.{IsAnswer, MayLeave}
+use Rattle.proj_cli.specs.Stopped.{ForInput}
+use Rattle.proj_cli.proofs.Dispatching.{complete, finished}
 use Rattle.proj_cli.proofs.Lengthening.{no-fault, since-began, still-there}
 use Rattle.proj_cli.proofs.program.run.Goals as goal
 

@@ -26,7 +26,7 @@ returns-in-Ok-clause-served g c =
     (inl (ran_on asked (read c.args.input.now) (read ran.new.input) (shown c.args.out.now) (shown ran.new.out) (heard c.args.err.now) (heard ran.new.err) (content c.args.disk) (content journal.disk) (content end)
     (g.D.Disk.faults c.args.disk) (g.D.Disk.faults journal.disk) (g.D.Disk.faults end) (number_of (content journal.disk) journal.places.items) (number_of (content end) store.places.items) ran.result c.in-Ok.ensures.items
     c.outcome_code.result c.outcome_code.ensures c.in-Ok.ensures.list c.in-Ok.ensures.synced c.in-Ok.ensures.cause (items_counted (content journal.disk) journal.places.items) (items_counted (content end) store.places.items)
-    ran.ensures.answer (λ no_load. ap (λ s. content (disk_of s)) (ran.ensures.unloaded no_load)) (λ no_read no_load. (ran.ensures.idle no_read no_load).1) ran.ensures.text
+    ran.ensures.answer (λ no_load. ap (λ s. content (disk_of s)) (ran.ensures.unloaded no_load)) (λ unknown. (ran.ensures.idle unknown).1) ran.ensures.text
     (λ no_fault. settled_steady (content end) (g.D.Disk.moment end) (g.D.Disk.left_since end) (λ image is. g.met.D.Disk.counts_now end (g.D.Disk.moment end) image (omega arith) is) (ran.ensures.settled no_fault))))
 
 pub returns-in-Ok-clause-stops : goal.returns-in-Ok-clause-stops

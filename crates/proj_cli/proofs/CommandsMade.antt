@@ -1,0 +1,278 @@
+-- What a command makes of a state: of its case, or of the refusal before one.
+use Rattle.std.proofs.Common.{◌≡◌, ◌≢◌, ◌⊎◌, inl, inr, ℕ, true, false, List, [], ◌++◌, Option, Some, Result, Ok, Err, append-nil, refl, sym, ap, subst, subst₂, ◌∙◌, true≢false, arith}
+use Rattle.std.proofs.lemmas.Option.{same_Some}
+use Rattle.std.specs.Io.KnownBytes.{Appends}
+use Rattle.std.specs.Result.{IsErrAnd}
+use Rattle.git_objects.specs.Paths.{Bytes}
+use Rattle.git_objects.specs.Results.{◌>>=◌}
+use Rattle.object_store.specs.Growth.{IsGrownBy}
+use Rattle.object_store.specs.Objects.{Object}
+use Rattle.object_store.proofs.Growth.{grown_self}
+use Rattle.filter_text.specs.Filters.{Filter}
+use Rattle.fast_export.specs.ExportTexts.{export_text}
+use Rattle.proj_io.specs.Counts.{Counts}
+use Rattle.proj_io.specs.HeldBytes.{held_bytes}
+use Rattle.proj_io.specs.Stops.{OnlyAdds, adds_as}
+use Rattle.proj_io.specs.Views.{SinkView, KeeperView}
+use Rattle.state_items.specs.Changes.{NoPlan, Plan, Room, room_of}
+use Rattle.state_items.specs.Items.{Held}
+use Rattle.state_items.specs.Repos.{repo}
+use Rattle.repo_ground.specs.Changes.{IsStopOf}
+use Rattle.repo_ground.specs.Contents.{Contents, room_in}
+use Rattle.repo_ground.specs.Selecting.{IsPutAway}
+use Rattle.repo_ground.proofs.GroundLaws.{ground-away}
+use Rattle.repo_ground.proofs.Stopping.{adds_none}
+use Rattle.proj_words.specs.Words.{Command, Name, loads}
+use Rattle.proj_words.specs.declared.outcome.Outcome.{Outcome}
+use Rattle.proj_words.specs.declared.outcome.Outcome.TheVariants.{Done, OutOfMemory, ReadFault, StoreFault, Usage, WriteFault}
+use Rattle.proj_cli.specs.Cases.{Case, ExportCase, Made, case, export_case, head_of, loaded, unchanged}
+use Rattle.proj_cli.specs.Filters.{history, sound}
+use Rattle.proj_cli.specs.Forms.{FormPlan, IsBeforeDevices, IsEarly, IsFormMade}
+use Rattle.proj_cli.specs.Hands.{IsInHands}
+use Rattle.proj_cli.specs.Makes.{IsAtHand, IsExported, IsFlowed, IsMadeOf, IsPlanned, IsRefusal, IsReported, IsStateAfter, IsStateOf, PlansFor, hands_of, step_in}
+use Rattle.proj_cli.specs.Running.{IsCommandMade}
+use Rattle.proj_cli.proofs.Committing.{good-none, keeps-self, none-planned, none-stored, state-stays, stop-as}
+use Rattle.proj_cli.proofs.ExportAnswers.{not-store}
+use Rattle.proj_cli.proofs.Forming.{reported-at, twice-at}
+use Rattle.proj_cli.proofs.Opening.{Casing}
+use Rattle.proj_cli.proofs.Refusing.{IsOwn, early-refusal, own-before, own-counts, reported-err, sound-own, unsound-own}
+use Rattle.proj_cli.proofs.StatesAfter.{room-same}
+
+-- ---- cases
+
+-- the case of a filter and a ref is that of their texts
+pub cased : (K : Casing) (refname text r : Bytes) (f : Filter) (h : Held) → r ≡ refname → sound text ≡ Ok f → K r f h ≡ (sound text >>= λ g. K refname g h)
+cased K refname text r f h named judged =
+    ap (λ (x : Bytes). K x f h) named ∙ sym (ap (λ (s : Result Filter Outcome). s >>= λ g. K refname g h) judged)
+
+-- A command that loads has made what was made of its case.
+pub case-made : (asked : Command) (all : Bytes) (items : List Bytes) (h : Held) (s s' : Contents) (k l : KeeperView) (a b : ℕ) (x y : ℕ → List Bytes → Type 0) (result : Result Bytes Outcome) → loads asked ≡ true
+    → (r : Result Case Outcome) → r ≡ case asked (Ok h) all → (p : Plan) → IsMadeOf r items h s s' k l p result → OnlyAdds a b x y (IsStopOf h s p k.items)
+    → IsCommandMade asked all items h s s' k l (OnlyAdds a b x y) result
+case-made asked all items h s s' k l a b x y result loading r is p made stops = record {
+  plan = p;
+  made = subst (λ (q : Result Case Outcome). IsMadeOf q items h s s' k l p result) is made;
+  stops = stops;
+  unloaded = λ no. absurd (true≢false (sym loading ∙ no));
+}
+
+-- A command that appends nothing has made what was made of its case.
+pub still-made : (asked : Command) (all : Bytes) (items : List Bytes) (h : Held) (s s' : Contents) (k : KeeperView) (a : ℕ) (x : ℕ → List Bytes → Type 0) (result : Result Bytes Outcome)
+    → (loads asked ≡ false → IsReported (IsInHands (hands_of (case asked (Ok h) all))) (step_in (room_of items) (case asked (Ok h) all)) result)
+    → IsMadeOf (case asked (Ok h) all) items h s s' k k NoPlan result → IsCommandMade asked all items h s s' k k (OnlyAdds a a x x) result
+still-made asked all items h s s' k a x result unloaded made =
+    record { plan = NoPlan; made = made; stops = adds_none a x (IsStopOf h s NoPlan k.items); unloaded = unloaded }
+
+-- What holds of a refusal holds of the result to which it is handed on.
+pub handed : (Says : Result Bytes Outcome → Type 0) (result : Result Bytes Outcome) (e : Outcome) → IsErrAnd result (λ x. x ≡ e) → Says (Err e) → Says result
+handed Says (Ok report) e is says = absurd is
+handed Says (Err x) e is says = subst (λ (d : Outcome). Says (Err d)) (sym is) says
+
+-- no device is at fault in a result
+abbrev pub IsQuietMade : Result Bytes Outcome → Type 0
+IsQuietMade result = (result ≢ Err WriteFault) × (result ≢ Err ReadFault) × (result ≢ Err StoreFault)
+
+abbrev told : Outcome → Result Bytes Outcome
+told e = Err e
+
+told-same : (e x : Outcome) → told e ≡ told x → e ≡ x
+told-same e x g = cc
+
+pub quiet-made : (e : Outcome) → e ≢ WriteFault → e ≢ ReadFault → e ≢ StoreFault → IsQuietMade (Err e)
+quiet-made e write read store = (λ g. write (told-same e WriteFault g), λ g. read (told-same e ReadFault g), λ g. store (told-same e StoreFault g))
+
+pub own-quiet : (result : Result Bytes Outcome) (e : Outcome) → IsErrAnd result (λ x. x ≡ e) → IsOwn e → IsQuietMade result
+own-quiet result e is own = handed IsQuietMade result e is (quiet-made e own.write own.read own.store)
+
+pub own-first : (result : Result Bytes Outcome) (e : Outcome) → IsErrAnd result (λ x. x ≡ e) → IsOwn e → IsBeforeDevices result
+own-first result e is own = handed IsBeforeDevices result e is (own-before e own)
+
+pub own-count : (n : ℕ) (result : Result Bytes Outcome) (e : Outcome) → IsErrAnd result (λ x. x ≡ e) → IsOwn e → Counts n n (result ≡ Err StoreFault)
+own-count n result e is own = handed (λ (x : Result Bytes Outcome). Counts n n (x ≡ Err StoreFault)) result e is (own-counts n e own)
+
+pub never-counts : (n : ℕ) (result : Result Bytes Outcome) → result ≢ Err StoreFault → Counts n n (result ≡ Err StoreFault)
+never-counts n result apart = record { later = omega arith; rose = λ e. absurd (apart e) }
+
+-- a report that was given is no fault
+pub given-quiet : (report : Bytes) → IsQuietMade (Ok report)
+given-quiet report = (λ g. cc, λ g. cc, λ g. cc)
+
+-- What a source over a slice told is the slice.
+pub slice-input : (source all input : Bytes) → Some (held_bytes source) ≡ Some input → all ≡ held_bytes source → all ≡ input
+slice-input source all input told is = is ∙ same_Some (held_bytes source) input told
+
+-- ---- refusals before a case
+
+module _ (items : List Bytes) (h : Held) (s : Contents) (w : IsStateOf items h s) where
+  self-grown : (r : Result Case Outcome) → IsGrownBy (IsInHands (hands_of r)) s.basis.store s.basis.store
+  self-grown r = grown_self (IsInHands (hands_of r)) s.basis.store w.ground.graph.store
+
+  -- A filter's text is refused, or there was no memory.
+  pub text-refused : (rest : Filter → Result Case Outcome) (text : Bytes) (e : Outcome) → (e ≡ OutOfMemory) ⊎ (sound text ≡ Err e) → (k : KeeperView)
+      → IsMadeOf (sound text >>= rest) items h s s k k NoPlan (Err e)
+  text-refused rest text e why k = record {
+    reported =
+        reported-err (IsAtHand s.basis.store (sound text >>= rest)) (step_in (room_in s) (sound text >>= rest)) e
+        (early-refusal (IsAtHand s.basis.store (sound text >>= rest)) (step_in (room_in s) (sound text >>= rest)) (sound text) e
+        (λ g. (ap (λ (q : Result Filter Outcome). step_in (room_in s) (q >>= rest)) g, sound-own text e g)) (early why));
+    planned = none-planned (room_in s) (sound text >>= rest) e (unsound-own text e why).store;
+    good = good-none items h (room_in s);
+    stored = none-stored e NoPlan k k (unsound-own text e why).store (keeps-self k);
+    state = state-stays items h s e w;
+    grown = self-grown (sound text >>= rest);
+  }
+    where
+      early : (e ≡ OutOfMemory) ⊎ (sound text ≡ Err e) → IsEarly (sound text) e
+      early (inl m) = inl m
+      early (inr g) = inr (inr g)
+
+  -- There was no memory, and the store is as it was.
+  pub memory-refused : (r : Result Case Outcome) (s' : Contents) → s'.basis.store ≡ s.basis.store → (k : KeeperView) → IsMadeOf r items h s s' k k NoPlan (Err OutOfMemory)
+  memory-refused r s' same k = record {
+    reported = reported-err (IsAtHand s.basis.store r) (step_in (room_in s) r) OutOfMemory tt;
+    planned = refl;
+    good = good-none items h (room_in s);
+    stored = keeps-self k;
+    state = tt;
+    grown = subst (λ (S : List Object). IsGrownBy (IsInHands (hands_of r)) s.basis.store S) (sym same) (self-grown r);
+  }
+
+  -- Words are no command of a batch.
+  pub usage-refused : (k : KeeperView) → IsMadeOf (Err Usage) items h s s k k NoPlan (Err Usage)
+  usage-refused k = record {
+    reported = refl;
+    planned = refl;
+    good = good-none items h (room_in s);
+    stored = keeps-self k;
+    state = w;
+    grown = self-grown (Err Usage);
+  }
+
+  -- what a command of a filter makes whose text is refused, or for which there was no memory
+  pub command-refused : (asked : Command) (all text : Bytes) (rest : Filter → Result Case Outcome) → (sound text >>= rest) ≡ case asked (Ok h) all → loads asked ≡ true → (result : Result Bytes Outcome) (e : Outcome)
+      → IsErrAnd result (λ x. x ≡ e) → (e ≡ OutOfMemory) ⊎ (sound text ≡ Err e) → (k : KeeperView) (a : ℕ) (x : ℕ → List Bytes → Type 0) → IsCommandMade asked all items h s s k k (OnlyAdds a a x x) result
+  command-refused asked all text rest same loading result e is why k a x =
+      handed (IsCommandMade asked all items h s s k k (OnlyAdds a a x x)) result e is
+      (case-made asked all items h s s k k a a x x (Err e) loading (sound text >>= rest) same NoPlan (text-refused rest text e why k) (adds_none a x (IsStopOf h s NoPlan k.items)))
+
+  -- what a command makes for which there was no memory, where the store is as it was
+  pub command-short : (asked : Command) (all : Bytes) → loads asked ≡ true → (s' : Contents) → s'.basis.store ≡ s.basis.store → (result : Result Bytes Outcome) → IsErrAnd result (λ x. x ≡ OutOfMemory)
+      → (k : KeeperView) (a : ℕ) (x : ℕ → List Bytes → Type 0) → IsCommandMade asked all items h s s' k k (OnlyAdds a a x x) result
+  command-short asked all loading s' kept result is k a x =
+      handed (IsCommandMade asked all items h s s' k k (OnlyAdds a a x x)) result OutOfMemory is
+      (case-made asked all items h s s' k k a a x x (Err OutOfMemory) loading (case asked (Ok h) all) refl NoPlan (memory-refused (case asked (Ok h) all) s' kept k) (adds_none a x (IsStopOf h s NoPlan k.items)))
+
+-- ---- a map that is put away
+
+module _ (s s1 : Contents) (away : IsPutAway s s1) where
+  pub away-state : (items : List Bytes) (h : Held) → IsStateOf items h s → IsStateOf items h s1
+  away-state items h w = record {
+    current = record {
+      read = w.current.read;
+      number = ap (λ (x : Contents). x.number) away.same ∙ w.current.number;
+      size = ap (λ (x : Contents). x.size) away.same ∙ w.current.size;
+    };
+    spells = away.spells h w.spells;
+    ground = ground-away w.ground away;
+  }
+
+  -- What is made of the state without its map is made of the state before, and so is what a stop may leave.
+  pub away-made : (r : Result Case Outcome) (items : List Bytes) (h : Held) (s' : Contents) (k l : KeeperView) (p : Plan) (result : Result Bytes Outcome) → IsMadeOf r items h s1 s' k l p result
+      → IsMadeOf r items h s s' k l p result
+  away-made r items h s' k l p result made =
+      let m = subst (λ (x : Contents). IsMadeOf r items h x s' k l p result) away.same made in
+      record { reported = m.reported; planned = m.planned; good = m.good; stored = m.stored; state = m.state; grown = m.grown }
+
+  pub away-stops : (h : Held) (p : Plan) (o : Option (List Bytes)) (a b : ℕ) (x y : ℕ → List Bytes → Type 0) → OnlyAdds a b x y (IsStopOf h s1 p o) → OnlyAdds a b x y (IsStopOf h s p o)
+  away-stops h p o a b x y stops =
+      adds_as a b x y (IsStopOf h s1 p o) (IsStopOf h s p o) (λ list. stop-as h s s1 p o list (ap room_in away.same)) stops
+
+-- ---- a state that is as it was
+
+behind-none : (items : List Bytes) (h : Held) (s : Contents) → IsStateOf items h s → IsStateOf (items ++ []) h s
+behind-none items h s w = subst (λ (list : List Bytes). IsStateOf list h s) (sym (append-nil items)) w
+
+state-behind : (items : List Bytes) (h : Held) (s : Contents) (result : Result Bytes Outcome) → IsStateOf items h s → IsStateAfter items h s NoPlan result
+state-behind items h s (Ok report) w = behind-none items h s w
+state-behind items h s (Err e) w = state-stays items h s e w
+
+-- ---- a name, which is of no state
+
+module _ (refname text all : Bytes) (items : List Bytes) (h : Held) (s : Contents) (w : IsStateOf items h s) (k : KeeperView) where
+  abbrev named : Result Case Outcome
+  named = case (Name refname text) (Ok h) all
+
+  plan-upon : (result : Result Bytes Outcome) → result ≢ Err StoreFault → FormPlan (room_of items) named NoPlan result → PlansFor (room_in s) named NoPlan result
+  plan-upon (Ok report) apart plan = subst (λ (room : Room). IsPlanned room named NoPlan) (sym (room-same items h s w.current)) plan.planned
+  plan-upon (Err e) apart plan = none-planned (room_in s) named e (λ is. apart (ap Err is))
+
+  pub name-upon : (result : Result Bytes Outcome) → result ≢ Err StoreFault → IsFormMade (case (Name refname text) (loaded items) all) items k k NoPlan result → IsMadeOf named items h s s k k NoPlan result
+  name-upon result apart made = record {
+    reported =
+        subst (λ (room : Room). IsReported (IsAtHand s.basis.store named) (step_in room named) result) (sym (room-same items h s w.current))
+        (reported-at (IsInHands (hands_of named)) (IsAtHand s.basis.store named) (twice-at (IsInHands (hands_of named)) (IsAtHand s.basis.store named) (λ o there. inr there))
+        (step_in (room_of items) named) result made.reported);
+    planned = plan-upon result apart made.planned;
+    good = good-none items h (room_in s);
+    stored = made.stored;
+    state = state-behind items h s result w;
+    grown = self-grown items h s w named;
+  }
+
+  pub name-command : (a : ℕ) (x : ℕ → List Bytes → Type 0) (result : Result Bytes Outcome) → result ≢ Err StoreFault → IsFormMade (case (Name refname text) (loaded items) all) items k k NoPlan result
+      → IsCommandMade (Name refname text) all items h s s k k (OnlyAdds a a x x) result
+  name-command a x result apart made = still-made (Name refname text) all items h s s k a x result (λ no. made.reported) (name-upon result apart made)
+
+-- ---- an export, of which the whole text is kept
+
+flowed-refusal : (H : Object → Type 0) (o q : SinkView) (r : Result Made Outcome) (e : Outcome) → e ≢ Done → e ≢ WriteFault → IsFlowed H r o q e → IsRefusal H e r
+flowed-refusal H o q (Ok m) Done d w h = absurd (d refl)
+flowed-refusal H o q (Ok m) WriteFault d w h = absurd (w refl)
+flowed-refusal H o q (Ok m) OutOfMemory d w h = tt
+flowed-refusal H o q (Ok m) e d w h = h.0
+flowed-refusal H o q (Err x) OutOfMemory d w h = tt
+flowed-refusal H o q (Err x) e d w h = h.0
+
+-- what a sink has that had nothing is the report
+flowed-report : (H : Object → Type 0) (o q : SinkView) (r : Result Made Outcome) (report : Bytes) → o.written ≡ Some [] → q.written ≡ Some report → IsFlowed H r o q Done → IsReported H r (Ok report)
+flowed-report H o q (Ok m) report empty whole h =
+    sym (subst₂ (λ (a b : Option Bytes). Appends a b m.output) empty whole h)
+flowed-report H o q (Err x) report empty whole h = h.0
+
+module _ (h : Held) (f : Filter) (refname : Bytes) (o q : SinkView) where
+  export-planned : (H : Object → Type 0) (room : Room) (head : Result Bytes Outcome) → IsFlowed H (step_in room (head >>= λ n. Ok (ExportCase h f refname n))) o q Done
+      → IsPlanned room (head >>= λ n. Ok (ExportCase h f refname n)) NoPlan
+  export-planned H room (Ok n) flowed = record {
+    case = ExportCase h f refname n;
+    came_up = refl;
+    step = unchanged h (export_text (history h.rule f (repo h).commits n) refname);
+    done = refl;
+    planned = refl;
+  }
+  export-planned H room (Err e) flowed = absurd flowed.0
+
+  module _ (items : List Bytes) (s s' : Contents) (k : KeeperView) where
+    abbrev sent : Result Case Outcome
+    sent = export_case h f refname
+
+    pub export-done : (report : Bytes) → o.written ≡ Some [] → q.written ≡ Some report → IsExported sent items h s s' o q Done → IsMadeOf sent items h s s' k k NoPlan (Ok report)
+    export-done report empty whole made = record {
+      reported = flowed-report (IsAtHand s.basis.store sent) o q (step_in (room_in s) sent) report empty whole made.flowed;
+      planned = export-planned (IsAtHand s.basis.store sent) (room_in s) (head_of refname h.refs) made.flowed;
+      good = good-none items h (room_in s);
+      stored = keeps-self k;
+      state = behind-none items h s' made.state;
+      grown = made.grown;
+    }
+
+    pub export-refused : (e : Outcome) → e ≢ Done → e ≢ WriteFault → IsExported sent items h s s' o q e → IsMadeOf sent items h s s' k k NoPlan (Err e)
+    export-refused e done write made = record {
+      reported =
+          reported-err (IsAtHand s.basis.store sent) (step_in (room_in s) sent) e
+          (flowed-refusal (IsAtHand s.basis.store sent) o q (step_in (room_in s) sent) e done write made.flowed);
+      planned = none-planned (room_in s) sent e (not-store sent items h s s' o q e made);
+      good = good-none items h (room_in s);
+      stored = none-stored e NoPlan k k (not-store sent items h s s' o q e made) (keeps-self k);
+      state = state-stays items h s' e made.state;
+      grown = made.grown;
+    }

@@ -1,0 +1,131 @@
+-- The turns of a batch: its entries, answered one after another, each on the items that those before it left.
+use Rattle.std.specs.Prelude.{◌≡◌, ◌≢◌, ◌⊎◌, ⊤, List, [], ◌∷◌, ◌++◌, map, reverse, All, Result, Ok, Err}
+use Rattle.git_objects.specs.Paths.{Bytes}
+use Rattle.git_objects.specs.Results.{◌>>=◌}
+use Rattle.object_store.specs.Objects.{Object}
+use Rattle.state_items.specs.Changes.{Plan, held_after, plan_items}
+use Rattle.state_items.specs.Hands.{IsTwice}
+use Rattle.state_items.specs.Items.{Held, read_items}
+use Rattle.proj_words.specs.Entries.{Entry, entries, reply_text}
+use Rattle.proj_words.specs.Words.{Command, line_command}
+use Rattle.proj_words.specs.declared.outcome.Outcome.{Outcome}
+use Rattle.proj_words.specs.declared.outcome.Outcome.TheVariants.{Done, OutOfMemory, Collision, ReadFault, WriteFault, StoreFault}
+use Rattle.proj_cli.specs.Cases.{Case, Made, case, loaded}
+use Rattle.proj_cli.specs.Hands.{Hand, IsInHands}
+use Rattle.proj_cli.specs.Lawful.{IsLawful}
+use Rattle.proj_cli.specs.Makes.{hands_of}
+use Rattle.proj_cli.specs.Plans.{AreKept, IsPlanOf}
+use Rattle.proj_cli.specs.Steps.{cases, step}
+
+-- An entry that was begun: how it ended, what it gave, and the items that it appended, none or one.
+pub record Turn : Type 0 where
+  pub entry : Entry
+  pub outcome : Outcome
+  pub output : Bytes
+  pub appended : List Bytes
+
+-- ---- turns, from the newest to the oldest
+
+abbrev pub turn_text : Turn → Bytes
+turn_text t = reply_text t.outcome t.output
+
+-- their replies, in the order in which they are written
+abbrev pub turn_texts : List Turn → Bytes
+turn_texts [] = []
+turn_texts (t ∷ ts) = turn_texts ts ++ turn_text t
+
+-- all that they appended
+abbrev pub appended : List Turn → List Bytes
+appended [] = []
+appended (t ∷ ts) = appended ts ++ t.appended
+
+-- the items behind them
+abbrev pub items_after : List Bytes → List Turn → List Bytes
+items_after items [] = items
+items_after items (t ∷ ts) = items_after items ts ++ t.appended
+
+-- their entries, in order
+abbrev pub entries_of : List Turn → List Entry
+entries_of ts = reverse (map (λ t. t.entry) ts)
+
+-- what an entry asks for
+abbrev pub asked_by : Entry → Command
+asked_by e = line_command e.words
+
+-- its case on the items that stand when it begins
+abbrev pub turn_case : List Bytes → Entry → Result Case Outcome
+turn_case items e = case (asked_by e) (loaded items) e.input
+
+abbrev pub turn_step : List Bytes → Entry → Result Made Outcome
+turn_step items e = step (asked_by e) items e.input
+
+abbrev pub turn_cases : List Bytes → Entry → List Case
+turn_cases items e = cases (asked_by e) items e.input
+
+-- what they bring together
+abbrev pub turn_hands : List Bytes → List Turn → List Hand
+turn_hands items [] = []
+turn_hands items (t ∷ ts) = turn_hands items ts ++ hands_of (turn_case (items_after items ts) t.entry)
+
+-- of each turn, with all turns before it, something is said
+abbrev pub AreTurns : (List Turn → Turn → Type 0) → List Turn → Type 0
+AreTurns Says [] = ⊤
+AreTurns Says (t ∷ ts) = AreTurns Says ts × Says ts t
+
+-- ---- an entry that is answered
+
+-- The step is done, and its command may have appended this.
+pub record IsTurnMade (items : List Bytes) (e : Entry) (m : Made) (more : List Bytes) : Type 0 where
+  pub done : turn_step items e ≡ Ok m
+  pub plan : Plan
+  pub planned : All (λ c. IsPlanOf items c m plan) (turn_cases items e)
+  pub item : more ≡ plan_items plan
+  pub lawful : All (IsLawful items plan) (turn_cases items e)
+  pub kept : (h : Held) → AreKept items h → AreKept (items ++ more) (held_after h plan)
+
+-- nothing was given or appended
+abbrev pub IsTurnIdle : Turn → Type 0
+IsTurnIdle t = (t.output ≡ []) × (t.appended ≡ [])
+
+-- The step's outcome, or two objects of one name that this entry and those before it brought together. No device is at fault, and there
+-- is memory: where there is none the batch ends.
+abbrev pub IsTurnBy : (Object → Type 0) → List Bytes → Turn → Outcome → Type 0
+IsTurnBy hand items t Done = (m : Made) × IsTurnMade items t.entry m t.appended × (t.output ≡ m.output)
+IsTurnBy hand items t OutOfMemory = ⊥
+IsTurnBy hand items t ReadFault = ⊥
+IsTurnBy hand items t WriteFault = ⊥
+IsTurnBy hand items t StoreFault = ⊥
+IsTurnBy hand items t (Collision n) = ((turn_step items t.entry ≡ Err (Collision n)) ⊎ IsTwice hand n.0) × IsTurnIdle t
+IsTurnBy hand items t outcome = (turn_step items t.entry ≡ Err outcome) × IsTurnIdle t
+
+-- upon items that hold what they should
+abbrev pub IsTurn : List Bytes → List Turn → Turn → Type 0
+IsTurn items ts t = IsTurnBy (IsInHands (turn_hands items (t ∷ ts))) (items_after items ts) t t.outcome
+
+-- The store failed: nothing was given; and nothing was appended, or what the step appends.
+pub record IsBrokenTurn (items : List Bytes) (t : Turn) : Type 0 where
+  pub outcome : t.outcome ≡ StoreFault
+  pub output : t.output ≡ []
+  pub appended : (t.appended ≡ []) ⊎ ((m : Made) × IsTurnMade items t.entry m t.appended)
+
+-- the last of them may be one in which the store failed
+abbrev pub IsLastTurn : List Bytes → List Turn → Turn → Type 0
+IsLastTurn items ts t = IsTurn items ts t ⊎ IsBrokenTurn (items_after items ts) t
+
+-- Whatever is kept in items that spell a state: a refused entry gives and appends nothing, and the items spell a state behind it.
+pub record IsSafeTurn (items : List Bytes) (ts : List Turn) (t : Turn) : Type 0 where
+  pub silent : t.outcome ≢ Done → t.output ≡ []
+  pub idle : t.outcome ≢ Done → t.outcome ≢ StoreFault → t.appended ≡ []
+  pub spelled : (h : Held) × (read_items (items_after items (t ∷ ts)) ≡ Ok h)
+
+-- ---- how a batch begins
+
+-- these entries, or the refusal of loading
+abbrev pub loading : List Bytes → List Entry → Result (List Entry) Outcome
+loading items es = loaded items >>= λ _. Ok es
+
+-- The entries of the input, or the first refusal before any of them is begun: of the input, and of loading.
+abbrev pub begun : List Bytes → Bytes → Result (List Entry) Outcome
+begun items input = do
+  es ← entries input
+  loading items es

@@ -1,0 +1,4 @@
+mod Reading
+mod Lines
+mod Commits
+mod Spelled
