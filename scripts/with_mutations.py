@@ -1,0 +1,152 @@
+#!/usr/bin/env python3
+"""Gives the program inputs that are changed at random: streams, batches, journals and filters.
+
+No run may end by a signal or with a status that has no meaning, and a store that loads must load behind every run. It
+takes the program that PROJ names, or the built one; INPUTS is how many inputs are tried, SEED where the numbers begin.
+"""
+import os
+import random
+import shutil
+import subprocess
+import sys
+import tempfile
+
+HERE = os.path.dirname(os.path.dirname(os.path.abspath(__file__)))
+PROJ = os.environ.get("PROJ", os.path.join(HERE, "crates/proj/out/proj"))
+INPUTS = int(os.environ.get("INPUTS", "1000"))
+SEED = int(os.environ.get("SEED", "1"))
+MAIN = "refs/heads/main"
+
+STREAMS = [
+    b"blob\nmark :1\ndata 6\nhello\n\ncommit refs/heads/main\nmark :2\nauthor A <a@x> 1700000000 +0000\n"
+    b"committer A <a@x> 1700000000 +0000\ndata 4\ninitM 100644 :1 a/f\nM 100755 :1 \"\\303\\251.txt\"\n"
+    b"M 160000 3b18e512dba79e4c8300dd08aeb37f8e728b8dad sub\n\n",
+    b"commit refs/heads/main\ncommitter A <a@x> 1700000001 +0100\ndata 2\nc\nfrom refs/heads/main^0\n"
+    b"deleteall\nM 120000 inline b/l\ndata 3\na/f\nR b/l b/m\nC b/m c/n/o\nD b/m\n\n",
+    b"commit refs/heads/x\nmark :1\ncommitter A <a@x> 3 +0000\ndata 1\nx\n\ncommit refs/heads/y\nmark :2\n"
+    b"committer A <a@x> 4 +0000\ndata 1\ny\n\ncommit refs/heads/x\ncommitter A <a@x> 5 +0000\ndata 1\nm\nfrom :1\n"
+    b"merge :2\nM 644 inline a/b/c\ndata 0\n\nreset refs/heads/z\nfrom :2\n\ndone\n",
+    b"feature done\nprogress p\nreset refs/heads/main\ncheckpoint\n# no command\ncommit refs/heads/main\n"
+    b"committer A <a@x> 6 +0000\ndata 0\nM 100644 inline ws/workspace.josh\ndata 20\nx = :/a\ny = :[::b/]\n\ndone\n",
+]
+FILTERS = [
+    b":/a", b"::a/", b"::a", b":prefix=lib", b":nop", b":[x=:/a,y=:/c]", b":exclude[::a/,::b]", b":/a:prefix=x:/x",
+    b":workspace=ws", b":[::a/,:[z=:/b/c]]", b":/\"a b\"", b":[ x = :/a , # c\n y = :/b ]", b":[" * 17,
+]
+WORDS = [b"import", b"import --force", b"project", b"export", b"push", b"name", b"rule 1", b"rule 2", b"batch", b"trial 1"]
+PIECES = [b"\n", b" ", b"\0", b"\"", b"\\", b"/", b":", b"[", b"]", b",", b"from ", b"merge :1\n", b"data 3\n", b"0", b"9" * 19,
+          b"M 100644 inline a\ndata 1\nx\n", b"refs/heads/main", b"deleteall\n", b"bytes 4\n", b"\xff", b"..", b".git", b"\1"]
+random.seed(SEED)
+
+
+def mutated(data):
+    """The bytes, changed in some places."""
+    data = bytearray(data)
+    for _ in range(random.randint(1, 4)):
+        at = random.randint(0, len(data))
+        kind = random.randint(0, 5)
+        if kind == 0 and data:
+            data[min(at, len(data) - 1)] = random.randint(0, 255)
+        elif kind == 1 and data:
+            data[min(at, len(data) - 1)] ^= 1 << random.randint(0, 7)
+        elif kind == 2:
+            data[at:at] = random.choice(PIECES)
+        elif kind == 3:
+            del data[at:at + random.randint(1, 12)]
+        elif kind == 4:
+            del data[at:]
+        else:
+            start = random.randint(0, len(data))
+            data[at:at] = data[start:start + random.randint(1, 40)]
+    return bytes(data)
+
+
+def entry(words, data):
+    return words + b"\nbytes %d\n" % len(data) + data + b"\n"
+
+
+def batch():
+    parts = []
+    for _ in range(random.randint(1, 5)):
+        word = random.choice(WORDS)
+        if word in (b"project", b"export", b"push", b"name"):
+            text = random.choice(FILTERS)
+            if random.random() < 0.5:
+                text = mutated(text)
+            word = word + b" refs/heads/main " + text
+        data = random.choice(STREAMS)
+        parts.append(entry(word, mutated(data) if random.random() < 0.5 else data))
+    data = b"".join(parts)
+    return mutated(data) if random.random() < 0.3 else data
+
+
+def fail(what, words, data):
+    path = os.path.join(tempfile.gettempdir(), "proj-input")
+    with open(path, "wb") as out:
+        out.write(data)
+    sys.exit("mutations: %s: %r with the input in %s (seed %d)" % (what, words, path, SEED))
+
+
+def run(words, data):
+    done = subprocess.run([PROJ] + words, input=data, stdout=subprocess.PIPE, stderr=subprocess.PIPE, check=False)
+    if not 0 <= done.returncode <= 27:
+        fail("status %d" % done.returncode, words, data)
+    if (done.returncode == 0) != (done.stderr == b""):
+        fail("status %d with the text %r" % (done.returncode, done.stderr), words, data)
+    return done.returncode
+
+
+def loads(store):
+    """Whether the store loads: only then a ref is looked for in it."""
+    return run([store, "project", "refs/heads/none", ":/a"], b"") == 8
+
+
+def main():
+    if not os.access(PROJ, os.X_OK):
+        sys.exit("mutations: the program is not built")
+    work = tempfile.mkdtemp()
+    try:
+        seeds = [os.path.join(work, "seed%d" % i) for i in range(3)]
+        for seed in seeds:
+            for stream in STREAMS:
+                run([seed, "import", "--force"], stream)
+            run([seed, "project", MAIN, ":/a"], b"")
+        run([seeds[1], "rule", "2"], b"")
+        run([seeds[1], "project", MAIN, ":[x=:/a,y=:/c]"], b"")
+        journals = [open(seed, "rb").read() for seed in seeds]
+        store = os.path.join(work, "store")
+        counts = {}
+        for i in range(INPUTS):
+            kind = i % 5
+            if i % 500 == 0:
+                shutil.copy(random.choice(seeds), store)
+            if kind == 0:
+                status = run([store, "import"] + random.choice([[], ["--force"]]), mutated(random.choice(STREAMS)))
+            elif kind == 1:
+                status = run([store, "push", MAIN, random.choice([":/a", "::a/", ":nop"])], mutated(random.choice(STREAMS)))
+            elif kind == 2:
+                status = run([store, "batch"], batch())
+            elif kind == 3:
+                other = os.path.join(work, "other")
+                with open(other, "wb") as out:
+                    out.write(mutated(random.choice(journals)))
+                if not loads(other):
+                    counts["refused journals"] = counts.get("refused journals", 0) + 1
+                    continue
+                status = run([other, "batch"], batch())
+                if not loads(other):
+                    fail("a journal that loaded does not", ["batch"], b"")
+                continue
+            else:
+                text = mutated(random.choice(FILTERS)).replace(b"\0", b"").decode("utf-8", "ignore")
+                status = run([store, random.choice(["project", "export"]), MAIN, text], b"")
+            counts[status] = counts.get(status, 0) + 1
+            if kind != 4 and not loads(store):
+                fail("a store that loaded does not", ["status %d" % status], b"")
+        told = ", ".join("%s: %d" % (key, counts[key]) for key in sorted(counts, key=str))
+        print("mutations: %d inputs, none ended by a signal, each store loads (%s)" % (INPUTS, told))
+    finally:
+        shutil.rmtree(work)
+
+
+main()
