@@ -11,7 +11,7 @@ done
 (ulimit -v 4000000) 2>/dev/null || { printf 'memory: not tried, for want of ulimit -v\n'; exit 0; }
 proj=${PROJ:-$PWD/crates/proj/out/proj}
 [ -x "$proj" ] || { printf 'memory: the program is not built\n'; exit 1; }
-steps=${STEPS:-10}
+steps=${STEPS:-4}
 work=$(mktemp -d) || exit 1
 trap 'rm -rf "$work"' EXIT
 main=refs/heads/main
@@ -28,13 +28,13 @@ commit() {
 }
 
 # many commits, so that what is held grows while they are read
-for ((i = 0; i < 1500; i++)); do commit "c$i" '' "a/d$((i % 40))/f$i" "$i $i $i"; done >"$work/first"
+for ((i = 0; i < 400; i++)); do commit "c$i" '' "a/d$((i % 40))/f$i" "$i $i $i"; done >"$work/first"
 "$proj" "$work/store" import <"$work/first" >"$work/out" || fail 'the history is refused'
 read -r _ head <"$work/out"
 shown=$("$proj" "$work/store" project $main :/a) || fail 'the history is not shown'
 commit next "from $head
 " b/h z >"$work/next"
-for ((i = 0; i < 1500; i++)); do commit "n$i" "$([ "$i" -ne 0 ] || printf 'from %s\n' "$head") 
+for ((i = 0; i < 400; i++)); do commit "n$i" "$([ "$i" -ne 0 ] || printf 'from %s\n' "$head") 
 " "b/d$((i % 40))/f$i" "$i"; done | sed 's/ $//' >"$work/more"
 commit push "from $shown
 " n w >"$work/push"
