@@ -1,7 +1,8 @@
 #!/usr/bin/env bash
-# Times entries of one batch on a journal, beside Git's commands for the same: a commit more, its projection, and a pushed commit.
-# Its words are the number of commits (5700) and how many entries of each kind (100). It takes the program that `PROJ` names, or the
-# built one. With `SUBTREE=1` it also times `git subtree split`, which takes minutes.
+# Times entries of one batch on a journal, beside Git's commands for the same: a commit more, its projection, and a
+# pushed commit. Its words are the number of commits (5700) and how many entries of each kind (100). It takes the program
+# that `PROJ` names, or the built one. With `SUBTREE=1` it also times `git subtree split`, which takes minutes. Each entry
+# that changes the store waits for the disk twice: `TMPDIR=/dev/shm` leaves that out.
 set -u
 cd "$(dirname "$0")/.." || exit 1
 proj=${PROJ:-$PWD/crates/proj/out/proj}
@@ -71,7 +72,8 @@ git init -q --bare "$work/git" && git -C "$work/git" -c core.compression=0 fast-
 begun=${EPOCHREALTIME/[.,]/}
 for ((i = 0; i < 10; i++)); do
     blob=$(printf '%d' "$i" | git -C "$work/git" hash-object -w --stdin)
-    tree=$(git -C "$work/git" ls-tree $main:a/d3 | { cat; printf '100644 blob %s\tnew\n' "$blob"; } | sort -u -k4 | git -C "$work/git" mktree)
+    tree=$({ git -C "$work/git" ls-tree $main:a/d3; printf '100644 blob %s\tnew\n' "$blob"; } | sort -u -k4 |
+        git -C "$work/git" mktree)
     git -C "$work/git" commit-tree -m c -p $main "$tree" >"$work/out"
 done
 printf 'git hash-object, mktree, commit-tree: %d us\n' $(((${EPOCHREALTIME/[.,]/} - begun) / 10))
