@@ -30,7 +30,7 @@ use Rattle.history_ground.specs.Grounds.{IsGround, AreInFront, Extends}
 use Rattle.history_ground.specs.Asked.{IsNone, IsShownBy, IsAskedFor}
 use Rattle.history_ground.specs.declared.ground.Ground.{Ground}
 use Rattle.history_ground.specs.declared.seeing.Asked.{Asked}
-use Rattle.history_ground.proofs.Growing.{front-self, interned-front, has-front, graph-grown, true-grown, extends-self, extends-then, extends-as}
+use Rattle.history_ground.proofs.Growing.{front-self, interned-front, has-front, graph-grown, maps-grown, true-grown, extends-self, extends-then, extends-as}
 
 -- without a workspace place the filter is one for every tree
 pub same-resolve : (f : Filter) (t u : Flat) → None ≡ place f → resolve f t ≡ resolve f u
@@ -119,7 +119,11 @@ shown-of g f number root table S memo r w h e ok err grown own others =
         rule = refl;
         tables = front-self g.tables;
         store = x.grown;
-        ground = record { graph = graph-grown g.store S grown g.graph w.graph; memo = true-grown g.store S g.tables number table g.memo memo grown e w.memo own others };
+        ground = record {
+          graph = graph-grown g.store S grown g.graph w.graph;
+          memo = true-grown g.store S g.tables number table g.memo memo grown e w.memo own others;
+          maps = maps-grown g.store S grown g.graph w.graph g.true_maps w.maps;
+        };
       };
       map = refl;
     }

@@ -9,6 +9,7 @@ use Rattle.git_objects.specs.CommitBodies.{commit_from}
 use Rattle.git_objects.specs.declared.kind.Kind.{Kind}
 use Rattle.git_objects.specs.declared.kind.Kind.TheVariants.{Tree, Commit as CommitKind}
 use Rattle.object_store.specs.Objects.{Object, IsStore, has, body_of}
+use Rattle.git_objects.specs.Snapshots.{Graph}
 use Rattle.git_objects.specs.Trees.{Flat}
 use Rattle.object_store.specs.Unfolding.{flat, StandsFor}
 use Rattle.object_store.specs.Growth.{IsGrownBy}
@@ -16,6 +17,7 @@ use Rattle.object_store.specs.StoredSnapshots.{commit_named, snapshot_of}
 use Rattle.object_store.proofs.Held.{not_named, has-above}
 use Rattle.object_store.proofs.Growth.{grown_self, grown_then, grown_as, has-grown, flat-grown, stands-grown}
 use Rattle.commit_map.specs.Shown.{Entries}
+use Rattle.commit_map.specs.declared.rule.Rule.{Rule}
 use Rattle.commit_graph.specs.Graphs.{Row}
 use Rattle.filter_text.specs.Filters.{Filter, same_filter}
 use Rattle.filter_text.specs.Shapes.{shape}
@@ -29,7 +31,10 @@ use Rattle.filter_cache.specs.Memos.{Memo}
 use Rattle.filter_apply.specs.Truth.{IsShownAs, IsTrueFor, Holds, KeepsOthers, AreTrueFor}
 use Rattle.history_ground.specs.StoredGraphs.{IsRowIn, IsGraphIn, graph_of, snapshot_named}
 use Rattle.history_ground.specs.Grounds.{IsGround, commits_of, AreInFront, Extends}
+use Rattle.history_ground.specs.TrueMaps.{AreHeld, AreTrueMaps, IsTrueMap}
 use Rattle.history_ground.specs.declared.ground.Ground.{Ground}
+use Rattle.history_ground.specs.declared.true_maps.TrueMap.{TrueMap}
+use Rattle.history_ground.proofs.HistoryLemmas.{each-map}
 use Rattle.history_ground.proofs.StoredGraphs.{at-row, older-suc, older-all, row-at}
 
 -- ---- the store
@@ -80,6 +85,21 @@ module _ {made : Object → Type 0} (S T : List Object) (g : IsGrownBy made S T)
   pub graph-same : (rows : List Row) → IsGraphIn S rows → graph_of T rows ≡ graph_of S rows
   graph-same rows w =
       sym (older-all T rows (graph-grown rows w)) ∙ older-grown rows w (length rows) (omega arith) ∙ older-all S rows w
+
+-- ---- true maps
+
+pub held-grown : {made : Object → Type 0} (S T : List Object) (es : Entries) → IsGrownBy made S T → AreHeld S es → AreHeld T es
+held-grown S T es g h = λ n m e. has-grown S T CommitKind m.commit g (h n m e)
+
+pub true-map-grown : {made : Object → Type 0} (S T : List Object) (g : Graph) (k : Rule) (f : Filter) (es : Entries) → IsGrownBy made S T → IsTrueMap S g k f es → IsTrueMap T g k f es
+true-map-grown S T g k f es a w = record { of = w.of; values = w.values; held = held-grown S T es a w.held }
+
+-- the true maps of a graph's commits in a store that has grown
+pub maps-grown : {made : Object → Type 0} (S T : List Object) → IsGrownBy made S T → (rows : List Row) → IsGraphIn S rows → (ms : List TrueMap) → AreTrueMaps S (graph_of S rows) ms → AreTrueMaps T (graph_of T rows) ms
+maps-grown S T a rows w ms h =
+    subst (λ (x : Graph). AreTrueMaps T x ms) (sym (graph-same S T a rows w))
+    (each-map (λ m. IsTrueMap S (graph_of S rows) m.rule (shape m.filter) m.map) (λ m. IsTrueMap T (graph_of S rows) m.rule (shape m.filter) m.map)
+    (λ m x. true-map-grown S T (graph_of S rows) m.rule (shape m.filter) m.map a x) ms h)
 
 -- ---- the tables
 
@@ -132,6 +152,9 @@ shown-grown S T t tree shown g h = record {
   seen = stands-grown S T shown _ g (subst (λ (u : Flat). StandsFor S shown (seen_through (lens_of (shape t.filter)) u)) (sym (flat-grown S T tree g h.held)) h.seen);
 }
 
+pub memo-grown : {made : Object → Type 0} (S T : List Object) (ts : List Table) (memo : Memo) → IsGrownBy made S T → AreTrueFor S ts memo → AreTrueFor T ts memo
+memo-grown S T ts memo g h = record { each = λ n t e tree shown held. shown-grown S T t tree shown g (h.each n t e tree shown held); within = h.within }
+
 pub true-tables : (S : List Object) (ts us : List Table) (memo : Memo) → AreInFront ts us → AreTrueFor S ts memo → AreTrueFor S us memo
 true-tables S ts us memo a h = record {
   each = λ n t e tree shown held.
@@ -183,7 +206,7 @@ extends-as made more g h f a = record { graph = a.graph; rule = a.rule; tables =
 
 -- with other kept projections
 pub extends-map : (made : Object → Type 0) (g h : Ground) (es : Entries) → Extends made g h → Extends made g (record h { map = es })
-extends-map made g h es a = record { graph = a.graph; rule = a.rule; tables = a.tables; store = a.store; ground = record { graph = a.ground.graph; memo = a.ground.memo } }
+extends-map made g h es a = record { graph = a.graph; rule = a.rule; tables = a.tables; store = a.store; ground = record { graph = a.ground.graph; memo = a.ground.memo; maps = a.ground.maps } }
 
 -- the ground with more tables
 pub ground-tables : (made : Object → Type 0) (g : Ground) (ts : List Table) → IsGround g → AreInFront g.tables ts → Extends made g (record g { tables = ts })
@@ -192,7 +215,7 @@ ground-tables made g ts h a = record {
   rule = refl;
   tables = a;
   store = grown_self made g.store h.graph.store;
-  ground = record { graph = h.graph; memo = true-tables g.store g.tables ts g.memo a h.memo };
+  ground = record { graph = h.graph; memo = true-tables g.store g.tables ts g.memo a h.memo; maps = h.maps };
 }
 
 -- the commits are as they were

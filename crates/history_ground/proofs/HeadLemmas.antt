@@ -9,7 +9,7 @@ use Rattle.std.proofs.lemmas.Option.{same_Some}
 use Rattle.git_objects.specs.Bodies.{is_name}
 use Rattle.git_objects.specs.CommitBodies.{IsCommitBody, name_field}
 use Rattle.git_objects.specs.Commits.{Commit, commit_body, commit_name, letter_text, parent_lines}
-use Rattle.git_objects.specs.Names.{body, name, tree_name}
+use Rattle.git_objects.specs.Names.{body, tree_name}
 use Rattle.git_objects.specs.Paths.{Bytes, same_bytes}
 use Rattle.git_objects.specs.Snapshots.{Snapshot, Graph, commit_at, snapshot_commit, snapshot_name, tree_at}
 use Rattle.git_objects.specs.Trees.{Flat}
@@ -27,7 +27,8 @@ use Rattle.object_store.proofs.Growth.{flat-grown, has-grown}
 use Rattle.object_store.proofs.StoredCommits.{commit-told}
 use Rattle.object_store.proofs.Unfolding.{unfolding_law}
 use Rattle.commit_graph.specs.Graphs.{Row, place_of}
-use Rattle.commit_map.specs.Shown.{Shown, shown_value}
+use Rattle.commit_map.specs.Shown.{Entries, Shown, shown_value}
+use Rattle.commit_map.specs.declared.rule.Rule.{Rule}
 use Rattle.commit_map.specs.declared.commit_map.Shown as code
 use Rattle.filter_text.specs.Filters.{Filter}
 use Rattle.filter_apply.specs.Faults.{IsApplyFault}
@@ -36,22 +37,20 @@ use Rattle.workspace.specs.Workspaces.{resolve, shown}
 use Rattle.history_ground.specs.Asked.{IsNone, IsShownBy}
 use Rattle.history_ground.specs.Grounds.{IsGround, Extends, IsShownOf, commits_of}
 use Rattle.history_ground.specs.Heads.{IsSeen, IsSeenObject}
-use Rattle.history_ground.specs.Histories.{AreMade, IsOfHistory}
+use Rattle.history_ground.specs.TrueMaps.{IsTrueMap}
 use Rattle.history_ground.specs.ProjectionLaws.{IsOf}
-use Rattle.history_ground.specs.Projections.{history_graph, own_commits, projection, projection_by}
+use Rattle.history_ground.specs.Projections.{history_graph, own_commits, projection}
 use Rattle.history_ground.specs.declared.ground.Ground.{Ground}
 use Rattle.history_ground.proofs.Asking.{shown-behind, shown-is}
 use Rattle.history_ground.proofs.GraphLemmas.{found}
-use Rattle.history_ground.proofs.Growing.{commits-same, extends-as, extends-then}
+use Rattle.history_ground.proofs.Growing.{commits-same, extends-as, extends-then, true-map-grown}
 use Rattle.history_ground.proofs.HeldCommits.{held, never-none}
-use Rattle.history_ground.proofs.HistoryLemmas.{head-made}
-use Rattle.history_ground.proofs.MadeHistories.{among-made}
 use Rattle.history_ground.proofs.OwnProjections.{IsAmong, own-has}
 use Rattle.history_ground.proofs.ProjectLemmas.{head-there, place-named, place-within}
 use Rattle.history_ground.proofs.ProjectionLemmas.{projection-of}
 use Rattle.history_ground.proofs.Reached.{commit-older}
-use Rattle.history_ground.proofs.StoredGraphs.{at-row, name-is, older-all, row-at, whole-graph}
-use Rattle.history_ground.proofs.TakenTurns.{fault-as, one-held}
+use Rattle.history_ground.proofs.StoredGraphs.{at-row, name-is, older-all, row-at}
+use Rattle.history_ground.proofs.TakenTurns.{fault-as}
 use Rattle.history_ground.proofs.TurnLemmas.{seen-fault, seen-same, tree-held}
 
 -- ---- the commit
@@ -139,22 +138,30 @@ module _ (f : Filter) (g : Ground) (n : Bytes) (w : IsGround g) where
     pub more-trees-fault : (S : List Object) (e : ApplyError) → IsApplyFault (IsShownOf f (commits_of h)) S e → IsApplyFault (IsSeenObject f g n) S e
     more-trees-fault S e x = fault-as (IsShownOf f (commits_of h)) (IsSeenObject f g n) S tree-more e x
 
-    pub projection-still : h.map ≡ [] → projection_by h.rule (shown f) h.map (commits_of h) n ≡ projection g.rule (shown f) (commits_of g) n
-    projection-still m = λ i. projection_by (a.rule i) (shown f) (m i) (commits i) n
+    -- what projecting the same commits makes
+    seen-more : (o : Object) → IsSeenObject f h n o → IsSeenObject f g n o
+    seen-more o (inl (inl x)) = tree-more o x
+    seen-more o (inl (inr x)) =
+        let still : history_graph h.rule (shown f) (commits_of h) n ≡ history_graph g.rule (shown f) (commits_of g) n = λ i. history_graph (a.rule i) (shown f) (commits i) n in
+        inl (inr (x.0, subst (λ (y : Graph). Contains y x.0) still x.1, x.2))
+    seen-more o (inr x) =
+        let still : own_commits h.rule (shown f) (commits_of h) (n ∷ []) ≡ own_commits g.rule (shown f) (commits_of g) (n ∷ []) = λ i. own_commits (a.rule i) (shown f) (commits i) (n ∷ []) in
+        inr (x.0, subst (λ (y : List Snapshot). Contains y x.0) still x.1, x.2)
 
-    -- the history of the same commits
-    pub history-still : history_graph h.rule (shown f) (commits_of h) n ≡ history_graph g.rule (shown f) (commits_of g) n
-    history-still = λ i. history_graph (a.rule i) (shown f) (commits i) n
+    pub more-seen : (k : Ground) → Extends (IsSeenObject f h n) h k → Extends (IsSeenObject f g n) g k
+    more-seen k b = extends-then (IsSeenObject f g n) g h k a (extends-as (IsSeenObject f h n) (IsSeenObject f g n) h k seen-more b)
 
-    history-more : (o : Object) → IsOfHistory f h n o → IsSeenObject f g n o
-    history-more o (inl x) = tree-more o x
-    history-more o (inr x) = inl (inr (x.0, subst (λ (y : Graph). Contains y x.0) history-still x.1, x.2))
+    pub more-seen-fault : (S : List Object) (e : ApplyError) → IsApplyFault (IsSeenObject f h n) S e → IsApplyFault (IsSeenObject f g n) S e
+    more-seen-fault S e x = fault-as (IsSeenObject f h n) (IsSeenObject f g n) S seen-more e x
 
-    pub more-history : (k : Ground) → Extends (IsOfHistory f h n) h k → Extends (IsSeenObject f g n) g k
-    more-history k b = extends-then (IsSeenObject f g n) g h k a (extends-as (IsOfHistory f h n) (IsSeenObject f g n) h k history-more b)
+    -- a map of projections of the same commits
+    pub more-map : (S : List Object) (es : Entries) → IsTrueMap S (commits_of h) h.rule f es → IsTrueMap S (commits_of g) g.rule f es
+    more-map S es t = subst (λ (k : Rule). IsTrueMap S (commits_of g) k f es) a.rule (subst (λ (y : Graph). IsTrueMap S y h.rule f es) commits t)
 
-    pub more-history-fault : (S : List Object) (e : ApplyError) → IsApplyFault (IsOfHistory f h n) S e → IsApplyFault (IsSeenObject f g n) S e
-    more-history-fault S e x = fault-as (IsOfHistory f h n) (IsSeenObject f g n) S history-more e x
+    pub still-map : (es : Entries) → IsTrueMap g.store (commits_of g) g.rule f es → IsTrueMap h.store (commits_of h) h.rule f es
+    still-map es t =
+        subst (λ (k : Rule). IsTrueMap h.store (commits_of h) k f es) (sym a.rule)
+        (subst (λ (y : Graph). IsTrueMap h.store y g.rule f es) (sym commits) (true-map-grown g.store h.store (commits_of g) g.rule f es a.store t))
 
 -- ---- the commit that it is projected to
 
@@ -206,13 +213,6 @@ module _ (f : Filter) (g : Ground) (n : Bytes) (w : IsGround g) (there : IsSome 
       stands = s;
       there = subst (IsTreeOf S x.commit.0) (agree other.0 tree.0 e) t;
     }
-
-    -- it is in the store with the history
-    pub projection-held : (ns : List Bytes) → AreMade S (history_graph g.rule (shown f) (commits_of g) n) ns → has CommitKind S x.commit.0 ≡ true
-    projection-held ns a =
-        one-held S ns x.commit.0 a.held
-        (among-made S (history_graph g.rule (shown f) (commits_of g) n) ns x.commit.0 a
-        ∙ head-made g.rule (shown f) (commits_of g) n (shown_value x) (whole-graph g.store g.graph w.graph) (sym p) (head-there g n w there))
 
     -- its tree is what is shown of the head
     tree-named : x.tree.0 ≡ tree_name (shown f (tree_at (commits_of g) n))

@@ -16,6 +16,7 @@ mod Bodies
 pub mod TurnLemmas
 mod Filling
 mod Steps
+mod Waiting
 mod WalkLemmas
 pub mod ProjectLemmas
 pub mod Putting
@@ -27,4 +28,8 @@ mod TakingLemmas
 mod HistoryEnds
 mod OrderLemmas
 mod OwnProjections
+mod OwnPlaces
+pub mod TrueEntries
+mod TrueWalking
 pub mod HeadLemmas
+mod TrueHeads

@@ -21,7 +21,7 @@ use Rattle.history_ground.specs.Walks.{IsWalked}
 use Rattle.history_ground.specs.declared.ground.Ground.{Ground}
 use Rattle.history_ground.proofs.Growing.{commits-same, extends-as, extends-then}
 use Rattle.history_ground.proofs.Filling.{entry-wins, filled-value}
-use Rattle.history_ground.proofs.WalkLemmas.{has-named}
+use Rattle.history_ground.proofs.Waiting.{has-named}
 
 nobody : Row
 nobody = record { name = []; tree = []; parents = [] }

@@ -1,5 +1,5 @@
 -- A commit that is projected, and what it becomes put into the store.
-use Rattle.std.proofs.Common.{◌≡◌, inl, inr, ℕ, Bool, true, false, cond, ◌||◌, List, [], ◌∷◌, ◌++◌, map, Option, Some, None, IfSome, IfErr, OnOk, Result, Ok, Err, unwrap_or, refl, sym, ap, subst, ◌∙◌, true≢false}
+use Rattle.std.proofs.Common.{◌≡◌, inl, inr, ℕ, ◌<◌, Bool, true, false, cond, ◌||◌, List, [], ◌∷◌, ◌++◌, length, map, Option, Some, None, IfSome, IfErr, OnOk, Result, Ok, Err, unwrap_or, refl, sym, ap, subst, ◌∙◌, true≢false}
 use Rattle.std.specs.List.{cons_option, filter_map, list_all}
 use Rattle.std.specs.Option.{is_some, option_map, option_to_list}
 use Rattle.std.specs.Cmp.Lexicographic.{bytes_decides}
@@ -19,11 +19,8 @@ use Rattle.commit_map.specs.Shown.{Shown, Entries, kept_at, shown_value}
 use Rattle.commit_map.specs.declared.commit_map.Shown as code
 use Rattle.filter_text.specs.Filters.{Filter}
 use Rattle.filter_apply.specs.Faults.{IsApplyFault}
-use Rattle.filter_apply.specs.Truth.{AreTrueFor}
 use Rattle.filter_apply.specs.declared.fault.ApplyError.{ApplyError}
 use Rattle.filter_apply.specs.declared.fault.ApplyError.TheVariants.{Collision, OutOfMemory}
-use Rattle.filter_cache.specs.Memos.{Memo}
-use Rattle.filter_routes.specs.TableValues.{Table}
 use Rattle.workspace.specs.Workspaces.{shown}
 use Rattle.history_ground.specs.Projections.{Member, New, known_at, leads, members, own_commit, projected, shown_of}
 use Rattle.history_ground.specs.StoredGraphs.{name_at, snapshot_named}
@@ -31,12 +28,13 @@ use Rattle.history_ground.specs.Choosing.{Agree, commits_before, IsBelow}
 use Rattle.history_ground.specs.Grounds.{IsGround, Extends, IsShownOf, commits_of}
 use Rattle.history_ground.specs.Asked.{IsNone}
 use Rattle.history_ground.specs.Histories.{AreMade, is_among}
-use Rattle.history_ground.specs.Making.{with_name, IsAdded, IsFit, IsTakenIn, IsBecome, IsTurnObject, AreHeld, IsReady, IsTaken}
+use Rattle.history_ground.specs.Making.{with_name, IsAdded, IsFit, IsTakenIn, IsBecome, IsTurnObject, IsEntered, IsReady, IsTaken}
+use Rattle.history_ground.specs.TrueMaps.{AreHeld}
 use Rattle.history_ground.specs.Turns.{Becomes, IsNew, kept_choice}
 use Rattle.history_ground.specs.declared.ground.Ground.{Ground}
 use Rattle.history_ground.specs.declared.turning.Turn.TheVariants as turns
 use Rattle.history_ground.proofs.Filling.{kept-append, kept-front}
-use Rattle.history_ground.proofs.Growing.{extends-as, extends-map, extends-then, front-self, graph-grown, shown-grown}
+use Rattle.history_ground.proofs.Growing.{extends-as, extends-map, extends-then, front-self, graph-grown, held-grown, maps-grown, memo-grown}
 use Rattle.history_ground.proofs.HistoryLemmas.{each-distinct, member-of, new-parents}
 use Rattle.history_ground.proofs.MadeHistories.{IsIn, found-in, made-grown, made-more}
 use Rattle.history_ground.proofs.Putting.{commit_fits}
@@ -45,16 +43,17 @@ use Rattle.history_ground.proofs.TurnLemmas.{some-placed}
 
 -- ---- a ground with a store that has grown
 
-memo-grown : {made : Object → Type 0} (S T : List Object) (ts : List Table) (memo : Memo) → IsGrownBy made S T → AreTrueFor S ts memo → AreTrueFor T ts memo
-memo-grown S T ts memo g h = record { each = λ n t e tree shown' held. shown-grown S T t tree shown' g (h.each n t e tree shown' held); within = h.within }
-
 pub extends-store : (made : Object → Type 0) (g : Ground) (T : List Object) → IsGround g → IsGrownBy made g.store T → Extends made g (record g { store = T })
 extends-store made g T w a = record {
   graph = refl;
   rule = refl;
   tables = front-self g.tables;
   store = a;
-  ground = record { graph = graph-grown g.store T a g.graph w.graph; memo = memo-grown g.store T g.tables g.memo a w.memo };
+  ground = record {
+    graph = graph-grown g.store T a g.graph w.graph;
+    memo = memo-grown g.store T g.tables g.memo a w.memo;
+    maps = maps-grown g.store T a g.graph w.graph g.true_maps w.maps;
+  };
 }
 
 pub extends-kept : (made : Object → Type 0) (g h k : Ground) (es : Entries) → Extends made g h → k ≡ record h { map = es } → Extends made g k
@@ -74,9 +73,6 @@ fault-either made more S f (Ok x) h = tt
 fault-either made more S f (Err e) h = fault-as made more S f e h
 
 -- ---- what is kept is in the store
-
-pub held-grown : {made : Object → Type 0} (S T : List Object) (es : Entries) → IsGrownBy made S T → AreHeld S es → AreHeld T es
-held-grown S T es g h = λ n m e. has-grown S T CommitKind m.commit g (h n m e)
 
 pub held-more : (T : List Object) (es : Entries) (n : Bytes) (v : Option Shown) → AreHeld T es → IfSome v (λ m. has CommitKind T m.commit ≡ true) → AreHeld T (es ++ (n, v) ∷ [])
 held-more T es n v h k = λ q m e. by q m e (kept_at q es) refl
@@ -121,29 +117,23 @@ agree-self es older = λ n o h e. sym (ap (λ x. unwrap_or x None) e)
 
 -- ---- a turn
 
-module _ (f : Filter) (g h : Ground) (place : ℕ) (w : IsGround g) (a : Extends (IsShownOf f (commits_of g)) g h) (m : h.map ≡ g.map) (ns : List Bytes) (ready : IsReady g place ns) where
-  pub never-below : (q : ℕ) → IsBelow g place q → ⊥
-  never-below q b = true≢false (sym (ready.kept q b.reached b.before) ∙ ap is_some b.lacked)
-
+module _ (f : Filter) (g h : Ground) (place : ℕ) (w : IsGround g) (a : Extends (IsShownOf f (commits_of g)) g h) (m : h.map ≡ g.map) (there : place < length g.graph) (held : AreHeld g.store g.map) where
   member-held : (x : Shown) → IsBecome f g place (Member x) → has CommitKind g.store x.commit ≡ true
   member-held x is =
-      let c = some-placed g place w ready.there in
+      let c = some-placed g place w there in
       member-of g.rule (λ (y : Shown). has CommitKind g.store y.commit ≡ true) (leads (commits_before g place) g.map c.0.parents) (shown f c.0.tree) c.0.letter (members g.map c.0.parents) x
-      (members-held g.store g.map ready.held c.0.parents) (is c.0 c.1 g.map (agree-self g.map (commits_before g place)))
+      (members-held g.store g.map held c.0.parents) (is c.0 c.1 g.map (agree-self g.map (commits_before g place)))
 
   parents-held : (d : Snapshot) → IsBecome f g place (New d) → Each (λ n. has CommitKind g.store n ≡ true) d.parents
   parents-held d is =
-      let c = some-placed g place w ready.there in
+      let c = some-placed g place w there in
       subst (Each (λ n. has CommitKind g.store n ≡ true))
       (sym (new-parents g.rule (leads (commits_before g place) g.map c.0.parents) (shown f c.0.tree) c.0.letter (members g.map c.0.parents) d (is c.0 c.1 g.map (agree-self g.map (commits_before g place)))))
-      (commits-held g.store (members g.map c.0.parents) (members-held g.store g.map ready.held c.0.parents))
+      (commits-held g.store (members g.map c.0.parents) (members-held g.store g.map held c.0.parents))
 
   grown-parents : (ps : List Bytes) → Each (λ n. has CommitKind g.store n ≡ true) ps → Each (λ n. has CommitKind h.store n ≡ true) ps
   grown-parents [] x = tt
   grown-parents (p ∷ ps) x = (has-grown g.store h.store CommitKind p a.store x.0, grown-parents ps x.1)
-
-  pub turn-object : (o : Object) → IsShownOf f (commits_of g) o → IsTurnObject f g place ns o
-  turn-object o x = inl x
 
   map-is : (k : Ground) (v u : Option Shown) → u ≡ v → k.map ≡ h.map ++ (name_at h.graph place, u) ∷ [] → k.map ≡ g.map ++ (name_at g.graph place, v) ∷ []
   map-is k v u e q = q ∙ (λ i. m i ++ (name_at (a.graph i) place, e i) ∷ [])
@@ -158,16 +148,12 @@ module _ (f : Filter) (g h : Ground) (place : ℕ) (w : IsGround g) (a : Extends
         by None t = tt
         by (Some x) t = member-held (shown_value x) t
 
-    none-own : (o : Option code.Shown) → own_commit (kept_choice o) ≡ None
-    none-own None = refl
-    none-own (Some x) = refl
-
     held-now : (o : Option Shown) → IfSome o (λ (x : Shown). has CommitKind g.store x.commit ≡ true) → IfSome o (λ (x : Shown). has CommitKind h.store x.commit ≡ true)
     held-now None x = tt
     held-now (Some y) x = has-grown g.store h.store CommitKind y.commit a.store x
 
-    pub taken-kept : IsTaken f place g k ns ns
-    taken-kept =
+    pub entered-kept : IsEntered f place g k
+    entered-kept =
         let map : k.map ≡ h.map ++ (name_at h.graph place, option_map shown_value o) ∷ [] = ap (λ (x : Ground). x.map) e in
         let store : k.store ≡ h.store = ap (λ (x : Ground). x.store) e in
         record {
@@ -175,45 +161,77 @@ module _ (f : Filter) (g h : Ground) (place : ℕ) (w : IsGround g) (a : Extends
           is = t;
           map = map-is k (projected (kept_choice o)) (option_map shown_value o) (sym (kept-projected o)) map;
           held = subst (λ (es : Entries). AreHeld k.store es) (sym map) (subst (λ (T : List Object). AreHeld T (h.map ++ (name_at h.graph place, option_map shown_value o) ∷ [])) (sym store)
-              (held-more h.store h.map (name_at h.graph place) (option_map shown_value o) (subst (AreHeld h.store) (sym m) (held-grown g.store h.store g.map a.store ready.held)) (held-now (option_map shown_value o) kept-held)));
-          made = λ M x. subst (λ (T : List Object). AreMade T (add_all M (option_to_list (own_commit (kept_choice o)))) ns) (sym store)
-              (subst (λ c. AreMade h.store (add_all M (option_to_list c)) ns) (sym (none-own o)) (made-grown g.store h.store a.store w.graph.store M ns x));
+              (held-more h.store h.map (name_at h.graph place) (option_map shown_value o) (subst (AreHeld h.store) (sym m) (held-grown g.store h.store g.map a.store held)) (held-now (option_map shown_value o) kept-held)));
         }
+
+  -- ---- it becomes a commit of its own
+
+  module _ (s : code.Shown) (b : Bytes) (t : (c : Snapshot) → snapshot_named g.store (name_at g.graph place) ≡ Some c → IsNew f g h place c s b) where
+    pub new-one : IsNew f g h place (some-placed g place w there).0 s b
+    new-one = t (some-placed g place w there).0 (some-placed g place w there).1
+
+    pub become : IsBecome f g place (New new-one.commit)
+    become = λ c e. subst (λ (x : Snapshot). Becomes f g place x (New new-one.commit)) (same_Some (some-placed g place w there).0 c (sym (some-placed g place w there).1 ∙ e)) new-one.becomes
+
+    pub body-name : name CommitKind b ≡ snapshot_name new-one.commit
+    unfolding commit_name
+    body-name = ap (name CommitKind) new-one.body
+
+    pub tree-name : s.tree.0 ≡ tree_name new-one.commit.tree
+    tree-name = ap (λ (x : Shown). x.tree) new-one.names
+
+    pub fits : IsFit h.store s.commit.0 b
+    fits = record {
+      body = commit_fits h.store (snapshot_commit new-one.commit) b (ap (has Tree h.store) (sym tree-name) ∙ new-one.tree.held) (grown-parents new-one.commit.parents (parents-held new-one.commit become)) new-one.read;
+      named = ap (λ (x : Shown). x.commit) new-one.names ∙ sym body-name;
+    }
+
+    pub entered-new : (k : Ground) → k.map ≡ h.map ++ (name_at h.graph place, Some (shown_value s)) ∷ [] → {made : Object → Type 0} → IsGrownBy made g.store k.store → has CommitKind k.store (snapshot_name new-one.commit) ≡ true → IsEntered f place g k
+    entered-new k q grown there-now = record {
+      choice = New new-one.commit;
+      is = become;
+      map = map-is k (Some (shown_of new-one.commit)) (Some (shown_value s)) (ap Some new-one.names) q;
+      held = subst (λ (es : Entries). AreHeld k.store es) (sym (map-is k (Some (shown_of new-one.commit)) (Some (shown_value s)) (ap Some new-one.names) q))
+          (held-more k.store g.map (name_at g.graph place) (Some (shown_of new-one.commit)) (held-grown g.store k.store g.map grown held) there-now);
+    }
+
+-- ---- a turn of a history, whose commits so far have these names
+
+module _ (f : Filter) (g h : Ground) (place : ℕ) (w : IsGround g) (a : Extends (IsShownOf f (commits_of g)) g h) (m : h.map ≡ g.map) (ns : List Bytes) (ready : IsReady g place ns) where
+  pub never-below : (q : ℕ) → IsBelow g place q → ⊥
+  never-below q b = true≢false (sym (ready.kept q b.reached b.before) ∙ ap is_some b.lacked)
+
+  pub turn-object : (o : Object) → IsShownOf f (commits_of g) o → IsTurnObject f g place ns o
+  turn-object o x = inl x
+
+  none-own : (o : Option code.Shown) → own_commit (kept_choice o) ≡ None
+  none-own None = refl
+  none-own (Some x) = refl
+
+  pub taken-kept : (k : Ground) (o : Option code.Shown) → Turns f g h place (turns.Kept o) → k ≡ record h { map = h.map ++ (name_at h.graph place, option_map shown_value o) ∷ [] } → IsTaken f place g k ns ns
+  unfolding entered-kept
+  taken-kept k o t e = record {
+    entered = entered-kept f g h place w a m ready.there ready.held k o t e;
+    made = λ M x. subst (λ (T : List Object). AreMade T (add_all M (option_to_list (own_commit (kept_choice o)))) ns) (sym (ap (λ (x : Ground). x.store) e))
+        (subst (λ c. AreMade h.store (add_all M (option_to_list c)) ns) (sym (none-own o)) (made-grown g.store h.store a.store w.graph.store M ns x));
+  }
 
   pub kept-ok : {T : Type 0} (k : Ground) (o : Option code.Shown) → Turns f g h place (turns.Kept o) → (r : Result T ApplyError) → OnOk r (k ≡ record h { map = h.map ++ (name_at h.graph place, option_map shown_value o) ∷ [] }) → OnOk r (IsTaken f place g k ns ns)
   kept-ok k o t (Ok x) e = taken-kept k o t e
   kept-ok k o t (Err x) e = tt
 
-  -- ---- it becomes a commit of its own
-
   module _ (s : code.Shown) (b : Bytes) (t : (c : Snapshot) → snapshot_named g.store (name_at g.graph place) ≡ Some c → IsNew f g h place c s b) where
-    n : IsNew f g h place (some-placed g place w ready.there).0 s b
-    n = t (some-placed g place w ready.there).0 (some-placed g place w ready.there).1
+    abbrev n : IsNew f g h place (some-placed g place w ready.there).0 s b
+    n = new-one f g h place w a m ready.there ready.held s b t
 
-    d : Snapshot
-    d = n.commit
-
-    become : IsBecome f g place (New n.commit)
-    become = λ c e. subst (λ (x : Snapshot). Becomes f g place x (New n.commit)) (same_Some (some-placed g place w ready.there).0 c (sym (some-placed g place w ready.there).1 ∙ e)) n.becomes
-
-    body-name : name CommitKind b ≡ snapshot_name n.commit
-    unfolding commit_name
-    body-name = ap (name CommitKind) n.body
-
-    tree-name : s.tree.0 ≡ tree_name n.commit.tree
-    tree-name = ap (λ (x : Shown). x.tree) n.names
-
-    pub fits : IsFit h.store s.commit.0 b
-    fits = record {
-      body = commit_fits h.store (snapshot_commit n.commit) b (ap (has Tree h.store) (sym tree-name) ∙ n.tree.held) (grown-parents n.commit.parents (parents-held n.commit become)) n.read;
-      named = ap (λ (x : Shown). x.commit) n.names ∙ sym body-name;
-    }
+    named : name CommitKind b ≡ snapshot_name n.commit
+    named = body-name f g h place w a m ready.there ready.held s b t
 
     pub made-object : (o : Object) → IsAdded ns b o → IsTurnObject f g place ns o
     made-object o x = inr (
       n.commit,
-      become,
-      subst (λ q. is_among q ns ≡ false) body-name x.0,
+      become f g h place w a m ready.there ready.held s b t,
+      subst (λ q. is_among q ns ≡ false) named x.0,
       ap (λ q. record { kind = CommitKind; body = q }) (sym n.body) ∙ sym x.1,
     )
 
@@ -224,7 +242,8 @@ module _ (f : Filter) (g h : Ground) (place : ℕ) (w : IsGround g) (a : Extends
       stored : is_among (snapshot_name n.commit) ns ≡ false → IsIn k.store n.commit
       stored e =
           let stands = stands-grown h.store k.store s.tree.0 n.commit.tree u.store n.tree in
-          found-in k.store n.commit b (x.found (ap (λ y. is_among y ns) body-name ∙ e)) n.body n.read (subst (λ y. flat k.store y ≡ n.commit.tree) tree-name stands.map)
+          found-in k.store n.commit b (x.found (ap (λ y. is_among y ns) named ∙ e)) n.body n.read
+          (subst (λ y. flat k.store y ≡ n.commit.tree) (tree-name f g h place w a m ready.there ready.held s b t) stands.map)
 
       new-held : has CommitKind k.store (snapshot_name n.commit) ≡ true
       new-held = by (is_among (snapshot_name n.commit) ns) refl
@@ -234,13 +253,10 @@ module _ (f : Filter) (g h : Ground) (place : ℕ) (w : IsGround g) (a : Extends
           by false e = (stored e).held
 
       pub taken-made : IsTaken f place g k ns ns'
+      unfolding entered-new
       taken-made = record {
-        choice = New n.commit;
-        is = become;
-        map = map-is k (Some (shown_of n.commit)) (Some (shown_value s)) (ap Some n.names) q;
-        held = subst (λ (es : Entries). AreHeld k.store es) (sym (map-is k (Some (shown_of n.commit)) (Some (shown_value s)) (ap Some n.names) q))
-            (held-more k.store g.map (name_at g.graph place) (Some (shown_of n.commit)) (held-grown g.store k.store g.map grown ready.held) new-held);
-        made = λ M y. made-more k.store M ns ns' n.commit (made-grown g.store k.store grown w.graph.store M ns y) (x.names ∙ ap (with_name ns) body-name) stored;
+        entered = entered-new f g h place w a m ready.there ready.held s b t k q grown new-held;
+        made = λ M y. made-more k.store M ns ns' n.commit (made-grown g.store k.store grown w.graph.store M ns y) (x.names ∙ ap (with_name ns) named) stored;
       }
 
     pub made-ok : {T : Type 0} (k : Ground) (ns' : List Bytes) → Extends (IsAdded ns b) h k → (r : Result T ApplyError) → OnOk r (IsTakenIn k.store ns ns' b) → OnOk r (k.map ≡ h.map ++ (name_at h.graph place, Some (shown_value s)) ∷ []) → OnOk r (IsTaken f place g k ns ns')

@@ -23,7 +23,8 @@ use Rattle.history_ground.specs.Choosing.{Agree, commits_before}
 use Rattle.history_ground.specs.Grounds.{IsGround, Extends, IsShownOf, commits_of}
 use Rattle.history_ground.specs.Asked.{IsAskedFor}
 use Rattle.history_ground.specs.Histories.{AreMade, IsOfHistory}
-use Rattle.history_ground.specs.Making.{IsBecome, IsTurnObject, AreHeld, IsReady, IsTaken}
+use Rattle.history_ground.specs.Making.{IsBecome, IsTurnObject, IsReady, IsTaken}
+use Rattle.history_ground.specs.TrueMaps.{AreHeld}
 use Rattle.history_ground.specs.declared.ground.Ground.{Ground}
 use Rattle.history_ground.specs.declared.seeing.Asked.{Asked}
 use Rattle.history_ground.proofs.Filling.{kept-each, newer-known, projection-at}
@@ -226,14 +227,14 @@ module _ (f : Filter) (g : Ground) (w : IsGround g) where
 
         pub taking-more : (now : Asked) (ns' qs : List Bytes) (zs : List ℕ) → zs ≡ ps ++ p ∷ [] → qs ≡ ns' → IsAskedFor f k now → IsTaken f p h k ns ns' → IsTaking f head g k now zs qs
         taking-more now ns' qs zs z q b x =
-            let own : own_commit x.choice ≡ own_of f g p = ap own_commit (choice-same x.choice x.is) in
+            let own : own_commit x.entered.choice ≡ own_of f g p = ap own_commit (choice-same x.entered.choice x.entered.is) in
             subst (λ (ys : List ℕ). IsTaking f head g k now ys qs) (sym z) (subst (IsTaking f head g k now (ps ++ p ∷ [])) (sym q) (record {
               same = taking-same;
               asked_for = b;
-              map = x.map
-                  ∙ (λ i. t.map i ++ (name_at (t.same.graph i) p, projected (choice-same x.choice x.is i)) ∷ [])
+              map = x.entered.map
+                  ∙ (λ i. t.map i ++ (name_at (t.same.graph i) p, projected (choice-same x.entered.choice x.entered.is i)) ∷ [])
                   ∙ sym (map-append (entry_at f g) ps (p ∷ []));
-              held = x.held;
+              held = x.entered.held;
               made = subst (λ (y : Graph). AreMade k.store y ns')
                   (ap (λ o. add_all M (option_to_list o)) own
                   ∙ ap (add_all M) (one-option (own_of f g p))

@@ -9,16 +9,19 @@ use Rattle.filter_apply.specs.Hands.{IsShownObject}
 use Rattle.filter_apply.specs.Truth.{AreTrueFor}
 use Rattle.workspace.specs.Workspaces.{resolve}
 use Rattle.history_ground.specs.StoredGraphs.{IsGraphIn, graph_of}
+use Rattle.history_ground.specs.TrueMaps.{AreTrueMaps}
 use Rattle.history_ground.specs.declared.ground.Ground.{Ground}
-
--- the graph's commits are in the store, and the memo has what the tables show of trees of the store
-pub record IsGround (g : Ground) : Type 0 where
-  pub graph : IsGraphIn g.store g.graph
-  pub memo : AreTrueFor g.store g.tables g.memo
 
 -- the commits with their flat trees, the newest first
 abbrev pub commits_of : Ground → Graph
 commits_of g = graph_of g.store g.graph
+
+-- The graph's commits are in the store; the memo has what the tables show of trees of the store; and the true maps have projections of
+-- the commits, from scratch.
+pub record IsGround (g : Ground) : Type 0 where
+  pub graph : IsGraphIn g.store g.graph
+  pub memo : AreTrueFor g.store g.tables g.memo
+  pub maps : AreTrueMaps g.store (commits_of g) g.true_maps
 
 -- tables in front of newer ones
 abbrev pub AreInFront : List Table → List Table → Type 0

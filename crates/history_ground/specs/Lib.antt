@@ -1,6 +1,7 @@
 pub mod Projections
 pub mod ProjectionLaws
 pub mod StoredGraphs
+pub mod TrueMaps
 pub mod Grounds
 pub mod Filled
 pub mod Asked
@@ -11,4 +12,5 @@ pub mod Walks
 pub mod Histories
 pub mod Making
 pub mod Heads
+pub mod TrueWalks
 pub mod Examples

@@ -11,12 +11,13 @@ use Rattle.object_store.specs.Growth.{IsOnly}
 use Rattle.object_store.specs.Puts.{of_body}
 use Rattle.object_store.specs.StoredSnapshots.{snapshot_object}
 use Rattle.commit_graph.specs.Graphs.{Reaches}
-use Rattle.commit_map.specs.Shown.{Shown, Entries, kept_at}
+use Rattle.commit_map.specs.Shown.{kept_at}
 use Rattle.filter_text.specs.Filters.{Filter}
 use Rattle.history_ground.specs.Projections.{Choice, New, own_commit, projected}
 use Rattle.history_ground.specs.StoredGraphs.{name_at, snapshot_named}
 use Rattle.history_ground.specs.Grounds.{IsShownOf, commits_of}
 use Rattle.history_ground.specs.Histories.{AreMade, is_among}
+use Rattle.history_ground.specs.TrueMaps.{AreHeld}
 use Rattle.history_ground.specs.Turns.{Becomes}
 use Rattle.history_ground.specs.declared.ground.Ground.{Ground}
 
@@ -47,10 +48,6 @@ abbrev pub IsTurnObject : Filter → Ground → ℕ → List Bytes → Object �
 IsTurnObject f g place ns o = IsShownOf f (commits_of g) o
     ⊎ ((d : Snapshot) × IsBecome f g place (New d) × (is_among (snapshot_name d) ns ≡ false) × (snapshot_object d ≡ o))
 
--- the commits that are kept as projections are in the store
-abbrev pub AreHeld : List Object → Entries → Type 0
-AreHeld S es = (n : Bytes) (m : Shown) → kept_at n es ≡ Some (Some m) → has Commit S m.commit ≡ true
-
 -- Nothing is kept of the commit at the place, but of all others that it reaches. What is kept, and what has these names, is in the store.
 pub record IsReady (g : Ground) (place : ℕ) (ns : List Bytes) : Type 0 where
   pub there : place < length g.graph
@@ -59,10 +56,14 @@ pub record IsReady (g : Ground) (place : ℕ) (ns : List Bytes) : Type 0 where
   pub held : AreHeld g.store g.map
   pub named : list_all (has Commit g.store) ns ≡ true
 
--- the commit at the place is projected, and what it becomes is put behind the commits that have these names
-pub record IsTaken (f : Filter) (place : ℕ) (g g' : Ground) (ns ns' : List Bytes) : Type 0 where
+-- The commit at the place is projected, which is kept; and what is kept is in the store.
+pub record IsEntered (f : Filter) (place : ℕ) (g g' : Ground) : Type 0 where
   pub choice : Choice
   pub is : IsBecome f g place choice
   pub map : g'.map ≡ g.map ++ (name_at g.graph place, projected choice) ∷ []
   pub held : AreHeld g'.store g'.map
-  pub made : (M : Graph) → AreMade g.store M ns → AreMade g'.store (add_all M (option_to_list (own_commit choice))) ns'
+
+-- the commit at the place is projected, and what it becomes is put behind the commits that have these names
+pub record IsTaken (f : Filter) (place : ℕ) (g g' : Ground) (ns ns' : List Bytes) : Type 0 where
+  pub entered : IsEntered f place g g'
+  pub made : (M : Graph) → AreMade g.store M ns → AreMade g'.store (add_all M (option_to_list (own_commit entered.choice))) ns'

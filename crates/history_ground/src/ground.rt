@@ -1,4 +1,5 @@
 // What projections are made upon.
+use crate::TrueMaps;
 use commit_graph::Graph;
 use commit_map::{CommitMap, Rule};
 use filter_cache::Memo;
@@ -20,4 +21,6 @@ pub struct Ground {
     /// What the tables show of trees, by their numbers.
     pub memo: Memo,
     pub rule: Rule,
+    /// Projections that were made from scratch.
+    pub true_maps: TrueMaps,
 }

@@ -81,7 +81,7 @@ fn add_made(
 }
 
 // Keeps what the commit at a place is projected to.
-fn keep(ground: &mut Ground, place: u32, shown: Option<Shown>) -> Result<(), ApplyError>
+pub(crate) fn keep(ground: &mut Ground, place: u32, shown: Option<Shown>) -> Result<(), ApplyError>
     requires place { place < length ground.old.graph }
     requires lacked { kept_at (name_at ground.old.graph place) ground.old.map ≡ None }
     ensures ok { OnOk result (ground.new ≡ record ground.old {

@@ -7,7 +7,9 @@ mod heads;
 mod histories;
 mod laws;
 mod made;
+mod making;
 mod seeing;
+mod true_maps;
 mod turning;
 mod walking;
 
@@ -16,4 +18,5 @@ pub use heads::{Seen, seen_head};
 pub use histories::{history, put_commit};
 pub use laws::{history_law, order_law, projection_law, stay_law};
 pub use made::own_body;
+pub use true_maps::{TrueMap, TrueMaps};
 pub use walking::project_to;

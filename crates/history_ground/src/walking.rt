@@ -79,7 +79,7 @@ fn step<L: Ledger>(
 }
 
 // Puts places behind those that wait.
-fn wait(waiting: &mut Vec<u32>, places: &[u32]) -> Result<(), AllocError>
+pub(crate) fn wait(waiting: &mut Vec<u32>, places: &[u32]) -> Result<(), AllocError>
     ensures { OnOk result (waiting.new.items ≡ waiting.old.items ++ places.now) }
 {
     waiting.extend_from_slice(places)?;

@@ -121,7 +121,7 @@ module _ (items : List Bytes) (h : Held) (s : Contents) (f : Filter) (w : IsStat
   state-selected = record {
     current = record { read = w.current.read; number = ap (λ (x : Contents). x.number) c.same ∙ w.current.number; size = ap (λ (x : Contents). x.size) c.same ∙ w.current.size };
     spells = c.spells h w.spells;
-    ground = subst (λ (x : Contents). IsGround x.basis) (sym c.same) (record { graph = w.ground.graph; memo = w.ground.memo });
+    ground = subst (λ (x : Contents). IsGround x.basis) (sym c.same) (record { graph = w.ground.graph; memo = w.ground.memo; maps = w.ground.maps });
   }
 
   -- ---- and a projection upon it

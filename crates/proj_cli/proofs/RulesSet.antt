@@ -11,7 +11,8 @@ use Rattle.commit_map.specs.declared.rule.Rule.{Rule}
 use Rattle.commit_map.specs.declared.rule.Rule.TheVariants.{One, Two}
 use Rattle.filter_apply.specs.Truth.{AreTrueFor}
 use Rattle.history_ground.specs.Grounds.{IsGround}
-use Rattle.history_ground.specs.StoredGraphs.{IsGraphIn}
+use Rattle.history_ground.specs.StoredGraphs.{IsGraphIn, graph_of}
+use Rattle.history_ground.specs.TrueMaps.{AreTrueMaps}
 use Rattle.state_items.specs.Arrivals.{rows_of}
 use Rattle.state_items.specs.Appending.{IsAddition}
 use Rattle.state_items.specs.Changes.{NoPlan, Plan, Room, RulePlan, held_after, passed, plan_items, room_of, rule_plan}
@@ -78,6 +79,10 @@ rule-ground items h s after k w c =
       memo =
           subst (λ ts. AreTrueFor after.basis.store ts after.basis.memo) (sym c.tables)
           (subst (λ m. AreTrueFor after.basis.store s.basis.tables m) (sym c.memo) memo);
+      maps =
+          subst (λ ms. AreTrueMaps after.basis.store (graph_of after.basis.store after.basis.graph) ms) (sym c.true_maps)
+          (subst (λ (rs : List Row). AreTrueMaps after.basis.store (graph_of after.basis.store rs) s.basis.true_maps) (sym rows)
+          (subst (λ (S : List Object). AreTrueMaps S (graph_of S s.basis.graph) s.basis.true_maps) (sym c.store) w.ground.maps));
     }
 
 -- ---- what is said of a rule that is set

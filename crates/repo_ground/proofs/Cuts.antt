@@ -73,6 +73,7 @@ draft-committed h p s after d n m w e = record {
   store = ap (λ (x : Contents). x.basis.store) m.same;
   tables = ap (λ (x : Contents). x.basis.tables) m.same;
   memo = ap (λ (x : Contents). x.basis.memo) m.same;
+  true_maps = ap (λ (x : Contents). x.basis.true_maps) m.same;
   map = ap (λ (x : Contents). x.basis.map) m.same;
   selected = ap (λ (x : Contents). x.selected) m.same;
 }
@@ -89,6 +90,7 @@ none-committed h p s after w e f =
       store = refl;
       tables = refl;
       memo = refl;
+      true_maps = refl;
       map = refl;
       selected = refl;
     }))

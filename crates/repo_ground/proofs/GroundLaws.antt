@@ -139,4 +139,4 @@ ground-law = record { commits = ground-commits; base = ground-base }
 
 -- the ground of a state in which no filter is selected any more is a ground still
 pub ground-away : {before after : Contents} → IsGround before.basis → IsPutAway before after → IsGround after.basis
-ground-away g a = subst (λ (s : Contents). IsGround s.basis) (sym a.same) (record { graph = g.graph; memo = g.memo })
+ground-away g a = subst (λ (s : Contents). IsGround s.basis) (sym a.same) (record { graph = g.graph; memo = g.memo; maps = g.maps })

@@ -292,6 +292,7 @@ keep-committed h s text item w g e = by (may_keep h s text)
       store = refl;
       tables = refl;
       memo = refl;
+      true_maps = refl;
       map = refl;
       selected = refl;
     }

@@ -1,4 +1,5 @@
 pub mod RowsGround
+mod RowsBehind
 pub mod GroundLaws
 pub mod GrownLaws
 pub mod Rules

@@ -22,7 +22,9 @@ use Rattle.object_store.specs.StoredSnapshots.{snapshot_object}
 use Rattle.git_objects.specs.declared.kind.Kind.TheVariants.{Commit as CommitKind}
 use Rattle.std.specs.List.{list_all}
 use Rattle.history_ground.specs.Grounds.{IsGround}
-use Rattle.history_ground.specs.StoredGraphs.{IsGraphIn}
+use Rattle.history_ground.specs.StoredGraphs.{IsGraphIn, graph_of}
+use Rattle.history_ground.specs.TrueMaps.{AreTrueMaps}
+use Rattle.history_ground.proofs.TrueEntries.{rows-newer}
 use Rattle.state_items.specs.Arrivals.{AreHeld, AreNamed}
 use Rattle.state_items.specs.Appending.{IsAddition}
 use Rattle.state_items.specs.Changes.{ChangePlan, NoPlan, Plan, fresh, held_after, moved, objects_of, or_else, passed, passed_by_item, passed_by_objects, plan_items, with_refs}
@@ -46,6 +48,7 @@ use Rattle.repo_ground.proofs.Brought.{batch-found, batch-new, batch-ready, held
 use Rattle.repo_ground.proofs.FreshNames.{AreFreshNames, fed-fresh, fresh-names, names-fresh}
 use Rattle.repo_ground.proofs.Grows.{grown-fresh, named-in}
 use Rattle.repo_ground.proofs.MovedRefs.{moves-same, heads-after, heads-distinct, heads-sorted}
+use Rattle.repo_ground.proofs.RowsBehind.{rows-behind}
 use Rattle.repo_ground.proofs.RowsGround.{rows_ground}
 use Rattle.repo_ground.proofs.Rules.{commits-number}
 
@@ -213,10 +216,18 @@ module _ (h : Held) (s : Contents) (b : Batch) (blobs : List Bytes) (cs : List S
       }
 
   pub ground-after : (names new known : List Name) (graph : List Row) → IsGround s.basis → AreNews h s fs names new → AreHeld (reverse fs ++ H) new graph known → IsGround (record s.basis { graph = graph })
-  ground-after names new known graph g n a = record {
-    graph = subst (IsGraphIn S) (sym a.graph) (rows_ground S (reverse fs ++ H) t a.whole (λ o m. All-contains (λ x. find_named S (object_name x) ≡ Some x) (reverse fs ++ H) o (all-each (λ x. find_named S (object_name x) ≡ Some x) (reverse fs ++ H) n.within) m));
-    memo = g.memo;
-  }
+  ground-after names new known graph g n a =
+      let in_store : IsGraphIn S graph =
+      subst (IsGraphIn S) (sym a.graph)
+      (rows_ground S (reverse fs ++ H) t a.whole (λ o m. All-contains (λ x. find_named S (object_name x) ≡ Some x) (reverse fs ++ H) o (all-each (λ x. find_named S (object_name x) ≡ Some x) (reverse fs ++ H) n.within) m)) in
+      let behind = rows-behind (reverse fs) H in
+      let rows : graph ≡ s.basis.graph ++ behind.0 = a.graph ∙ behind.1 ∙ ap (λ (rs : List Row). rs ++ behind.0) (sym w.spells.graph) in
+      record {
+        graph = in_store;
+        memo = g.memo;
+        maps = subst (λ (rs : List Row). AreTrueMaps S (graph_of S rs) s.basis.true_maps) (sym rows)
+            (rows-newer S s.basis.graph behind.0 s.basis.true_maps (subst (IsGraphIn S) rows in_store) g.maps);
+      }
 
   module _ (names new : List Name) (n : AreNews h s fs names new) (rs : Refs) (re : rs ≡ filter (moves_in s.refs) (settings_of b)) where
     pub refs-are : rs ≡ ms

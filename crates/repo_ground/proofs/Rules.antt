@@ -86,6 +86,7 @@ rule-committed h s r w e f = subst (λ (p : Plan). IsCommitted h p s (with_rule 
   store = refl;
   tables = refl;
   memo = refl;
+  true_maps = refl;
   map = refl;
   selected = refl;
 })

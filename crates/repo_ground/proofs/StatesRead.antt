@@ -11,8 +11,10 @@ use Rattle.commit_graph.specs.Graphs.{Row}
 use Rattle.filter_apply.specs.Truth.{AreTrueFor}
 use Rattle.filter_cache.specs.Memos.{Key, Memo}
 use Rattle.filter_routes.specs.TableValues.{Table}
-use Rattle.history_ground.specs.Grounds.{IsGround}
+use Rattle.history_ground.specs.Grounds.{IsGround, commits_of}
 use Rattle.history_ground.specs.StoredGraphs.{IsGraphIn}
+use Rattle.history_ground.specs.TrueMaps.{AreTrueMaps}
+use Rattle.history_ground.specs.declared.true_maps.TrueMap.{TrueMap}
 use Rattle.state_items.specs.Arrivals.{rows_of}
 use Rattle.state_items.specs.Changes.{with_refs}
 use Rattle.state_items.specs.Items.{Held}
@@ -94,14 +96,15 @@ true-nothing S memo e = record {
     not-there es x z m = absurd (omega (arith, m.1, z))
 
 -- its ground, with no tables yet and an empty memo
-ground-read : (h : Held) (v : Gathered) (s : Contents) → IsReadInto v s → Holds h v → s.basis.tables ≡ [] → s.basis.memo.entries ≡ [] → IsGround s.basis
-ground-read h v s r g t m =
+ground-read : (h : Held) (v : Gathered) (s : Contents) → IsReadInto v s → Holds h v → s.basis.tables ≡ [] → s.basis.memo.entries ≡ [] → s.basis.true_maps ≡ [] → IsGround s.basis
+ground-read h v s r g t m n =
     let of : IsGraphIn h.objects (rows_of h.objects) = rows_ground h.objects h.objects g.store g.store (found-in h.objects g.store) in
     let S : IsGraphIn s.basis.store (rows_of h.objects) = subst (λ (S : List Object). IsGraphIn S (rows_of h.objects)) (sym (r.store ∙ g.objects)) of in
     record {
       graph = subst (λ (rows : List Row). IsGraphIn s.basis.store rows) (sym (r.graph ∙ g.graph)) S;
       memo = subst (λ (ts : List Table). AreTrueFor s.basis.store ts s.basis.memo) (sym t) (true-nothing s.basis.store s.basis.memo m);
+      maps = subst (λ (ms : List TrueMap). AreTrueMaps s.basis.store (commits_of s.basis) ms) (sym n) tt;
     }
 
-pub whole-read : (h : Held) (v : Gathered) (s : Contents) → IsReadInto v s → s.basis.tables ≡ [] → s.basis.memo.entries ≡ [] → Holds h v → Spells h s × IsGround s.basis
-whole-read h v s r t m g = (spells-read h v s r g, ground-read h v s r g t m)
+pub whole-read : (h : Held) (v : Gathered) (s : Contents) → IsReadInto v s → s.basis.tables ≡ [] → s.basis.memo.entries ≡ [] → s.basis.true_maps ≡ [] → Holds h v → Spells h s × IsGround s.basis
+whole-read h v s r t m n g = (spells-read h v s r g, ground-read h v s r g t m n)

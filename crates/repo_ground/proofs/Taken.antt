@@ -1,5 +1,5 @@
 -- What a batch brings, as it is taken in without an item.
-use Rattle.std.proofs.Common.{◌≡◌, List, [], ◌++◌, map, reverse, Option, None, Some, refl, sym, ap, subst, ◌∙◌}
+use Rattle.std.proofs.Common.{◌≡◌, List, [], ◌++◌, map, reverse, None, Some, refl, sym, ap, ◌∙◌}
 use Rattle.std.proofs.lemmas.List.{reverse-reverse}
 use Rattle.std.proofs.lemmas.List.Elements.{All-contains}
 use Rattle.git_objects.specs.Parts.{name_bytes}

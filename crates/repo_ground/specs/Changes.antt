@@ -61,6 +61,7 @@ pub record IsCommitted (h : Held) (p : Plan) (before after : Contents) : Type 0 
   pub store : after.basis.store ≡ before.basis.store
   pub tables : after.basis.tables ≡ before.basis.tables
   pub memo : after.basis.memo ≡ before.basis.memo
+  pub true_maps : after.basis.true_maps ≡ before.basis.true_maps
   pub map : after.basis.map ≡ before.basis.map
   pub selected : after.selected ≡ before.selected
 

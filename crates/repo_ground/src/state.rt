@@ -25,7 +25,7 @@ use filter_cache::Memo;
 use filter_routes::Tables;
 use filter_text::{Filter, print};
 use git_objects::Name;
-use history_ground::Ground;
+use history_ground::{Ground, TrueMaps};
 use indexmap::IndexSet;
 use path_names::RefName;
 use proj_io::Keeper;
@@ -140,6 +140,7 @@ impl State {
             tables: Tables::new(alloc),
             memo,
             rule,
+            true_maps: TrueMaps::new(alloc),
         };
         State {
             ground,

@@ -22,7 +22,7 @@ keep_made-requires-clause-fit c =
     let f = shape c.args.filter.now in
     let g = c.args.ground.now in
     let h = c.take_turn.new.ground in
-    fits f g h c.args.place c.requires.ground c.take_turn.ensures.same c.take_turn.ensures.map (map name_bytes c.args.made.now.keys) c.requires.ready c.in-New.shown c.in-New.body.items
+    fits f g h c.args.place c.requires.ground c.take_turn.ensures.same c.take_turn.ensures.map c.requires.ready.there c.requires.ready.held c.in-New.shown c.in-New.body.items
     (λ d e. subst (IsTurn f g h c.args.place d) c.in-New.is (c.in_ok-take_turn.ensures.ok d e))
 
 pub returns-in-Kept-clause-ok : goal.returns-in-Kept-clause-ok

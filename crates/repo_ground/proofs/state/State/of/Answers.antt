@@ -7,4 +7,4 @@ returns-clause-spells c = λ h g.
     let e = c.finish-store.ensures in
     whole-read h c.args.reading _
     (record { store = e.store; names = e.names; graph = e.graph; known = e.blobs; refs = e.refs; maps = e.kept; rule = e.rule; none = refl; kept = refl })
-    c.new-2.ensures c.requires g
+    c.new-2.ensures c.requires c.new-3.ensures g

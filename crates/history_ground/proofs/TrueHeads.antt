@@ -1,0 +1,105 @@
+-- The projection of a head from scratch, with the commit that it is.
+use Rattle.std.proofs.Common.{◌≡◌, ℕ, true, List, Option, Some, None, IfSome, sym, ap, subst, ◌∙◌}
+use Rattle.std.specs.Option.{option_map}
+use Rattle.git_objects.specs.Paths.{Bytes}
+use Rattle.git_objects.specs.Snapshots.{Graph, has}
+use Rattle.git_objects.specs.declared.kind.Kind.TheVariants.{Commit as CommitKind}
+use Rattle.object_store.specs.Objects as objects
+use Rattle.object_store.specs.Objects.{Object}
+use Rattle.commit_map.specs.Shown.{Entries, kept_at, shown_value}
+use Rattle.commit_map.specs.declared.commit_map.Shown as code
+use Rattle.commit_map.specs.declared.rule.Rule.{Rule}
+use Rattle.filter_apply.specs.Faults.{IsApplyFault}
+use Rattle.filter_apply.specs.declared.fault.ApplyError.{ApplyError}
+use Rattle.filter_text.specs.Filters.{Filter}
+use Rattle.workspace.specs.Workspaces.{shown}
+use Rattle.history_ground.specs.Asked.{IsNone}
+use Rattle.history_ground.specs.Grounds.{IsGround, Extends, commits_of}
+use Rattle.history_ground.specs.Heads.{IsSeenObject}
+use Rattle.history_ground.specs.Projections.{projection}
+use Rattle.history_ground.specs.StoredGraphs.{name_at}
+use Rattle.history_ground.specs.TrueMaps.{IsPutBehind, IsTakenOut, IsTrueMap}
+use Rattle.history_ground.specs.TrueWalks.{IsMade, IsTrueWalk}
+use Rattle.history_ground.specs.declared.ground.Ground.{Ground}
+use Rattle.history_ground.specs.declared.true_maps.TrueMap.{TrueMap}
+use Rattle.history_ground.proofs.Asking.{extends-none}
+use Rattle.history_ground.proofs.Growing.{commits-same, extends-self}
+use Rattle.history_ground.proofs.HeadLemmas.{more-map, more-seen, more-seen-fault, still-map}
+use Rattle.history_ground.proofs.TrueEntries.{true-behind, true-out}
+
+-- what a map of projections from scratch has of a commit
+pub made-kept : (S : List Object) (g : Graph) (k : Rule) (f : Filter) (es : Entries) → IsTrueMap S g k f es → (n : Bytes) → has g n ≡ true → (o : Option code.Shown)
+    → Some (option_map shown_value o) ≡ kept_at n es → IsMade S (projection k (shown f) g n) o
+made-kept S g k f es t n there o e = record { is = t.values n (option_map shown_value o) (sym e) there; held = by o e }
+  where
+    by : (o : Option code.Shown) → Some (option_map shown_value o) ≡ kept_at n es → IfSome o (λ s. objects.has CommitKind S s.commit.0 ≡ true)
+    by None q = tt
+    by (Some s) q = t.held n (shown_value s) (sym q)
+
+-- the commit of a projection that was made
+pub made-held : (S : List Object) (p : _) (o : Option code.Shown) (s : code.Shown) → IsMade S p o → o ≡ Some s → (objects.has CommitKind S s.commit.0 ≡ true) × (Some (shown_value s) ≡ p)
+made-held S p o s w e = (subst (λ x. IfSome x (λ s. objects.has CommitKind S s.commit.0 ≡ true)) e w.held, sym (ap (option_map shown_value) e) ∙ w.is)
+
+-- the projection of the same commits
+pub projection-same : (f : Filter) (n : Bytes) (g h : Ground) → IsGround g → Extends (IsSeenObject f g n) g h → projection h.rule (shown f) (commits_of h) n ≡ projection g.rule (shown f) (commits_of g) n
+projection-same f n g h w a = λ i. projection (a.rule i) (shown f) (commits-same (IsSeenObject f g n) g h w a i) n
+
+-- ---- a walk from a head
+
+pub walk-nothing : (f : Filter) (n : Bytes) (g : Ground) → IsGround g → IsTrueMap g.store (commits_of g) g.rule f g.map → IsTrueWalk f n g g
+walk-nothing f n g w t = record { same = extends-self (IsSeenObject f g n) g w; map = t }
+
+-- one call after another
+module _ (f : Filter) (n : Bytes) (g h : Ground) (w : IsGround g) (a : Extends (IsSeenObject f g n) g h) (m : h.map ≡ g.map) (t : IsTrueMap g.store (commits_of g) g.rule f g.map) where
+  pub walk-map : IsTrueMap h.store (commits_of h) h.rule f h.map
+  walk-map = subst (IsTrueMap h.store (commits_of h) h.rule f) (sym m) (still-map f g n w h a g.map t)
+
+  pub walk-still : IsTrueWalk f n g h
+  walk-still = record { same = a; map = more-map f g n w h a h.store h.map walk-map }
+
+  pub walk-then : (k : Ground) → IsTrueWalk f n h k → IsTrueWalk f n g k
+  walk-then k x = record { same = more-seen f g n w h a k x.same; map = more-map f g n w h a k.store k.map x.map }
+
+-- behind more tables
+module _ (f : Filter) (n : Bytes) (g h : Ground) (place : ℕ) (w : IsGround g) (a : Extends IsNone g h) (m : h.map ≡ g.map) (named : name_at h.graph place ≡ n) (t : IsTrueMap g.store (commits_of g) g.rule f g.map) where
+  tables : Extends (IsSeenObject f g n) g h
+  tables = extends-none (IsSeenObject f g n) g h a
+
+  pub tables-map : IsTrueMap h.store (commits_of h) h.rule f h.map
+  tables-map = walk-map f n g h w tables m t
+
+  pub tables-still : IsTrueWalk f n g h
+  tables-still = walk-still f n g h w tables m t
+
+  pub tables-walk : (k : Ground) → IsTrueWalk f (name_at h.graph place) h k → IsTrueWalk f n g k
+  tables-walk k x = walk-then f n g h w tables m t k (subst (λ b. IsTrueWalk f b h k) named x)
+
+  pub tables-fault : (S : List Object) (e : ApplyError) → IsApplyFault (IsSeenObject f h (name_at h.graph place)) S e → IsApplyFault (IsSeenObject f g n) S e
+  tables-fault S e x = more-seen-fault f g n w h tables S e (subst (λ b. IsApplyFault (IsSeenObject f h b) S e) named x)
+
+-- ---- with the map of the filter in the place of the kept one
+
+module _ (f : Filter) (n : Bytes) (g : Ground) (left : List TrueMap) (es : Entries) (w : IsGround g) (out : IsTakenOut f g.rule g.true_maps left es) where
+  abbrev inner : Ground
+  inner = record g { map = es; true_maps = left }
+
+  pub inner-ground : IsGround inner
+  inner-ground = record { graph = w.graph; memo = w.memo; maps = (true-out g.store (commits_of g) f g.rule g.true_maps left es out w.maps).0 }
+
+  pub inner-map : IsTrueMap g.store (commits_of g) g.rule f es
+  inner-map = (true-out g.store (commits_of g) f g.rule g.true_maps left es out w.maps).1
+
+  -- and put back
+  pub inner-put : (k : Ground) (kept : Entries) (ms : List TrueMap) → IsTrueWalk f n inner k → IsPutBehind f g.rule k.map k.true_maps ms → Extends (IsSeenObject f g n) g (record k { map = kept; true_maps = ms })
+  inner-put k kept ms x put = record {
+    graph = x.same.graph;
+    rule = x.same.rule;
+    tables = x.same.tables;
+    store = x.same.store;
+    ground = record {
+      graph = x.same.ground.graph;
+      memo = x.same.ground.memo;
+      maps = true-behind k.store (commits_of k) f g.rule k.map k.true_maps ms put x.same.ground.maps
+          (subst (λ (y : Graph). IsTrueMap k.store y g.rule f k.map) (sym (commits-same (IsSeenObject f g n) inner k inner-ground x.same)) x.map);
+    };
+  }
