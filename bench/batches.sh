@@ -58,14 +58,17 @@ micros() {
 batch import a/ '' >"$work/imports"
 batch import a/ "project $main :/a" >"$work/projects"
 batch "push $main :/a" '' '' >"$work/pushes"
+entries=1 batch "push $main :/a" '' '' >"$work/push"
 none=$(micros "$work/none" 0)
 imports=$(micros "$work/imports" "$entries")
 projects=$(micros "$work/projects" $((2 * entries)))
 pushes=$(micros "$work/pushes" "$entries")
+push=$(micros "$work/push" 1)
 printf '%d commits; loading %d.%03d ms\n' "$commits" $((none / 1000)) $((none % 1000))
 printf 'a commit more, by import: %d us\n' $(((imports - none) / entries))
 printf 'its projection, which is kept: %d us\n' $(((projects - imports) / entries))
-printf 'a pushed commit: %d us\n' $(((pushes - none) / entries))
+printf 'the first pushed commit, for which the history is projected: %d us\n' $((push - none))
+printf 'a pushed commit behind it: %d us\n' $(((pushes - push) / (entries - 1)))
 
 # Git's own commands for a commit upon a part, each a process
 git init -q --bare "$work/git" && git -C "$work/git" -c core.compression=0 fast-import --quiet <"$work/stream" || exit 0

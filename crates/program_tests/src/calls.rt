@@ -50,6 +50,8 @@ pub(crate) const PROJECT: &[&str] = &["project", "refs/heads/main", ":/a"];
 
 pub(crate) const RULE: &[&str] = &["rule", "2"];
 
+pub(crate) const BATCH: &[&str] = &["batch"];
+
 pub(crate) fn strings(alloc: Global, words: &[&str]) -> Result<Vec<String>, AllocError> {
     let mut all = Vec::new(alloc);
     for word in words {

@@ -1,5 +1,5 @@
 // Six commands on one store, and what a stop at each call of its disk leaves.
-ghost use Rattle.std.specs.Prelude.{◌≡◌, ◌<◌, ◌≤◌, true, Some, IfOk};
+ghost use Rattle.std.specs.Prelude.{◌≡◌, ◌≢◌, ◌<◌, ◌≤◌, true, Some, IfOk};
 ghost use Rattle.proj_disk.specs.MemDisks.{MemDiskState, view_of};
 ghost use Rattle.proj_journal.specs.Journals.{IsOpen};
 
@@ -10,7 +10,7 @@ use git_objects::Name;
 use path_names::RefName;
 use proj_cli::{Outcome, run};
 use proj_disk::{Fill, MemDisk};
-use proj_io::Keeper;
+use proj_io::{Keeper, MemSink};
 use proj_journal::Journal;
 use repo_ground::State;
 use std::alloc::{AllocError, Global};
@@ -37,6 +37,27 @@ const HEADS: [&[u8]; 7] = [
     b"c0087f5ed9a3c59cccefdc3ba1fe9cbbb5ab8376",
 ];
 
+// What a stop leaves of writes that weren't synced.
+const FILLS: [Fill; 3] = [Fill::Old, Fill::Written, Fill::Ones];
+
+// Runs a command, and says how it ended.
+pub(crate) fn outcome_of(
+    alloc: Global,
+    journal: &mut Journal<MemDisk>,
+    words: &[&str],
+    input: &[u8],
+    out: &mut MemSink,
+) -> Result<Outcome, AllocError>
+    requires { IsOpen (λ (s : MemDiskState). Some (view_of s)) journal.old }
+    ensures { IfOk result (λ outcome. outcome ≢ Outcome.StoreFault →
+        IsOpen (λ (s : MemDiskState). Some (view_of s)) journal.new) }
+{
+    let words = strings(alloc, words)?;
+    let mut input = source(alloc, input)?;
+    let mut err = sink(alloc);
+    Ok(run(alloc, &words, &mut input, out, &mut err, journal))
+}
+
 // Runs a command, and says whether it is done.
 fn is_done(
     alloc: Global,
@@ -47,25 +68,27 @@ fn is_done(
     requires { IsOpen (λ (s : MemDiskState). Some (view_of s)) journal.old }
     ensures { IfOk result (λ done. done ≡ true → IsOpen (λ (s : MemDiskState). Some (view_of s)) journal.new) }
 {
-    let words = strings(alloc, words)?;
-    let mut input = source(alloc, input)?;
-    let (mut out, mut err) = (sink(alloc), sink(alloc));
-    match run(alloc, &words, &mut input, &mut out, &mut err, journal) {
+    match outcome_of(alloc, journal, words, input, &mut sink(alloc))? {
         Outcome::Done => Ok(true),
         _ => Ok(false),
     }
 }
 
-// Whether that is the commit of the ref after so many of the commands.
-fn is_head(head: Option<Name>, number: usize) -> bool {
+// Whether that is the commit of the ref after so many commands. After none there is no ref.
+fn is_head(head: Option<Name>, heads: &[&[u8]], number: usize) -> bool {
     match head {
         None => number == 0,
-        Some(head) => HEADS.get(number) == Some(&head.hex().as_slice()),
+        Some(head) => heads.get(number) == Some(&head.hex().as_slice()),
     }
 }
 
-// Whether a disk with these bytes has the state after so many of the commands.
-fn has_state(alloc: Global, bytes: Vec<u8>, number: usize) -> Result<bool, AllocError> {
+// Whether a disk with these bytes has the state after so many commands.
+fn has_state(
+    alloc: Global,
+    bytes: Vec<u8>,
+    heads: &[&[u8]],
+    number: usize,
+) -> Result<bool, AllocError> {
     let Ok(mut journal) = Journal::open(alloc, MemDisk::new(alloc, bytes, Vec::new(alloc))) else {
         return Ok(false);
     };
@@ -76,47 +99,46 @@ fn has_state(alloc: Global, bytes: Vec<u8>, number: usize) -> Result<bool, Alloc
         return Ok(false);
     };
     match State::load(alloc, &mut journal) {
-        Ok(state) => Ok(count as usize == number && is_head(state.head(&refname), number)),
+        Ok(state) => Ok(count as usize == number && is_head(state.head(&refname), heads, number)),
         Err(_) => Ok(false),
     }
 }
 
-// Whether a stop behind the first so many calls leaves the state after so many of the commands.
+// Whether a stop behind the first so many calls leaves the state after so many commands.
 fn leaves(
     alloc: Global,
     disk: &MemDisk,
     calls: u64,
     fill: Fill,
+    heads: &[&[u8]],
     number: usize,
 ) -> Result<bool, AllocError>
     requires { calls ≤ disk.now.calls }
 {
-    has_state(alloc, disk.image(calls, fill)?, number)
+    has_state(alloc, disk.image(calls, fill)?, heads, number)
 }
 
-// Whether each stop at a call of a command, from the one with this number on, leaves the state before or after it, and
-// one behind its last call the state after it.
-fn leaves_state(
+// Whether a stop leaves the state after so many commands where the disk had made `before` calls, the state after one
+// more where it had made `after` calls, and one of the two in between. The heads are those after each number of
+// commands.
+pub(crate) fn leaves_state(
     alloc: Global,
     disk: &MemDisk,
     before: u64,
+    after: u64,
+    heads: &[&[u8]],
     number: usize,
 ) -> Result<bool, AllocError>
-    requires { number < 6 }
+    requires calls { after ≤ disk.now.calls }
+    requires number { number < 6 }
 {
-    let after = disk.calls();
-    for calls in before..after {
-        for fill in [Fill::Old, Fill::Written, Fill::Ones] {
-            if !leaves(alloc, disk, calls, fill, number)?
-                && !leaves(alloc, disk, calls, fill, number + 1)?
-            {
+    for calls in before..=after {
+        for fill in FILLS {
+            let is_earlier = calls < after && leaves(alloc, disk, calls, fill, heads, number)?;
+            let is_later = calls > before && leaves(alloc, disk, calls, fill, heads, number + 1)?;
+            if !is_earlier && !is_later {
                 return Ok(false);
             }
-        }
-    }
-    for fill in [Fill::Old, Fill::Written, Fill::Ones] {
-        if !leaves(alloc, disk, after, fill, number + 1)? {
-            return Ok(false);
         }
     }
     Ok(true)
@@ -134,7 +156,14 @@ fn each_image_has_the_acknowledged_commands(rt: HostRuntime) -> Result<(), Fail>
         let before = journal.disk().calls();
         assert!(rt; is_done(alloc, &mut journal, words, input)?, "{number}");
         assert!(rt;
-            leaves_state(alloc, journal.disk(), before, number)?,
+            leaves_state(
+                alloc,
+                journal.disk(),
+                before,
+                journal.disk().calls(),
+                &HEADS,
+                number
+            )?,
             "{number}"
         );
     }

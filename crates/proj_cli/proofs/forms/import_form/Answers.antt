@@ -45,3 +45,6 @@ returns-in-Ok-clause-made g c = λ (items : List Bytes) told.
 
 pub returns-in-Ok-clause-cause : goal.returns-in-Ok-clause-cause
 returns-in-Ok-clause-cause g c = counts-on _ _ _ _ _ c.load.ensures.cause c.import.ensures.cause
+
+pub returns-in-Ok-clause-told : goal.returns-in-Ok-clause-told
+returns-in-Ok-clause-told g c = (λ x. c.load.ensures.told.0 (c.import.ensures.told.0 x), λ x. c.import.ensures.told.1 (c.load.ensures.told.1 x))
