@@ -50,6 +50,15 @@ part_by_git() {
     git -C "$work/git" fast-export -- $main -- a | git_import part
 }
 
+trees_by_git() {
+    git -C "$work/git" fast-export --full-tree -- $main -- a | git_import part
+}
+
+# It changes the repository that it works on.
+part_by_filter_repo() {
+    git clone -q --bare "$work/git" "$work/filtered" && git -C "$work/filtered" filter-repo --force --subdirectory-filter a
+}
+
 export_by_git() {
     ours export $main :/a | git_import part
 }
@@ -68,6 +77,11 @@ timed 'project :[x=:/a,y=:/b], first' ours project $main ':[x=:/a,y=:/b]'
 timed 'export :/a' ours export $main :/a
 timed 'export :/a into git fast-import' export_by_git
 timed 'git fast-export -- a into git fast-import' part_by_git
+timed 'git fast-export --full-tree into git fast-import' trees_by_git
+if command -v git-filter-repo >/dev/null; then
+    timed 'git filter-repo --subdirectory-filter a' part_by_filter_repo
+    [ "$(git -C "$work/filtered" rev-parse $main)" = "$(ours project $main :/a)" ] || printf 'its head has another name\n'
+fi
 history 1 1 "$(ours project $main :/a)" d0/ >"$work/pushed"
 timed 'push of one commit through :/a' ours push $main :/a <"$work/pushed"
 history 1 1000 "$(ours project $main :/a)" d1/ >"$work/pushed"
