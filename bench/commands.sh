@@ -87,3 +87,8 @@ timed 'push of one commit through :/a' ours push $main :/a <"$work/pushed"
 history 1 1000 "$(ours project $main :/a)" d1/ >"$work/pushed"
 timed 'push of 1,000 commits through :/a' ours push $main :/a <"$work/pushed"
 timed 'git fast-import of these' git_import pushed < <(history 1 1000 '' d1/)
+{ export_by_git && git clone -q -b main "$work/part" "$work/applied"; } 2>"$work/err"
+head=$(git -C "$work/part" rev-parse $main)
+history 1 1000 "$head" d1/ | git -C "$work/part" fast-import --quiet
+git -C "$work/part" format-patch -q --stdout "$head..$main" >"$work/patches"
+timed 'git am of their patches' git -C "$work/applied" -c user.name=A -c user.email=a@x am -q "$work/patches"
