@@ -2,6 +2,8 @@ pub mod Sent
 pub mod Giving
 pub mod Lookups
 pub mod NewBlobs
+pub mod Marked
+pub mod Behind
 pub mod WrittenBlobs
 pub mod ParentLines
 pub mod WrittenLeaves

@@ -18,9 +18,12 @@ use Rattle.object_store.proofs.Held.{body_named}
 use Rattle.object_store.proofs.StoredCommits.{commit-told, stored-commit}
 use Rattle.object_store.proofs.Unfolding.{unfolding_law}
 use Rattle.object_store.specs.Unfolding.{flat}
-use Rattle.fast_export.specs.ExportTexts.{Marks, commit_text, commits_text, marks_after, marks_behind, one_text}
-use Rattle.fast_export.specs.Given.{Given, commit_mark, marks_in, next_of, with_blobs}
+use Rattle.fast_export.specs.ExportTexts.{Marks, commit_text, commits_text, marks_after, marks_behind, new_blobs, one_text}
+use Rattle.fast_export.specs.Given.{Given, AreGivenIn, HasMarks, commit_mark, marks_in, next_of, with_blobs}
 use Rattle.fast_export.specs.Histories.{snapshots_at}
+use Rattle.fast_export.specs.Known.{AreKnown, AreWritten}
+use Rattle.fast_export.specs.declared.known.Lines.{Lines}
+use Rattle.fast_export.proofs.Marked.{all_marked, known_stay}
 use Rattle.fast_export.proofs.WrittenBlobs.{blobs_text}
 
 -- what is known of a commit of a store
@@ -105,3 +108,16 @@ texts_behind S refname m ns ms = ap (commits_text refname m) (at_append S ns ms)
 
 pub marks_further : (S : List Object) (m : Marks) (ns ms : List Bytes) → marks_behind m (snapshots_at S (ns ++ ms)) ≡ marks_behind (marks_behind m (snapshots_at S ns)) (snapshots_at S ms)
 marks_further S m ns ms = ap (marks_behind m) (at_append S ns ms) ∙ behind_append m (snapshots_at S ns) (snapshots_at S ms)
+
+-- what was written before is known on
+pub still_written : (S : List Object) (n : Name) (c : Commit) (g h i : Given) (known : List (Name × Lines)) → marks_in S h ≡ with_blobs (marks_in S g) (flat S c.tree) → i ≡ record h { commits = h.commits ++ (n, next_of h) ∷ [] } → AreWritten S g known → AreGivenIn S h
+    → AreWritten S i known
+still_written S n c g h i known blobs commit w given = record {
+  given = subst (AreGivenIn S) (sym commit) (record { held = given.held; trees = given.trees });
+  lines = subst (λ (ms : List (ℕ × Bytes)). AreKnown S ms known) (sym (ap (λ (x : Given). (marks_in S x).blobs) commit ∙ ap (λ (m : Marks). m.blobs) blobs)) (known_stay S (marks_in S g).blobs (new_blobs (marks_in S g) (flat S c.tree)) known w.lines);
+}
+
+-- and each blob of the commit's tree has a mark
+pub tree_has_marks : (S : List Object) (n : Name) (t : Bytes) (g h i : Given) → marks_in S h ≡ with_blobs (marks_in S g) (flat S t) → i ≡ record h { commits = h.commits ++ (n, next_of h) ∷ [] } → HasMarks (marks_in S i).blobs (flat S t)
+tree_has_marks S n t g h i blobs commit =
+    subst (λ (ms : List (ℕ × Bytes)). HasMarks ms (flat S t)) (sym (ap (λ (x : Given). (marks_in S x).blobs) commit ∙ ap (λ (m : Marks). m.blobs) blobs)) (all_marked (marks_in S g) (flat S t))

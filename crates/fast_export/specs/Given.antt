@@ -1,8 +1,8 @@
 -- The marks that the code has given, by the names of blobs and commits.
-use Rattle.std.specs.Prelude.{◌≡◌, ℕ, ◌+◌, Bool, true, false, if◌then◌else◌, ◌==◌, decimal, List, [], ◌∷◌, ◌++◌, length, map, codes}
+use Rattle.std.specs.Prelude.{◌≡◌, ℕ, ◌+◌, Bool, true, false, if◌then◌else◌, ◌==◌, decimal, List, [], ◌∷◌, ◌++◌, length, map, codes, Some}
 use Rattle.git_objects.specs.Lists.{Each}
-use Rattle.git_objects.specs.Paths.{Bytes, Path, is_nil, same_bytes, text}
-use Rattle.git_objects.specs.Trees.{Flat}
+use Rattle.git_objects.specs.Paths.{Bytes, is_nil, same_bytes}
+use Rattle.git_objects.specs.Trees.{Leaf, Flat}
 use Rattle.git_objects.specs.Names.{mode_text}
 use Rattle.git_objects.specs.Commits.{Commit, hex}
 use Rattle.git_objects.specs.declared.kind.Kind.TheVariants.{Blob}
@@ -10,14 +10,17 @@ use Rattle.git_objects.specs.declared.mode.Mode.{Mode}
 use Rattle.git_objects.specs.declared.mode.Mode.TheVariants.{File, Exec, Link, Module, Dir}
 use Rattle.git_objects.specs.declared.name.Name.{Name}
 use Rattle.object_store.specs.Objects.{Object, body_of, has}
+use Rattle.object_store.specs.Unfolding.{flat}
 use Rattle.path_names.specs.Quoting.{quote}
 use Rattle.path_trees.specs.Walked.{leaf_of}
 use Rattle.path_trees.specs.declared.found.Leaf.{Leaf as FoundLeaf}
-use Rattle.fast_export.specs.ExportTexts.{Marks, line, mark_line, mark_of, new_blobs}
+use Rattle.fast_export.specs.ExportTexts.{Marks, blob_of, is_among, line, mark_line, mark_of, new_blobs}
 
+-- with trees of which each blob has one
 pub record Given : Type 0 where
   pub blobs : List (Name × ℕ)
   pub commits : List (Name × ℕ)
+  pub trees : List Name
 
 abbrev pub is_named : Name → Name → Bool
 is_named n k = same_bytes n.0 k.0
@@ -40,6 +43,19 @@ marks_in S g = record { next = next_of g; blobs = map (blob_mark S) g.blobs; com
 -- the store has each of the blobs
 abbrev pub AreHeldBlobs : List Object → Given → Type 0
 AreHeldBlobs S g = Each (λ e. has Blob S e.0.0 ≡ true) g.blobs
+
+-- a leaf's blob, where it has one, has a mark
+abbrev pub HasMark : List (ℕ × Bytes) → Leaf → Type 0
+HasMark blobs x = (b : Bytes) → blob_of x ≡ Some b → is_among b (map (λ m. m.1) blobs) ≡ true
+
+-- and that of each leaf of a tree
+abbrev pub HasMarks : List (ℕ × Bytes) → Flat → Type 0
+HasMarks blobs t = Each (λ e. HasMark blobs e.1) t
+
+-- the marks that were given are of blobs that the store has, and each blob of the trees has one
+pub record AreGivenIn (S : List Object) (g : Given) : Type 0 where
+  pub held : AreHeldBlobs S g
+  pub trees : Each (λ n. HasMarks (marks_in S g).blobs (flat S n.0)) g.trees
 
 abbrev pub is_module : Mode → Bool
 is_module File = false
@@ -70,8 +86,8 @@ data_ref Exec n number = codes ":" ++ decimal number
 data_ref Link n number = codes ":" ++ decimal number
 data_ref Dir n number = codes ":" ++ decimal number
 
-abbrev pub modify_line : Mode → Bytes → Path → Bytes
-modify_line mode ref p = line (codes "M " ++ mode_text mode ++ codes " " ++ ref ++ codes " ") (quote (text p))
+abbrev pub modify_line : Mode → Bytes → Bytes → Bytes
+modify_line mode ref place = line (codes "M " ++ mode_text mode ++ codes " " ++ ref ++ codes " ") (quote place)
 
 -- the word in front of a parent: `from` for the first
 abbrev pub parent_word : ℕ → Bytes

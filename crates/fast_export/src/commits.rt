@@ -1,5 +1,5 @@
 // Commits, each with its whole tree.
-ghost use Rattle.std.specs.Prelude.{◌≡◌, ◌++◌, ◌∷◌, [], Bool, true, None, codes, decimal, flat_map, length, map, OnOk};
+ghost use Rattle.std.specs.Prelude.{◌≡◌, ◌++◌, ◌∷◌, [], Bool, true, None, codes, decimal, length, map, OnOk};
 ghost use Rattle.std.specs.Prelude.{if◌then◌else◌};
 ghost use Rattle.std.specs.Map.{lookup};
 ghost use Rattle.std.specs.Option.{unwrap_or};
@@ -8,23 +8,28 @@ ghost use Rattle.git_objects.specs.declared.kind.Kind.TheVariants.{Commit as Com
 ghost use Rattle.object_store.specs.Objects.{IsStore, has};
 ghost use Rattle.object_store.specs.StoredSnapshots.{snapshot_of};
 ghost use Rattle.object_store.specs.Unfolding.{flat};
-ghost use Rattle.fast_export.specs.ExportTexts.{commit_text, commits_text, leaf_line, line, mark_line, marks_behind};
-ghost use Rattle.fast_export.specs.Given.{AreHeldBlobs, commit_mark, commit_names, head_text};
+ghost use Rattle.fast_export.specs.ExportTexts.{commit_text, commits_text, line, mark_line, marks_behind};
+ghost use Rattle.fast_export.specs.Given.{AreHeldBlobs, HasMarks, commit_mark, commit_names, head_text};
 ghost use Rattle.fast_export.specs.Given.{is_named, marks_in, parent_word, parents_from};
 ghost use Rattle.fast_export.specs.Histories.{snapshots_at};
+ghost use Rattle.fast_export.specs.Known.{AreKnown, AreWritten};
 ghost use Rattle.fast_export.specs.Sending.{IsPut};
 
 use crate::ExportError;
 use crate::blobs::write_new_blobs;
 use crate::given::GivenMarks;
-use crate::lines::{add_data_line, add_leaf_line, add_line, add_mark_line};
-use crate::sending::{put, send_piece};
+use crate::known::KnownLines;
+use crate::leaves::write_lines;
+use crate::lines::{add_data_line, add_line, add_mark_line};
+use crate::sending::put;
 use git_objects::{CommitView, Name};
 use object_store::Store;
 use path_names::RefName;
-use path_trees::Walk;
 use proj_io::Sink;
 use std::alloc::{AllocError, Global};
+
+// How many levels of directories are gone down one by one.
+const DEPTH: u32 = 64;
 
 // What stands in front of a commit's message.
 fn add_head(
@@ -77,30 +82,6 @@ fn add_parents(
     Ok(())
 }
 
-// The lines that put the leaves of a tree.
-fn write_leaves<O: Sink>(
-    alloc: Global,
-    store: &Store,
-    tree: Name,
-    marks: &GivenMarks,
-    sink: &mut O,
-    kept: &mut Vec<u8>,
-) -> Result<(), ExportError>
-    requires store { IsStore store.now }
-    requires tree { has Tree store.now tree.0 ≡ true }
-    requires marks { AreHeldBlobs store.now marks.now }
-    ensures { IsPut O.tells O.written O.faults O.refusals sink.old sink.new
-        kept.old.items kept.new.items
-        (flat_map (leaf_line (marks_in store.now marks.now).blobs) (flat store.now tree.0)) result }
-{
-    let mut walk = Walk::new(alloc, store, tree)?;
-    'leaves: while walk.next()? {
-        add_leaf_line(alloc, kept, marks, walk.path(), walk.leaf())?;
-        send_piece(sink, kept)?;
-    }
-    Ok(())
-}
-
 // A commit, of which the blobs were written and the mark is given.
 fn write_made<O: Sink>(
     alloc: Global,
@@ -109,22 +90,36 @@ fn write_made<O: Sink>(
     number: u64,
     commit: &CommitView<'_>,
     marks: &GivenMarks,
+    known: &mut KnownLines,
     sink: &mut O,
     kept: &mut Vec<u8>,
 ) -> Result<(), ExportError>
     requires store { IsStore store.now }
     requires tree { has Tree store.now commit.now.tree ≡ true }
-    requires marks { AreHeldBlobs store.now marks.now }
-    ensures { IsPut O.tells O.written O.faults O.refusals sink.old sink.new
+    requires held { AreHeldBlobs store.now marks.now }
+    requires marks { HasMarks (marks_in store.now marks.now).blobs (flat store.now commit.now.tree) }
+    requires known { AreKnown store.now (marks_in store.now marks.now).blobs known.old }
+    ensures put { IsPut O.tells O.written O.faults O.refusals sink.old sink.new
         kept.old.items kept.new.items
         (commit_text refname.now number (marks_in store.now marks.now) (snapshot_of store.now commit.now)) result }
+    ensures known { OnOk result (AreKnown store.now (marks_in store.now marks.now).blobs known.new) }
 {
     add_head(kept, refname, number, commit)?;
     put(sink, kept, commit.message())?;
     kept.push(b'\n')?;
     add_parents(kept, marks, commit)?;
     kept.extend_from_slice(b"deleteall\n")?;
-    write_leaves(alloc, store, commit.tree(), marks, sink, kept)?;
+    write_lines(
+        alloc,
+        store,
+        commit.tree(),
+        b"",
+        DEPTH,
+        marks,
+        known,
+        sink,
+        kept,
+    )?;
     kept.push(b'\n')?;
     Ok(())
 }
@@ -136,18 +131,19 @@ pub fn write_commit<O: Sink>(
     refname: &RefName,
     name: &Name,
     marks: &mut GivenMarks,
+    known: &mut KnownLines,
     sink: &mut O,
     kept: &mut Vec<u8>,
 ) -> Result<(), ExportError>
     requires commit { has CommitKind store.now name.now.0 ≡ true }
     requires new { lookup (is_named name.now) marks.old.commits ≡ None }
-    requires marks { AreHeldBlobs store.now marks.old }
+    requires given { AreWritten store.now marks.old known.old }
     ensures put { IsPut O.tells O.written O.faults O.refusals sink.old sink.new
         kept.old.items kept.new.items
         (commits_text refname.now (marks_in store.now marks.old) (snapshots_at store.now (name.now.0 ∷ []))) result }
     ensures marks { OnOk result (marks_in store.now marks.new
         ≡ marks_behind (marks_in store.now marks.old) (snapshots_at store.now (name.now.0 ∷ []))) }
-    ensures held { OnOk result (AreHeldBlobs store.now marks.new) }
+    ensures given { OnOk result (AreWritten store.now marks.new known.new) }
     ensures names { OnOk result (commit_names marks.new ≡ commit_names marks.old ++ name.now ∷ []) }
     ensures store { IsStore store.now }
 {
@@ -157,8 +153,10 @@ pub fn write_commit<O: Sink>(
     let Some(commit) = CommitView::of(object.body) else {
         unreachable!();
     };
-    write_new_blobs(alloc, store, commit.tree(), marks, sink, kept)?;
+    write_new_blobs(alloc, store, commit.tree(), DEPTH, marks, sink, kept)?;
     let number = marks.next();
     marks.add_commit(*name)?;
-    write_made(alloc, store, refname, number, &commit, marks, sink, kept)
+    write_made(
+        alloc, store, refname, number, &commit, marks, known, sink, kept,
+    )
 }

@@ -12,6 +12,7 @@ ghost use Rattle.fast_export.specs.Sending.{IsPut, unit_of};
 use crate::ExportError;
 use crate::commits::write_commit;
 use crate::given::GivenMarks;
+use crate::known::KnownLines;
 use crate::lines::{add_line, add_mark_line};
 use crate::sending::{PIECE, send};
 use git_objects::Name;
@@ -37,8 +38,11 @@ fn write_commits<O: Sink>(
     ensures store { 0 < length commits.now → OnOk result (IsStore store.now) }
 {
     let mut marks = GivenMarks::new(alloc);
+    let mut known = KnownLines::new(alloc);
     for name in commits {
-        write_commit(alloc, store, refname, name, &mut marks, sink, kept)?;
+        write_commit(
+            alloc, store, refname, name, &mut marks, &mut known, sink, kept,
+        )?;
     }
     Ok(marks.next() - 1)
 }
@@ -56,7 +60,7 @@ fn add_last(out: &mut Vec<u8>, refname: &RefName, number: u64) -> Result<(), All
 
 /// Writes the stream of git-fast-import(1) that makes these commits on a ref: each with its whole tree, as
 /// git-fast-export(1) writes it with `--full-tree`, each blob once, in front of the first commit that has it, and at
-/// the end the ref, set to the last commit. For no commits nothing is written. The sink gets pieces of at least 32,768
+/// the end the ref, set to the last commit. For no commits nothing is written. The sink gets pieces of at least 262,144
 /// bytes, but for the last one.
 ///
 /// Each commit comes once, and behind its parents. After an error the sink has a front of the text.

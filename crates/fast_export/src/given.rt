@@ -1,18 +1,22 @@
 // The marks that were given.
 ghost use Rattle.std.specs.Prelude.{◌≡◌, ◌<◌, ◌≤◌, ◌++◌, ◌∷◌, [], None, OnErr, OnOk};
+ghost use Rattle.std.specs.List.{list_any};
 ghost use Rattle.std.specs.Map.{lookup};
+ghost use Rattle.indexmap.specs.IndexSet.{insert_key};
 ghost use Rattle.fast_export.specs.Given.{is_named, next_of};
 
 use git_objects::Name;
-use indexmap::IndexMap;
+use indexmap::{IndexMap, IndexSet};
 use std::alloc::{AllocError, Global};
 use std::marker::Model;
 
-/// The numbers of the blobs and commits that were written, by their names. They count from 1 over both.
+/// The numbers of the blobs and commits that were written, by their names. They count from 1 over both. With them stand
+/// trees of which each blob has one.
 #[derive(Drop)]
 pub struct GivenMarks {
     blobs: IndexMap<Name, u64>,
     commits: IndexMap<Name, u64>,
+    trees: IndexSet<Name>,
 }
 
 impl Model for GivenMarks {
@@ -20,16 +24,17 @@ impl Model for GivenMarks {
 
     ghost Value = { Given };
 
-    ghost view = { λ m. record { blobs = m.blobs.entries; commits = m.commits.entries } };
+    ghost view = { λ m. record { blobs = m.blobs.entries; commits = m.commits.entries; trees = m.trees.keys } };
 }
 
 impl GivenMarks {
     pub fn new(alloc: Global) -> GivenMarks
-        ensures { result ≡ record { blobs = []; commits = [] } }
+        ensures { result ≡ record { blobs = []; commits = []; trees = [] } }
     {
         GivenMarks {
             blobs: IndexMap::new(alloc),
             commits: IndexMap::new(alloc),
+            trees: IndexSet::new(alloc),
         }
     }
 
@@ -73,6 +78,21 @@ impl GivenMarks {
     {
         let number = self.next();
         self.commits.insert(name, number)?;
+        Ok(())
+    }
+
+    /// Whether each blob of a tree is known to have a mark.
+    pub fn has_tree(&self, tree: &Name) -> bool
+        ensures { result ≡ list_any (is_named tree.now) self.now.trees }
+    {
+        self.trees.contains(tree)
+    }
+
+    /// Adds a tree, of which each blob has a mark.
+    pub fn add_tree(&mut self, tree: Name) -> Result<(), AllocError>
+        ensures { OnOk result (self.new ≡ record self.old { trees = insert_key is_named self.old.trees tree }) }
+    {
+        self.trees.insert(tree)?;
         Ok(())
     }
 }

@@ -3,10 +3,13 @@
 
 mod blobs;
 mod commits;
+mod entries;
 mod error;
 mod export;
 mod given;
+mod known;
 mod laws;
+mod leaves;
 mod lines;
 mod sending;
 

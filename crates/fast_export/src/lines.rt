@@ -9,7 +9,7 @@ ghost use Rattle.fast_export.specs.Given.{data_ref, is_module, is_named, modify_
 use crate::given::GivenMarks;
 use git_objects::Mode;
 use itoa::Buffer;
-use path_names::{Path, quote};
+use path_names::quote;
 use path_trees::Leaf;
 use std::alloc::{AllocError, Global};
 
@@ -75,19 +75,18 @@ fn add_data_ref(out: &mut Vec<u8>, leaf: Leaf, number: u64) -> Result<(), AllocE
     out.extend_from_slice(buffer.format(number).as_bytes())
 }
 
-/// The line that puts a leaf at a path.
+/// The line that puts a leaf at a path, of which this is the text.
 pub fn add_leaf_line(
     alloc: Global,
     out: &mut Vec<u8>,
     marks: &GivenMarks,
-    path: &Path,
+    text: &[u8],
     leaf: Leaf,
 ) -> Result<(), AllocError>
     ensures { OnOk result (out.new.items ≡ out.old.items ++ modify_line leaf.mode
-        (data_ref leaf.mode leaf.name.0 (unwrap_or (lookup (is_named leaf.name) marks.now.blobs) 0)) path.now) }
+        (data_ref leaf.mode leaf.name.0 (unwrap_or (lookup (is_named leaf.name) marks.now.blobs) 0)) text.now) }
 {
-    let text = path.text(alloc)?;
-    let quoted = quote(alloc, &text)?;
+    let quoted = quote(alloc, text)?;
     out.extend_from_slice(b"M ")?;
     out.extend_from_slice(digits(leaf.mode))?;
     out.push(b' ')?;

@@ -1,12 +1,12 @@
 // A text on its way to a sink. It is gathered, so that the sink gets pieces of some size.
-ghost use Rattle.std.specs.Prelude.{◌≡◌, [], ◌↔◌, OnOk};
-ghost use Rattle.fast_export.specs.Sending.{IsPut};
+ghost use Rattle.std.specs.Prelude.{◌≡◌, ◌++◌, [], ◌↔◌, true, Ok, OnOk};
+ghost use Rattle.fast_export.specs.Sending.{IsPut, unit_of};
 
 use crate::ExportError;
 use proj_io::{Sink, SinkError, write_whole};
 
 /// Bytes that a piece has at least, but for the last one.
-pub const PIECE: usize = 32_768;
+pub const PIECE: usize = 262_144;
 
 impl From<SinkError> for ExportError {
     ghost use Rattle.fast_export.specs.Errors.{error_of};
@@ -41,15 +41,31 @@ pub fn send<O: Sink>(sink: &mut O, kept: &mut Vec<u8>) -> Result<(), ExportError
     Ok(())
 }
 
-/// Sends what is kept where it is enough for a piece.
-pub fn send_piece<O: Sink>(sink: &mut O, kept: &mut Vec<u8>) -> Result<(), ExportError>
-    ensures { IsPut O.tells O.written O.faults O.refusals sink.old sink.new
-        kept.old.items kept.new.items [] result }
+/// Sends what is kept where it is enough for a piece; true where it isn't, so that all of it is kept on.
+pub fn send_piece<O: Sink>(sink: &mut O, kept: &mut Vec<u8>) -> Result<bool, ExportError>
+    ensures put { IsPut O.tells O.written O.faults O.refusals sink.old sink.new
+        kept.old.items kept.new.items [] (unit_of result) }
+    ensures whole { result ≡ Ok true → kept.new.items ≡ kept.old.items }
 {
     if kept.len() < PIECE {
-        return Ok(());
+        return Ok(true);
     }
-    send(sink, kept)
+    send(sink, kept)?;
+    Ok(false)
+}
+
+/// Puts bytes behind what is kept, and sends it where it is enough for a piece; true where it isn't.
+pub fn put_piece<O: Sink>(
+    sink: &mut O,
+    kept: &mut Vec<u8>,
+    bytes: &[u8],
+) -> Result<bool, ExportError>
+    ensures put { IsPut O.tells O.written O.faults O.refusals sink.old sink.new
+        kept.old.items kept.new.items bytes.now (unit_of result) }
+    ensures whole { result ≡ Ok true → kept.new.items ≡ kept.old.items ++ bytes.now }
+{
+    kept.extend_from_slice(bytes)?;
+    send_piece(sink, kept)
 }
 
 /// Puts bytes behind what is kept. Many bytes go to the sink without a copy, but for those that fill a piece.

@@ -1,5 +1,6 @@
 use Rattle.std.proofs.Common.{◌≡◌, ◌∙◌, List, sym, ap, Some, None, true}
 use Rattle.git_objects.specs.Paths.{Bytes}
+use Rattle.std.proofs.lemmas.Result.{on_ok_weaker}
 use Rattle.git_objects.specs.declared.kind.Kind.TheVariants.{Commit as CommitKind, Tree}
 use Rattle.object_store.specs.Objects.{Object, IsStore, find_named, has}
 use Rattle.object_store.specs.Unfolding.{flat}
@@ -7,7 +8,7 @@ use Rattle.object_store.proofs.Parts.{find-has}
 use Rattle.object_store.proofs.StoredCommits.{commit-read}
 use Rattle.fast_export.specs.Given.{marks_in, with_blobs}
 use Rattle.fast_export.proofs.Sent.{put_as, put_err, put_short, put_stop, put_then, whenever}
-use Rattle.fast_export.proofs.StoredHistories.{commit_begun, commit_put, marks_put, told_commit}
+use Rattle.fast_export.proofs.StoredHistories.{commit_begun, commit_put, marks_put, still_written, told_commit, tree_has_marks}
 use Rattle.fast_export.proofs.WrittenBlobs.{blobs_text}
 use Rattle.fast_export.proofs.commits.write_commit.Goals as goal
 
@@ -53,7 +54,7 @@ returns-clause-put g c =
     let blobs = c.in_ok-write_new_blobs.ensures.marks ∙ ap (λ (n : Bytes). with_blobs (marks_in S c.args.marks.now) (flat S n)) c.tree.ensures in
     put_as _ _ _ _ _ _ _
     (commit_put S c.args.name.now c.in-Some-of.commit stored c.args.marks.now c.write_new_blobs.new.marks c.add_commit.new.self blobs c.in_ok-add_commit.ensures.ok c.args.refname.now c.next-number.result c.next-number.ensures)
-    (put_then _ _ _ _ _ _ _ _ _ (put_as _ _ _ _ _ _ _ (ap (λ (n : Bytes). blobs_text (marks_in S c.args.marks.now) (flat S n)) c.tree.ensures) c.in_ok-write_new_blobs.ensures.put) c.write_made.ensures)
+    (put_then _ _ _ _ _ _ _ _ _ (put_as _ _ _ _ _ _ _ (ap (λ (n : Bytes). blobs_text (marks_in S c.args.marks.now) (flat S n)) c.tree.ensures) c.in_ok-write_new_blobs.ensures.put) c.write_made.ensures.put)
 
 pub returns-clause-marks : goal.returns-clause-marks
 returns-clause-marks g c =
@@ -61,3 +62,22 @@ returns-clause-marks g c =
     let stored = told_commit S c.args.name.now.0 _ c.in-Some-of.commit c.in-Some.ensures.store c.requires.commit c.in-Some.ensures.object c.in-Some-of.ensures.commit in
     let blobs = c.in_ok-write_new_blobs.ensures.marks ∙ ap (λ (n : Bytes). with_blobs (marks_in S c.args.marks.now) (flat S n)) c.tree.ensures in
     whenever c.write_made.result _ (marks_put S c.args.name.now c.in-Some-of.commit stored c.args.marks.now c.write_new_blobs.new.marks c.add_commit.new.self blobs c.in_ok-add_commit.ensures.ok)
+
+pub write_made-requires-clause-marks : goal.write_made-requires-clause-marks
+write_made-requires-clause-marks g c =
+    let S = c.args.store.now in
+    let blobs = c.in_ok-write_new_blobs.ensures.marks ∙ ap (λ (n : Bytes). with_blobs (marks_in S c.args.marks.now) (flat S n)) c.tree.ensures in
+    tree_has_marks S c.args.name.now c.in-Some-of.commit.tree c.args.marks.now c.write_new_blobs.new.marks c.add_commit.new.self blobs c.in_ok-add_commit.ensures.ok
+
+pub write_made-requires-clause-known : goal.write_made-requires-clause-known
+write_made-requires-clause-known g c =
+    let S = c.args.store.now in
+    let blobs = c.in_ok-write_new_blobs.ensures.marks ∙ ap (λ (n : Bytes). with_blobs (marks_in S c.args.marks.now) (flat S n)) c.tree.ensures in
+    (still_written S c.args.name.now c.in-Some-of.commit c.args.marks.now c.write_new_blobs.new.marks c.add_commit.new.self c.args.known.now blobs c.in_ok-add_commit.ensures.ok c.requires.given c.in_ok-write_new_blobs.ensures.given).lines
+
+pub returns-clause-given : goal.returns-clause-given
+returns-clause-given g c =
+    let S = c.args.store.now in
+    let blobs = c.in_ok-write_new_blobs.ensures.marks ∙ ap (λ (n : Bytes). with_blobs (marks_in S c.args.marks.now) (flat S n)) c.tree.ensures in
+    let all = still_written S c.args.name.now c.in-Some-of.commit c.args.marks.now c.write_new_blobs.new.marks c.add_commit.new.self c.args.known.now blobs c.in_ok-add_commit.ensures.ok c.requires.given c.in_ok-write_new_blobs.ensures.given in
+    on_ok_weaker c.write_made.result (λ k. record { given = all.given; lines = k }) c.write_made.ensures.known

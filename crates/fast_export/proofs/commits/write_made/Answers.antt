@@ -26,43 +26,43 @@ module _ (S : List Object) (refname : Bytes) (number : ℕ) (g : Given) (c : Com
       (λ i. (((letter_parts first (line (codes "author ") c.letter.author) (line (codes "committer ") c.letter.committer) (line (codes "data ") (decimal (length c.letter.message))) c.letter.message (10 ∷ []) i
       ++ all_parents (map commit_mark g.commits) c.parents i) ++ codes "deleteall\n") ++ leaves) ++ 10 ∷ [])
 
-pub returns-in_err-put : goal.returns-in_err-put
-returns-in_err-put g c =
+pub returns-in_err-put-clause-put : goal.returns-in_err-put-clause-put
+returns-in_err-put-clause-put g c =
     put_err _ _ _ _ _ c.in_err-put.field-0.0 _ c.from_residual-in_err-put.ensures.1
     (put_as _ _ _ _ _ _ _ (whole c.args.store.now c.args.refname.now c.args.number c.args.marks.now c.args.commit.now)
     (put_stop _ _ _ [] _ _ _ _ (put_stop _ _ _ [] _ _ _ _ (put_stop _ _ _ [] _ _ _ _ (put_stop _ _ _ [] _ _ _ _ (put_stop _ _ _ _ _ _ _ _ (put_behind _ _ _ _ _ _ _ _ c.in_ok-add_head.ensures (put_as _ _ _ _ _ _ _ c.message.ensures c.in_err-put.ensures))))))))
 
-pub returns-in_err-push : goal.returns-in_err-push
-returns-in_err-push g c =
+pub returns-in_err-push-clause-put : goal.returns-in_err-push-clause-put
+returns-in_err-push-clause-put g c =
     put_err _ _ _ _ _ _ _ c.from_residual-in_err-push.ensures.1
     (put_as _ _ _ _ _ _ _ (whole c.args.store.now c.args.refname.now c.args.number c.args.marks.now c.args.commit.now)
     (put_stop _ _ _ [] _ _ _ _ (put_stop _ _ _ [] _ _ _ _ (put_stop _ _ _ [] _ _ _ _ (put_stop _ _ _ [] _ _ _ _ (put_short _ _ _ _ [] _ _ (put_behind _ _ _ _ _ _ _ _ c.in_ok-add_head.ensures (put_as _ _ _ _ _ _ _ c.message.ensures c.in_ok-put.ensures))))))))
 
-pub returns-in_err-add_parents : goal.returns-in_err-add_parents
-returns-in_err-add_parents g c =
+pub returns-in_err-add_parents-clause-put : goal.returns-in_err-add_parents-clause-put
+returns-in_err-add_parents-clause-put g c =
     put_err _ _ _ _ _ _ _ c.from_residual-in_err-add_parents.ensures.1
     (put_as _ _ _ _ _ _ _ (whole c.args.store.now c.args.refname.now c.args.number c.args.marks.now c.args.commit.now)
     (put_stop _ _ _ [] _ _ _ _ (put_stop _ _ _ [] _ _ _ _ (put_stop _ _ _ [] _ _ _ _ (put_short _ _ _ _ [] _ _ (put_before _ _ _ _ _ _ _ c.in_ok-push.ensures.items (put_behind _ _ _ _ _ _ _ _ c.in_ok-add_head.ensures (put_as _ _ _ _ _ _ _ c.message.ensures c.in_ok-put.ensures))))))))
 
-pub returns-in_err-extend_from_slice : goal.returns-in_err-extend_from_slice
-returns-in_err-extend_from_slice g c =
+pub returns-in_err-extend_from_slice-clause-put : goal.returns-in_err-extend_from_slice-clause-put
+returns-in_err-extend_from_slice-clause-put g c =
     put_err _ _ _ _ _ _ _ c.from_residual-in_err-extend_from_slice.ensures.1
     (put_as _ _ _ _ _ _ _ (whole c.args.store.now c.args.refname.now c.args.number c.args.marks.now c.args.commit.now)
     (put_stop _ _ _ [] _ _ _ _ (put_stop _ _ _ [] _ _ _ _ (put_short _ _ _ _ [] _ _ (put_before _ _ _ _ _ _ _ c.in_ok-add_parents.ensures (put_before _ _ _ _ _ _ _ c.in_ok-push.ensures.items (put_behind _ _ _ _ _ _ _ _ c.in_ok-add_head.ensures (put_as _ _ _ _ _ _ _ c.message.ensures c.in_ok-put.ensures))))))))
 
-pub returns-in_err-write_leaves : goal.returns-in_err-write_leaves
-returns-in_err-write_leaves g c =
-    put_err _ _ _ _ _ c.in_err-write_leaves.field-0.0 _ c.from_residual-in_err-write_leaves.ensures.1
+pub returns-in_err-write_lines-clause-put : goal.returns-in_err-write_lines-clause-put
+returns-in_err-write_lines-clause-put g c =
+    put_err _ _ _ _ _ c.in_err-write_lines.field-0.0 _ c.from_residual-in_err-write_lines.ensures.1
     (put_as _ _ _ _ _ _ _ (whole c.args.store.now c.args.refname.now c.args.number c.args.marks.now c.args.commit.now)
-    (put_stop _ _ _ _ _ _ _ _ (put_then _ _ _ _ _ _ _ _ _ (put_before _ _ _ _ _ _ _ c.in_ok-extend_from_slice.ensures.items (put_before _ _ _ _ _ _ _ c.in_ok-add_parents.ensures (put_before _ _ _ _ _ _ _ c.in_ok-push.ensures.items (put_behind _ _ _ _ _ _ _ _ c.in_ok-add_head.ensures (put_as _ _ _ _ _ _ _ c.message.ensures c.in_ok-put.ensures))))) (put_as _ _ _ _ _ _ _ (ap (λ n. flat_map (leaf_line (marks_in c.args.store.now c.args.marks.now).blobs) (flat c.args.store.now n)) c.tree.ensures) c.in_err-write_leaves.ensures))))
+    (put_stop _ _ _ _ _ _ _ _ (put_then _ _ _ _ _ _ _ _ _ (put_before _ _ _ _ _ _ _ c.in_ok-extend_from_slice.ensures.items (put_before _ _ _ _ _ _ _ c.in_ok-add_parents.ensures (put_before _ _ _ _ _ _ _ c.in_ok-push.ensures.items (put_behind _ _ _ _ _ _ _ _ c.in_ok-add_head.ensures (put_as _ _ _ _ _ _ _ c.message.ensures c.in_ok-put.ensures))))) (put_as _ _ _ _ _ _ _ (ap (λ n. flat_map (leaf_line (marks_in c.args.store.now c.args.marks.now).blobs) (flat c.args.store.now n)) c.tree.ensures) c.in_err-write_lines.ensures.put))))
 
-pub returns-in_err-push-2 : goal.returns-in_err-push-2
-returns-in_err-push-2 g c =
+pub returns-in_err-push-2-clause-put : goal.returns-in_err-push-2-clause-put
+returns-in_err-push-2-clause-put g c =
     put_err _ _ _ _ _ _ _ c.from_residual-in_err-push-2.ensures.1
     (put_as _ _ _ _ _ _ _ (whole c.args.store.now c.args.refname.now c.args.number c.args.marks.now c.args.commit.now)
-    (put_short _ _ _ _ _ _ _ (put_then _ _ _ _ _ _ _ _ _ (put_before _ _ _ _ _ _ _ c.in_ok-extend_from_slice.ensures.items (put_before _ _ _ _ _ _ _ c.in_ok-add_parents.ensures (put_before _ _ _ _ _ _ _ c.in_ok-push.ensures.items (put_behind _ _ _ _ _ _ _ _ c.in_ok-add_head.ensures (put_as _ _ _ _ _ _ _ c.message.ensures c.in_ok-put.ensures))))) (put_as _ _ _ _ _ _ _ (ap (λ n. flat_map (leaf_line (marks_in c.args.store.now c.args.marks.now).blobs) (flat c.args.store.now n)) c.tree.ensures) c.in_ok-write_leaves.ensures))))
+    (put_short _ _ _ _ _ _ _ (put_then _ _ _ _ _ _ _ _ _ (put_before _ _ _ _ _ _ _ c.in_ok-extend_from_slice.ensures.items (put_before _ _ _ _ _ _ _ c.in_ok-add_parents.ensures (put_before _ _ _ _ _ _ _ c.in_ok-push.ensures.items (put_behind _ _ _ _ _ _ _ _ c.in_ok-add_head.ensures (put_as _ _ _ _ _ _ _ c.message.ensures c.in_ok-put.ensures))))) (put_as _ _ _ _ _ _ _ (ap (λ n. flat_map (leaf_line (marks_in c.args.store.now c.args.marks.now).blobs) (flat c.args.store.now n)) c.tree.ensures) c.in_ok-write_lines.ensures.put))))
 
-pub returns : goal.returns
-returns g c =
+pub returns-clause-put : goal.returns-clause-put
+returns-clause-put g c =
     put_as _ _ _ _ _ _ _ (whole c.args.store.now c.args.refname.now c.args.number c.args.marks.now c.args.commit.now)
-    (put_before _ _ _ _ _ _ _ c.in_ok-push-2.ensures.items (put_then _ _ _ _ _ _ _ _ _ (put_before _ _ _ _ _ _ _ c.in_ok-extend_from_slice.ensures.items (put_before _ _ _ _ _ _ _ c.in_ok-add_parents.ensures (put_before _ _ _ _ _ _ _ c.in_ok-push.ensures.items (put_behind _ _ _ _ _ _ _ _ c.in_ok-add_head.ensures (put_as _ _ _ _ _ _ _ c.message.ensures c.in_ok-put.ensures))))) (put_as _ _ _ _ _ _ _ (ap (λ n. flat_map (leaf_line (marks_in c.args.store.now c.args.marks.now).blobs) (flat c.args.store.now n)) c.tree.ensures) c.in_ok-write_leaves.ensures)))
+    (put_before _ _ _ _ _ _ _ c.in_ok-push-2.ensures.items (put_then _ _ _ _ _ _ _ _ _ (put_before _ _ _ _ _ _ _ c.in_ok-extend_from_slice.ensures.items (put_before _ _ _ _ _ _ _ c.in_ok-add_parents.ensures (put_before _ _ _ _ _ _ _ c.in_ok-push.ensures.items (put_behind _ _ _ _ _ _ _ _ c.in_ok-add_head.ensures (put_as _ _ _ _ _ _ _ c.message.ensures c.in_ok-put.ensures))))) (put_as _ _ _ _ _ _ _ (ap (λ n. flat_map (leaf_line (marks_in c.args.store.now c.args.marks.now).blobs) (flat c.args.store.now n)) c.tree.ensures) c.in_ok-write_lines.ensures.put)))

@@ -3,7 +3,7 @@ use Rattle.git_objects.specs.declared.name.Name.{Name}
 use Rattle.fast_export.proofs.Exported.{unit_err}
 use Rattle.fast_export.proofs.Listed.{commit_held, commit_new}
 use Rattle.fast_export.proofs.Sent.{put_result}
-use Rattle.fast_export.proofs.WrittenCommits.{less_commits, more_commits}
+use Rattle.fast_export.proofs.WrittenCommits.{less_commits, more_commits, no_commits}
 use Rattle.fast_export.proofs.export.write_commits.Goals as goal
 
 abbrev unread : Name
@@ -19,10 +19,13 @@ pub returns-in_err-write_commit-clause-put : goal.returns-in_err-write_commit-cl
 returns-in_err-write_commit-clause-put g c =
     let within : c.loop-name.name-index < length c.args.commits.now = omega arith in
     put_result _ _ _ _ _ _ _ (unit_err c.from_residual.result c.in_err-write_commit.field-0.0 c.from_residual.ensures.1)
-    (less_commits c.args.store.now c.args.refname.now c.args.commits.now c.requires c.loop-name.name-index unread within _ _ _ _ _ _ c.loop-name.marks c.in_err-write_commit.field-0.0 c.loop-name.invariant c.in_err-write_commit.ensures.put)
+    (less_commits c.args.store.now c.args.refname.now c.args.commits.now c.requires c.loop-name.name-index unread within _ _ _ _ _ _ c.loop-name.marks c.loop-name.known c.in_err-write_commit.field-0.0 c.loop-name.invariant c.in_err-write_commit.ensures.put)
 
 pub loop-name-preserved : goal.loop-name-preserved
 loop-name-preserved g c =
     let within : c.loop-name.name-index < length c.args.commits.now = omega arith in
-    more_commits c.args.store.now c.args.refname.now c.args.commits.now c.requires c.loop-name.name-index unread within _ _ _ _ _ _ c.loop-name.marks c.write_commit.new.marks c.loop-name.invariant
-    c.in_ok-write_commit.ensures.put c.in_ok-write_commit.ensures.marks c.in_ok-write_commit.ensures.held c.in_ok-write_commit.ensures.names c.in_ok-write_commit.ensures.store
+    more_commits c.args.store.now c.args.refname.now c.args.commits.now c.requires c.loop-name.name-index unread within _ _ _ _ _ _ c.loop-name.marks c.write_commit.new.marks c.loop-name.known c.write_commit.new.known c.loop-name.invariant
+    c.in_ok-write_commit.ensures.put c.in_ok-write_commit.ensures.marks c.in_ok-write_commit.ensures.given c.in_ok-write_commit.ensures.names c.in_ok-write_commit.ensures.store
+
+pub loop-name-init : goal.loop-name-init
+loop-name-init g c = no_commits _ _ c.args.store.now c.args.refname.now c.args.commits.now c.new-marks.result c.new-known.result c.new-marks.ensures c.new-known.ensures

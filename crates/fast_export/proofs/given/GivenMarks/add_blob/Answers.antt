@@ -8,4 +8,5 @@ returns-clause-ok c =
     let blobs = ap (λ (g : Given). g.blobs) c.self.view_is in
     let commits = ap (λ (g : Given). g.commits) c.self.view_is in
     let more = entry_added c.self.inside.blobs c.args.self.now.blobs _ c.args.name _ _ blobs c.requires c.next-number.ensures c.in_ok-insert.ensures.entries in
-    λ i. record { blobs = more i; commits = commits i }
+    let trees = ap (λ (g : Given). g.trees) c.self.view_is in
+    λ i. record { blobs = more i; commits = commits i; trees = trees i }

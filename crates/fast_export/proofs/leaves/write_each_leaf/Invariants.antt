@@ -2,11 +2,11 @@ use Rattle.std.proofs.Common.{length}
 use Rattle.git_objects.specs.Trees.{Flat}
 use Rattle.object_store.specs.Unfolding.{flat}
 use Rattle.fast_export.proofs.WrittenLeaves.{AreLinesWritten}
-use Rattle.fast_export.proofs.commits.write_leaves.Given as goal
+use Rattle.fast_export.proofs.leaves.write_each_leaf.Given as goal
 
 abbrev pub invariant-leaves : goal.invariant-leaves
 invariant-leaves g l =
-    (done : Flat) × AreLinesWritten g.O.Sink.tells g.O.Sink.written g.O.Sink.faults g.O.Sink.refusals l.fn.sink l.sink l.fn.kept.items l.kept.items l.store (flat l.store l.fn.tree.0) done l.walk.left l.marks
+    (done : Flat) × AreLinesWritten g.O.Sink.tells g.O.Sink.written g.O.Sink.faults g.O.Sink.refusals l.fn.sink l.sink l.fn.kept.items l.kept.items l.store l.front (flat l.store l.fn.tree.0) done l.walk.left l.marks
 
 abbrev pub decreases-leaves : goal.decreases-leaves
 decreases-leaves g l = length l.walk.left

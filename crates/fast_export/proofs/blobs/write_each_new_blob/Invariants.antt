@@ -2,7 +2,7 @@ use Rattle.std.proofs.Common.{length}
 use Rattle.git_objects.specs.Trees.{Flat}
 use Rattle.object_store.specs.Unfolding.{flat}
 use Rattle.fast_export.proofs.WrittenBlobs.{AreWritten}
-use Rattle.fast_export.proofs.blobs.write_new_blobs.Given as goal
+use Rattle.fast_export.proofs.blobs.write_each_new_blob.Given as goal
 
 abbrev pub invariant-leaves : goal.invariant-leaves
 invariant-leaves g l =
