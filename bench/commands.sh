@@ -18,6 +18,11 @@ history() {
             printf "commit refs/heads/main\nmark :%d\ncommitter A <a@x> %d +0000\ndata 7\nchange\n", i, 1700000000 + i
             if (i > first) printf "from :%d\n", i - 1
             else if (from != "") printf "from %s\n", from
+            else if (dir == "") {
+                text = ""
+                for (j = 0; j < 10; j++) text = text "x" j " = :/" (j % 2 ? "a" : "b") "/d" 5 * j "\n"
+                printf "M 100644 inline ws/workspace.josh\ndata %d\n%s\n", length(text), text
+            }
             for (j = 0; j < 10; j++) {
                 k = (i * 7 + j * 101) % 1000
                 text = "line " i " " j " of a file that is changed, and that has a few words more than its number\n"
@@ -74,6 +79,7 @@ timed 'loading alone (a rule that is set already)' ours rule 1
 timed 'project :/a, first' ours project $main :/a
 timed 'project :/a again' ours project $main :/a
 timed 'project :[x=:/a,y=:/b], first' ours project $main ':[x=:/a,y=:/b]'
+timed 'project :workspace=ws of ten directories, first' ours project $main :workspace=ws
 timed 'export :/a' ours export $main :/a
 timed 'export :/a into git fast-import' export_by_git
 timed 'git fast-export -- a into git fast-import' part_by_git

@@ -1,7 +1,8 @@
 #!/usr/bin/env bash
-# Compares what each directory of this very repository is projected to with what Git makes of it: by rule 1 with commits that
-# Git's plumbing writes one by one, by rule 2 with `git subtree split`; and what `export` writes of it goes through `git
-# fast-import`. It takes the program that `PROJ` names, or the built one, and builds that where it isn't there.
+# Compares what each directory of this very repository, and of a made one with merges, is projected to with what Git makes of
+# it: by rule 1 with commits that Git's plumbing writes one by one, by rule 2 with `git subtree split`; and what `export`
+# writes of it goes through `git fast-import`. It takes the program that `PROJ` names, or the built one, and builds that where
+# it isn't there.
 set -u
 cd "$(dirname "$0")/.." || exit 1
 proj=${PROJ:-$PWD/crates/proj/out/proj}
@@ -65,24 +66,75 @@ by_hand() {
     printf '%s' "$head"
 }
 
-git clone -q . "$work/repo" && cd "$work/repo" && git checkout -q -B main || exit 1
-git fast-export refs/heads/main | "$proj" "$work/store" import >/dev/null
-same 'an import' "$(git rev-parse main)" "$("$proj" "$work/store" project refs/heads/main :nop)"
-for rule in 1 2; do
-    "$proj" "$work/store" rule "$rule" >/dev/null
-    for dir in $(git ls-tree -d --name-only main); do
-        name=$("$proj" "$work/store" project refs/heads/main ":/$dir")
-        if [ "$rule" -eq 1 ]; then
-            same "$dir by plumbing" "$(by_hand "$dir")" "$name"
-        elif git subtree 2>&1 | grep -q split; then
-            same "$dir by subtree" "$(git subtree split -q -P "$dir" main 2>/dev/null)" "$name"
-        fi
-        rm -rf "$work/part"
-        git init -q --bare "$work/part"
-        "$proj" "$work/store" export refs/heads/main ":/$dir" | git -C "$work/part" fast-import --quiet
-        same "the export of $dir" "$(git -C "$work/part" rev-parse main)" "$name"
+# A repository of three directories, whose branches change one or two of them and are merged now and then, also at once or
+# into one another; a root of its own joins, and some merges take one side as it is.
+made() {
+    local i date=1700000000 side
+    tick() {
+        date=$((date + 60))
+        export GIT_AUTHOR_DATE="@$date +0100" GIT_COMMITTER_DATE="@$((date + 7)) -0330"
+    }
+    git init -q "$work/made" && cd "$work/made" || exit 1
+    git config user.name A && git config user.email a@x
+    one() {
+        tick
+        mkdir -p "$1/in"
+        printf '%s\n' "$2" >"$1/in/f$2"
+        git add -A && git commit -q -m "$1 $2"
+    }
+    one a 0
+    for side in b c left right; do git branch "$side"; done
+    for ((i = 1; i < 30; i++)); do
+        for side in main b c; do
+            git checkout -q "$side" && one "$([ "$side" = main ] && printf a || printf '%s' "$side")" "$i"
+        done
+        git checkout -q main && tick
+        case $((i % 6)) in
+        1) git merge -q --no-ff -m "merge $i" b ;;
+        3) git merge -q -m "merge $i" b c ;;
+        4) git merge -q -s ours --no-ff -m "merge $i" c ;;
+        5) git checkout -q b && git merge -q --no-ff -m "merge $i" main && git checkout -q main ;;
+        esac
     done
-done
+    tick
+    git checkout -q --orphan root && git rm -q -r -f . && one a root && git checkout -q main
+    git merge -q --allow-unrelated-histories --no-ff -m 'a root joins' root
+    git checkout -q left && one a left && git checkout -q right && one b right
+    tick && git merge -q --no-ff -m 'left into right' left
+    git checkout -q left && tick && git merge -q --no-ff -m 'right into left' 'right^1'
+    git checkout -q main && tick && git merge -q --no-ff -m 'both' left
+    tick && git merge -q --no-ff -m 'and the other' right
+    cd "$OLDPWD" || exit 1
+}
+
+# Compares each directory of the repository where it is called.
+tried() {
+    local rule dir name
+    rm -f "$work/store"
+    git fast-export refs/heads/main | "$proj" "$work/store" import >/dev/null
+    same "an import of $1" "$(git rev-parse main)" "$("$proj" "$work/store" project refs/heads/main :nop)"
+    for rule in 1 2; do
+        "$proj" "$work/store" rule "$rule" >/dev/null
+        for dir in $(git ls-tree -d --name-only main); do
+            name=$("$proj" "$work/store" project refs/heads/main ":/$dir")
+            if [ "$rule" -eq 1 ]; then
+                same "$dir of $1 by plumbing" "$(by_hand "$dir")" "$name"
+            elif git subtree 2>&1 | grep -q split; then
+                same "$dir of $1 by subtree" "$(git subtree split -q -P "$dir" main 2>/dev/null)" "$name"
+            fi
+            rm -rf "$work/part"
+            git init -q --bare "$work/part"
+            "$proj" "$work/store" export refs/heads/main ":/$dir" | git -C "$work/part" fast-import --quiet
+            same "the export of $dir of $1" "$(git -C "$work/part" rev-parse main)" "$name"
+        done
+    done
+}
+
+made >/dev/null
+git clone -q . "$work/repo" && cd "$work/repo" && git checkout -q -B main || exit 1
+tried 'this repository'
+cd "$work/made" || exit 1
+tried 'a made one'
 
 printf 'parts: %d passed, %d failed\n' "$passed" "$failed"
 [ "$failed" -eq 0 ]
