@@ -168,6 +168,20 @@ impl<'a> Shelf<'a> {
         }
     }
 
+    // The sizes of what an entry adds whose child is held.
+    fn held_entry_stats(&self, entry: &EntryView<'_>) -> TreeStats
+        requires { has_child self.now entry.now.mode entry.now.name.0 ≡ true }
+        ensures { result ≡ sizes (entry_flat self.now (entry_value entry.now)) }
+    {
+        match entry.mode {
+            Mode::File | Mode::Exec | Mode::Link | Mode::Module => leaf_stats(entry.component),
+            Mode::Dir => match self.dir_stats(entry.component, &entry.name) {
+                Some(stats) => stats,
+                None => unreachable!(),
+            },
+        }
+    }
+
     // Whether the object of that name has that kind and body. None: there is none.
     fn is_same(&self, name: &Name, kind: Kind, body: &[u8]) -> Option<bool>
         ensures { result ≡ option_map (same_object kind body.now) (find_named self.now name.now.0) }
@@ -193,6 +207,19 @@ impl<'a> Shelf<'a> {
             stats = stats_joined(stats, part);
         }
         Ok(stats)
+    }
+
+    // The sizes of a tree with these entries, whose children are held.
+    fn held_entries_stats(&self, mut entries: TreeView<'_>) -> TreeStats
+        requires { missing_entry self.now entries ≡ None }
+        ensures { result ≡ sizes (joined (body_of Blob self.now) (flat self.now) entries.entry) }
+    {
+        let mut stats = NO_PATH;
+        'children: while let Some(entry) = entries.next() {
+            let part = self.held_entry_stats(&entry);
+            stats = stats_joined(stats, part);
+        }
+        stats
     }
 
     // The sizes of a tree with that body, or what is wrong with it: that it is none, or a child that is not held.
@@ -262,6 +289,25 @@ impl<'a> Shelf<'a> {
             Some(true) => Ok(Judged::Held { name }),
             Some(false) => Err(PutError::Collision { name }),
             None => Ok(Judged::New { name, stats }),
+        }
+    }
+
+    /// What is said of a tree's body of which the caller knows that it is one and that its children are held: only its
+    /// name may be refused. The sizes are worked out where no object has the name.
+    pub(crate) fn judge_tree(&self, body: &[u8]) -> Result<Judged, PutError>
+        requires { of_body self.now Kind.Tree body.now None ≡ None }
+        ensures { MatchResult result
+            (IsJudged self.now Kind.Tree body.now)
+            (λ e. refusal self.now Kind.Tree body.now ≡ refusal_told e) }
+    {
+        let name = name_of(Kind::Tree, body);
+        match self.is_same(&name, Kind::Tree, body) {
+            Some(true) => Ok(Judged::Held { name }),
+            Some(false) => Err(PutError::Collision { name }),
+            None => {
+                let stats = self.held_entries_stats(TreeView::of_canonical(body));
+                Ok(Judged::New { name, stats })
+            }
         }
     }
 }

@@ -5,7 +5,7 @@ ghost use Rattle.std.specs.Option.{option_map};
 ghost use Rattle.git_objects.specs.Names.{name};
 ghost use Rattle.object_store.specs.Objects.{find_named, is_body};
 ghost use Rattle.object_store.specs.Objects.{IsStore};
-ghost use Rattle.object_store.specs.Puts.{refusal, with_object};
+ghost use Rattle.object_store.specs.Puts.{of_body, refusal, with_object};
 ghost use Rattle.object_store.specs.Errors.{object_value, refusal_told};
 ghost use Rattle.object_store.specs.Sizes.{sizes, stats_of};
 ghost use Rattle.object_store.specs.Unfolding.{below, body_flat};
@@ -163,6 +163,25 @@ impl Store {
         match self.shelf().judge(kind, body)? {
             Judged::Held { name } => Ok(name),
             Judged::New { name, stats } => match self.add(kind, name, body, stats) {
+                Ok(()) => Ok(name),
+                Err(_) => Err(PutError::OutOfMemory),
+            },
+        }
+    }
+
+    /// Takes a tree in as `put_slice` does, from a body of which the caller knows that it is one and that its children
+    /// are held: it isn't read again where it is held already.
+    pub fn put_tree(&mut self, body: &[u8]) -> Result<Name, PutError>
+        requires { of_body self.old Kind.Tree body.now None ≡ None }
+        ensures ok { IfOk result (λ n. (n.0 ≡ name Kind.Tree body.now) × (refusal self.old Kind.Tree body.now ≡ None)
+            × (self.new ≡ with_object self.old Kind.Tree body.now)) }
+        ensures err { IfErr result (λ e. (self.new ≡ self.old)
+            × ((e ≡ PutError.OutOfMemory) ⊎ (refusal self.old Kind.Tree body.now ≡ refusal_told e))) }
+        ensures store { IsStore self.new }
+    {
+        match self.shelf().judge_tree(body)? {
+            Judged::Held { name } => Ok(name),
+            Judged::New { name, stats } => match self.add(Kind::Tree, name, body, stats) {
                 Ok(()) => Ok(name),
                 Err(_) => Err(PutError::OutOfMemory),
             },
