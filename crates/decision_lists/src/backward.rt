@@ -31,8 +31,8 @@ pub fn way_back(alloc: Global, entries: &[Entry], route: usize) -> Result<Vec<En
     }
 }
 
-/// The list that gives each image which comes from one cone by this target, where none of these entries has the path, and
-/// no other path anything.
+/// The list that gives each image which comes from one cone by this target, where none of these entries has the path,
+/// and no other path anything.
 pub fn back_from(
     alloc: Global,
     point: bool,

@@ -65,14 +65,16 @@ impl Memo {
         self.pairs.get(&place).copied()
     }
 
-    /// Holds that the table shows `shown` of the tree `tree`, as the pair that was used last: in the place of one of the
-    /// same table and tree, and otherwise behind dropping the pair that was used least where the memo is full. For want
-    /// of memory nothing changes.
+    /// Holds that the table shows `shown` of the tree `tree`, as the pair that was used last: in the place of one of
+    /// the same table and tree, and otherwise behind dropping the pair that was used least where the memo is full. For
+    /// want of memory nothing changes.
     pub fn put(&mut self, table: usize, tree: Name, shown: Name)
-        ensures entered { (self.new ≡ record self.old { entries = entered self.old.capacity (table, tree.0) shown.0 self.old.entries })
+        ensures entered { (self.new
+            ≡ record self.old { entries = entered self.old.capacity (table, tree.0) shown.0 self.old.entries })
             ⊎ (self.new ≡ self.old) }
         ensures known { IsSome (found (table, tree.0) self.old.entries)
-            → self.new ≡ record self.old { entries = entered self.old.capacity (table, tree.0) shown.0 self.old.entries } }
+            → self.new
+            ≡ record self.old { entries = entered self.old.capacity (table, tree.0) shown.0 self.old.entries } }
     {
         let _ = self.pairs.put(Place { table, tree }, shown);
     }

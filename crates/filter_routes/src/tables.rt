@@ -131,8 +131,8 @@ impl Tables {
         }
     }
 
-    /// The number of the filter's table, which is made where there is none yet; None where the filter isn't sound. Where
-    /// its fault lies isn't looked for.
+    /// The number of the filter's table, which is made where there is none yet; None where the filter isn't sound.
+    /// Where its fault lies isn't looked for.
     pub fn intern_if_sound(&mut self, filter: &Filter) -> Result<Option<usize>, AllocError>
         ensures number { IfOk result (λ o. IfSome o (Interns self.old self.new (shape filter.now))) }
         ensures sound { IfOk result (λ o. IfSome o (λ _. IsSound (shape filter.now))) }

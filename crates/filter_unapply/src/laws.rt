@@ -1,5 +1,6 @@
 // Laws of laying that other contracts cite.
-ghost use Rattle.filter_unapply.specs.Laws.{BelowLaw, GivenBackLaw, LaidAgainLaw, LayingLaw, OutcomeLaw, ShownAgainLaw, UnseenLaw};
+ghost use Rattle.filter_unapply.specs.Laws.{BelowLaw, GivenBackLaw, LaidAgainLaw, LayingLaw};
+ghost use Rattle.filter_unapply.specs.Laws.{OutcomeLaw, ShownAgainLaw, UnseenLaw};
 
 /// `NotHeld` comes at the first path that no path is shown as, `Blocked` otherwise at the first path from what is laid
 /// that is comparable with another and the first such other, and otherwise there is a tree.
@@ -32,8 +33,8 @@ pub fn below_law()
     ensures { BelowLaw }
 {}
 
-/// What is laid through a sound filter is a tree that is shown again exactly, what is shown is laid to the tree that it was
-/// shown of, laying again forgets what was laid first, and what the filter doesn't show stays.
+/// What is laid through a sound filter is a tree that is shown again exactly, what is shown is laid to the tree that it
+/// was shown of, laying again forgets what was laid first, and what the filter doesn't show stays.
 pub fn laying_law()
     ensures { LayingLaw }
 {}

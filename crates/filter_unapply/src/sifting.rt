@@ -19,8 +19,8 @@ use path_names::Path;
 use path_trees::{Found, entry_at, put_at, remove_at, taken_in};
 use std::alloc::Global;
 
-// The tree of the paths that the list gives something, or of the others. Whole directories are taken by their names, and
-// only those on the way to the list's cones are made anew.
+// The tree of the paths that the list gives something, or of the others. Whole directories are taken by their names,
+// and only those on the way to the list's cones are made anew.
 pub fn sifted(
     alloc: Global,
     store: &mut Store,

@@ -67,7 +67,8 @@ fn shown_upon(
 ) -> Result<Seen, ApplyError>
     requires usable { IsUsable (shape filter.now) }
     requires ground { IsGround ground.old }
-    requires map { IsTrueMap ground.old.store (commits_of ground.old) ground.old.rule (shape filter.now) ground.old.map }
+    requires map { IsTrueMap ground.old.store (commits_of ground.old) ground.old.rule (shape filter.now)
+        ground.old.map }
     requires head { IsSome (place_of head.now.0 ground.old.graph) }
     ensures ok { IfOk result (IsSeen (shape filter.now) ground.old head.now.0 ground.new.store) }
     ensures walked { IsTrueWalk (shape filter.now) head.now.0 ground.old ground.new }

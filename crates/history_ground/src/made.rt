@@ -13,7 +13,8 @@ use git_objects::{Bytes, CommitParts, CommitView, Ident, IdentFault, Name, encod
 use object_store::Store;
 use std::alloc::{AllocError, Global};
 
-/// The body of the commit that has this tree and these commits as its parents, and says what the commit of that name says.
+/// The body of the commit that has this tree and these commits as its parents, and says what the commit of that name
+/// says.
 pub fn own_body(
     alloc: Global,
     store: &Store,

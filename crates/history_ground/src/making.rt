@@ -1,5 +1,6 @@
 // Projections from scratch, with the commits that they are.
-ghost use Rattle.std.specs.Prelude.{◌≡◌, ◌<◌, ◌++◌, ◌∷◌, [], true, length, None, Some, IfErr, IfOk, IfSome, IsSome, OnOk};
+ghost use Rattle.std.specs.Prelude.{◌≡◌, ◌<◌, ◌++◌, ◌∷◌, [], true, length};
+ghost use Rattle.std.specs.Prelude.{None, Some, IfErr, IfOk, IfSome, IsSome, OnOk};
 ghost use Rattle.std.specs.Option.{option_map};
 ghost use Rattle.git_objects.specs.declared.kind.Kind.TheVariants.{Commit};
 ghost use Rattle.commit_graph.specs.Graphs.{place_of};
@@ -92,7 +93,8 @@ fn walk(
     requires ground { IsGround ground.old }
     requires place { head < length ground.old.graph }
     requires lacked { kept_at (name_at ground.old.graph head) ground.old.map ≡ None }
-    requires map { IsTrueMap ground.old.store (commits_of ground.old) ground.old.rule (shape filter.now) ground.old.map }
+    requires map { IsTrueMap ground.old.store (commits_of ground.old) ground.old.rule (shape filter.now)
+        ground.old.map }
     requires asked { IsAskedFor (shape filter.now) ground.old asked.old }
     ensures walked { IsTrueWalk (shape filter.now) (name_at ground.old.graph head) ground.old ground.new }
     ensures ok { OnOk result (IsSome (kept_at (name_at ground.old.graph head) ground.new.map)) }
@@ -120,7 +122,8 @@ pub(crate) fn made_to(
     requires usable { IsUsable (shape filter.now) }
     requires ground { IsGround ground.old }
     requires head { IsSome (place_of head.now.0 ground.old.graph) }
-    requires map { IsTrueMap ground.old.store (commits_of ground.old) ground.old.rule (shape filter.now) ground.old.map }
+    requires map { IsTrueMap ground.old.store (commits_of ground.old) ground.old.rule (shape filter.now)
+        ground.old.map }
     ensures ok { IfOk result (λ o. IsMade ground.new.store
         (projection ground.old.rule (shown (shape filter.now)) (commits_of ground.old) head.now.0) o) }
     ensures walked { IsTrueWalk (shape filter.now) head.now.0 ground.old ground.new }

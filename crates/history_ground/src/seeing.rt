@@ -124,7 +124,8 @@ pub(crate) fn seen(
     requires ground { IsGround ground.old }
     requires root { has Tree ground.old.store root.0 ≡ true }
     requires asked { IsAskedFor (shape filter.now) ground.old asked.old }
-    ensures shown { IsShownBy (resolve (shape filter.now) (flat ground.old.store root.0)) root.0 ground.old ground.new result }
+    ensures shown { IsShownBy (resolve (shape filter.now) (flat ground.old.store root.0)) root.0
+        ground.old ground.new result }
     ensures asked { IsAskedFor (shape filter.now) ground.new asked.new }
 {
     if let Some((tree, shown)) = asked.last {

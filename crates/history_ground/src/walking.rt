@@ -100,7 +100,8 @@ fn walk<L: Ledger>(
     requires place { head < length ground.old.graph }
     requires lacked { kept_at (name_at ground.old.graph head) ground.old.map ≡ None }
     requires asked { IsAskedFor (shape filter.now) ground.old asked.old }
-    ensures walked { IsWalked (shape filter.now) (name_at ground.old.graph head) ground.old ground.new steps.old steps.new }
+    ensures walked { IsWalked (shape filter.now) (name_at ground.old.graph head)
+        ground.old ground.new steps.old steps.new }
     ensures ok { OnOk result (IsSome (kept_at (name_at ground.old.graph head) ground.new.map)) }
     ensures err { IfErr result (IsApplyFault (IsShownOf (shape filter.now) (commits_of ground.old)) ground.new.store) }
 {
@@ -130,7 +131,8 @@ pub fn project_to<L: Ledger>(
     requires head { IsSome (place_of head.now.0 ground.old.graph) }
     ensures ok { IfOk result (λ o. option_map shown_value o
         ≡ projection_by ground.old.rule (shown (shape filter.now)) ground.old.map (commits_of ground.old) head.now.0) }
-    ensures map { IsFilled ground.old.rule (shown (shape filter.now)) (commits_of ground.old) head.now.0 ground.old.map ground.new.map }
+    ensures map { IsFilled ground.old.rule (shown (shape filter.now)) (commits_of ground.old) head.now.0
+        ground.old.map ground.new.map }
     ensures kept { OnOk result (IsSome (kept_at head.now.0 ground.new.map)) }
     ensures same { Extends (IsShownOf (shape filter.now) (commits_of ground.old)) ground.old ground.new }
     ensures err { IfErr result (IsApplyFault (IsShownOf (shape filter.now) (commits_of ground.old)) ground.new.store) }

@@ -35,7 +35,11 @@ impl Model for Incoming {
 
     ghost Value = { Intake };
 
-    ghost view = { λ s. record { objects = placed_objects s.arena.items s.places.entries; piece = drop s.from s.arena.items; is_open = s.is_open } };
+    ghost view = { λ s. record {
+      objects = placed_objects s.arena.items s.places.entries;
+      piece = drop s.from s.arena.items;
+      is_open = s.is_open;
+    } };
 
     ghost invariant = { λ s. HoldsIntake s.arena.items s.places.entries s.from s.is_open };
 }

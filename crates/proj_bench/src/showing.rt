@@ -189,8 +189,8 @@ fn all_times(
 }
 
 /// Shows a tree of three levels, of 200 directories with 25 others each and so many files in each of these, by a filter
-/// (`sub`, `list`, `branches`, `exclude`): first, again, and after one file has changed; and lays one changed file back into
-/// it. The times are in microseconds.
+/// (`sub`, `list`, `branches`, `exclude`): first, again, and after one file has changed; and lays one changed file back
+/// into it. The times are in microseconds.
 pub fn answer(
     rt: &impl Clock,
     alloc: Global,

@@ -1,5 +1,6 @@
 // What a stream brings to the store.
-ghost use Rattle.std.specs.Prelude.{◌≡◌, ◌≢◌, ◌⊎◌, ◌↔◌, ◌++◌, List, Err, Ok, map, reverse, true, IfOk, IfSome, MatchResult};
+ghost use Rattle.std.specs.Prelude.{◌≡◌, ◌≢◌, ◌⊎◌, ◌↔◌, ◌++◌, List, Err};
+ghost use Rattle.std.specs.Prelude.{Ok, map, reverse, true, IfOk, IfSome, MatchResult};
 ghost use Rattle.git_objects.specs.Paths.{Bytes, is_bytes};
 ghost use Rattle.git_objects.specs.Snapshots.{Snapshot};
 ghost use Rattle.fast_import.specs.Replays.{ran};

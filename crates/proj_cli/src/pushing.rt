@@ -87,8 +87,8 @@ fn push_prepared(
     Ok((Bytes::of(report), batch))
 }
 
-/// Replays a stream upon the projection of a ref's commit, and commits the originals of its commits, with the ref at the
-/// last. The report has the names of each pushed commit and its original.
+/// Replays a stream upon the projection of a ref's commit, and commits the originals of its commits, with the ref at
+/// the last. The report has the names of each pushed commit and its original.
 pub fn push<S: Source, K: Keeper>(
     alloc: Global,
     state: &mut State,

@@ -39,8 +39,8 @@ impl Model for PushBase {
 }
 
 impl PushBase {
-    /// The base of a push to a ref, upon the projected commit and its tree, or upon an empty one where there is none. The
-    /// tree is walked for its blobs.
+    /// The base of a push to a ref, upon the projected commit and its tree, or upon an empty one where there is none.
+    /// The tree is walked for its blobs.
     pub fn new(
         alloc: Global,
         store: &Store,

@@ -17,9 +17,9 @@ use path_names::RefName;
 use proj_io::Source;
 use std::alloc::{AllocError, Global};
 
-/// Replays a stream that is pushed to a ref, which is at the commit `head`, through a filter, and works out the originals
-/// of its commits. The projection that it stands upon is made from scratch, and with its history put into the store;
-/// so are the pushed commits and their originals. The graph and the kept projections stay.
+/// Replays a stream that is pushed to a ref, which is at the commit `head`, through a filter, and works out the
+/// originals of its commits. The projection that it stands upon is made from scratch, and with its history put into the
+/// store; so are the pushed commits and their originals. The graph and the kept projections stay.
 pub fn plan<S: Source>(
     alloc: Global,
     ground: &mut Ground,

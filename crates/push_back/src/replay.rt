@@ -1,5 +1,6 @@
 // The replay of a pushed stream.
-ghost use Rattle.std.specs.Prelude.{◌≡◌, ◌⊎◌, ◌<◌, ◌≤◌, ◌↔◌, false, true, length, IfErr, IfOk, IfSome, IsErrOf, OnErr, OnOk};
+ghost use Rattle.std.specs.Prelude.{◌≡◌, ◌⊎◌, ◌<◌, ◌≤◌, ◌↔◌, false, true};
+ghost use Rattle.std.specs.Prelude.{length, IfErr, IfOk, IfSome, IsErrOf, OnErr, OnOk};
 ghost use Rattle.git_objects.specs.Paths.{Bytes, is_bytes};
 ghost use Rattle.git_objects.specs.declared.limits.TheConstants.{STREAM_BYTES};
 ghost use Rattle.object_store.specs.Unfolding.{flat};
@@ -30,7 +31,8 @@ pub fn replay_push<S: Source>(
 ) -> Result<Replayed, PushError>
     requires { IsGroundIn store.old base.now }
     ensures stream { (all : Bytes) × (is_bytes all ≡ true) × IfSome (S.left input.old) (λ bytes. bytes ≡ all) ×
-        IsPushedWhole base.now.refname (from_of base.now) (flat store.old base.now.shown.0) store.old store.new all result }
+        IsPushedWhole base.now.refname (from_of base.now) (flat store.old base.now.shown.0)
+        store.old store.new all result }
     ensures few { IfOk result (λ g. length g.commits.items ≤ STREAM_BYTES) }
     ensures told { S.tells input.new ↔ S.tells input.old }
     ensures cause { Counts (S.faults input.old) (S.faults input.new) (IsErrOf result PushError.ReadFault) }
@@ -51,7 +53,8 @@ fn replay_by<S: Source>(
     requires some { 0 < length piece.old }
     requires few { length piece.old ≤ 65536 }
     ensures stream { (all : Bytes) × (is_bytes all ≡ true) × IfSome (S.left input.old) (λ bytes. bytes ≡ all) ×
-        IsPushedWhole base.now.refname (from_of base.now) (flat store.old base.now.shown.0) store.old store.new all result }
+        IsPushedWhole base.now.refname (from_of base.now) (flat store.old base.now.shown.0)
+        store.old store.new all result }
     ensures few { IfOk result (λ g. length g.commits.items ≤ STREAM_BYTES) }
     ensures told { S.tells input.new ↔ S.tells input.old }
     ensures cause { Counts (S.faults input.old) (S.faults input.new) (IsErrOf result PushError.ReadFault) }

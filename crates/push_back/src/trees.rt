@@ -27,8 +27,8 @@ use history_ground::Ground;
 use object_store::Store;
 use std::alloc::Global;
 
-// Lays a pushed tree through the new table's filter, where it overwrites nothing that only that filter shows, and where what
-// is laid keeps within the limits of a tree.
+// Lays a pushed tree through the new table's filter, where it overwrites nothing that only that filter shows, and where
+// what is laid keeps within the limits of a tree.
 fn laid_unless_unseen(
     alloc: Global,
     store: &mut Store,

@@ -83,7 +83,8 @@ fn is_shown_at(
     }
 }
 
-// Whether the pushed tree has another leaf at a path than the tree below has at the file's place, or one of them has none.
+// Whether the pushed tree has another leaf at a path than the tree below has at the file's place, or one of them has
+// none.
 fn is_changed(store: &Store, base: Name, file: &Option<Path>, pushed: Name, shown: &Path) -> bool
     requires base { has Tree store.now base.0 ≡ true }
     requires pushed { has Tree store.now pushed.0 ≡ true }
@@ -114,7 +115,8 @@ fn is_bad(
     requires pushed { has Tree store.now pushed.0 ≡ true }
     requires number { next.table < length tables.now }
     ensures { (f : FilterValue) → HasAt tables.now f next.table → IfOk result (λ b. b
-        ≡ (not (same_found (at (flat store.now pushed.0) shown.now) (option_and_then (at (flat store.now base.0)) file.now))
+        ≡ (not (same_found (at (flat store.now pushed.0) shown.now)
+        (option_and_then (at (flat store.now base.0)) file.now))
         && (not next.readable || not (same_place (option_and_then (image f) file.now) (Some shown.now))))) }
 {
     if !is_changed(store, base, file, pushed, shown) {

@@ -21,7 +21,10 @@ impl Model for KeptMaps {
 
     ghost Value = { RuleMaps };
 
-    ghost view = { λ m. record { first = text_maps (λ t. t.items) m.first.entries; second = text_maps (λ t. t.items) m.second.entries } };
+    ghost view = { λ m. record {
+      first = text_maps (λ t. t.items) m.first.entries;
+      second = text_maps (λ t. t.items) m.second.entries;
+    } };
 }
 
 // Puts a text's map in the place of its old one, or behind all, and gives the old one.
@@ -31,7 +34,8 @@ fn put(
     map: CommitMap,
 ) -> Result<Option<CommitMap>, AllocError>
     ensures old { IfOk result (λ old. old ≡ map_of text.now (text_maps (λ t. t.items) maps.old.entries)) }
-    ensures ok { OnOk result (text_maps (λ t. t.items) maps.new.entries ≡ with_map (text_maps (λ t. t.items) maps.old.entries) text.now map) }
+    ensures ok { OnOk result (text_maps (λ t. t.items) maps.new.entries
+        ≡ with_map (text_maps (λ t. t.items) maps.old.entries) text.now map) }
     ensures err { OnErr result (maps.new.entries ≡ maps.old.entries) }
 {
     let key = text.to_vec(*maps.allocator())?;

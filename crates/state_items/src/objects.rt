@@ -237,7 +237,8 @@ impl Objects {
     fn enter(&mut self, alloc: Global, part: Part, key: Name) -> Result<bool, AllocError>
         requires within { part.at + part.len ≤ length self.old.incoming.piece }
         requires named { key.0 ≡ name part.kind (take part.len (drop part.at self.old.incoming.piece)) }
-        requires arrived { HasArrived self.old.graph (map name_bytes self.old.blobs.keys) part.kind (take part.len (drop part.at self.old.incoming.piece)) }
+        requires arrived { HasArrived self.old.graph (map name_bytes self.old.blobs.keys) part.kind
+            (take part.len (drop part.at self.old.incoming.piece)) }
         ensures fits { IfOk result (λ fits. (S : List Object) → self.old.incoming.objects ≡ record {
           kind = part.kind;
           body = take part.len (drop part.at self.old.incoming.piece);

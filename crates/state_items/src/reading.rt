@@ -1,5 +1,6 @@
 // Reading items, one after another.
-ghost use Rattle.std.specs.Prelude.{◌≡◌, ◌≤◌, [], None, Ok, true, length, map, replicate, IfOk, OnErr, OnOk, MatchResult};
+ghost use Rattle.std.specs.Prelude.{◌≡◌, ◌≤◌, [], None, Ok, true, length};
+ghost use Rattle.std.specs.Prelude.{map, replicate, IfOk, OnErr, OnOk, MatchResult};
 ghost use Rattle.std.specs.Option.{option_map};
 ghost use Rattle.std.specs.Borrow.{sem};
 ghost use Rattle.git_objects.specs.Parts.{name_bytes};
@@ -11,7 +12,8 @@ ghost use Rattle.state_items.specs.Fields.{number, start};
 ghost use Rattle.state_items.specs.Items.{Held, item_kind, item_kind_field, nothing, read_item};
 ghost use Rattle.state_items.specs.Lending.{LendsPiece};
 ghost use Rattle.state_items.specs.Readings.{Gathered, Holds, HoldsSomething, kind_value, parts_of, with_piece};
-ghost use Rattle.state_items.specs.Steps.{are_heads, item_step, kept_by_rule, kept_maps, objects_step, part_step, refs_step, rule_end};
+ghost use Rattle.state_items.specs.Steps.{are_heads, item_step, kept_by_rule, kept_maps};
+ghost use Rattle.state_items.specs.Steps.{objects_step, part_step, refs_step, rule_end};
 ghost use Rattle.state_items.specs.Stops.{IsStop, spot_at};
 
 use crate::cursor::Cursor;

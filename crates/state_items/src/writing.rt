@@ -11,7 +11,8 @@ ghost use Rattle.ref_store.specs.Pairs.{pair, pairs};
 ghost use Rattle.commit_map.specs.Rules.{rule_number};
 ghost use Rattle.commit_map.specs.Shown.{entry_value, entry_values};
 ghost use Rattle.state_items.specs.Changes.{or_else, passed_by_item, passed_by_objects};
-ghost use Rattle.state_items.specs.Items.{change_text, entry_text, kept_text, kind_byte, object_text, ref_text, rule_text};
+ghost use Rattle.state_items.specs.Items.{change_text, entry_text, kept_text, kind_byte};
+ghost use Rattle.state_items.specs.Items.{object_text, ref_text, rule_text};
 ghost use Rattle.state_items.specs.Writings.{first_passed, found, sized};
 
 use commit_map::{Rule, Shown};

@@ -82,8 +82,8 @@ fn add_replayed(
     Ok(())
 }
 
-/// What a stream gives upon nothing, from a source that gives 65,536 bytes, 7 bytes and one byte at a time: once where it
-/// is the same.
+/// What a stream gives upon nothing, from a source that gives 65,536 bytes, 7 bytes and one byte at a time: once where
+/// it is the same.
 pub fn replayed(alloc: Global, text: &[u8]) -> Result<String, Fault> {
     let whole = replayed_by(alloc, text, 65_536)?;
     let mut all = String::from_str(alloc, whole.as_str())?;

@@ -12,7 +12,8 @@ use std::alloc::{AllocError, Global};
 
 // Adds what keeps each front of a path other than itself, from short to long.
 fn add_fronts(onto: &mut Vec<Filter>, alloc: Global, path: &[Component]) -> Result<(), AllocError>
-    ensures { OnOk result (shapes onto.new.items ≡ append (shapes onto.old.items) (filters_of (map file (fronts path.now)))) }
+    ensures { OnOk result (shapes onto.new.items
+        ≡ append (shapes onto.old.items) (filters_of (map file (fronts path.now)))) }
 {
     for end in 1..path.len() {
         onto.push(Filter::File(Path::of_parts(alloc, &path[..end], &[])?))?;

@@ -13,7 +13,8 @@ ghost use Rattle.filter_text.specs.Views.{item_values, items_read};
 ghost use Rattle.filter_routes.specs.Interned.{Interns};
 ghost use Rattle.filter_routes.specs.Soundness.{IsSound};
 ghost use Rattle.workspace.specs.Laws.{IsUsable};
-ghost use Rattle.workspace.specs.Workspaces.{has_unreadable, leaf_items, listed, put_in, readable_items, resolve, text_of};
+ghost use Rattle.workspace.specs.Workspaces.{has_unreadable, leaf_items, listed, put_in};
+ghost use Rattle.workspace.specs.Workspaces.{readable_items, resolve, text_of};
 ghost use Rattle.workspace.specs.Workspaces.{with_leaf};
 ghost use Rattle.workspace.specs.Views.{AreUsable, found_value, IsHeldLeaf, leaf_value, parts_value};
 

@@ -121,8 +121,8 @@ fn number_of(
     number_for(alloc, store, tables, &filter, root)
 }
 
-/// The first path of the tree of the leaves before the word `pushed` that the second filter shows, the first doesn't, and
-/// the tree of the leaves behind it hasn't as it stands.
+/// The first path of the tree of the leaves before the word `pushed` that the second filter shows, the first doesn't,
+/// and the tree of the leaves behind it hasn't as it stands.
 pub fn unseen_path(
     alloc: Global,
     texts: &Texts,

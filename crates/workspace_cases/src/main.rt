@@ -1,5 +1,5 @@
-//! Answers cases of trees, a line each, from standard input: the filter for a tree, what filters show of trees, and what
-//! is laid back into them.
+//! Answers cases of trees, a line each, from standard input: the filter for a tree, what filters show of trees, and
+//! what is laid back into them.
 #![tactic(auto)]
 
 mod answers;
