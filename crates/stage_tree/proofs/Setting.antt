@@ -137,6 +137,10 @@ module _ (S : List Object) (s : Nodes) (m : ℕ) (v : Staged) (e : staged s m �
     pub arrived_most : held_number (files S (kids_of s1)) ≤ m
     arrived_most = omega (arith, most_stays S s m v t t e h (omega arith), length_files S h.store (kids_of s1) arrived_open.sound t h.tree arrived_stands)
 
+    -- whatever is put, where any number of files may be shown
+    pub put_done : (valid : is_path p ≡ true) (f : Found) (own : has_child S f.mode f.name.0 ≡ true) (named : is_name f.name.0 ≡ true) (s2 : Nodes) (k : ℕ) → IsPutAt S s1 s2 p level link child f k a.way → Shows S (staged s2 4294967295) (put t p (node S f))
+    put_done valid f own named s2 k g = set_shows S h.store s1 p level link child a.way valid f own named t h.tree arrived_stands s2 k g 4294967295 (omega arith)
+
     module _ (valid : is_path p ≡ true) (f : Found) (own : has_child S f.mode f.name.0 ≡ true) (named : is_name f.name.0 ≡ true) (leaf : is_dir f.mode ≡ false) where
       count : length (put t p (node S f)) ≡ files_but S child (kids_of s1) + 1
       count = omega (arith, set_files S h.store s1 p level link child a.way valid f own named t h.tree arrived_stands, one_leaf S f leaf)

@@ -1,6 +1,6 @@
 // The tree that one commit's changes edit.
 ghost use Rattle.std.specs.Prelude.{◌≡◌, true, [], List, IfOk, OnErr, OnOk};
-ghost use Rattle.git_objects.specs.Trees.{Flat, remove};
+ghost use Rattle.git_objects.specs.Trees.{Flat, put, remove};
 ghost use Rattle.git_objects.specs.declared.kind.Kind.TheVariants.{Tree};
 ghost use Rattle.object_store.specs.Objects.{IsStore, Object, has, has_child};
 ghost use Rattle.object_store.specs.Unfolding.{flat};
@@ -141,6 +141,30 @@ impl Stage {
             .most_with_leaf(self.alloc, store, child, self.most)?;
         let number = self.nodes.put_on(way, components, found)?;
         self.most = most;
+        if way.level + 1 == components.len() {
+            self.last
+                .remember(self.alloc, &components[..way.level], number);
+        }
+        Ok(())
+    }
+
+    /// Puts a leaf or a stored directory at a path, where every path that is comparable with it goes. No number of
+    /// files is refused: they are counted by the next `set` or `copy` and not here. Paths of one directory that come in
+    /// the order of their bytes cost little each.
+    pub fn put(&mut self, store: &Store, path: &Path, found: Found) -> Result<(), AllocError>
+        requires found { has_child store.now found.mode found.name.0 ≡ true }
+        requires shows { (t : Flat) × Shows store.now self.old t }
+        ensures ok { OnOk result ((t : Flat) → Shows store.now self.old t
+            → Shows store.now self.new (put t path.now (node store.now found))) }
+        ensures err { OnErr result ((t : Flat) → Shows store.now self.old t → Shows store.now self.new t) }
+    {
+        // The name is looked at so that the proof has that it has 20 bytes.
+        let _ = found.name.bytes();
+        let components = path.components();
+        let beside = self.last.taken(components);
+        let way = self.nodes.way_to(self.alloc, store, beside, components)?;
+        let number = self.nodes.put_on(way, components, found)?;
+        self.most = u32::MAX;
         if way.level + 1 == components.len() {
             self.last
                 .remember(self.alloc, &components[..way.level], number);

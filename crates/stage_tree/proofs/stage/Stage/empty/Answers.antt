@@ -1,4 +1,4 @@
-use Rattle.std.proofs.Common.{[], ◌∷◌, ◌++◌, List, None, replicate, refl, sym, ap, ◌∙◌}
+use Rattle.std.proofs.Common.{[], ◌∷◌, ◌++◌, List, None, replicate, refl, ap, ◌∙◌}
 use Rattle.git_objects.specs.declared.mode.Mode.TheVariants.{Dir}
 use Rattle.path_trees.specs.declared.found.Found.{Found}
 use Rattle.stage_tree.specs.declared.nodes.Node.{Node}
