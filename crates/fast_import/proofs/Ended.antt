@@ -1,7 +1,6 @@
 -- A stream without the line `done` is read to its end.
-use Rattle.std.proofs.Common.{◌≡◌, ◌+◌, ◌<◌, ◌≤◌, ℕ, zero, suc, Bool, true, false, List, [], ◌∷◌, length, Option, Some, None, Result, Ok, Err, refl, sym, ap, ◌∙◌, arith, subst}
+use Rattle.std.proofs.Common.{◌≡◌, ◌+◌, ◌<◌, ℕ, zero, suc, Bool, true, false, [], length, Option, Some, None, Result, Ok, Err, refl, sym, ap, ◌∙◌, arith, subst}
 use Rattle.git_objects.specs.Lists.{Each}
-use Rattle.git_objects.specs.Paths.{Bytes}
 use Rattle.git_objects.specs.Results.{◌>>=◌}
 use Rattle.stream_lex.specs.Cutting.{◌then◌, Steps}
 use Rattle.stream_lex.specs.Lines.{Input, Lex, Line, line_at}
@@ -25,7 +24,7 @@ use Rattle.stream_reader.proofs.Commanding.{CommandLowers, IfCommand, command-is
 use Rattle.stream_reader.proofs.Iterating.{verdict-is}
 use Rattle.stream_reader.proofs.Lowering.{Lowers, TurnLowers, turn_lowers}
 use Rattle.stream_reader.proofs.Reading.{came_along}
-use Rattle.fast_import.specs.Replays.{Base, Ran, Replay, Replayed, gone_on, nothing_yet, outcome_of, ran, ran_by, replay, step}
+use Rattle.fast_import.specs.Replays.{Replay, Replayed, gone_on, nothing_yet, outcome_of, ran, ran_by, step}
 use Rattle.fast_import.specs.Waited.{Step, WaitedLaw, is_done, waited_behind, waited_from, waited_on, waited_told}
 use Rattle.fast_import.proofs.Taking.{waited-is}
 

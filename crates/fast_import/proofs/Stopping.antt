@@ -100,12 +100,12 @@ module _ (base : Base) (S T : List Object) (before now : Option Bytes) (rd : Rea
   pub taken_refused : (e : ReplayError) → IsTaken {A = ReplayedNames} base before now (Err e)
   taken_refused e = taken_by {A = ReplayedNames} base before now h.taken h.gone (Err e) (omega (arith, taken_few)) tt
 
-  pub taken_given : (new : Reading) → next_command rd ≡ Ok (record { command = None; progress = new.progress }, new.input) → came new ≡ came rd → (g : ReplayedNames) → IsTaken {E = ReplayError} base before now (Ok g)
-  taken_given new told c g =
+  pub taken_given : (new : Reading) → next_command rd ≡ Ok (record { command = None; progress = new.progress }, new.input) → came new ≡ came rd → {A : Type 0} (x : A) → IsTaken {E = ReplayError} base before now (Ok x)
+  taken_given new told c x =
       let here : waited base all ≡ new.input.at =
       waited_all ∙ waited-is (step base) h.state rd.progress (grown rest rd.input)
       ∙ ap (waited_told (waited_from (step base)) (step base) h.state) (later_told rd.progress rd.input rd.ended rest (record { command = None; progress = new.progress }, new.input) may_rest told) in
-      taken_by {E = ReplayError} base before now h.taken h.gone (Ok g) (omega (arith, taken_few)) (omega (arith, here, c, h.came))
+      taken_by {E = ReplayError} base before now h.taken h.gone (Ok x) (omega (arith, taken_few)) (omega (arith, here, c, h.came))
 
   -- the source fails, or there is no memory for what it gave
   pub taken_feeding : IsNear rd → rd.ended ≡ false → (after : Option Bytes) → IsGiven now after 65536 → (e : ReplayError) → IsTaken {A = ReplayedNames} base before after (Err e)

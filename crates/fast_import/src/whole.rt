@@ -6,7 +6,10 @@ ghost use Rattle.git_objects.specs.declared.limits.TheConstants.{STREAM_BYTES};
 ghost use Rattle.proj_io.specs.Counts.{Counts};
 ghost use Rattle.fast_import.specs.Bases.{IsBaseIn, base_in};
 ghost use Rattle.fast_import.specs.Waited.{IsTaken};
-ghost use Rattle.fast_import.specs.Whole.{IsFed, IsGiven, IsWhole};
+ghost use Rattle.fast_import.specs.Whole.{IsFed, IsGiven, IsWhole, IsWholeBy, unread};
+ghost use Rattle.fast_import.specs.Replays.{nothing_yet};
+ghost use Rattle.fast_import.specs.Standing.{IsReplayOf};
+ghost use Rattle.object_store.specs.Objects.{Object};
 ghost use Rattle.stream_reader.specs.declared.fault.StreamFault.TheVariants.{OutOfMemory};
 
 use crate::{Base, Next, Reader, Replay, Replayed, StreamFault};
@@ -65,19 +68,47 @@ fn replay_by<S: Source, B: Base>(
     ensures told { S.tells input.new ↔ S.tells input.old }
     ensures cause { Counts (S.faults input.old) (S.faults input.new) (IsErrOf result ReplayError.ReadFault) }
 {
-    // The store is looked at so that the proof has what each store keeps.
-    let _ = store.get(&Name([0; 20]));
     let mut reader = Reader::new(alloc);
     let mut replay = Replay::new(alloc);
+    match replay_with(input, base, store, piece, &mut reader, &mut replay) {
+        Err(error) => Err(error),
+        Ok(()) => Ok(replay.finish()),
+    }
+}
+
+// Replays what a reader tells, up to its end. It has told nothing yet, and nothing has been replayed.
+fn replay_with<S: Source, B: Base>(
+    input: &mut S,
+    base: &B,
+    store: &mut Store,
+    piece: &mut [u8],
+    reader: &mut Reader,
+    replay: &mut Replay,
+) -> Result<(), ReplayError>
+    requires base { IsBaseIn store.old (B.commits base.now) (B.refs base.now) (B.blobs base.now) }
+    requires some { 0 < length piece.old }
+    requires few { length piece.old ≤ 65536 }
+    requires unread { reader.old ≡ unread }
+    requires nothing { (S : List Object) → IsReplayOf S replay.old nothing_yet }
+    ensures stream { (all : List ℕ) × (is_bytes all ≡ true) × IfSome (S.left input.old) (λ bytes. bytes ≡ all) ×
+        IsWholeBy (base_in store.old (B.commits base.now) (B.refs base.now) (B.blobs base.now))
+        store.old store.new all replay.new result }
+    ensures taken { IsTaken (base_in store.old (B.commits base.now) (B.refs base.now) (B.blobs base.now))
+        (S.left input.old) (S.left input.new) result }
+    ensures told { S.tells input.new ↔ S.tells input.old }
+    ensures cause { Counts (S.faults input.old) (S.faults input.new) (IsErrOf result ReplayError.ReadFault) }
+{
+    // The store is looked at so that the proof has what each store keeps.
+    let _ = store.get(&Name([0; 20]));
     'stream: loop {
         match reader.next() {
             Err(fault) => return Err(ReplayError::Stream(fault)),
-            Ok(Next::Ended) => return Ok(replay.finish()),
+            Ok(Next::Ended) => return Ok(()),
             Ok(Next::Command(placed)) => match replay.step(base, store, placed) {
                 Err(fault) => return Err(ReplayError::Stream(fault)),
                 Ok(()) => {}
             },
-            Ok(Next::More) => match feed_on(input, &mut reader, piece) {
+            Ok(Next::More) => match feed_on(input, reader, piece) {
                 Err(error) => return Err(error),
                 Ok(()) => {}
             },

@@ -1,4 +1,4 @@
-use Rattle.std.proofs.Common.{List, Option, None, sym, ap, ◌∙◌, refl}
+use Rattle.std.proofs.Common.{None, sym, ap, ◌∙◌, refl}
 use Rattle.std.specs.List.{last_or}
 use Rattle.std.specs.Option.{option_map}
 use Rattle.fast_import.specs.Replaying.{Replaying}
