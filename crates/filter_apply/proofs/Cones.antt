@@ -147,8 +147,8 @@ tail-in true s v r = ap whole (strip-in s v r)
 tail-in false s v r = ap proper (strip-in s v r)
 
 -- a cone behind s
-pub minus_behind : (t : Flat) (b : Bool) (s v : Path) → minus (cone_of b v) t ≡ filter (λ e. not (in_cone (cone_of b (s ++ v)) (s ++ e.0))) t
-minus_behind t b s v = ap (λ (f : Path → Bool). filter (λ e. f e.0) t) (λ i p. not (is_some (sym (tail-in b s v p) i)))
+pub cone_behind : (b : Bool) (s v p : Path) → in_cone (cone_of b v) p ≡ in_cone (cone_of b (s ++ v)) (s ++ p)
+cone_behind b s v p = ap is_some (sym (tail-in b s v p))
 
 -- ---- the entries before one
 

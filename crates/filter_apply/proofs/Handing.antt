@@ -1,26 +1,22 @@
 -- What edits and parts hand on.
-use Rattle.std.proofs.Common.{◌≡◌, ℕ, ◌+◌, ◌<◌, Bool, true, false, not, cond, List, [], ◌∷◌, ◌++◌, length, take, filter, slice_get, get_or, Result, Ok, Err, IfOk, IfErr, IsErrAnd, Option, Some, None, refl, sym, ap, subst, ◌∙◌, true≢false, append-nil}
+use Rattle.std.proofs.Common.{◌≡◌, ℕ, ◌+◌, ◌<◌, Bool, true, false, not, ◌&&◌, cond, List, [], ◌∷◌, ◌++◌, length, take, filter, slice_get, get_or, Result, Ok, Err, IfErr, OnOk, IsErrAnd, Option, Some, None, refl, sym, ap, subst, ◌∙◌, true≢false, append-nil}
 use Rattle.std.specs.Bool.{beq}
 use Rattle.std.specs.Option.{is_some}
 use Rattle.std.proofs.lemmas.List.{take_more}
 use Rattle.std.proofs.lemmas.Option.{none-some, same_Some}
-use Rattle.git_objects.specs.Paths.{Bytes, Path, is_nil}
+use Rattle.git_objects.specs.Paths.{Bytes, Path, is_nil, is_prefix}
 use Rattle.git_objects.specs.Trees.{Leaf, Flat, IsTree, at, under, remove, standing}
 use Rattle.git_objects.specs.Entries.{is_dir}
-use Rattle.git_objects.specs.declared.name.Name.{Name}
-use Rattle.git_objects.specs.declared.kind.Kind.TheVariants.{Tree}
 use Rattle.git_objects.proofs.Maps.{at-where}
-use Rattle.git_objects.proofs.Pointwise.{remove-tree}
 use Rattle.git_objects.proofs.Under.{under-tree}
-use Rattle.object_store.specs.Objects.{Object, IsStore, has}
-use Rattle.object_store.specs.Unfolding.{flat, StandsFor}
+use Rattle.object_store.specs.Objects.{Object}
+use Rattle.object_store.specs.Unfolding.{flat}
 use Rattle.object_store.specs.Hands.{IsLeafOf, IsComponentOf}
-use Rattle.object_store.specs.Growth.{IsGrownBy}
-use Rattle.object_store.proofs.Growth.{grown_self, grown_as, grown_then, clash_as}
-use Rattle.object_store.proofs.Unfolding.{flat_good}
+use Rattle.object_store.proofs.Growth.{clash_as}
 use Rattle.path_trees.specs.Standing.{node}
-use Rattle.path_trees.specs.Made.{IsOnWay}
 use Rattle.path_trees.specs.declared.found.Found.{Found}
+use Rattle.stage_tree.specs.Finished.{HasDirectory}
+use Rattle.stage_tree.specs.Stages.{Staged, Shows}
 use Rattle.decision_lists.specs.Fronts.{strip, proper}
 use Rattle.decision_lists.specs.Entries.{Cone, at as point, below, base, cone_of, tail, Entry}
 use Rattle.decision_lists.specs.Operations.{covers}
@@ -28,11 +24,12 @@ use Rattle.decision_lists.specs.Cells.{free_in}
 use Rattle.decision_lists.proofs.Strip.{strip-self, strip-is, proper-some}
 use Rattle.filter_apply.specs.Faults.{IsApplyFault}
 use Rattle.filter_apply.specs.Hands.{IsPartObject}
+use Rattle.filter_apply.specs.Holes.{IsWithout}
 use Rattle.filter_apply.specs.Parts.{base_in, is_below, is_wide}
 use Rattle.filter_apply.specs.declared.fault.ApplyError.{ApplyError}
 use Rattle.filter_apply.specs.declared.fault.ApplyError.TheVariants.{Collision, OutOfMemory}
-use Rattle.filter_apply.proofs.Cones.{in_cone, minus, filter-twice, taken_leaf, taken_tree, other_leaf, other_tree, minus_away, minus_behind, free_more}
-use Rattle.filter_apply.proofs.Overs.{IsOver, AreOver, tree_over, over_own, over_from, over_under, over_remove, made_as, leaf_over, part_over}
+use Rattle.filter_apply.proofs.Cones.{in_cone, minus, filter-twice, taken_leaf, taken_tree, other_leaf, other_tree, minus_away, cone_behind, free_more}
+use Rattle.filter_apply.proofs.Overs.{IsOver, AreOver, tree_over, over_own, over_from, over_under, made_as, leaf_over, part_over}
 use Rattle.filter_apply.proofs.Places.{dir_node, leaf_node}
 
 -- ---- results
@@ -45,17 +42,42 @@ pub fault_as : (made more : Object → Type 0) (S : List Object) (e : ApplyError
 fault_as made more S (Collision n) h c = clash_as made more S n.0 h c
 fault_as made more S OutOfMemory h c = tt
 
--- ---- a removal
+pub on_ok : {A E P Q : Type 0} (r : Result A E) → (P → Q) → OnOk r P → OnOk r Q
+on_ok (Ok a) f h = f h
+on_ok (Err e) f h = h
 
-pub way_over : (t : Flat) (v : Path) → IsTree t → AreOver (IsLeafOf t) (IsComponentOf t) (IsOnWay (remove t v) v)
-way_over t v h b m = (
-  under (remove t v) m.above,
-  tree_over (IsLeafOf t) (IsComponentOf t) (under (remove t v) m.above) (under-tree (remove t v) m.above (remove-tree t v h))
-      (over_under (IsLeafOf t) (IsComponentOf t) (remove t v) m.above (over_remove (IsLeafOf t) (IsComponentOf t) t v (over_own t))),
-  m.body,
-)
+-- ---- a part of a tree
 
--- what stands at a place, by its kind
+-- two tests in either order
+filter_swap : (f g : Path → Bool) (t : Flat) → filter (λ e. g e.0) (filter (λ e. f e.0) t) ≡ filter (λ e. f e.0) (filter (λ e. g e.0) t)
+filter_swap f g t = filter-twice f g t ∙ ap (λ (h : Path → Bool). filter (λ e. h e.0) t) (λ i p. swap (f p) (g p) i) ∙ sym (filter-twice g f t)
+  where
+    swap : (a b : Bool) → (a && b) ≡ (b && a)
+    swap true true = refl
+    swap true false = refl
+    swap false true = refl
+    swap false false = refl
+
+remove_part : (kept : Path → Bool) (t : Flat) (v : Path) → remove (filter (λ e. kept e.0) t) v ≡ filter (λ e. kept e.0) (remove t v)
+unfolding remove
+remove_part kept t v = filter_swap kept (λ p. not (is_prefix v p)) t
+
+module _ (S : List Object) (t : Flat) (taken : Path → Bool) (before : Staged) where
+  -- of a tree that is the whole one without some paths, the part is one without them
+  without_part : (kept : Path → Bool) (u : Flat) → u ≡ filter (λ e. not (taken e.0)) t → filter (λ e. kept e.0) u ≡ filter (λ e. not (taken e.0)) (filter (λ e. kept e.0) t)
+  without_part kept u e = ap (filter (λ e. kept e.0)) e ∙ filter_swap (λ p. not (taken p)) kept t
+
+  -- the whole tree has none of the paths
+  pub none_taken : t ≡ filter (λ e. not (taken e.0)) t → IsWithout S t taken before before
+  none_taken e = λ kept shows. subst (Shows S before) (without_part kept t e) shows
+
+  -- they are a path and all below it, which were removed
+  pub all_taken : (after : Staged) (v w : Path) → w ≡ v → remove t v ≡ filter (λ e. not (taken e.0)) t → ((u : Flat) → Shows S before u → Shows S after (remove u w)) → IsWithout S t taken before after
+  all_taken after v w same e h = λ kept shows.
+      subst (Shows S after) (ap (remove (filter (λ e. kept e.0) t)) same ∙ remove_part kept t v ∙ without_part kept (remove t v) e) (h (filter (λ e. kept e.0) t) shows)
+
+-- ---- what stands at a place, by its kind
+
 module _ (S : List Object) (t : Flat) (v : Path) (f : Found) (h : IsTree t) (e : Some (node S f) ≡ standing t v) where
   pub taken_out : (b point : Bool) → b ≡ is_dir f.mode → not (beq b point) ≡ true → remove t v ≡ minus (cone_of point v) t
   taken_out true true d k = absurd (true≢false (sym k))
@@ -68,12 +90,6 @@ module _ (S : List Object) (t : Flat) (v : Path) (f : Found) (h : IsTree t) (e :
   left_in true false d k = absurd (true≢false k)
   left_in false true d k = absurd (true≢false k)
   left_in false false d k = let x = leaf_node S f.mode f.name.0 (sym d) in other_leaf t h v x.0 (sym e ∙ ap Some x.1)
-
-pub stands_as : (S : List Object) (n : Bytes) (t u : Flat) → has Tree S n ≡ true → flat S n ≡ t → t ≡ u → StandsFor S n u
-stands_as S n t u h e k = record { held = h; map = e ∙ k }
-
-pub ok_as : {E : Type 0} (r : Result Name E) (S : List Object) (t u : Flat) → t ≡ u → IfOk r (λ n. StandsFor S n.0 t) → IfOk r (λ n. StandsFor S n.0 u)
-ok_as r S t u e h = subst (λ (w : Flat). IfOk r (λ n. StandsFor S n.0 w)) e h
 
 -- ---- a hole
 
@@ -100,12 +116,13 @@ module _ (t : Flat) (e d : Entry) (b : Bool) (u : Path) (h : IsTree t) (wide : e
       minus_away t (base e.0) (cone_of b u) h (apart_of (base e.0) u b apart2 (n ∙ ap (λ (c : Cone). tail c u) wide)) apart2
       ∙ ap (λ (c : Cone). filter (λ x. not (in_cone c (base e.0 ++ x.0))) t) same
 
-  pub hole_within : (v : Path) → Some v ≡ tail e.0 u → minus (cone_of b v) t ≡ filter (λ x. not (in_cone d.0 (base e.0 ++ x.0))) t
-  hole_within v n =
+  -- what a hole takes, seen from the entry's base
+  pub hole_within : (v : Path) → Some v ≡ tail e.0 u → (p : Path) → in_cone (cone_of b v) p ≡ in_cone d.0 (base e.0 ++ p)
+  hole_within v n p =
       let path : u ≡ base e.0 ++ v = strip-is (base e.0) u v (proper-some (strip (base e.0) u) v (sym (n ∙ ap (λ (c : Cone). tail c u) wide))) in
-      minus_behind t b (base e.0) v
-      ∙ ap (λ (w : Path). filter (λ x. not (in_cone (cone_of b w) (base e.0 ++ x.0))) t) (sym path)
-      ∙ ap (λ (c : Cone). filter (λ x. not (in_cone c (base e.0 ++ x.0))) t) same
+      cone_behind b (base e.0) v p
+      ∙ ap (λ (w : Path). in_cone (cone_of b w) (base e.0 ++ p)) (sym path)
+      ∙ ap (λ (c : Cone). in_cone c (base e.0 ++ p)) same
 
 -- what stands properly behind a front is not empty
 pub rest_full : (c : Cone) (u v : Path) → Some v ≡ tail c u → c ≡ below (base c) → is_nil v ≡ false
@@ -149,38 +166,26 @@ one_more t es i d s l e =
     filter-twice (λ p. free_in (take i es) (s ++ p)) (λ p. not (in_cone d.0 (s ++ p))) t
     ∙ ap (λ (f : Path → Bool). filter (λ x. f x.0) t) (λ j p. sym (free_more es i d (s ++ p) (take_more es i d l ∙ ap (λ (x : Entry). take i es ++ x ∷ []) (sym e))) j)
 
--- ---- a turn of the loop over holes
+-- what is left by the first entries of what stands below an entry's base
+abbrev pub left_by : List Entry → ℕ → ℕ → Flat → Flat
+left_by es route i t = filter (λ e. free_in (take i es) (base_in (slice_get es route) ++ e.0)) t
 
-pub record IsHoled (S0 : List Object) (es : List Entry) (route : ℕ) (t : Flat) (i : ℕ) (S : List Object) (n : Bytes) : Type 0 where
-  pub stands : StandsFor S n (filter (λ e. free_in (take i es) (base_in (slice_get es route) ++ e.0)) t)
-  pub grown : IsGrownBy (IsPartObject t) S0 S
+pub next_hole : (S : List Object) (es : List Entry) (route : ℕ) (t : Flat) (i : ℕ) (d e : Entry) (before after : Staged) → i < length es → d ≡ get_or es i d → slice_get es route ≡ Some e →
+    IsWithout S t (λ p. in_cone d.0 (base e.0 ++ p)) before after → Shows S before (left_by es route i t) → Shows S after (left_by es route (i + 1) t)
+next_hole S es route t i d e before after l k r h shows =
+    subst (Shows S after)
+    (ap (λ (o : Option Entry). filter (λ x. not (in_cone d.0 (base e.0 ++ x.0))) (filter (λ x. free_in (take i es) (base_in o ++ x.0)) t)) r
+    ∙ one_more t es i d (base e.0) l k
+    ∙ ap (λ (o : Option Entry). filter (λ x. free_in (take (i + 1) es) (base_in o ++ x.0)) t) (sym r))
+    (h (λ p. free_in (take i es) (base_in (slice_get es route) ++ p)) shows)
 
-module _ (S0 : List Object) (es : List Entry) (route : ℕ) (t : Flat) where
-  pub first_turn : (n : Bytes) → IsStore S0 → has Tree S0 n ≡ true → flat S0 n ≡ t → IsHoled S0 es route t 0 S0 n
-  first_turn n s h e = record {
-    stands = record { held = h; map = e ∙ none_free t (base_in (slice_get es route)) };
-    grown = grown_self (IsPartObject t) S0 s;
-  }
+-- the directories of a part are made of the tree
+pub directory_over : (t u : Flat) → IsTree u → IsOver (IsLeafOf t) (IsComponentOf t) u → AreOver (IsLeafOf t) (IsComponentOf t) (HasDirectory u)
+directory_over t u h o b m = (
+  under u m.path,
+  tree_over (IsLeafOf t) (IsComponentOf t) (under u m.path) (under-tree u m.path h) (over_under (IsLeafOf t) (IsComponentOf t) u m.path o),
+  m.body,
+)
 
-  module _ (i : ℕ) (S : List Object) (n : Bytes) (turn : IsHoled S0 es route t i S n) where
-    u : Flat
-    u = filter (λ e. free_in (take i es) (base_in (slice_get es route) ++ e.0)) t
-
-    -- what is in hand for the turn is in hand for the whole
-    pub turn_handed : (o : Object) → IsPartObject (flat S n) o → IsPartObject t o
-    turn_handed =
-        part_handed t (flat S n) (flat_good S turn.grown.store n turn.stands.held).tree
-        (subst (IsOver (IsLeafOf t) (IsComponentOf t)) (sym turn.stands.map) (over_filter (IsLeafOf t) (IsComponentOf t) (λ p. free_in (take i es) (base_in (slice_get es route) ++ p)) t (over_own t)))
-
-    pub next_turn : (d e : Entry) (S' : List Object) (m : Bytes) → i < length es → d ≡ get_or es i d → slice_get es route ≡ Some e → IsGrownBy (IsPartObject (flat S n)) S S' →
-        StandsFor S' m (filter (λ x. not (in_cone d.0 (base e.0 ++ x.0))) (flat S n)) → IsHoled S0 es route t (i + 1) S' m
-    next_turn d e S' m l k r g h = record {
-      stands = record {
-        held = h.held;
-        map = h.map
-            ∙ ap (λ (v : Flat). filter (λ x. not (in_cone d.0 (base e.0 ++ x.0))) v) (turn.stands.map ∙ ap (λ (o : Option Entry). filter (λ x. free_in (take i es) (base_in o ++ x.0)) t) r)
-            ∙ one_more t es i d (base e.0) l k
-            ∙ ap (λ (o : Option Entry). filter (λ x. free_in (take (i + 1) es) (base_in o ++ x.0)) t) (sym r);
-      };
-      grown = grown_then (IsPartObject t) S0 S S' turn.grown (grown_as (IsPartObject (flat S n)) (IsPartObject t) S S' turn_handed g);
-    }
+pub left_over : (es : List Entry) (route i : ℕ) (t : Flat) → IsOver (IsLeafOf t) (IsComponentOf t) (left_by es route i t)
+left_over es route i t = over_filter (IsLeafOf t) (IsComponentOf t) (λ p. free_in (take i es) (base_in (slice_get es route) ++ p)) t (over_own t)

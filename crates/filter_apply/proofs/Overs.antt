@@ -4,10 +4,10 @@ use Rattle.std.specs.FinMap.{is_sorted}
 use Rattle.std.proofs.lemmas.Option.{none-some}
 use Rattle.git_objects.specs.Lists.{Each}
 use Rattle.git_objects.specs.Paths.{Bytes, Path, path_cmp}
-use Rattle.git_objects.specs.Trees.{Leaf, Flat, IsTree, at, under, remove}
+use Rattle.git_objects.specs.Trees.{Leaf, Flat, IsTree, at, under}
 use Rattle.git_objects.specs.Names.{body, name}
 use Rattle.git_objects.specs.declared.kind.Kind.TheVariants.{Tree}
-use Rattle.git_objects.proofs.Maps.{at-remove, first_some}
+use Rattle.git_objects.proofs.Maps.{first_some}
 use Rattle.git_objects.proofs.Under.{at-under, at-under_nil}
 use Rattle.object_store.specs.Objects.{Object, find_named}
 use Rattle.object_store.specs.Hands.{IsTreeOver, IsTreeMade, IsLeafOf, IsComponentOf}
@@ -60,13 +60,6 @@ over_under L C t a = over_from L C t (under t a) by
     by : (p : Path) (x : Leaf) → at (under t a) p ≡ Some x → (b : Path) × (at t (b ++ p) ≡ Some x)
     by [] x e = absurd (none-some x (sym (at-under_nil t a) ∙ e))
     by (d ∷ r) x e = (a, sym (at-under t a d r) ∙ e)
-
-pub over_remove : (L : Leaf → Type 0) (C : Bytes → Type 0) (t : Flat) (v : Path) → IsOver L C t → IsOver L C (remove t v)
-over_remove L C t v = over_from L C t (remove t v) (λ p x e. ([], by _ (at t p) x (sym (at-remove t v p) ∙ e)))
-  where
-    by : (b : Bool) (o : Option Leaf) (x : Leaf) → cond b None o ≡ Some x → o ≡ Some x
-    by true o x e = cc
-    by false o x e = e
 
 pub over_both : (L : Leaf → Type 0) (C : Bytes → Type 0) (a b : Flat) → IsOver L C a → IsOver L C b → IsOver L C (together a b)
 over_both L C a b o q = record {

@@ -3,4 +3,5 @@ pub mod Ranges
 pub mod Hands
 pub mod Truth
 pub mod Faults
+pub mod Holes
 pub mod Examples

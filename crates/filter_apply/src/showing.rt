@@ -72,7 +72,7 @@ fn made<L: Ledger>(
 
 /// The tree that the table shows of the tree `root`. The memo is asked before anything is read, and then has the pair.
 /// A table's number `id` is its own among all tables that the memo is used with. A step is one body of a directory
-/// that is looked up on the way to what an entry shows or leaves out; what edits and joins read is not counted.
+/// that is looked up on the way to what an entry shows or leaves out; what stages and joins read is not counted.
 pub fn shown<L: Ledger>(
     alloc: Global,
     store: &mut Store,
