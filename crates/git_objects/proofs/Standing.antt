@@ -1,5 +1,5 @@
 -- What stands at a path of a tree may be put into a tree.
-use Rattle.std.proofs.Common.{◌≡◌, T, List, [], ◌∷◌, Option, Some, None, IfSome, refl}
+use Rattle.std.proofs.Common.{◌≡◌, T, [], ◌∷◌, Option, Some, None, IfSome, refl}
 use Rattle.std.specs.Option.{option_map, option_or}
 use Rattle.git_objects.specs.Paths.{Path}
 use Rattle.git_objects.specs.Trees.{Leaf, is_leaf, Flat, IsTree, Node, LeafNode, at, under, if_full, standing}

@@ -52,8 +52,10 @@ module _ (a b : Entry) (after r : Bytes) (next : entry_from after ≡ Some (b, r
   pub fits_dir : lt a b ≡ true → v ≡ entry_dir a → v ≡ true → ForSome (spelled_entries after) (λ es. v ≡ fits_before a es)
   fits_dir l d t = for_entry after b r (fits_before a) v next (λ es q. t ∙ sym (fits-is a b es true (is_alone a.component (b ∷ es)) l (sym d ∙ t) refl))
 
-  pub fits_file : lt a b ≡ true → entry_dir a ≡ false → ForSome (spelled_entries after) (λ es. v ≡ is_alone a.component es) → ForSome (spelled_entries after) (λ es. v ≡ fits_before a es)
-  fits_file l d h = for_entry after b r (fits_before a) v next (λ es q. h (b ∷ es) q ∙ sym (fits-is a b es false (is_alone a.component (b ∷ es)) l d refl))
+  pub fits_file : lt a b ≡ true → entry_dir a ≡ false → ForSome (spelled_entries r) (λ es. v ≡ is_alone a.component (b ∷ es)) → ForSome (spelled_entries after) (λ es. v ≡ fits_before a es)
+  fits_file l d h =
+      subst (λ (o : Option (List Entry)). ForSome o (λ es. v ≡ fits_before a es)) (sym (spelled-entry after b r next))
+      (for_cons b (spelled_entries r) (fits_before a) v (λ es q. h es q ∙ sym (fits-is a b es false (is_alone a.component (b ∷ es)) l d refl)))
 
   pub fits_not : v ≡ lt a b → v ≡ false → ForSome (spelled_entries after) (λ es. v ≡ fits_before a es)
   fits_not l n = for_entry after b r (fits_before a) v next (λ es q. n ∙ sym (λ i. (sym l ∙ n) i && (entry_dir a || is_alone a.component (b ∷ es))))

@@ -31,6 +31,10 @@ mode_from t =
     (cond (same_bytes t (mode_text Module)) (Some Module)
     (cond (same_bytes t (mode_text Dir)) (Some Dir) None))))
 
+-- the mode in front of the first space, and what follows the space
+abbrev pub first_mode : Bytes → Option (Mode × Bytes)
+first_mode b = option_and_then (λ s. option_map (λ m. (m, s.1)) (mode_from s.0)) (cut_at 32 b)
+
 -- an entry of that mode, from its component and what follows the zero byte behind it
 abbrev pub target_from : Mode → Bytes × Bytes → Option (Entry × Bytes)
 target_from m r = cond (nat_le 20 (length r.1)) (Some (record { mode = m; component = r.0; name = record { 0 = take 20 r.1 } }, drop 20 r.1)) None

@@ -4,7 +4,7 @@ ghost use Rattle.std.specs.Option.{ForSome};
 ghost use Rattle.std.specs.Option.{option_map};
 ghost use Rattle.std.specs.Ordering.{is_lt};
 ghost use Rattle.git_objects.specs.Entries.{entry_component, entry_dir, git_cmp};
-ghost use Rattle.git_objects.specs.Bodies.{entry_from, mode_from, target_from, tree_entries};
+ghost use Rattle.git_objects.specs.Bodies.{entry_from, first_mode, mode_from, target_from, tree_entries};
 ghost use Rattle.git_objects.specs.Neighbours.{before_dir, fits_before, is_alone, spelled_entries, stands};
 ghost use Rattle.git_objects.specs.Views.{entry_value};
 ghost use Rattle.git_objects.specs.declared.entry.Entry.{Entry};
@@ -125,12 +125,26 @@ fn target<'a>(mode: Mode, component: &'a [u8], text: &'a [u8]) -> Option<(EntryV
     ))
 }
 
+// The mode of the first entry, and what follows the space behind it. The two that are common are looked for at once.
+fn first_mode<'a>(body: &'a [u8]) -> Option<(Mode, &'a [u8])>
+    ensures { option_map (λ r. (r.0, r.1.now)) result ≡ first_mode body.now }
+{
+    if let Some(rest) = body.strip_prefix(b"100644 ".as_slice()) {
+        return Some((Mode::File, rest));
+    }
+    if let Some(rest) = body.strip_prefix(b"40000 ".as_slice()) {
+        return Some((Mode::Dir, rest));
+    }
+    let (digits, rest) = cut(b' ', body)?;
+    let mode = mode_from(digits)?;
+    Some((mode, rest))
+}
+
 // The first entry, and what follows it.
 fn first_entry<'a>(body: &'a [u8]) -> Option<(EntryView<'a>, &'a [u8])>
     ensures { option_map (λ r. (entry_value r.0, r.1.now)) result ≡ entry_from body.now }
 {
-    let (digits, rest) = cut(b' ', body)?;
-    let mode = mode_from(digits)?;
+    let (mode, rest) = first_mode(body)?;
     let (component, rest) = cut(0, rest)?;
     target(mode, component, rest)
 }
@@ -167,14 +181,23 @@ fn is_alone(component: &[u8], entries: &[u8]) -> bool
     true
 }
 
+// Whether neither an entry nor one of those behind it, up to the place of a directory of that component, has the
+// component.
+fn is_apart(component: &[u8], next: &EntryView<'_>, behind: &[u8]) -> bool
+    ensures { ForSome (spelled_entries behind.now) (λ es. result ≡ is_alone component.now (entry_value next.now ∷ es)) }
+{
+    component != next.component && (!is_before_dir(next, component) || is_alone(component, behind))
+}
+
 // Whether an entry stands before the next, and as a file before no directory of its component.
 fn fits_before(entry: &EntryView<'_>, after: &[u8]) -> bool
     ensures { ForSome (spelled_entries after.now) (λ es. result ≡ fits_before (entry_value entry.now) es) }
 {
     match first_entry(after) {
         None => true,
-        Some((next, _)) => {
-            is_before(entry, &next) && (entry.mode.is_dir() || is_alone(entry.component, after))
+        Some((next, behind)) => {
+            is_before(entry, &next)
+                && (entry.mode.is_dir() || is_apart(entry.component, &next, behind))
         }
     }
 }
