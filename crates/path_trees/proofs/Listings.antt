@@ -10,9 +10,8 @@ use Rattle.git_objects.specs.Paths.{Bytes, same_bytes, is_component}
 use Rattle.git_objects.specs.Entries.{dir_key, git_cmp, Before, entry_component, entry_dir, AreEntries}
 use Rattle.git_objects.specs.declared.entry.Entry.{Entry}
 use Rattle.git_objects.proofs.Tops.{same_key}
-use Rattle.git_objects.proofs.Basics.{same_bytes-back, no_slash}
+use Rattle.git_objects.proofs.Basics.{same_bytes-back}
 use Rattle.git_objects.specs.Lists.{Each}
-use Rattle.git_objects.proofs.Order.{front}
 use Rattle.path_trees.specs.Listed.{entry_at, found, found_at, named, is_before, dropped, inserted, changed}
 use Rattle.path_trees.specs.declared.found.Found.{Found}
 

@@ -1,12 +1,11 @@
 -- What an edit adds to a store, and its faults.
-use Rattle.std.specs.Prelude.{◌≡◌, true, List, [], ◌∷◌, ◌++◌, Some}
+use Rattle.std.specs.Prelude.{◌≡◌, List, [], ◌∷◌, ◌++◌, Some}
 use Rattle.git_objects.specs.Paths.{Bytes, Path}
 use Rattle.git_objects.specs.Trees.{Flat, under}
 use Rattle.git_objects.specs.Names.{name, body}
 use Rattle.git_objects.specs.declared.kind.Kind.TheVariants.{Tree}
-use Rattle.object_store.specs.Objects.{Object, IsStore, has, find_named}
+use Rattle.object_store.specs.Objects.{Object, IsStore, find_named}
 use Rattle.object_store.specs.Puts.{Collides, collision}
-use Rattle.object_store.specs.Unfolding.{flat}
 use Rattle.path_trees.specs.declared.found.TreeFault.{TreeFault}
 use Rattle.path_trees.specs.declared.found.TreeFault.TheVariants.{Collision, OutOfMemory}
 

@@ -1,8 +1,7 @@
 -- What a stored mode and name stand for, and paths with no leaf on the way.
-use Rattle.std.specs.Prelude.{◌≡◌, [], ◌∷◌, ◌++◌, List, Option, Some, None}
-use Rattle.std.specs.Option.{option_map, option_or}
+use Rattle.std.specs.Prelude.{◌≡◌, ◌∷◌, ◌++◌, List, None}
 use Rattle.git_objects.specs.Paths.{Bytes, Path}
-use Rattle.git_objects.specs.Trees.{Flat, Node, LeafNode, TreeNode, at, under, put, remove}
+use Rattle.git_objects.specs.Trees.{Flat, Node, at}
 use Rattle.git_objects.specs.declared.kind.Kind.TheVariants.{Blob}
 use Rattle.object_store.specs.Objects.{Object, body_of}
 use Rattle.object_store.specs.Unfolding.{flat, node_of}

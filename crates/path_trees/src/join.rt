@@ -57,17 +57,32 @@ pub fn join_disjoint(alloc: Global, store: &mut Store, a: Name, b: Name) -> Resu
         Ok(Some((path, by))) => return Err(JoinFault::Clash { path, by }),
         Ok(None) => {}
     }
+    match join_apart(alloc, store, a, b) {
+        Ok(name) => Ok(name),
+        Err(TreeFault::Collision { name }) => Err(JoinFault::Collision { name }),
+        Err(TreeFault::OutOfMemory) => Err(JoinFault::OutOfMemory),
+    }
+}
+
+/// The tree with the leaves of two trees, of which no path of the one is comparable with one of the other. Only the
+/// directories that both have a path in are made anew.
+pub fn join_apart(alloc: Global, store: &mut Store, a: Name, b: Name) -> Result<Name, TreeFault>
+    requires first { has Tree store.old a.0 ≡ true }
+    requires second { has Tree store.old b.0 ≡ true }
+    requires apart { clash (flat store.old a.0) (flat store.old b.0) ≡ None }
+    ensures ok { IfOk result (λ n. StandsFor store.new n.0 (together (flat store.old a.0) (flat store.old b.0))) }
+    ensures err { IfErr result (IsTreeFault (IsShared (flat store.old a.0) (flat store.old b.0)) store.new) }
+    ensures store { IsGrown (IsShared (flat store.old a.0) (flat store.old b.0)) store.old store.new }
+{
+    // The store is looked at so that the proof has what each store keeps.
+    let _ = store.get(&a);
     if is_empty(store, &a) {
         return Ok(b);
     }
     if is_empty(store, &b) {
         return Ok(a);
     }
-    match joined(alloc, store, a, b) {
-        Ok(name) => Ok(name),
-        Err(TreeFault::Collision { name }) => Err(JoinFault::Collision { name }),
-        Err(TreeFault::OutOfMemory) => Err(JoinFault::OutOfMemory),
-    }
+    joined(alloc, store, a, b)
 }
 
 fn is_empty(store: &Store, name: &Name) -> bool

@@ -15,7 +15,7 @@ mod walk;
 pub use clash::first_clash;
 pub use edits::{put_at, remove_at, taken_in};
 pub use found::{Found, Leaf, TreeFault};
-pub use join::{JoinFault, join_disjoint};
+pub use join::{JoinFault, join_apart, join_disjoint};
 pub use laws::together_law;
 pub use lookup::{entry_at, entry_in};
 pub use walk::Walk;

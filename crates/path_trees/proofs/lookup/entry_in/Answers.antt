@@ -1,8 +1,6 @@
 use Rattle.std.proofs.Common.{◌≡◌, true, IfSome, Option, Some, None, refl, ap, sym, ◌∙◌}
 use Rattle.std.specs.Option.{option_map, option_and_then}
-use Rattle.git_objects.specs.Paths.{Bytes}
-use Rattle.git_objects.specs.declared.kind.Kind.TheVariants.{Tree}
-use Rattle.object_store.specs.Objects.{Object, IsStore, has, has_child}
+use Rattle.object_store.specs.Objects.{has_child}
 use Rattle.object_store.specs.Unfolding.{flat}
 use Rattle.path_trees.specs.Standing.{node}
 use Rattle.path_trees.specs.Listed.{found_at, listed}
