@@ -17,7 +17,7 @@ use crate::{ApplyError, part, placed};
 use filter_routes::Table;
 use git_objects::{Name, Steps};
 use object_store::Store;
-use path_trees::{JoinFault, join_disjoint};
+use path_trees::{TreeFault, join_apart};
 use std::alloc::Global;
 use std::sync::ledger::Ledger;
 
@@ -82,11 +82,10 @@ fn joined(
     let Some(b) = second else {
         return Ok(first);
     };
-    match join_disjoint(alloc, store, a, b) {
+    match join_apart(alloc, store, a, b) {
         Ok(name) => Ok(Some(name)),
-        Err(JoinFault::Clash { path: _, by: _ }) => unreachable!(),
-        Err(JoinFault::Collision { name }) => Err(ApplyError::Collision { name }),
-        Err(JoinFault::OutOfMemory) => Err(ApplyError::OutOfMemory),
+        Err(TreeFault::Collision { name }) => Err(ApplyError::Collision { name }),
+        Err(TreeFault::OutOfMemory) => Err(ApplyError::OutOfMemory),
     }
 }
 

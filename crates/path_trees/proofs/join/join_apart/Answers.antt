@@ -11,13 +11,13 @@ use Rattle.path_trees.proofs.join.join_apart.Goals as goal
 pub returns-then-is_empty-clause-ok : goal.returns-then-is_empty-clause-ok
 returns-then-is_empty-clause-ok c =
     let S = c.args.store.now in
-    let B = flat S c.args.b.0 in 
+    let B = flat S c.args.b.0 in
     record { held = c.requires.second; map = sym (ap (λ (t : Flat). together t B) (no_path (flat S c.args.a.0) c.if-is_empty.ensures.empty) ∙ nothing_together B) }
 
 pub returns-then-is_empty-2-clause-ok : goal.returns-then-is_empty-2-clause-ok
 returns-then-is_empty-2-clause-ok c =
     let S = c.args.store.now in
-    let A = flat S c.args.a.0 in 
+    let A = flat S c.args.a.0 in
     record { held = c.requires.first; map = sym (ap (together A) (no_path (flat S c.args.b.0) c.if-is_empty-2.ensures.empty) ∙ together_nothing A (flat_good S c.get.ensures.store c.args.a.0 c.requires.first).tree) }
 
 pub joined-requires-clause-roots : goal.joined-requires-clause-roots
