@@ -13,6 +13,7 @@ mod Empties
 mod Moves
 mod Cellwise
 mod PartLists
+mod Halves
 mod Leasts
 mod PathOrders
 mod BlockSteps

@@ -3,7 +3,7 @@ use Rattle.std.proofs.Common.{◌≡◌, ◌⊎◌, inl, inr, Bool, true, false,
 use Rattle.std.specs.Prelude.{IfErr, IfOk, is_some}
 use Rattle.std.specs.Option.{option_or}
 use Rattle.git_objects.specs.Lists.{Each}
-use Rattle.git_objects.specs.Paths.{Path, comparable, is_path, is_prefix}
+use Rattle.git_objects.specs.Paths.{Path, is_path, is_prefix}
 use Rattle.git_objects.specs.Trees.{Leaf, Flat, at}
 use Rattle.git_objects.specs.declared.kind.Kind.TheVariants.{Tree}
 use Rattle.git_objects.specs.declared.name.Name.{Name}
@@ -15,7 +15,7 @@ use Rattle.object_store.proofs.Growth.{clash_as, flat-grown}
 use Rattle.filter_unapply.specs.Blocks.{IsLeast}
 use Rattle.filter_unapply.specs.Hands.{IsFaultBy, IsMadeOf, IsPutFault}
 use Rattle.filter_unapply.specs.Laying.{Laid, Blocked, LaidTree}
-use Rattle.filter_unapply.specs.Parts.{IsAmong, IsBlockIn, IsJoined, IsNear, any_at, with_parts}
+use Rattle.filter_unapply.specs.Parts.{IsAmong, IsBlockIn, IsNear, IsWhole, any_at, with_parts}
 use Rattle.filter_unapply.specs.Stored.{IsLaidTree}
 use Rattle.filter_unapply.specs.StoredLeaves.{HasLeaves}
 use Rattle.filter_unapply.specs.declared.fault.LayFault.{LayFault}
@@ -38,7 +38,7 @@ some-or : (x y : Option Leaf) → is_some (option_or x y) ≡ true → (is_some 
 some-or None y e = inr e
 some-or (Some x) y e = inl refl
 
-pub near-block : (S : List Object) → IsStore S → (k : Name) (ns : List Name) → has Tree S k.0 ≡ true → (p : Path) × (q : Path) × IsNear S k ns p q → IsLeast (IsBlockIn S k ns) None → ⊥
+pub near-block : (S : List Object) → IsStore S → (k : Name) (ns : List Name) → has Tree S k.0 ≡ true → (p : Path) × (q : Path) × IsNear S (k ∷ ns) p q → IsLeast (IsBlockIn S k ns) None → ⊥
 near-block S s k ns h (p, q, w) none = by (some-or (at (flat S k.0) p) (any_at S ns p) w.path) (some-or (at (flat S k.0) q) (any_at S ns q) w.by)
   where
     by : (is_some (at (flat S k.0) p) ≡ true) ⊎ (is_some (any_at S ns p) ≡ true) → (is_some (at (flat S k.0) q) ≡ true) ⊎ (is_some (any_at S ns q) ≡ true) → ⊥
@@ -50,7 +50,7 @@ near-block S s k ns h (p, q, w) none = by (some-or (at (flat S k.0) p) (any_at S
         w.other (at_apart (flat S k.0) (is_tree S s k.0 h).apart p q x.0 y.0 x.1 y.1 w.comparable)
 
 -- the answer that isn't a tree
-pub joined-none : (S : List Object) (k : Name) (ns : List Name) (R : List Object) (o : Option Name) → ((n : Name) → o ≡ Some n → ⊥) → IsJoined S k ns R o → (p : Path) × (q : Path) × IsNear S k ns p q
+pub joined-none : (S : List Object) (k : Name) (ns : List Name) (R : List Object) (o : Option Name) → ((n : Name) → o ≡ Some n → ⊥) → IsWhole S (k ∷ ns) R o → (p : Path) × (q : Path) × IsNear S (k ∷ ns) p q
 joined-none S k ns R None f h = h
 joined-none S k ns R (Some n) f h = absurd (f n refl)
 

@@ -1,17 +1,16 @@
 -- Lists of trees without a path in common.
-use Rattle.std.proofs.Common.{◌≡◌, ◌⊎◌, inl, inr, ℕ, ◌+◌, ◌<◌, Bool, true, false, cond, List, [], ◌∷◌, ◌++◌, drop, take, length, Option, Some, None, refl, sym, ap, subst, ◌∙◌, true≢false}
+use Rattle.std.proofs.Common.{◌≡◌, ◌⊎◌, inl, inr, ℕ, ◌+◌, ◌<◌, Bool, true, false, cond, List, [], ◌∷◌, ◌++◌, take, length, Option, Some, None, refl, sym, ap, subst, ◌∙◌, true≢false}
 use Rattle.std.proofs.lemmas.Option.{none-some}
-use Rattle.std.specs.Prelude.{is_some, Contains}
+use Rattle.std.specs.Prelude.{is_some}
 use Rattle.std.specs.Option.{option_and_then, option_map, option_or}
 use Rattle.git_objects.specs.Lists.{Each}
 use Rattle.git_objects.specs.Paths.{Bytes, Path, comparable, same_path}
-use Rattle.git_objects.specs.Trees.{Leaf, Flat, IsTree, at, under}
-use Rattle.git_objects.specs.Names.{body}
+use Rattle.git_objects.specs.Trees.{Leaf, Flat, IsTree, at}
 use Rattle.git_objects.specs.declared.kind.Kind.TheVariants.{Tree}
 use Rattle.git_objects.specs.declared.name.Name.{Name}
 use Rattle.git_objects.proofs.Order.{path_decides}
 use Rattle.object_store.specs.Growth.{IsGrownBy}
-use Rattle.object_store.specs.Objects.{Object, IsStore, has}
+use Rattle.object_store.specs.Objects.{Object, has}
 use Rattle.object_store.specs.Unfolding.{flat, StandsFor}
 use Rattle.object_store.proofs.Growth.{flat-grown, has-grown}
 use Rattle.path_trees.specs.Clashes.{IsShared, clash, first_comparable, together}
@@ -21,7 +20,7 @@ use Rattle.decision_lists.specs.Cells.{cells}
 use Rattle.decision_lists.specs.Entries.{Entry}
 use Rattle.filter_unapply.specs.StoredLeaves.{HasLeaves}
 use Rattle.filter_unapply.specs.Hands.{IsIn, IsMadeOf}
-use Rattle.filter_unapply.specs.Parts.{AreApart, AreParts, IsNear, any_at, with_parts}
+use Rattle.filter_unapply.specs.Parts.{AreApart, AreParts, IsAdded, any_at}
 use Rattle.filter_unapply.specs.Routed.{IsTakenOrIn, forward, taken}
 use Rattle.filter_unapply.proofs.Cellwise.{forward-whole, route-alone, taken-more}
 use Rattle.filter_unapply.proofs.MadeTrees.{directory-made}
@@ -102,6 +101,18 @@ parts-more S T g es i l n ns m a h =
     alone p None k x e = absurd (none-some x (sym (ap (option_and_then (at n)) k) ∙ e))
     alone p (Some q) k x e = ap (option_and_then (at n)) (route-alone es i p q k)
 
+-- a part that is the empty tree may be left out
+pub parts-added : {made : Object → Type 0} (S T : List Object) → IsGrownBy made S T → (es : List Entry) (i : ℕ) → i < length es → (n : Flat) (ns : List Name) (m none : Name) → StandsFor T none.0 [] →
+    AreParts S ns (taken (cells [] (take i es)) n) → HasLeaves T m.0 (taken (route_cells es i) n) → (after : List Name) → IsAdded none m ns after → AreParts T after (taken (cells [] (take (i + 1) es)) n)
+parts-added S T g es i l n ns m none e a h after (inl k) = subst (λ v. AreParts T v (taken (cells [] (take (i + 1) es)) n)) (sym k) (parts-more S T g es i l n ns m a h)
+parts-added S T g es i l n ns m none e a h after (inr k) =
+    let b = parts-grown S T g ns (taken (cells [] (take i es)) n) a in
+    subst (λ v. AreParts T v (taken (cells [] (take (i + 1) es)) n)) (sym k.1)
+    (record { trees = b.trees; apart = b.apart; leaves = λ p. b.leaves p ∙ sym (or-none (taken (cells [] (take i es)) n p)) ∙ ap (option_or (taken (cells [] (take i es)) n p)) (nothing p) ∙ sym (taken-more es i n p l) })
+  where
+    nothing : (p : Path) → None ≡ taken (route_cells es i) n p
+    nothing p = ap (λ (u : Flat). at u p) (sym e.map ∙ ap (flat T) (sym k.0)) ∙ h.leaves p
+
 -- ---- two trees put together
 
 module _ (a b : Flat) (h : IsTree a) (g : IsTree b) (c : clash a b ≡ None) where
@@ -152,67 +163,6 @@ clash-near (d ∷ a) b e = by (first_comparable d.0 b) refl (λ k. clash-near a 
     by None k later g = let r = later g in (r.0, r.1, deeper r.0 r.2, r.3, r.4)
     by (Some q) k later g = let r = first-near d.0 b (ap is_some k) in (d.0, r.0, here, r.1, r.2)
 
--- ---- parts put together, one after another
-
--- the tree so far, and what is still to come
-pub record IsJoining (S : List Object) (kept : Name) (all : List Name) (R : List Object) (tree : Name) (rest : List Name) : Type 0 where
-  pub held : has Tree R tree.0 ≡ true
-  pub whole : (p : Path) → option_or (at (flat R tree.0) p) (any_at S rest p) ≡ with_parts S kept all p
-  pub other : (p : Path) (x : Leaf) → at (flat R tree.0) p ≡ Some x → any_at S rest p ≡ None
-  pub apart : AreApart S rest
-  pub trees : Each (λ n. has Tree S n.0 ≡ true) rest
-
-module _ (S : List Object) (kept : Name) (all : List Name) (R : List Object) (tree m : Name) (rest : List Name) (same : flat R m.0 ≡ flat S m.0) (j : IsJoining S kept all R tree (m ∷ rest)) where
-  pub joining-next : (Q : List Object) (n : Name) → HasLeaves Q n.0 (λ p. option_or (at (flat R tree.0) p) (at (flat R m.0) p)) → IsJoining S kept all Q n rest
-  joining-next Q n h = record {
-    held = h.held;
-    whole = λ p.
-        ap (λ o. option_or o (any_at S rest p)) (h.leaves p ∙ ap (λ (u : Flat). option_or (at (flat R tree.0) p) (at u p)) same)
-        ∙ sym (or-assoc (at (flat R tree.0) p) (at (flat S m.0) p) (any_at S rest p)) ∙ j.whole p;
-    other = λ p x e. by p (or-parts (at (flat R tree.0) p) (at (flat R m.0) p) x (sym (h.leaves p) ∙ e));
-    apart = j.apart.1;
-    trees = j.trees.1;
-  }
-    where
-      later : (x y : Option Leaf) → option_or x y ≡ None → y ≡ None
-      later None y e = e
-      later (Some x) y e = absurd (none-some x (sym e))
-
-      by : (p : Path) → {x : Leaf} → (at (flat R tree.0) p ≡ Some x) ⊎ (at (flat R m.0) p ≡ Some x) → any_at S rest p ≡ None
-      by p {x} (inl e) = later (at (flat S m.0) p) (any_at S rest p) (j.other p x e)
-      by p {x} (inr e) = j.apart.0 p x (ap (λ (u : Flat). at u p) (sym same) ∙ e)
-
-  -- what is made of the two is among all
-  pub joining-known : (p : Path) (x : Leaf) → IsIn (flat R tree.0) p x ⊎ IsIn (flat R m.0) p x → with_parts S kept all p ≡ Some x
-  joining-known p x (inl e) = sym (j.whole p) ∙ ap (λ o. option_or o (any_at S (m ∷ rest) p)) e
-  joining-known p x (inr e) = sym (j.whole p) ∙ right (at (flat R tree.0) p) refl
-    where
-      e' : at (flat S m.0) p ≡ Some x
-      e' = ap (λ (u : Flat). at u p) (sym same) ∙ e
-
-      right : (o : Option Leaf) → at (flat R tree.0) p ≡ o → option_or (at (flat R tree.0) p) (option_or (at (flat S m.0) p) (any_at S rest p)) ≡ Some x
-      right None k = (λ i. option_or (k i) (option_or (e' i) (any_at S rest p)))
-      right (Some y) k = absurd (none-some x (sym (j.other p y k) ∙ ap (λ o. option_or o (any_at S rest p)) e'))
-
-  some-of : {A : Type 0} (o : Option A) → is_some o ≡ true → (x : A) × (o ≡ Some x)
-  some-of None e = absurd (true≢false (sym e))
-  some-of (Some x) e = (x, refl)
-
-  -- two comparable paths of the two are paths of all
-  pub joining-clash : is_some (clash (flat R tree.0) (flat R m.0)) ≡ true →
-      (p : Path) × (q : Path) × (is_some (with_parts S kept all p) ≡ true) × (is_some (with_parts S kept all q) ≡ true) × (comparable p q ≡ true) × (p ≡ q → ⊥)
-  joining-clash c =
-      let r = clash-near (flat R tree.0) (flat R m.0) c in
-      let x = some-of (at (flat R tree.0) r.0) r.2 in
-      let y = some-of (at (flat R m.0) r.1) r.3 in (
-        r.0,
-        r.1,
-        ap is_some (joining-known r.0 x.0 (inl x.1)),
-        ap is_some (joining-known r.1 y.0 (inr y.1)),
-        r.4,
-        λ i. none-some y.0 (sym (j.other r.0 x.0 x.1) ∙ ap (λ o. option_or o (any_at S rest r.0)) (ap (λ (u : Flat). at u r.0) (sym same) ∙ ap (at (flat R m.0)) i ∙ y.1)),
-      )
-
 pub none-clash : (o : Option (Path × Path)) (a b : Flat) → o ≡ clash a b → false ≡ is_some o → clash a b ≡ None
 none-clash None a b e f = sym e
 none-clash (Some x) a b e f = absurd (true≢false (sym f))
@@ -226,18 +176,3 @@ taken-whole es i n l p x (inr e) = inr (by (forward (route_cells es i) p) refl)
     by : (o : Option Path) → forward (route_cells es i) p ≡ o → taken (cells [] es) n p ≡ Some x
     by None k = absurd (none-some x (sym (ap (option_and_then (at n)) k) ∙ e))
     by (Some q) k = ap (option_and_then (at n)) (forward-whole es i p q l k ∙ sym k) ∙ e
-
-pub first-joining : (S : List Object) (kept : Name) (all : List Name) → has Tree S kept.0 ≡ true → Each (λ n. has Tree S n.0 ≡ true) all → AreApart S all →
-    ((p : Path) (x : Leaf) → at (flat S kept.0) p ≡ Some x → any_at S all p ≡ None) → IsJoining S kept all S kept all
-first-joining S kept all h t a o = record { held = h; whole = λ p. refl; other = o; apart = a; trees = t }
-
-pub last-joining : (S : List Object) (kept : Name) (all : List Name) (R : List Object) (tree : Name) (rest : List Name) → rest ≡ [] → IsJoining S kept all R tree rest → HasLeaves R tree.0 (with_parts S kept all)
-last-joining S kept all R tree rest e j = record {
-  held = j.held;
-  leaves = λ p. sym (or-none (at (flat R tree.0) p)) ∙ ap (λ l. option_or (at (flat R tree.0) p) (any_at S l p)) (sym e) ∙ j.whole p;
-}
-
-pub near-of : (S : List Object) (kept : Name) (all : List Name) →
-    ((p : Path) × (q : Path) × (is_some (with_parts S kept all p) ≡ true) × (is_some (with_parts S kept all q) ≡ true) × (comparable p q ≡ true) × (p ≡ q → ⊥)) →
-    (p : Path) × (q : Path) × IsNear S kept all p q
-near-of S kept all h = (h.0, h.1, record { path = h.2; by = h.3; comparable = h.4; other = h.5 })

@@ -1,5 +1,5 @@
 -- Trees that have no path in common, and what they have together.
-use Rattle.std.specs.Prelude.{◌≡◌, true, List, [], ◌∷◌, Option, Some, None, ⊤, is_some}
+use Rattle.std.specs.Prelude.{◌≡◌, ◌⊎◌, true, List, [], ◌∷◌, ◌++◌, Option, Some, None, ⊤, is_some}
 use Rattle.std.specs.Option.{option_or}
 use Rattle.git_objects.specs.Lists.{Each}
 use Rattle.git_objects.specs.Paths.{Path, comparable}
@@ -27,6 +27,10 @@ pub record AreParts (S : List Object) (ns : List Name) (o : Path → Option Leaf
   pub apart : AreApart S ns
   pub leaves : (p : Path) → any_at S ns p ≡ o p
 
+-- a tree was added to others, or is the empty one
+abbrev pub IsAdded : Name → Name → List Name → List Name → Type 0
+IsAdded none n before after = (after ≡ before ++ n ∷ []) ⊎ ((n.0 ≡ none.0) × (after ≡ before))
+
 -- a tree and others together
 abbrev pub with_parts : List Object → Name → List Name → Path → Option Leaf
 with_parts S k ns p = option_or (at (flat S k.0) p) (any_at S ns p)
@@ -42,17 +46,21 @@ pub record IsBlockIn (S : List Object) (k : Name) (ns : List Name) (p q : Path) 
   pub comparable : comparable p q ≡ true
   pub other : p ≡ q → ⊥
 
--- two different paths of all of them that are comparable
-pub record IsNear (S : List Object) (k : Name) (ns : List Name) (p q : Path) : Type 0 where
-  pub path : is_some (with_parts S k ns p) ≡ true
-  pub by : is_some (with_parts S k ns q) ≡ true
+-- two different paths of the trees that are comparable
+pub record IsNear (S : List Object) (ns : List Name) (p q : Path) : Type 0 where
+  pub path : is_some (any_at S ns p) ≡ true
+  pub by : is_some (any_at S ns q) ≡ true
   pub comparable : comparable p q ≡ true
   pub other : p ≡ q → ⊥
 
--- the tree of all leaves, or two paths of them that are comparable
-abbrev pub IsJoined : List Object → Name → List Name → List Object → Option Name → Type 0
-IsJoined S k ns R (Some n) = HasLeaves R n.0 (with_parts S k ns)
-IsJoined S k ns R None = (p : Path) × (q : Path) × IsNear S k ns p q
+-- the tree of all their leaves, or two paths of them that are comparable
+abbrev pub IsWhole : List Object → List Name → List Object → Option Name → Type 0
+IsWhole S ns R (Some n) = HasLeaves R n.0 (any_at S ns)
+IsWhole S ns R None = (p : Path) × (q : Path) × IsNear S ns p q
+
+-- a leaf of one of the trees
+abbrev pub IsOfAny : List Object → List Name → Path → Leaf → Type 0
+IsOfAny S ns p x = any_at S ns p ≡ Some x
 
 -- the tree of both, or a path of the one that is comparable with one of the other
 abbrev pub IsPair : Flat → Flat → List Object → Option Name → Type 0

@@ -1,5 +1,5 @@
 // A pushed tree as parts, and the parts put together with what is kept.
-ghost use Rattle.std.specs.Prelude.{◌≡◌, ◌⊎◌, ◌++◌, [], ◌∷◌, true, Some, None, IfOk, IfErr, OnOk};
+ghost use Rattle.std.specs.Prelude.{◌≡◌, ◌<◌, ◌⊎◌, ◌++◌, [], ◌∷◌, true, Some, None, length, IfOk, IfErr, OnOk};
 ghost use Rattle.git_objects.specs.Lists.{Each};
 ghost use Rattle.git_objects.specs.Paths.{Path as PathValue};
 ghost use Rattle.git_objects.specs.Trees.{Leaf as LeafValue, at};
@@ -10,7 +10,7 @@ ghost use Rattle.object_store.specs.Unfolding.{flat, StandsFor};
 ghost use Rattle.decision_lists.specs.Cells.{cells};
 ghost use Rattle.decision_lists.specs.Lists.{Fine};
 ghost use Rattle.filter_unapply.specs.Hands.{IsFaultOf, IsIn, IsMadeOf};
-ghost use Rattle.filter_unapply.specs.Parts.{AreApart, AreParts, IsAmong, IsJoined, IsPair, any_at};
+ghost use Rattle.filter_unapply.specs.Parts.{AreApart, AreParts, IsAdded, IsAmong, IsOfAny, IsPair, IsWhole, any_at};
 ghost use Rattle.filter_unapply.specs.Routed.{IsTakenOrIn, taken};
 
 use crate::LayFault;
@@ -21,7 +21,8 @@ use object_store::Store;
 use path_trees::{JoinFault, first_clash, join_disjoint};
 use std::alloc::{AllocError, Global};
 
-// What comes from each entry of a list, put where it comes from. `none` is the empty tree.
+// What comes from each entry of a list, put where it comes from; an entry that nothing comes from has no part. `none` is
+// the empty tree.
 pub fn parts_of(
     alloc: Global,
     store: &mut Store,
@@ -44,14 +45,18 @@ pub fn parts_of(
     let mut parts = Vec::new(alloc);
     for route in 0..entries.len() {
         let part = part_of_route(alloc, store, none, entries, route, pushed)?;
-        add(&mut parts, part)?;
+        add(&mut parts, none, part)?;
     }
     Ok(parts)
 }
 
-fn add(parts: &mut Vec<Name>, part: Name) -> Result<(), AllocError>
-    ensures { OnOk result (parts.new.items ≡ parts.old.items ++ part ∷ []) }
+// Adds a part, unless it is the empty tree.
+fn add(parts: &mut Vec<Name>, none: Name, part: Name) -> Result<(), AllocError>
+    ensures { OnOk result (IsAdded none part parts.old.items parts.new.items) }
 {
+    if part == none {
+        return Ok(());
+    }
     parts.push(part)?;
     Ok(())
 }
@@ -68,22 +73,45 @@ pub fn joined(
     requires apart { AreApart store.old parts.now }
     requires other { (p : PathValue) (x : LeafValue) → at (flat store.old kept.0) p ≡ Some x →
         any_at store.old parts.now p ≡ None }
-    ensures ok { IfOk result (IsJoined store.old kept parts.now store.new) }
+    ensures ok { IfOk result (IsWhole store.old (kept ∷ parts.now) store.new) }
     ensures err { IfErr result (IsFaultOf
         (IsMadeOf (IsAmong store.old kept parts.now)) store.new) }
     ensures store { IsGrownBy (IsMadeOf (IsAmong store.old kept parts.now)) store.old store.new }
 {
     // The store is looked at so that the proof has what each store keeps.
     let _ = store.get(&kept);
-    let mut tree = kept;
-    for i in 0..parts.len() {
-        let part: &Name = &parts[i];
-        match pair(alloc, store, tree, *part)? {
-            None => return Ok(None),
-            Some(next) => tree = next,
-        }
+    if parts.is_empty() {
+        return Ok(Some(kept));
     }
-    Ok(Some(tree))
+    let Some(whole) = whole(alloc, store, parts)? else {
+        return Ok(None);
+    };
+    pair(alloc, store, kept, whole)
+}
+
+// The tree with the leaves of parts. None: two of their paths are comparable. The two halves are joined when each is
+// made, so that every part takes part in as few joins as their number can be halved.
+fn whole(alloc: Global, store: &mut Store, parts: &[Name]) -> Result<Option<Name>, LayFault>
+    requires some { 0 < length parts.now }
+    requires parts { Each (λ n. has Tree store.old n.0 ≡ true) parts.now }
+    requires apart { AreApart store.old parts.now }
+    ensures ok { IfOk result (IsWhole store.old parts.now store.new) }
+    ensures err { IfErr result (IsFaultOf (IsMadeOf (IsOfAny store.old parts.now)) store.new) }
+    ensures store { IsGrownBy (IsMadeOf (IsOfAny store.old parts.now)) store.old store.new }
+{
+    // The store is looked at so that the proof has what each store keeps.
+    let _ = store.get(&parts[0]);
+    if parts.len() == 1 {
+        return Ok(Some(parts[0]));
+    }
+    let middle = parts.len() / 2;
+    let Some(left) = whole(alloc, store, &parts[..middle])? else {
+        return Ok(None);
+    };
+    let Some(right) = whole(alloc, store, &parts[middle..])? else {
+        return Ok(None);
+    };
+    pair(alloc, store, left, right)
 }
 
 // The tree with the leaves of two trees. None: a path of the one is comparable with one of the other.

@@ -1,13 +1,11 @@
-use Rattle.std.proofs.Common.{◌≡◌, Some, None, sym, ap, subst, ◌∙◌}
+use Rattle.std.proofs.Common.{Some, None, sym, ap, subst, ◌∙◌}
 use Rattle.git_objects.specs.Trees.{Flat, at}
 use Rattle.git_objects.specs.declared.kind.Kind.TheVariants.{Tree}
-use Rattle.object_store.specs.Unfolding.{flat}
 use Rattle.object_store.proofs.Growth.{flat-grown, has-grown}
 use Rattle.filter_unapply.specs.Blocks.{IsLeast}
-use Rattle.filter_unapply.specs.Parts.{IsBlockIn, IsJoined}
+use Rattle.filter_unapply.specs.Parts.{IsBlockIn}
 use Rattle.filter_unapply.proofs.Nears.{block-grown, joined-none, near-block}
 use Rattle.filter_unapply.proofs.PartLists.{any-grown, apart-grown, each-grown}
-use Rattle.filter_unapply.proofs.Told.{is_tree}
 use Rattle.filter_unapply.proofs.laying.put_together.Goals as goal
 
 pub first_block-requires-clause-kept : goal.first_block-requires-clause-kept

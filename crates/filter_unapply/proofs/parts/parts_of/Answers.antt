@@ -9,11 +9,8 @@ use Rattle.decision_lists.specs.Cells.{cells}
 use Rattle.filter_unapply.specs.StoredLeaves.{HasLeaves}
 use Rattle.filter_unapply.specs.Hands.{IsMadeOf}
 use Rattle.filter_unapply.specs.Routed.{IsTakenOrIn, taken}
-use Rattle.filter_unapply.specs.Parts.{AreParts}
 use Rattle.filter_unapply.proofs.MadeTrees.{err-again, known-as}
-use Rattle.filter_unapply.proofs.PartLists.{parts-more, taken-whole}
-use Rattle.std.proofs.Common.{◌+◌, take, sym, List}
-use Rattle.git_objects.specs.declared.name.Name.{Name}
+use Rattle.filter_unapply.proofs.PartLists.{parts-added, taken-whole}
 use Rattle.filter_unapply.proofs.parts.parts_of.Goals as goal
 
 pub part_of_route-requires-clause-pushed : goal.part_of_route-requires-clause-pushed
@@ -81,9 +78,10 @@ loop-route-preserved c =
     let more : (o : Object) → IsMadeOf part o → IsMadeOf known o =
     known-as part known (λ p x e. taken-whole es i n c.loop-route-test.true p x (subst (λ (v : Flat). IsTakenOrIn (route_cells es i) v p x) same e)) in
     let T = c.part_of_route.new.store in
-    let next = parts-more R T c.part_of_route.ensures.store es i c.loop-route-test.true n c.loop-route.parts.items c.in_ok-part.part c.loop-route.invariant.parts
-    (subst (λ (v : Flat). HasLeaves T c.in_ok-part.part.0 (taken (route_cells es i) v)) same c.in_ok-part.ensures.ok) in
     record {
-      parts = subst (λ (ns : List Name). AreParts T ns (taken (cells [] (take (i + 1) es)) n)) (sym c.in_ok-add.ensures) next;
+      parts = parts-added R T c.part_of_route.ensures.store es i c.loop-route-test.true n c.loop-route.parts.items c.in_ok-part.part c.args.none
+          (stands-grown S T c.args.none.0 [] (grown_then (IsMadeOf known) S R T g (grown_as (IsMadeOf part) (IsMadeOf known) R T more c.part_of_route.ensures.store)) c.requires.none)
+          c.loop-route.invariant.parts (subst (λ (v : Flat). HasLeaves T c.in_ok-part.part.0 (taken (route_cells es i) v)) same c.in_ok-part.ensures.ok)
+          c.add.new.parts.items c.in_ok-add.ensures;
       grown = grown_then (IsMadeOf known) S R c.part_of_route.new.store g (grown_as (IsMadeOf part) (IsMadeOf known) R c.part_of_route.new.store more c.part_of_route.ensures.store);
     }
