@@ -9,6 +9,7 @@ pub mod Fronts
 mod MadeTrees
 mod Sieves
 mod Fittings
+mod Stages
 mod Empties
 mod Moves
 mod Cellwise

@@ -1,18 +1,18 @@
 -- One entry of a decision list asked of a tree.
-use Rattle.std.proofs.Common.{◌≡◌, Bool, true, false, cond, not, ◌&&◌, ◌||◌, [], ◌∷◌, ◌++◌, Option, Some, None, refl, sym, ap, subst, ◌∙◌, true≢false, append-nil}
-use Rattle.std.specs.Prelude.{is_some, is_none}
+use Rattle.std.proofs.Common.{◌≡◌, Bool, true, false, cond, ◌&&◌, ◌||◌, [], ◌∷◌, ◌++◌, Option, Some, None, refl, sym, ap, ◌∙◌, true≢false, append-nil}
+use Rattle.std.specs.Prelude.{is_some}
 use Rattle.std.specs.Option.{option_map, option_or}
-use Rattle.std.proofs.lemmas.Option.{none-some, same_Some}
-use Rattle.git_objects.specs.Paths.{Bytes, Path, same_bytes, same_path, is_path, is_prefix, comparable}
-use Rattle.git_objects.specs.Trees.{Leaf, Flat, at, IsTree, LeafNode, TreeNode, Node, under, put, remove, if_full, standing, rest_below}
+use Rattle.std.proofs.lemmas.Option.{none-some}
+use Rattle.git_objects.specs.Paths.{Bytes, Path, same_bytes, same_path, is_prefix, comparable}
+use Rattle.git_objects.specs.Trees.{Leaf, Flat, at, IsTree, LeafNode, TreeNode, under, put, remove, if_full, standing}
 use Rattle.git_objects.proofs.Maps.{first_some, at_rest, after, at-put, at-remove}
 use Rattle.git_objects.proofs.Order.{path_decides}
-use Rattle.git_objects.proofs.Pointwise.{from-T, all_at, at_apart}
+use Rattle.git_objects.proofs.Pointwise.{at_apart}
 use Rattle.git_objects.proofs.Under.{at-under, at-under_nil}
-use Rattle.filter_routes.proofs.Carried.{first_none, nowhere}
+use Rattle.filter_routes.proofs.Carried.{first_none}
 use Rattle.decision_lists.specs.Entries.{Cone, cone_of, at as at_cone, below as below_cone, tail}
 use Rattle.decision_lists.specs.Fronts.{strip, proper, whole}
-use Rattle.decision_lists.proofs.Strip.{strip-is, strip-self, proper-some, whole-some}
+use Rattle.decision_lists.proofs.Strip.{strip-is, strip-self}
 use Rattle.filter_unapply.specs.Sifted.{IsAbsent, put_back, taken_out}
 
 -- ---- fronts
@@ -209,7 +209,7 @@ module _ (u : Flat) where
     | false ↦ λ k. refl
   ] refl
 
-  removed-at : (s q : Path) → at (remove u s) q ≡ cond (is_some (strip s q)) None (at u q)
+  pub removed-at : (s q : Path) → at (remove u s) q ≡ cond (is_some (strip s q)) None (at u q)
   removed-at s q = at-remove u s q ∙ ap (λ b. cond b None (at u q)) (prefix-strip s q)
 
   pub out-leaf : (s : Path) (x : Leaf) → IsTree u → at u s ≡ Some x → (q : Path) → at (remove u s) q ≡ taken_out (at_cone s) u q

@@ -6,6 +6,7 @@ use Rattle.git_objects.specs.Entries.{is_dir}
 use Rattle.object_store.specs.Objects.{Object, has_child}
 use Rattle.path_trees.specs.Standing.{node}
 use Rattle.path_trees.specs.declared.found.Found.{Found}
+use Rattle.stage_tree.specs.Stages.{Shows, Staged}
 use Rattle.decision_lists.specs.Entries.{Cone, Entry, cone_of, run, tail}
 
 -- whether a path stays that a list gives this: where it gives something, or where it gives nothing
@@ -34,6 +35,18 @@ put_back c t u p = if is_some (tail c p) then at t p else at u p
 -- the part without what the cone has
 abbrev pub taken_out : Cone → Flat → Path → Option Leaf
 taken_out c u p = if is_some (tail c p) then None else at u p
+
+-- ---- stages
+
+-- each leaf of a tree is one of another
+abbrev pub IsWithin : Flat → Flat → Type 0
+IsWithin u t = (p : Path) (x : Leaf) → at u p ≡ Some x → at t p ≡ Some x
+
+-- over a store, a stage shows a tree with these leaves
+pub record IsShown (S : List Object) (v : Staged) (o : Path → Option Leaf) : Type 0 where
+  pub tree : Flat
+  pub shows : Shows S v tree
+  pub leaves : (p : Path) → at tree p ≡ o p
 
 -- ---- what the code asks
 

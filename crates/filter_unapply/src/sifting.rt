@@ -1,26 +1,26 @@
 // What a decision list takes out of a tree, or leaves in it.
-ghost use Rattle.std.specs.Prelude.{◌≡◌, [], true, Some, if◌then◌else◌, IfOk, IfErr};
-ghost use Rattle.git_objects.specs.Paths.{Path as PathValue};
-ghost use Rattle.git_objects.specs.Trees.{Leaf as LeafValue, at};
+ghost use Rattle.std.specs.Prelude.{◌≡◌, [], true, Some, if◌then◌else◌, IfOk, IfErr, OnOk};
+ghost use Rattle.git_objects.specs.Trees.{Flat, IsTree};
 ghost use Rattle.git_objects.specs.declared.kind.Kind.TheVariants.{Tree};
 ghost use Rattle.object_store.specs.Growth.{IsGrownBy, IsOnly};
 ghost use Rattle.object_store.specs.Objects.{IsStore, has};
 ghost use Rattle.object_store.specs.Unfolding.{flat, StandsFor};
+ghost use Rattle.stage_tree.specs.Stages.{Shows};
 ghost use Rattle.decision_lists.specs.Entries.{cone_of};
-ghost use Rattle.filter_unapply.specs.StoredLeaves.{HasLeaves};
 ghost use Rattle.filter_unapply.specs.Hands.{IsFaultOf, IsIn, IsMadeOf};
-ghost use Rattle.filter_unapply.specs.Sifted.{IsFitting, asked, put_back, sifted, taken_out};
+ghost use Rattle.filter_unapply.specs.Sifted.{IsFitting, IsShown, IsWithin, asked, put_back, sifted, stays, taken_out};
 
 use crate::LayFault;
 use decision_lists::Entry;
 use git_objects::Name;
 use object_store::Store;
 use path_names::Path;
-use path_trees::{Found, entry_at, put_at, remove_at, taken_in};
-use std::alloc::Global;
+use path_trees::{Found, entry_at, taken_in};
+use stage_tree::Stage;
+use std::alloc::{AllocError, Global};
 
 // The tree of the paths that the list gives something, or of the others. Whole directories are taken by their names,
-// and only those on the way to the list's cones are made anew.
+// and only those on the way to the list's cones are made anew, each once.
 pub fn sifted(
     alloc: Global,
     store: &mut Store,
@@ -34,28 +34,45 @@ pub fn sifted(
     ensures err { IfErr result (IsFaultOf (IsMadeOf (IsIn (flat store.old root.0))) store.new) }
     ensures store { IsGrownBy (IsMadeOf (IsIn (flat store.old root.0))) store.old store.new }
 {
-    let mut part = start(store, inside, root)?;
+    // The store is looked at so that the proof has what each store keeps.
+    let _ = store.get(&root);
+    let mut stage = staged(alloc, store, list, inside, root)?;
+    Ok(stage.finish(store)?)
+}
+
+// A stage that shows the tree of these paths.
+fn staged(
+    alloc: Global,
+    store: &Store,
+    list: &[Entry],
+    inside: bool,
+    root: Name,
+) -> Result<Stage, AllocError>
+    requires root { has Tree store.now root.0 ≡ true }
+    ensures { IfOk result (λ s. Shows store.now s (sifted inside list.now (flat store.now root.0))) }
+{
+    // The store is looked at so that the proof has what each store keeps.
+    let _ = store.get(&root);
+    let mut stage = start(alloc, store, inside, root)?;
     let mut level = list.len();
     'entries: while level > 0 {
         level -= 1;
-        part = with_entry(alloc, store, &list[level], inside, root, part)?;
+        with_entry(alloc, store, &list[level], inside, root, &mut stage)?;
     }
-    Ok(part)
+    Ok(stage)
 }
 
-// The tree that an empty list leaves.
-fn start(store: &mut Store, inside: bool, root: Name) -> Result<Name, LayFault>
-    requires root { has Tree store.old root.0 ≡ true }
-    ensures ok { IfOk result (λ n. StandsFor store.new n.0 (sifted inside [] (flat store.old root.0))) }
-    ensures err { IfErr result (IsFaultOf (IsMadeOf (IsIn (flat store.old root.0))) store.new) }
-    ensures store { IsGrownBy (IsMadeOf (IsIn (flat store.old root.0))) store.old store.new }
+// A stage that shows what an empty list leaves.
+fn start(alloc: Global, store: &Store, inside: bool, root: Name) -> Result<Stage, AllocError>
+    requires root { has Tree store.now root.0 ≡ true }
+    ensures { IfOk result (λ s. Shows store.now s (sifted inside [] (flat store.now root.0))) }
 {
     // The store is looked at so that the proof has what each store keeps.
     let _ = store.get(&root);
     if inside {
-        return empty(store);
+        return Stage::empty(alloc);
     }
-    Ok(root)
+    Stage::begin(alloc, store, root)
 }
 
 // The empty tree.
@@ -67,106 +84,105 @@ pub fn empty(store: &mut Store) -> Result<Name, LayFault>
     Ok(taken_in(store, &[])?)
 }
 
-// A part of a tree after one entry more, which is asked before those that made the part.
-fn with_entry(
+// Changes what a stage shows, a part of a tree, by one entry more, which is asked before those that made the part.
+pub fn with_entry(
     alloc: Global,
-    store: &mut Store,
+    store: &Store,
     entry: &Entry,
     inside: bool,
     root: Name,
-    part: Name,
-) -> Result<Name, LayFault>
-    requires root { has Tree store.old root.0 ≡ true }
-    requires part { has Tree store.old part.0 ≡ true }
-    requires within { (p : PathValue) (x : LeafValue) → at (flat store.old part.0) p ≡ Some x →
-        at (flat store.old root.0) p ≡ Some x }
-    ensures ok { IfOk result (λ n. HasLeaves store.new n.0
-        (asked inside entry.now (flat store.old root.0) (flat store.old part.0))) }
-    ensures err { IfErr result (IsFaultOf (IsMadeOf (IsIn (flat store.old root.0))) store.new) }
-    ensures store { IsGrownBy (IsMadeOf (IsIn (flat store.old root.0))) store.old store.new }
+    stage: &mut Stage,
+) -> Result<(), AllocError>
+    requires root { has Tree store.now root.0 ≡ true }
+    requires shows { (u : Flat) × Shows store.now stage.old u }
+    ensures { OnOk result ((u : Flat) → Shows store.now stage.old u → IsWithin u (flat store.now root.0) →
+        IsShown store.now stage.new (asked inside entry.now (flat store.now root.0) u)) }
 {
     // The store is looked at so that the proof has what each store keeps.
     let _ = store.get(&root);
-    let keeps = entry.target.is_some() == inside;
+    let stays = stays(entry, inside);
     if entry.base.as_slice().is_empty() {
-        return with_all(store, entry.point, keeps, root, part);
+        return with_all(alloc, store, entry.point, stays, root, stage);
     }
     let path = Path::of_parts(alloc, entry.base.as_slice(), &[])?;
-    if keeps {
-        return put_back(alloc, store, entry.point, &path, root, part);
+    if stays {
+        return put_back(store, entry.point, &path, root, stage);
     }
-    taken_out(alloc, store, entry.point, &path, part)
+    taken_out(store, entry.point, &path, root, stage)
 }
 
-// The part after an entry of all paths below the root, or of the root itself, which is no path.
+// Whether a path stays that an entry has.
+fn stays(entry: &Entry, inside: bool) -> bool
+    ensures { result ≡ stays inside entry.now.1 }
+{
+    entry.target.is_some() == inside
+}
+
+// Changes what a stage shows by an entry of all paths below the root, or of the root itself, which is no path.
 fn with_all(
-    store: &mut Store,
+    alloc: Global,
+    store: &Store,
     point: bool,
-    keeps: bool,
+    stays: bool,
     root: Name,
-    part: Name,
-) -> Result<Name, LayFault>
-    requires root { has Tree store.old root.0 ≡ true }
-    requires part { has Tree store.old part.0 ≡ true }
-    ensures ok { IfOk result (λ n. HasLeaves store.new n.0
-        (if keeps then put_back (cone_of point []) (flat store.old root.0) (flat store.old part.0)
-        else taken_out (cone_of point []) (flat store.old part.0))) }
-    ensures err { IfErr result (IsFaultOf (IsMadeOf (IsIn (flat store.old root.0))) store.new) }
-    ensures store { IsGrownBy (IsMadeOf (IsIn (flat store.old root.0))) store.old store.new }
+    stage: &mut Stage,
+) -> Result<(), AllocError>
+    requires root { has Tree store.now root.0 ≡ true }
+    requires shows { (u : Flat) × Shows store.now stage.old u }
+    ensures { OnOk result ((u : Flat) → Shows store.now stage.old u → IsWithin u (flat store.now root.0) →
+        IsShown store.now stage.new
+        (if stays then put_back (cone_of point []) (flat store.now root.0) u else taken_out (cone_of point []) u)) }
 {
     // The store is looked at so that the proof has what each store keeps.
     let _ = store.get(&root);
     if point {
-        return Ok(part);
+        return Ok(());
     }
-    if keeps {
-        return Ok(root);
+    if stays {
+        *stage = Stage::begin(alloc, store, root)?;
+        return Ok(());
     }
-    empty(store)
+    stage.clear();
+    Ok(())
 }
 
-// The part with what the cone has in the whole tree.
+// Puts what the cone has in the whole tree into what a stage shows.
 fn put_back(
-    alloc: Global,
-    store: &mut Store,
+    store: &Store,
     point: bool,
     path: &Path,
     root: Name,
-    part: Name,
-) -> Result<Name, LayFault>
-    requires root { has Tree store.old root.0 ≡ true }
-    requires part { has Tree store.old part.0 ≡ true }
-    requires within { (p : PathValue) (x : LeafValue) → at (flat store.old part.0) p ≡ Some x →
-        at (flat store.old root.0) p ≡ Some x }
-    ensures ok { IfOk result (λ n. HasLeaves store.new n.0
-        (put_back (cone_of point path.now) (flat store.old root.0) (flat store.old part.0))) }
-    ensures err { IfErr result (IsFaultOf (IsMadeOf (IsIn (flat store.old root.0))) store.new) }
-    ensures store { IsGrownBy (IsMadeOf (IsIn (flat store.old root.0))) store.old store.new }
+    stage: &mut Stage,
+) -> Result<(), AllocError>
+    requires root { has Tree store.now root.0 ≡ true }
+    requires shows { (u : Flat) × Shows store.now stage.old u }
+    ensures { OnOk result ((u : Flat) → Shows store.now stage.old u → IsWithin u (flat store.now root.0) →
+        IsShown store.now stage.new (put_back (cone_of point path.now) (flat store.now root.0) u)) }
 {
-    match fitting(store, root, point, path) {
-        Some(found) => Ok(put_at(alloc, store, part, path, found)?),
-        None => Ok(part),
+    if let Some(found) = fitting(store, root, point, path) {
+        stage.put(store, path, found)?;
     }
+    Ok(())
 }
 
-// The part without what the cone has.
+// Takes what the cone has out of what a stage shows, a part of a tree: where the tree has nothing in the cone, neither
+// has the part.
 fn taken_out(
-    alloc: Global,
-    store: &mut Store,
+    store: &Store,
     point: bool,
     path: &Path,
-    part: Name,
-) -> Result<Name, LayFault>
-    requires part { has Tree store.old part.0 ≡ true }
-    ensures ok { IfOk result (λ n. HasLeaves store.new n.0
-        (taken_out (cone_of point path.now) (flat store.old part.0))) }
-    ensures err { IfErr result (IsFaultOf (IsMadeOf (IsIn (flat store.old part.0))) store.new) }
-    ensures store { IsGrownBy (IsMadeOf (IsIn (flat store.old part.0))) store.old store.new }
+    root: Name,
+    stage: &mut Stage,
+) -> Result<(), AllocError>
+    requires root { has Tree store.now root.0 ≡ true }
+    requires shows { (u : Flat) × Shows store.now stage.old u }
+    ensures { OnOk result ((u : Flat) → Shows store.now stage.old u → IsWithin u (flat store.now root.0) →
+        IsShown store.now stage.new (taken_out (cone_of point path.now) u)) }
 {
-    match fitting(store, part, point, path) {
-        Some(_) => Ok(remove_at(alloc, store, part, path)?),
-        None => Ok(part),
+    if let Some(_) = fitting(store, root, point, path) {
+        stage.remove(store, path)?;
     }
+    Ok(())
 }
 
 // What stands at a path: the leaf, or the directory of all below it. Nothing where the other kind stands there.

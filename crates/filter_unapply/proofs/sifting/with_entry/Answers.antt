@@ -1,19 +1,36 @@
+use Rattle.std.proofs.Common.{◌≡◌, [], sym, ap, ◌∙◌, append-nil}
 use Rattle.object_store.specs.Unfolding.{flat}
-use Rattle.object_store.proofs.Growth.{grown_as}
-use Rattle.filter_unapply.specs.Hands.{IsIn, IsMadeOf}
-use Rattle.filter_unapply.proofs.MadeTrees.{err-as, known-as}
+use Rattle.decision_lists.specs.Entries.{cone_of}
+use Rattle.filter_unapply.proofs.Moves.{no-component}
+use Rattle.filter_unapply.proofs.Stages.{asked-all, asked-back, asked-out, on-as}
 use Rattle.filter_unapply.proofs.sifting.with_entry.Goals as goal
 
-pub returns-clause-err : goal.returns-clause-err
-returns-clause-err c =
+pub returns-then-is_empty : goal.returns-then-is_empty
+returns-then-is_empty c =
     let S = c.args.store.now in
     let t = flat S c.args.root.0 in
-    let u = flat S c.args.part.0 in
-    err-as (IsMadeOf (IsIn u)) (IsMadeOf (IsIn t)) (known-as (IsIn u) (IsIn t) c.requires.within) c.taken_out.new.store c.taken_out.result c.taken_out.ensures.err
+    let e = c.args.entry.now in
+    let b = c.entry.inside.point in
+    let none : [] ≡ c.entry.inside.base.items = sym (no-component c.as_slice.result.now c.if-is_empty.ensures) ∙ c.as_slice.ensures.value in
+    let cone : cone_of b [] ≡ e.0 = ap (cone_of b) none ∙ ap (λ v. v.0) c.entry.view_is in
+    on-as _ _ c.with_all.result (λ f u s w. asked-all S c.with_all.new.stage c.args.inside e t u (cone_of b []) cone c.stays-stays.result (sym c.stays-stays.ensures) (f u s w)) c.with_all.ensures
 
-pub returns-clause-store : goal.returns-clause-store
-returns-clause-store c =
+pub returns-then-stays : goal.returns-then-stays
+returns-then-stays c =
     let S = c.args.store.now in
     let t = flat S c.args.root.0 in
-    let u = flat S c.args.part.0 in
-    grown_as (IsMadeOf (IsIn u)) (IsMadeOf (IsIn t)) S c.taken_out.new.store (known-as (IsIn u) (IsIn t) c.requires.within) c.taken_out.ensures.store
+    let e = c.args.entry.now in
+    let b = c.entry.inside.point in
+    let q = c.in_ok-path.path in
+    let cone : cone_of b q ≡ e.0 = ap (cone_of b) (c.in_ok-path.ensures ∙ append-nil c.as_slice-2.result.now ∙ c.as_slice-2.ensures.value) ∙ ap (λ v. v.0) c.entry.view_is in
+    on-as _ _ c.put_back.result (λ f u s w. asked-back S c.put_back.new.stage c.args.inside e t u (cone_of b q) cone (sym c.stays-stays.ensures ∙ c.if-stays.true) (f u s w)) c.put_back.ensures
+
+pub returns : goal.returns
+returns c =
+    let S = c.args.store.now in
+    let t = flat S c.args.root.0 in
+    let e = c.args.entry.now in
+    let b = c.entry.inside.point in
+    let q = c.in_ok-path.path in
+    let cone : cone_of b q ≡ e.0 = ap (cone_of b) (c.in_ok-path.ensures ∙ append-nil c.as_slice-2.result.now ∙ c.as_slice-2.ensures.value) ∙ ap (λ v. v.0) c.entry.view_is in
+    on-as _ _ c.taken_out.result (λ f u s w. asked-out S c.taken_out.new.stage c.args.inside e t u (cone_of b q) cone (sym c.stays-stays.ensures ∙ c.if-stays.false) (f u s w)) c.taken_out.ensures
