@@ -1,5 +1,5 @@
 -- A part of a tree taken from one place to another.
-use Rattle.std.proofs.Common.{◌≡◌, Bool, true, false, cond, not, ◌&&◌, T, List, [], ◌∷◌, ◌++◌, Option, Some, None, length, refl, sym, ap, subst, ◌∙◌, true≢false, append-nil, arith}
+use Rattle.std.proofs.Common.{◌≡◌, Bool, true, false, cond, not, T, List, [], ◌∷◌, ◌++◌, Option, Some, None, length, refl, sym, ap, subst, ◌∙◌, true≢false, append-nil, arith}
 use Rattle.std.proofs.lemmas.Bool.{ne_eqb}
 use Rattle.std.proofs.lemmas.Option.{none-some}
 use Rattle.std.specs.Prelude.{◌==◌, is_some}
@@ -9,12 +9,11 @@ use Rattle.std.specs.Cmp.Lexicographic.{bytes_decides}
 use Rattle.git_objects.specs.Entries.{is_dir}
 use Rattle.git_objects.specs.Names.{tree_name}
 use Rattle.git_objects.specs.Paths.{Bytes, Path, comparable, is_nil, is_path, same_bytes}
-use Rattle.git_objects.specs.Trees.{Leaf, Flat, at, is_leaf, IsTree, LeafNode, TreeNode, put, rests, standing, under}
+use Rattle.git_objects.specs.Trees.{Leaf, Flat, at, is_leaf, IsTree, put, rests, standing, under}
 use Rattle.git_objects.specs.declared.kind.Kind.TheVariants.{Tree}
 use Rattle.git_objects.specs.declared.mode.Mode.{Mode}
 use Rattle.git_objects.specs.declared.mode.Mode.TheVariants.{File, Exec, Link, Module, Dir}
-use Rattle.git_objects.specs.declared.name.Name.{Name}
-use Rattle.git_objects.proofs.Maps.{first_some, at_rest, after, at-put}
+use Rattle.git_objects.proofs.Maps.{first_some, at_rest, at-put}
 use Rattle.git_objects.proofs.Order.{path_decides}
 use Rattle.git_objects.proofs.Pointwise.{IsNode, leaf_at, put-tree}
 use Rattle.git_objects.proofs.Under.{at-under, at-under_nil}
@@ -32,7 +31,7 @@ use Rattle.decision_lists.proofs.Strip.{strip-is, strip-self}
 use Rattle.filter_unapply.specs.StoredLeaves.{HasLeaves}
 use Rattle.filter_unapply.specs.Hands.{IsMadeOf}
 use Rattle.filter_unapply.specs.Moved.{IsHeldAt, IsHolding, fits, moved}
-use Rattle.filter_unapply.specs.Sifted.{IsAbsent, IsFitting}
+use Rattle.filter_unapply.specs.Sifted.{IsFitting}
 use Rattle.filter_unapply.specs.Stored.{first_of}
 use Rattle.filter_unapply.proofs.MadeTrees.{way-made}
 use Rattle.filter_unapply.proofs.Places.{leaf_stands}
@@ -44,7 +43,7 @@ abbrev tail-from : Bool → Option Path → Option Path
 tail-from true o = whole o
 tail-from false o = proper o
 
-pub no-component : (p : Path) → true ≡ (length p == 0) → p ≡ []
+pub no-component : {A : Type 0} (p : List A) → true ≡ (length p == 0) → p ≡ []
 no-component [] e = refl
 no-component (c ∷ p) e = absurd (true≢false (e ∙ ne_eqb (length (c ∷ p)) 0 (λ i. absurd (omega arith))))
 

@@ -16,10 +16,11 @@ ghost use Rattle.filter_unapply.specs.Routed.{IsTakenOrIn, taken, unplaced};
 
 use crate::LayFault;
 use crate::moving::moved;
-use crate::sifting::sifted;
+use crate::sifting::{sifted, without};
 use decision_lists::{Entry, back_from, way_back};
 use git_objects::{Component, Name};
 use object_store::Store;
+use stage_tree::Stage;
 use std::alloc::Global;
 
 // The tree of the paths that no route shows.
@@ -37,12 +38,12 @@ pub fn unplaced(
 {
     // The store is looked at so that the proof has what each store keeps.
     let _ = store.get(&pushed);
-    let mut rest = pushed;
+    let mut stage = Stage::begin(alloc, store, pushed)?;
     for route in 0..entries.len() {
         let way = way_back(alloc, entries, route)?;
-        rest = sifted(alloc, store, way.as_slice(), false, rest)?;
+        without(alloc, store, way.as_slice(), pushed, &mut stage)?;
     }
-    Ok(rest)
+    Ok(stage.finish(store)?)
 }
 
 // What comes from one entry, put where it comes from: at or below the entry's base. `none` is the empty tree.

@@ -1,5 +1,5 @@
 // What a decision list takes out of a tree, or leaves in it.
-ghost use Rattle.std.specs.Prelude.{◌≡◌, [], true, Some, if◌then◌else◌, IfOk, IfErr, OnOk};
+ghost use Rattle.std.specs.Prelude.{◌≡◌, [], true, false, Some, if◌then◌else◌, IfOk, IfErr, OnOk};
 ghost use Rattle.git_objects.specs.Trees.{Flat, IsTree};
 ghost use Rattle.git_objects.specs.declared.kind.Kind.TheVariants.{Tree};
 ghost use Rattle.object_store.specs.Growth.{IsGrownBy, IsOnly};
@@ -75,6 +75,38 @@ fn start(alloc: Global, store: &Store, inside: bool, root: Name) -> Result<Stage
     Stage::begin(alloc, store, root)
 }
 
+// Takes the paths that a list gives something out of what a stage shows, a part of a tree. A list of one entry with a
+// target takes all that the entry has. Another list may leave some of it, as the part has it: the part is stored, sifted
+// by the list, and a stage begins with what is left.
+pub fn without(
+    alloc: Global,
+    store: &mut Store,
+    list: &[Entry],
+    root: Name,
+    stage: &mut Stage,
+) -> Result<(), LayFault>
+    requires root { has Tree store.old root.0 ≡ true }
+    requires shows { (u : Flat) × (Shows store.old stage.old u) × IsWithin u (flat store.old root.0) }
+    ensures ok { OnOk result ((u : Flat) → Shows store.old stage.old u → IsWithin u (flat store.old root.0) →
+        Shows store.new stage.new (sifted false list.now u)) }
+    ensures err { IfErr result (IsFaultOf (IsMadeOf (IsIn (flat store.old root.0))) store.new) }
+    ensures store { IsGrownBy (IsMadeOf (IsIn (flat store.old root.0))) store.old store.new }
+{
+    // The store is looked at so that the proof has what each store keeps.
+    let _ = store.get(&root);
+    if list.is_empty() {
+        return Ok(());
+    }
+    if list.len() == 1 && stays(&list[0], true) {
+        with_entry(alloc, store, &list[0], false, root, stage)?;
+        return Ok(());
+    }
+    let part = stage.finish(store)?;
+    let rest = sifted(alloc, store, list, false, part)?;
+    *stage = Stage::begin(alloc, store, rest)?;
+    Ok(())
+}
+
 // The empty tree.
 pub fn empty(store: &mut Store) -> Result<Name, LayFault>
     ensures ok { IfOk result (λ n. StandsFor store.new n.0 []) }
@@ -85,7 +117,7 @@ pub fn empty(store: &mut Store) -> Result<Name, LayFault>
 }
 
 // Changes what a stage shows, a part of a tree, by one entry more, which is asked before those that made the part.
-pub fn with_entry(
+fn with_entry(
     alloc: Global,
     store: &Store,
     entry: &Entry,
