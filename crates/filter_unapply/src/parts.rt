@@ -21,8 +21,8 @@ use object_store::Store;
 use path_trees::{JoinFault, first_clash, join_disjoint};
 use std::alloc::{AllocError, Global};
 
-// What comes from each entry of a list, put where it comes from; an entry that nothing comes from has no part. `none` is
-// the empty tree.
+// What comes from each entry of a list, put where it comes from; an entry that nothing comes from has no part. `none`
+// is the empty tree.
 pub fn parts_of(
     alloc: Global,
     store: &mut Store,

@@ -76,8 +76,8 @@ fn start(alloc: Global, store: &Store, inside: bool, root: Name) -> Result<Stage
 }
 
 // Takes the paths that a list gives something out of what a stage shows, a part of a tree. A list of one entry with a
-// target takes all that the entry has. Another list may leave some of it, as the part has it: the part is stored, sifted
-// by the list, and a stage begins with what is left.
+// target takes all that the entry has. Another list may leave some of it, as the part has it: the part is stored,
+// sifted by the list, and a stage begins with what is left.
 pub fn without(
     alloc: Global,
     store: &mut Store,
