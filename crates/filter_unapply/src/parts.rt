@@ -18,7 +18,7 @@ use crate::routing::part_of_route;
 use decision_lists::Entry;
 use git_objects::Name;
 use object_store::Store;
-use path_trees::{JoinFault, first_clash, join_disjoint};
+use path_trees::{TreeFault, first_clash, join_apart};
 use std::alloc::{AllocError, Global};
 
 // What comes from each entry of a list, put where it comes from; an entry that nothing comes from has no part. `none`
@@ -130,10 +130,9 @@ fn pair(alloc: Global, store: &mut Store, a: Name, b: Name) -> Result<Option<Nam
     if first_clash(alloc, store, &a, &b)?.is_some() {
         return Ok(None);
     }
-    match join_disjoint(alloc, store, a, b) {
+    match join_apart(alloc, store, a, b) {
         Ok(name) => Ok(Some(name)),
-        Err(JoinFault::Clash { path: _, by: _ }) => Ok(None),
-        Err(JoinFault::Collision { name }) => Err(LayFault::Collision { name }),
-        Err(JoinFault::OutOfMemory) => Err(LayFault::OutOfMemory),
+        Err(TreeFault::Collision { name }) => Err(LayFault::Collision { name }),
+        Err(TreeFault::OutOfMemory) => Err(LayFault::OutOfMemory),
     }
 }

@@ -1,7 +1,7 @@
 use Rattle.std.proofs.Common.{◌⊎◌, subst}
 use Rattle.object_store.specs.Unfolding.{flat}
 use Rattle.path_trees.specs.Clashes.{IsShared}
-use Rattle.path_trees.specs.Joins.{IsJoinFault}
+use Rattle.path_trees.specs.Made.{IsTreeFault}
 use Rattle.filter_unapply.specs.Hands.{IsIn, IsMadeOf}
 use Rattle.filter_unapply.proofs.MadeTrees.{clash-by, grown-by}
 use Rattle.filter_unapply.proofs.PartLists.{none-clash, pair-leaves, shared-made}
@@ -16,7 +16,7 @@ returns-in-Ok-clause-ok c =
     let h = is_tree S c.get.ensures.store c.args.a.0 c.requires.first in
     let g = is_tree S c.get.ensures.store c.args.b.0 c.requires.second in
     let none = none-clash c.in_ok-first_clash.field-0 a b c.in_ok-first_clash.ensures c.if-is_some.ensures in
-    pair-leaves a b h g none c.join_disjoint.new.store c.in-Ok.name.0 c.in-Ok.ensures.ok.1
+    pair-leaves a b h g none c.join_apart.new.store c.in-Ok.name.0 c.in-Ok.ensures.ok
 
 pub returns-in-Ok-clause-store : goal.returns-in-Ok-clause-store
 returns-in-Ok-clause-store c =
@@ -26,7 +26,7 @@ returns-in-Ok-clause-store c =
     let h = is_tree S c.get.ensures.store c.args.a.0 c.requires.first in
     let g = is_tree S c.get.ensures.store c.args.b.0 c.requires.second in
     let none = none-clash c.in_ok-first_clash.field-0 a b c.in_ok-first_clash.ensures c.if-is_some.ensures in
-    grown-by (IsShared a b) (IsMadeOf (λ p x. IsIn a p x ⊎ IsIn b p x)) (shared-made a b h g none) S c.join_disjoint.new.store c.join_disjoint.ensures.store
+    grown-by (IsShared a b) (IsMadeOf (λ p x. IsIn a p x ⊎ IsIn b p x)) (shared-made a b h g none) S c.join_apart.new.store c.join_apart.ensures.store
 
 pub returns-in-Err-Collision-clause-err : goal.returns-in-Err-Collision-clause-err
 returns-in-Err-Collision-clause-err c =
@@ -36,7 +36,7 @@ returns-in-Err-Collision-clause-err c =
     let h = is_tree S c.get.ensures.store c.args.a.0 c.requires.first in
     let g = is_tree S c.get.ensures.store c.args.b.0 c.requires.second in
     let none = none-clash c.in_ok-first_clash.field-0 a b c.in_ok-first_clash.ensures c.if-is_some.ensures in
-    clash-by (IsShared a b) (IsMadeOf (λ p x. IsIn a p x ⊎ IsIn b p x)) (shared-made a b h g none) c.join_disjoint.new.store c.in-Err-Collision.name.0 (subst (IsJoinFault a b S c.join_disjoint.new.store) c.in-Err-Collision.field-0-is c.in-Err-Collision.ensures.err).1
+    clash-by (IsShared a b) (IsMadeOf (λ p x. IsIn a p x ⊎ IsIn b p x)) (shared-made a b h g none) c.join_apart.new.store c.in-Err-Collision.name.0 (subst (IsTreeFault (IsShared a b) c.join_apart.new.store) c.in-Err-Collision.field-0-is c.in-Err-Collision.ensures.err)
 
 pub returns-in-Err-Collision-clause-store : goal.returns-in-Err-Collision-clause-store
 returns-in-Err-Collision-clause-store c =
@@ -46,7 +46,7 @@ returns-in-Err-Collision-clause-store c =
     let h = is_tree S c.get.ensures.store c.args.a.0 c.requires.first in
     let g = is_tree S c.get.ensures.store c.args.b.0 c.requires.second in
     let none = none-clash c.in_ok-first_clash.field-0 a b c.in_ok-first_clash.ensures c.if-is_some.ensures in
-    grown-by (IsShared a b) (IsMadeOf (λ p x. IsIn a p x ⊎ IsIn b p x)) (shared-made a b h g none) S c.join_disjoint.new.store c.join_disjoint.ensures.store
+    grown-by (IsShared a b) (IsMadeOf (λ p x. IsIn a p x ⊎ IsIn b p x)) (shared-made a b h g none) S c.join_apart.new.store c.join_apart.ensures.store
 
 pub returns-clause-store : goal.returns-clause-store
 returns-clause-store c =
@@ -56,4 +56,9 @@ returns-clause-store c =
     let h = is_tree S c.get.ensures.store c.args.a.0 c.requires.first in
     let g = is_tree S c.get.ensures.store c.args.b.0 c.requires.second in
     let none = none-clash c.in_ok-first_clash.field-0 a b c.in_ok-first_clash.ensures c.if-is_some.ensures in
-    grown-by (IsShared a b) (IsMadeOf (λ p x. IsIn a p x ⊎ IsIn b p x)) (shared-made a b h g none) S c.join_disjoint.new.store c.join_disjoint.ensures.store
+    grown-by (IsShared a b) (IsMadeOf (λ p x. IsIn a p x ⊎ IsIn b p x)) (shared-made a b h g none) S c.join_apart.new.store c.join_apart.ensures.store
+
+pub join_apart-requires-clause-apart : goal.join_apart-requires-clause-apart
+join_apart-requires-clause-apart c =
+    let S = c.args.store.now in
+    none-clash c.in_ok-first_clash.field-0 (flat S c.args.a.0) (flat S c.args.b.0) c.in_ok-first_clash.ensures c.if-is_some.ensures
