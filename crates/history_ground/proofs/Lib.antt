@@ -14,7 +14,7 @@ mod Members
 mod Chosen
 mod Bodies
 pub mod TurnLemmas
-mod Filling
+pub mod Filling
 mod Steps
 mod Waiting
 mod WalkLemmas

@@ -38,7 +38,8 @@ use Rattle.state_items.proofs.TreeParts.{all-each, each-map}
 use Rattle.repo_ground.specs.Contents.{Contents, Spells, entries_in, is_selected, room_in}
 use Rattle.repo_ground.specs.Keeping.{AreNamed, AreOfGraph, keep_plan, may_keep, new_entries, news, unheld}
 use Rattle.repo_ground.specs.Selecting.{IsSelected}
-use Rattle.repo_ground.proofs.Keeping.{kept-append, kept-each, spells-kept, with_kept}
+use Rattle.history_ground.proofs.Filling.{kept-each}
+use Rattle.repo_ground.proofs.Keeping.{kept-append, spells-kept, with_kept}
 use Rattle.repo_ground.proofs.MapFronts.{rule-known}
 use Rattle.proj_cli.specs.Filters.{entries_of, recalled}
 use Rattle.proj_cli.specs.Makes.{HoldsEntry, IsKeepOf, IsKeepPlanOf, IsStateOf}

@@ -53,14 +53,6 @@ kept-front n (x ∷ xs) ys o h = by (same_bytes n x.0) h (kept-front n xs ys o)
     by true e k = e
     by false e k = k e
 
-pub kept-each : (P : Bytes → Option Shown → Type 0) (n : Bytes) (xs : Entries) (o : Option Shown) → Each (λ e. P e.0 e.1) xs → kept_at n xs ≡ Some o → P n o
-kept-each P n [] o h e = absurd (none-some o e)
-kept-each P n (x ∷ xs) o h e = by (same_bytes n x.0) refl e (kept-each P n xs o h.1)
-  where
-    by : (b : Bool) → same_bytes n x.0 ≡ b → cond b (Some x.1) (kept_at n xs) ≡ Some o → (kept_at n xs ≡ Some o → P n o) → P n o
-    by true q f k = subst (λ v. P n v) (same_Some x.1 o f) (subst (λ m. P m x.1) (sym ((bytes_decides n x.0).0 q)) h.0)
-    by false q f k = k f
-
 -- lists that agree on a commit, with lists behind them that agree on it where the first have nothing of it
 same-behind : (q : Bytes) (a c b d : Entries) → kept_at q a ≡ kept_at q c → (kept_at q a ≡ None → kept_at q b ≡ kept_at q d) → kept_at q (a ++ b) ≡ kept_at q (c ++ d)
 same-behind q a c b d e k = by (kept_at q a) refl

@@ -5,7 +5,6 @@ pub mod GrownLaws
 pub mod Rules
 pub mod Keeping
 pub mod FreshPlaces
-pub mod RefsFound
 pub mod StatesRead
 pub mod ItemRuns
 pub mod Stopping

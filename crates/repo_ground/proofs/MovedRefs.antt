@@ -22,43 +22,11 @@ use Rattle.state_items.specs.Changes.{is_moved, moved, with_refs}
 use Rattle.state_items.specs.Items.{rises}
 use Rattle.state_items.specs.Steps.{are_heads}
 use Rattle.state_items.proofs.HeadsHeld.{are_heads-more, are_heads-put}
-use Rattle.state_items.proofs.RefsHeld.{sorted-head}
-use Rattle.state_items.proofs.RefsSet.{sorted-with}
+use Rattle.state_items.proofs.RefsHeld.{head-found, sorted-head}
+use Rattle.state_items.proofs.RefsSet.{find-with, sorted-with}
 use Rattle.repo_ground.specs.Moving.{moves_in, with_heads}
-use Rattle.repo_ground.proofs.RefsFound.{head-found}
 
 -- ---- refs in byte order
-
-not-less : (o : Ordering) → T (is_lt o) → is_eq o ≡ false
-not-less Less h = refl
-not-less Equal h = absurd h
-not-less Greater h = absurd h
-
-find-below : (r : Bytes) (m : Refs) → T (below_all bytes_cmp r m) → find bytes_cmp r m ≡ None
-find-below r [] h = refl
-find-below r (d ∷ m) h = ap (λ b. cond b (Some d.1) (find bytes_cmp r m)) (not-less (bytes_cmp r d.0) (first _ _ h)) ∙ find-below r m (second _ _ h)
-
-tied : (o : Ordering) → is_eq o ≡ true → o ≡ Equal
-tied Less h = absurd (true≢false (sym h))
-tied Equal h = refl
-tied Greater h = absurd (true≢false (sym h))
-
-same-key : (r k : Bytes) → eq_by_cmp bytes_cmp r k ≡ true → r ≡ k
-same-key r k e = slice_cmp-IsAntisymmetric nat_cmp-IsAntisymmetric r k (tied (bytes_cmp r k) e)
-
-none-later : (r : Bytes) (e : Bytes × Bytes) (es : Refs) → eq_by_cmp bytes_cmp r e.0 ≡ true → T (below_all bytes_cmp e.0 es) → find bytes_cmp r es ≡ None
-none-later r e es t h = find-below r es (subst (λ (k : Bytes). T (below_all bytes_cmp k es)) (sym (same-key r e.0 t)) h)
-
-find-with : (r : Bytes) (es base : Refs) → T (is_sorted bytes_cmp es) → find bytes_cmp r (with_refs base es) ≡ option_or (find bytes_cmp r es) (find bytes_cmp r base)
-find-with r [] base h = refl
-find-with r (e ∷ es) base h =
-    find-with r es (put bytes_cmp e.0 e.1 base) (second _ _ h)
-    ∙ ap (option_or (find bytes_cmp r es)) (find-put bytes_cmp nat_list_cmp_total r e.0 e.1 base)
-    ∙ elim (eq_by_cmp bytes_cmp r e.0) as (λ b. eq_by_cmp bytes_cmp r e.0 ≡ b →
-    option_or (find bytes_cmp r es) (cond b (Some e.1) (find bytes_cmp r base)) ≡ option_or (cond b (Some e.1) (find bytes_cmp r es)) (find bytes_cmp r base)) [
-      | true ↦ λ t. ap (λ o. option_or o (Some e.1)) (none-later r e es t (first _ _ h))
-      | false ↦ λ t. refl
-    ] refl
 
 -- refs in byte order are as they are when each is set in turn
 pub sorted-same : (es : Refs) → T (is_sorted bytes_cmp es) → with_refs [] es ≡ es

@@ -20,7 +20,7 @@ use Rattle.object_store.proofs.StoredCommits.{commit-held}
 use Rattle.commit_graph.specs.Graphs.{Row, place_of}
 use Rattle.commit_graph.proofs.Places.{graph-nil, graph-push, slice_get-push}
 use Rattle.state_items.specs.Arrivals.{commit_row, place_in, rows_of, with_commit, with_row}
-use Rattle.state_items.proofs.RowsHeld.{place-fresh, place-there, some-place}
+use Rattle.state_items.proofs.RowsHeld.{place-below, place-fresh, place-there, some-place}
 use Rattle.state_items.proofs.TreeParts.{each-map, each-member}
 use Rattle.history_ground.specs.StoredGraphs.{name_at, IsRowIn, IsGraphIn}
 
@@ -70,15 +70,6 @@ held-placed : (H : List Object) → IsStore H → (ps : List Bytes) → Each (λ
 held-placed H s ps h = each-map (λ p. has CommitKind H p ≡ true) (λ p. is_some (place_of p (rows_of H)) ≡ true) ps (λ p q. place-there p H s ∙ q) h
 
 -- ---- rows
-
-place-below : (n : Bytes) (rows : List Row) → is_some (place_of n rows) ≡ true → place_in rows n < length rows
-place-below n rows h = by (nat_lt (position_or_len (λ (r : Row). same_bytes r.name n) rows) (length rows)) refl h
-  where
-    by : (b : Bool) → nat_lt (position_or_len (λ (r : Row). same_bytes r.name n) rows) (length rows) ≡ b
-        → is_some (cond b (Some (position_or_len (λ (r : Row). same_bytes r.name n) rows)) None) ≡ true
-        → unwrap_or (cond b (Some (position_or_len (λ (r : Row). same_bytes r.name n) rows)) None) 0 < length rows
-    by true e g = ltb-true _ _ e
-    by false e g = absurd (true≢false (sym g))
 
 places-below : (rows : List Row) (ps : List Bytes) → ArePlaced rows ps → All (λ p. p < length rows) (map (place_in rows) ps)
 places-below rows [] h = All-nil (λ p. p < length rows)

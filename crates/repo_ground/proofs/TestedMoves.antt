@@ -35,7 +35,7 @@ use Rattle.repo_ground.specs.declared.moves.Backward.{Backward}
 use Rattle.repo_ground.proofs.CommitsEntered.{held-entered, placed-among, placed-front}
 use Rattle.repo_ground.proofs.FreshNames.{front-of}
 use Rattle.repo_ground.proofs.Reaching.{get-member, moved-on, some-of}
-use Rattle.repo_ground.proofs.RefsFound.{head-found}
+use Rattle.state_items.proofs.RefsHeld.{head-found}
 use Rattle.repo_ground.proofs.RowsGround.{are-in}
 
 -- ---- one ref

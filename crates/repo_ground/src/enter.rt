@@ -18,33 +18,11 @@ use commit_graph::Graph;
 use git_objects::{CommitView, Kind, Name};
 use indexmap::IndexSet;
 use object_store::Store;
+use state_items::parent_places;
 use std::alloc::{AllocError, Global};
 
 // How many commits a graph takes.
 const MOST_COMMITS: u32 = 1 << 30;
-
-// The places of a commit's parents.
-fn parent_places(
-    alloc: Global,
-    graph: &Graph,
-    commit: &CommitView<'_>,
-) -> Result<Vec<u32>, AllocError>
-    requires { list_all (λ p. is_some (place_of p graph.now)) commit.now.parents ≡ true }
-    ensures places { IfOk result (λ v. v.items ≡ map (place_in graph.now) commit.now.parents) }
-    ensures within { IfOk result (λ v. All (λ p. p < length graph.now) v.items) }
-{
-    let mut places = Vec::new(alloc);
-    for i in 0..commit.parent_count() {
-        match commit.parent(i) {
-            None => unreachable!(),
-            Some(parent) => match graph.index_of(&parent) {
-                None => unreachable!(),
-                Some(place) => places.push(place)?,
-            },
-        }
-    }
-    Ok(places)
-}
 
 // Enters a commit behind the others.
 fn enter_commit(alloc: Global, graph: &mut Graph, key: Name, body: &[u8]) -> Result<(), AllocError>

@@ -23,13 +23,12 @@ ghost use Rattle.repo_ground.specs.Keeping.{AreFrom, AreNamed, AreOfGraph, IsIte
 ghost use Rattle.repo_ground.specs.Keeping.{new_entries, new_entry, unheld};
 
 use crate::State;
-use crate::canonical::is_canonical;
 use commit_map::{CommitMap, Shown};
 use filter_text::{Filter, print};
 use git_objects::Name;
 use git_objects::limits::ITEM_BYTES;
 use proj_io::{KeepError, Keeper};
-use state_items::{first_passed, kept_item};
+use state_items::{first_passed, is_canonical, kept_item};
 use std::alloc::AllocError;
 
 impl State {

@@ -1,7 +1,6 @@
 //! A state that a keeper's items spell, upon which commits are projected.
 #![tactic(auto)]
 
-mod canonical;
 mod commit;
 mod draft;
 mod enter;

@@ -1,7 +1,7 @@
 // A tree that is made, stored, and edited on a stage of its own.
-ghost use Rattle.std.specs.Prelude.{◌≡◌, true, IfOk};
+ghost use Rattle.std.specs.Prelude.{◌≡◌, true, IfOk, IfSome};
 ghost use Rattle.git_objects.specs.Trees.{Flat};
-ghost use Rattle.git_objects.specs.declared.kind.Kind.TheVariants.{Blob};
+ghost use Rattle.git_objects.specs.declared.kind.Kind.TheVariants.{Blob, Tree};
 ghost use Rattle.object_store.specs.Objects.{has};
 ghost use Rattle.stage_tree.specs.Stages.{Shows};
 
@@ -34,16 +34,18 @@ fn edited(
     stage: &mut Stage,
     store: &Store,
     blob: Name,
+    stored: Option<Name>,
     words: &[Word],
     lines: &mut String,
 ) -> Result<(), Fault>
     requires blob { has Blob store.now blob.0 ≡ true }
+    requires stored { IfSome stored (λ n. has Tree store.now n.0 ≡ true) }
     requires shows { (t : Flat) × Shows store.now stage.old t }
     ensures { (t : Flat) × Shows store.now stage.new t }
 {
     for word in words {
         let asked = edit_of(alloc, word.text())?;
-        let answer = edit(stage, store, blob, &asked);
+        let answer = edit(stage, store, blob, stored, &asked);
         add_line(alloc, lines, word.text(), answer, stage.nodes())?;
     }
     Ok(())
@@ -64,7 +66,7 @@ fn base(alloc: Global, store: &mut Store, blob: Name, words: &[Word]) -> Result<
     let _ = store.get(&blob);
     let mut stage = Stage::empty(alloc)?;
     let mut lines = String::new(alloc);
-    edited(alloc, &mut stage, store, blob, words, &mut lines)?;
+    edited(alloc, &mut stage, store, blob, None, words, &mut lines)?;
     finished(&mut stage, store)
 }
 
@@ -81,7 +83,15 @@ fn upon(
     }
     let mut lines = String::new(alloc);
     let mut stage = Stage::begin(alloc, store, root)?;
-    edited(alloc, &mut stage, store, blob, words, &mut lines)?;
+    edited(
+        alloc,
+        &mut stage,
+        store,
+        blob,
+        Some(root),
+        words,
+        &mut lines,
+    )?;
     let name = finished(&mut stage, store)?;
     lines.push_str("tree ")?;
     for digit in name.hex().iter() {

@@ -1,7 +1,7 @@
 // Edits of a stage, which shows a tree whatever they answer.
-ghost use Rattle.std.specs.Prelude.{◌≡◌, ◌<◌, true};
+ghost use Rattle.std.specs.Prelude.{◌≡◌, ◌<◌, true, IfSome};
 ghost use Rattle.git_objects.specs.Trees.{Flat};
-ghost use Rattle.git_objects.specs.declared.kind.Kind.TheVariants.{Blob};
+ghost use Rattle.git_objects.specs.declared.kind.Kind.TheVariants.{Blob, Tree};
 ghost use Rattle.object_store.specs.Objects.{has};
 ghost use Rattle.stage_tree.specs.Stages.{Shows};
 
@@ -9,7 +9,7 @@ use crate::words::Edit;
 use git_objects::{Kind, Mode, Name, Steps};
 use object_store::Store;
 use path_names::Path;
-use path_trees::Leaf;
+use path_trees::{Leaf, entry_at};
 use stage_tree::{Stage, StageFault};
 use std::marker::Brand;
 use std::sync::ledger::{Blank, Ledger};
@@ -70,6 +70,29 @@ fn copied(stage: &mut Stage, store: &Store, from: &Path, to: &Path) -> Result<()
     stage.copy(store, from, to)
 }
 
+fn put(
+    stage: &mut Stage,
+    store: &Store,
+    stored: Option<Name>,
+    from: &Path,
+    to: &Path,
+) -> Result<(), StageFault>
+    requires stored { IfSome stored (λ n. has Tree store.now n.0 ≡ true) }
+    requires shows { (t : Flat) × Shows store.now stage.old t }
+    ensures { (t : Flat) × Shows store.now stage.new t }
+{
+    let Some(root) = stored else {
+        return Err(StageFault::NoSource);
+    };
+    let Some(found) = entry_at(store, root, from) else {
+        return Err(StageFault::NoSource);
+    };
+    match stage.put(store, to, found) {
+        Ok(()) => Ok(()),
+        Err(_) => Err(StageFault::OutOfMemory),
+    }
+}
+
 fn cleared(stage: &mut Stage, store: &Store) -> Result<(), StageFault>
     requires { (t : Flat) × Shows store.now stage.old t }
     ensures { (t : Flat) × Shows store.now stage.new t }
@@ -80,9 +103,17 @@ fn cleared(stage: &mut Stage, store: &Store) -> Result<(), StageFault>
     Ok(())
 }
 
-/// Edits a stage. Each file that is set has the same blob.
-pub fn edit(stage: &mut Stage, store: &Store, blob: Name, edit: &Edit) -> Result<(), StageFault>
+/// Edits a stage. Each file that is set has the same blob. `stored` is the tree from which something is put, where there
+/// is one.
+pub fn edit(
+    stage: &mut Stage,
+    store: &Store,
+    blob: Name,
+    stored: Option<Name>,
+    edit: &Edit,
+) -> Result<(), StageFault>
     requires blob { has Blob store.now blob.0 ≡ true }
+    requires stored { IfSome stored (λ n. has Tree store.now n.0 ≡ true) }
     requires shows { (t : Flat) × Shows store.now stage.old t }
     ensures { (t : Flat) × Shows store.now stage.new t }
 {
@@ -91,6 +122,7 @@ pub fn edit(stage: &mut Stage, store: &Store, blob: Name, edit: &Edit) -> Result
         Edit::Remove(path) => removed(stage, store, path),
         Edit::Rename(from, to) => renamed::<Brand>(stage, store, from, to, Blank::new(1)),
         Edit::Copy(from, to) => copied(stage, store, from, to),
+        Edit::Put(from, to) => put(stage, store, stored, from, to),
         Edit::Clear => cleared(stage, store),
     }
 }

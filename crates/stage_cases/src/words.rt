@@ -14,6 +14,8 @@ pub enum Edit {
     Rename(Path, Path),
     /// `PATH*PATH`
     Copy(Path, Path),
+    /// `PATH=PATH`: what the stored tree has at the first, put at the second by its name
+    Put(Path, Path),
     /// `clear`
     Clear,
 }
@@ -31,6 +33,9 @@ fn edit_of_paths(alloc: Global, word: &str) -> Result<Edit, Fault> {
     }
     if let Some((from, to)) = word.split_once('*') {
         return Ok(Edit::Copy(path(alloc, from)?, path(alloc, to)?));
+    }
+    if let Some((from, to)) = word.split_once('=') {
+        return Ok(Edit::Put(path(alloc, from)?, path(alloc, to)?));
     }
     Err(Fault::BadLine)
 }

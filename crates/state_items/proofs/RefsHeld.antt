@@ -46,6 +46,14 @@ find-arrived q (r ∷ rs) m d =
       | false ↦ λ e. refl
     ] refl
 
+-- the commit of a ref is found in the refs by their byte order
+pub head-found : (q : Bytes) (rs : Refs) → AreDistinct rs → head_of rs q ≡ find bytes_cmp q (with_refs [] rs)
+head-found q rs d = sym (find-arrived q rs [] d ∙ or-none (head_of rs q))
+  where
+    or-none : (o : Option Bytes) → option_or o None ≡ o
+    or-none None = refl
+    or-none (Some x) = refl
+
 sorted-arrived : (rs m : Refs) → T (is_sorted bytes_cmp m) → T (is_sorted bytes_cmp (with_refs m rs))
 sorted-arrived [] m h = h
 sorted-arrived (r ∷ rs) m h = sorted-arrived rs (put bytes_cmp r.0 r.1 m) (is_sorted-put bytes_cmp nat_list_cmp_total r.0 r.1 m h)

@@ -56,7 +56,7 @@ same-key r k e = slice_cmp-IsAntisymmetric nat_cmp-IsAntisymmetric r k (tied (by
 none-later : (r : Bytes) (e : Bytes × Bytes) (es : Refs) → eq_by_cmp bytes_cmp r e.0 ≡ true → T (below_all bytes_cmp e.0 es) → find bytes_cmp r es ≡ None
 none-later r e es t h = find-below r es (subst (λ (k : Bytes). T (below_all bytes_cmp k es)) (sym (same-key r e.0 t)) h)
 
-find-with : (r : Bytes) (es base : Refs) → T (is_sorted bytes_cmp es) → find bytes_cmp r (with_refs base es) ≡ option_or (find bytes_cmp r es) (find bytes_cmp r base)
+pub find-with : (r : Bytes) (es base : Refs) → T (is_sorted bytes_cmp es) → find bytes_cmp r (with_refs base es) ≡ option_or (find bytes_cmp r es) (find bytes_cmp r base)
 find-with r [] base h = refl
 find-with r (e ∷ es) base h =
     find-with r es (put bytes_cmp e.0 e.1 base) (second _ _ h)

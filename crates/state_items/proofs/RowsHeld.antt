@@ -157,7 +157,7 @@ blob-more keys after key k b e n new h =
 
 -- ---- a graph
 
-place-below : (n : Bytes) (rows : List Row) → is_some (place_of n rows) ≡ true → place_in rows n < length rows
+pub place-below : (n : Bytes) (rows : List Row) → is_some (place_of n rows) ≡ true → place_in rows n < length rows
 place-below n rows h = by (nat_lt (position_or_len (λ (r : Row). same_bytes r.name n) rows) (length rows)) refl h
   where
     by : (b : Bool) → nat_lt (position_or_len (λ (r : Row). same_bytes r.name n) rows) (length rows) ≡ b

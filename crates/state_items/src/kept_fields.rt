@@ -158,9 +158,9 @@ fn refused(fault: FilterFault) -> Result<bool, AllocError>
     }
 }
 
-// Whether a text is the canonical one of a sound filter.
+/// Whether a text is the canonical one of a sound filter.
 #[tactic(auto, unfolding(crate::specs::Items::is_canonical))]
-fn is_canonical(alloc: Global, text: &[u8]) -> Result<bool, AllocError>
+pub fn is_canonical(alloc: Global, text: &[u8]) -> Result<bool, AllocError>
     ensures { IfOk result (λ b. b ≡ is_canonical text.now) }
 {
     match parse(alloc, text) {

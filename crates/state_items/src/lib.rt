@@ -14,8 +14,10 @@ mod writing;
 pub use commit_map::Rule;
 pub use fault::ItemFault;
 pub use kept::KeptMaps;
+pub use kept_fields::is_canonical;
 pub use laws::{
     append_law, canonical_law, change_law, hand_law, imported_law, kept_law, read_law, stored_law,
 };
+pub use objects::parent_places;
 pub use reading::{Loaded, Reading};
 pub use writing::{change_item, change_size, count_commits, first_passed, kept_item, rule_item};

@@ -154,8 +154,8 @@ fn tree_fits(incoming: &Incoming, name: &Name) -> bool
     }
 }
 
-// The places of a commit's parents.
-fn parent_places(
+/// The places of a commit's parents, which are in the graph.
+pub fn parent_places(
     alloc: Global,
     graph: &Graph,
     commit: &CommitView<'_>,

@@ -5,7 +5,7 @@ use Rattle.git_objects.specs.Parts.{name_bytes}
 use Rattle.git_objects.specs.Refs.{bytes_cmp}
 use Rattle.state_items.specs.Items.{Held}
 use Rattle.repo_ground.specs.Contents.{Contents, Spells}
-use Rattle.repo_ground.proofs.RefsFound.{head-found}
+use Rattle.state_items.proofs.RefsHeld.{head-found}
 use Rattle.repo_ground.proofs.state.State.head.Goals as goal
 
 pub returns-clause-held : goal.returns-clause-held

@@ -2,7 +2,7 @@ use Rattle.std.proofs.Common.{ap, ◌∙◌}
 use Rattle.std.specs.FinMap.{find}
 use Rattle.git_objects.specs.Refs.{bytes_cmp}
 use Rattle.repo_ground.specs.Laws.{Named}
-use Rattle.repo_ground.proofs.RefsFound.{head-found}
+use Rattle.state_items.proofs.RefsHeld.{head-found}
 use Rattle.repo_ground.proofs.view.StateViewBase.branch.Goals as goal
 
 pub returns : goal.returns
