@@ -17,7 +17,7 @@ ghost use Rattle.proj_cli.specs.Stopped.{ForInput};
 use crate::exporting::export;
 use crate::filters::sound_filter;
 use crate::importing::import;
-use crate::loading::{Opened, load, open, ref_name};
+use crate::loading::{load, open, ref_name};
 use crate::naming::name;
 use crate::projecting::project;
 use crate::pushing::push;
@@ -72,14 +72,13 @@ pub(crate) fn project_form<K: Keeper>(
 {
     match open(alloc, refname, filter, store) {
         Err(outcome) => Err(outcome),
-        Ok(opened) => {
-            let Opened {
-                filter,
-                refname,
-                mut state,
-            } = opened;
-            project(alloc, &mut state, store, &filter, &refname)
-        }
+        Ok(mut opened) => project(
+            alloc,
+            &mut opened.state,
+            store,
+            &opened.filter,
+            &opened.refname,
+        ),
     }
 }
 
@@ -105,14 +104,14 @@ pub(crate) fn push_form<S: Source, K: Keeper>(
 {
     match open(alloc, refname, filter, store) {
         Err(outcome) => Err(outcome),
-        Ok(opened) => {
-            let Opened {
-                filter,
-                refname,
-                mut state,
-            } = opened;
-            push(alloc, &mut state, input, store, &filter, &refname)
-        }
+        Ok(mut opened) => push(
+            alloc,
+            &mut opened.state,
+            input,
+            store,
+            &opened.filter,
+            &opened.refname,
+        ),
     }
 }
 
@@ -192,13 +191,12 @@ pub(crate) fn export_form<O: Sink, K: Keeper>(
 {
     match open(alloc, refname, filter, store) {
         Err(outcome) => outcome,
-        Ok(opened) => {
-            let Opened {
-                filter,
-                refname,
-                mut state,
-            } = opened;
-            export(alloc, &mut state, &filter, &refname, out)
-        }
+        Ok(mut opened) => export(
+            alloc,
+            &mut opened.state,
+            &opened.filter,
+            &opened.refname,
+            out,
+        ),
     }
 }

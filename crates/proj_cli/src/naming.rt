@@ -129,21 +129,6 @@ fn take_stream<S: Source>(
     }
 }
 
-// A stream that is replayed upon nothing: a state with its commits, and its heads.
-fn given<S: Source>(alloc: Global, input: &mut S) -> Result<(State, Vec<Setting>), Outcome>
-    ensures given { (all : Bytes) × (is_bytes all ≡ true) × IfSome (S.left input.old) (λ l. all ≡ l) ×
-        IfOk result (λ x. IsGiven all x.0 x.1.items) ×
-        IfErr result (λ e. (f : FilterValue) (refname : Bytes) →
-        IsReportOf (Ok (NameCase f refname (ran empty_base all))) (Err e)) }
-    ensures early { (result ≢ Err Outcome.WriteFault) × (result ≢ Err Outcome.StoreFault) }
-    ensures told { S.tells input.new ↔ S.tells input.old }
-    ensures read { Counts (S.faults input.old) (S.faults input.new) (result ≡ Err Outcome.ReadFault) }
-{
-    let mut state = State::empty(alloc)?;
-    let heads = take_stream(alloc, &mut state, input)?;
-    Ok((state, heads))
-}
-
 // The line with the name of the projection of a ref's commit, upon a state with the stream's commits.
 fn head_line(
     alloc: Global,
@@ -169,6 +154,27 @@ fn head_line(
     Ok(Bytes::of(line))
 }
 
+// The line with the name of the projection of a ref's commit, for a stream that is replayed upon a state that has
+// nothing.
+fn name_upon<S: Source>(
+    alloc: Global,
+    state: &mut State,
+    filter: &Filter,
+    refname: &RefName,
+    input: &mut S,
+) -> Result<Bytes, Outcome>
+    requires usable { IsUsable (shape filter.now) }
+    requires empty { IsEmpty state.old }
+    ensures made { (all : Bytes) × IfSome (S.left input.old) (λ l. all ≡ l) ×
+        IsReportOf (Ok (NameCase (shape filter.now) refname.now (ran empty_base all))) result }
+    ensures early { (result ≢ Err Outcome.WriteFault) × (result ≢ Err Outcome.StoreFault) }
+    ensures told { S.tells input.new ↔ S.tells input.old }
+    ensures read { Counts (S.faults input.old) (S.faults input.new) (result ≡ Err Outcome.ReadFault) }
+{
+    let heads = take_stream(alloc, state, input)?;
+    head_line(alloc, state, &heads, filter, refname)
+}
+
 /// The line with the name of the projection of a ref's commit, for a stream that is replayed upon nothing.
 pub fn name<S: Source>(
     alloc: Global,
@@ -183,6 +189,8 @@ pub fn name<S: Source>(
     ensures told { S.tells input.new ↔ S.tells input.old }
     ensures read { Counts (S.faults input.old) (S.faults input.new) (result ≡ Err Outcome.ReadFault) }
 {
-    let (mut state, heads) = given(alloc, input)?;
-    head_line(alloc, &mut state, &heads, filter, refname)
+    match State::empty(alloc) {
+        Err(_) => Err(Outcome::OutOfMemory),
+        Ok(mut state) => name_upon(alloc, &mut state, filter, refname, input),
+    }
 }

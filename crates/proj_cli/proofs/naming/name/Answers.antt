@@ -1,55 +1,16 @@
 -- Proves what src/naming.rt needs of `name`.
-use Rattle.std.proofs.Common.{List, Result, Ok, Err, sym, ap, subst}
-use Rattle.git_objects.specs.Paths.{Bytes}
-use Rattle.fast_import.specs.Replays.{empty_base, ran}
-use Rattle.fast_import.specs.declared.replayed.Setting.{Setting}
+use Rattle.std.proofs.Common.{ap}
 use Rattle.filter_text.specs.Shapes.{shape}
-use Rattle.proj_words.specs.declared.outcome.Outcome.{Outcome}
-use Rattle.proj_words.specs.declared.outcome.Outcome.TheVariants as outcomes
-use Rattle.proj_cli.specs.Cases.{NameCase}
-use Rattle.proj_cli.specs.Makes.{IsReportOf}
-use Rattle.proj_cli.specs.StreamsGiven.{IsGiven}
-use Rattle.proj_cli.proofs.NamesGiven.{counts-by, passed-count, passed-neither, passed-whole}
+use Rattle.proj_cli.proofs.NamesGiven.{some-bytes, untold-memory}
 use Rattle.proj_cli.proofs.naming.name.Goals as goal
 
-pub returns-in_err-state-clause-made : goal.returns-in_err-state-clause-made
-returns-in_err-state-clause-made g c =
-    let t = c.in_err-state.ensures.given in
-    let f = shape c.args.filter.now in
-    let n = c.args.refname.now in (
-      t.0,
-      t.2,
-      passed-whole Bytes c.from_residual.result c.in_err-state.field-0.0 c.from_residual.ensures.1 (λ (r : Result Bytes Outcome). IsReportOf (Ok (NameCase f n (ran empty_base t.0))) r) (t.4 f n),
-    )
+pub returns-in-Err-clause-made : goal.returns-in-Err-clause-made
+returns-in-Err-clause-made g c =
+    let t = some-bytes (g.S.Source.left c.args.input.now) (g.met.S.Source.bytes c.args.input.now) in
+    (t.0, t.2, untold-memory t.0 (shape c.args.filter.now) c.args.refname.now)
 
-pub returns-in_err-state-clause-early : goal.returns-in_err-state-clause-early
-returns-in_err-state-clause-early g c =
-    let n = c.in_err-state.ensures.early in
-    passed-neither _ c.from_residual.result c.in_err-state.field-0.0 c.from_residual.ensures.1 (λ q. n.0 (ap Err q)) (λ q. n.1 (ap Err q))
+pub returns-in-Err-clause-early : goal.returns-in-Err-clause-early
+returns-in-Err-clause-early g c = (λ q. cc, λ q. cc)
 
-pub returns-in_err-state-clause-told : goal.returns-in_err-state-clause-told
-returns-in_err-state-clause-told g c = c.in_err-state.ensures.told
-
-pub returns-in_err-state-clause-read : goal.returns-in_err-state-clause-read
-returns-in_err-state-clause-read g c =
-    passed-count _ c.from_residual.result c.in_err-state.field-0.0 c.from_residual.ensures.1 (g.S.Source.faults c.args.input.now) (g.S.Source.faults c.given.new.input) _ outcomes.ReadFault c.in_err-state.ensures.read
-    (λ q. ap Err q)
-
-pub head_line-requires-clause-given : goal.head_line-requires-clause-given
-head_line-requires-clause-given g c =
-    let t = c.in_ok-state.ensures.given in
-    (t.0, t.1, subst (λ (hs : List Setting). IsGiven t.0 c.in_ok-state.state hs) (sym c.deref.ensures.value) t.3)
-
-pub returns-clause-made : goal.returns-clause-made
-returns-clause-made g c =
-    let t = c.in_ok-state.ensures.given in
-    (t.0, t.2, c.head_line.ensures.made t.0 t.1 (subst (λ (hs : List Setting). IsGiven t.0 c.in_ok-state.state hs) (sym c.deref.ensures.value) t.3))
-
-pub returns-clause-early : goal.returns-clause-early
-returns-clause-early g c = let e = c.head_line.ensures.early in (e.1, e.2)
-
-pub returns-clause-told : goal.returns-clause-told
-returns-clause-told g c = c.in_ok-state.ensures.told
-
-pub returns-clause-read : goal.returns-clause-read
-returns-clause-read g c = counts-by (g.S.Source.faults c.args.input.now) (g.S.Source.faults c.given.new.input) _ _ c.in_ok-state.ensures.read (λ q. absurd (c.head_line.ensures.early.0 q))
+pub returns-in-Err-clause-told : goal.returns-in-Err-clause-told
+returns-in-Err-clause-told g c = (λ t. t, λ t. t)
