@@ -1,24 +1,22 @@
 -- Paths and their images, cell by cell.
-use Rattle.std.proofs.Common.{◌≡◌, ◌⊎◌, inl, inr, ℕ, zero, suc, arith, ◌+◌, ◌<◌, Bool, true, false, cond, not, ◌&&◌, T, List, [], ◌∷◌, ◌++◌, drop, take, length, Option, Some, None, refl, sym, ap, subst, ◌∙◌, true≢false, append-nil}
+use Rattle.std.proofs.Common.{◌≡◌, ℕ, zero, suc, arith, ◌+◌, ◌<◌, Bool, true, false, cond, not, ◌&&◌, List, [], ◌∷◌, ◌++◌, drop, take, length, Option, Some, None, refl, sym, ap, ◌∙◌, true≢false}
 use Rattle.std.proofs.lemmas.Option.{none-some}
 use Rattle.std.proofs.lemmas.List.{take-append-drop}
 use Rattle.std.specs.Prelude.{is_some, is_none, filter, slice_get}
 use Rattle.std.specs.Option.{option_and_then, option_or}
-use Rattle.git_objects.specs.Lists.{Each}
 use Rattle.git_objects.specs.Paths.{Path}
 use Rattle.git_objects.specs.Trees.{Leaf, Flat, at}
 use Rattle.git_objects.proofs.Maps.{at-where}
 use Rattle.decision_lists.specs.Backward.{IsWayBack, cells_of, route_cells}
 use Rattle.decision_lists.specs.Cells.{Cell, cells, cells_at, free_in, is_free, moved as moved_cone, origin, origin_at}
-use Rattle.decision_lists.specs.Entries.{Cone, Entry, at as at_cone, base, below as below_cone, cone_of, decide, run, tail}
+use Rattle.decision_lists.specs.Entries.{Cone, Entry, base, cone_of, decide, run, tail}
 use Rattle.decision_lists.specs.Fronts.{or_else, proper, strip, whole}
-use Rattle.decision_lists.specs.Lists.{Fine, Solid}
 use Rattle.decision_lists.specs.Operations.{heads}
 use Rattle.decision_lists.proofs.Compile.{tail-is}
 use Rattle.decision_lists.proofs.Locating.{free_is, origin-first}
 use Rattle.decision_lists.proofs.Strip.{strip-self}
 use Rattle.filter_unapply.specs.Routed.{forward, image_by, taken, unplaced}
-use Rattle.filter_unapply.specs.Sifted.{sifted, stays}
+use Rattle.filter_unapply.specs.Sifted.{sifted}
 use Rattle.filter_unapply.specs.Moved.{moved}
 use Rattle.filter_unapply.proofs.Fittings.{at-sifted}
 

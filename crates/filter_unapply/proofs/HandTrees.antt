@@ -1,14 +1,14 @@
 -- The trees that laying makes are of the hand.
-use Rattle.std.proofs.Common.{◌≡◌, ◌⊎◌, inl, inr, Bool, true, false, cond, List, [], ◌∷◌, ◌++◌, map, Option, Some, None, Contains, refl, sym, ap, subst, ◌∙◌, true≢false}
+use Rattle.std.proofs.Common.{◌≡◌, ◌⊎◌, inl, inr, Bool, true, false, cond, List, [], ◌∷◌, ◌++◌, map, Option, Some, None, Contains, refl, sym, subst, ◌∙◌}
 use Rattle.std.specs.List.{flat_map}
 use Rattle.std.proofs.lemmas.Option.{none-some, same_Some}
 use Rattle.std.proofs.lemmas.List.Elements.{Contains-append_left, Contains-append_right, Contains-push}
 use Rattle.git_objects.specs.Lists.{Each}
 use Rattle.git_objects.specs.Paths.{Bytes, Path, same_path}
-use Rattle.git_objects.specs.Trees.{Leaf, Flat, IsTree, at, under}
+use Rattle.git_objects.specs.Trees.{Leaf, Flat, at, under}
 use Rattle.git_objects.proofs.Order.{path_decides}
 use Rattle.git_objects.proofs.Under.{at-under, at-under_nil, under-tree}
-use Rattle.object_store.specs.Hands.{IsComponentOf, IsLeafOf, IsTreeMade}
+use Rattle.object_store.specs.Hands.{IsComponentOf, IsLeafOf}
 use Rattle.object_store.specs.Objects.{Object}
 use Rattle.decision_lists.specs.Fronts.{and_then, or_else, proper, strip, whole}
 use Rattle.decision_lists.proofs.Compile.{kept-is, left_out-is}

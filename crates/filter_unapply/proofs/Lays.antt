@@ -1,7 +1,7 @@
 -- What a table's list takes apart is what its filter lays.
 use Rattle.git_objects.proofs.Levels.{ArePaths}
 use Rattle.std.proofs.Common.{◌≡◌, ◌⊎◌, inl, inr, Bool, true, false, cond, not, ◌&&◌, T, List, [], ◌∷◌, Option, Some, None, refl, sym, ap, subst, ◌∙◌, true≢false}
-use Rattle.std.proofs.lemmas.Option.{none-some, same_Some}
+use Rattle.std.proofs.lemmas.Option.{none-some}
 use Rattle.std.specs.Prelude.{filter, is_none, is_some}
 use Rattle.std.specs.Cmp.{first_so, second_so, tied_itself}
 use Rattle.std.specs.Option.{option_and_then, option_or}
@@ -12,15 +12,13 @@ use Rattle.std.specs.FinMap.{is_sorted}
 use Rattle.git_objects.specs.Lists.{Each}
 use Rattle.git_objects.specs.Paths.{Bytes, Path, comparable, is_path, path_cmp, same_path}
 use Rattle.git_objects.specs.Trees.{Leaf, Flat, IsTree, at}
-use Rattle.git_objects.specs.declared.kind.Kind.TheVariants.{Tree}
 use Rattle.git_objects.specs.declared.name.Name.{Name}
 use Rattle.git_objects.proofs.Order.{path_cmp-total, path_decides}
-use Rattle.git_objects.proofs.Pointwise.{all_at, at_apart, from-T}
-use Rattle.object_store.specs.Objects.{Object, IsStore, has}
-use Rattle.object_store.specs.Unfolding.{flat, StandsFor}
+use Rattle.git_objects.proofs.Pointwise.{all_at, from-T}
+use Rattle.object_store.specs.Objects.{Object, IsStore}
+use Rattle.object_store.specs.Unfolding.{flat}
 use Rattle.decision_lists.specs.Cells.{cells, origin as cell_origin}
 use Rattle.decision_lists.specs.Entries.{Entry, run}
-use Rattle.decision_lists.specs.Lists.{Fine}
 use Rattle.decision_lists.proofs.Cells.{cell-of, origin-none, origin-some, run-of}
 use Rattle.decision_lists.proofs.Locating.{has-path}
 use Rattle.decision_lists.proofs.Valid.{full-path, valid-path}
@@ -38,7 +36,7 @@ use Rattle.filter_unapply.specs.Laying.{hidden, pre, first_path, first_lost, is_
 use Rattle.filter_unapply.specs.Parts.{IsBlockIn, any_at, with_parts}
 use Rattle.filter_unapply.specs.Routed.{IsOfBoth, forward, taken, unplaced}
 use Rattle.filter_unapply.specs.Sifted.{sifted}
-use Rattle.filter_unapply.specs.Stored.{IsLaidTree, first_of}
+use Rattle.filter_unapply.specs.Stored.{first_of}
 use Rattle.filter_unapply.specs.StoredLeaves.{HasLeaves}
 use Rattle.filter_unapply.proofs.Cellwise.{forward-is}
 use Rattle.filter_unapply.proofs.Firsts.{blocked-some, first-at, first-passes}

@@ -8,11 +8,10 @@ use Rattle.filter_unapply.specs.Laying.{Laid}
 use Rattle.git_objects.specs.Trees.{Leaf, Flat, IsTree, at, under}
 use Rattle.git_objects.specs.Names.{name, body}
 use Rattle.git_objects.specs.declared.kind.Kind.TheVariants.{Tree}
-use Rattle.git_objects.specs.declared.name.Name.{Name}
 use Rattle.object_store.specs.Objects.{Object, IsStore, find_named}
 use Rattle.object_store.specs.Puts.{Collides, collision, same_object}
 use Rattle.object_store.specs.Growth.{IsGrownBy, IsClash}
-use Rattle.object_store.proofs.Growth.{clash_as, grown_as}
+use Rattle.object_store.proofs.Growth.{clash_as}
 use Rattle.path_trees.specs.Made.{AreMade, IsGrown, IsOnWay, IsCollision, IsTreeFault}
 use Rattle.path_trees.specs.declared.found.TreeFault.{TreeFault}
 use Rattle.path_trees.specs.declared.found.TreeFault.TheVariants.{Collision as TreeCollision, OutOfMemory as TreeOutOfMemory}

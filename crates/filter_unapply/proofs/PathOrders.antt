@@ -1,12 +1,11 @@
 -- Paths in order, by their texts.
-use Rattle.std.proofs.Common.{◌≡◌, Bool, true, false, T, [], ◌∷◌, refl, sym, ap, subst, ◌∙◌, true≢false}
+use Rattle.std.proofs.Common.{◌≡◌, Bool, true, false, T, refl, sym, ap, subst, ◌∙◌, true≢false}
 use Rattle.std.specs.declared.cmp.Ordering.{Ordering}
 use Rattle.std.specs.declared.cmp.Ordering.TheVariants.{Less, Equal, Greater}
 use Rattle.std.specs.Ordering.{is_lt, ordering_reverse, ordering_then}
 use Rattle.git_objects.specs.Paths.{Path, before, is_path, path_cmp}
 use Rattle.git_objects.proofs.Order.{path_cmp-total}
 use Rattle.git_objects.proofs.Texts.{text_order}
-use Rattle.filter_unapply.specs.Blocks.{pair_cmp}
 
 valid : (b : Bool) → b ≡ true → T b
 valid b h = subst T (sym h) tt

@@ -1,12 +1,10 @@
 -- The trees that laying makes, and the objects of a call's hand.
-use Rattle.std.specs.Prelude.{◌≡◌, ◌⊎◌, true, Contains, List, Option, Some, ⊤}
+use Rattle.std.specs.Prelude.{◌≡◌, ◌⊎◌, Contains, List, Some, ⊤}
 use Rattle.git_objects.specs.Paths.{Bytes, Path}
 use Rattle.git_objects.specs.Trees.{Leaf, Flat, IsTree, at, under}
-use Rattle.git_objects.specs.declared.kind.Kind.TheVariants.{Tree}
 use Rattle.object_store.specs.Growth.{IsClash}
 use Rattle.object_store.specs.Hands.{IsComponentOf, IsLeafOf, IsTreeMade, tree_object}
-use Rattle.object_store.specs.Objects.{Object, has}
-use Rattle.object_store.specs.Unfolding.{flat}
+use Rattle.object_store.specs.Objects.{Object}
 use Rattle.filter_text.specs.Filters.{Filter, Filters, nop, sub, onto, dir, file, exclude, join, chain, workspace, no_more, more}
 use Rattle.git_objects.specs.declared.name.Name.{Name}
 use Rattle.filter_unapply.specs.Blocks.{IsLeast}

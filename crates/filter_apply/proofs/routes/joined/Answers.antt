@@ -40,8 +40,8 @@ returns-in-Err-Collision-clause-store c =
     (subst (λ (o : Option Name). IfSome o (λ n. has Tree c.args.store.now n.0 ≡ true)) c.in-Some.is c.requires.first)
     (subst (λ (o : Option Name). IfSome o (λ n. has Tree c.args.store.now n.0 ≡ true)) c.in-Some-second.is c.requires.second) c.requires.apart c.join_apart.ensures.store
 
-pub returns-clause-store : goal.returns-clause-store
-returns-clause-store c =
+pub returns-in-Err-OutOfMemory-clause-store : goal.returns-in-Err-OutOfMemory-clause-store
+returns-in-Err-OutOfMemory-clause-store c =
     joined_grown c.args.store.now c.join_apart.new.store c.args.first c.args.second c.in-Some.a c.in-Some-second.b c.requires.store c.in-Some.is c.in-Some-second.is
     (subst (λ (o : Option Name). IfSome o (λ n. has Tree c.args.store.now n.0 ≡ true)) c.in-Some.is c.requires.first)
     (subst (λ (o : Option Name). IfSome o (λ n. has Tree c.args.store.now n.0 ≡ true)) c.in-Some-second.is c.requires.second) c.requires.apart c.join_apart.ensures.store

@@ -1,4 +1,3 @@
-use Rattle.std.proofs.Common.{sym, ◌∙◌}
 use Rattle.filter_unapply.proofs.PathOrders.{both-not, less-back, less-there}
 use Rattle.filter_unapply.proofs.blocking.order.Goals as goal
 

@@ -1,4 +1,4 @@
-use Rattle.std.proofs.Common.{◌≡◌, cond, not, true, ◌∙◌}
+use Rattle.std.proofs.Common.{cond, not, true, ◌∙◌}
 use Rattle.git_objects.specs.Paths.{same_bytes}
 use Rattle.object_store.specs.Unfolding.{flat}
 use Rattle.filter_unapply.proofs.Hidings.{found-differs}

@@ -1,6 +1,6 @@
-use Rattle.std.proofs.Common.{◌≡◌, ◌<◌, ◌+◌, ◌++◌, ◌-◌, Some, true, drop, take, length, sym, ap, subst, ◌∙◌}
-use Rattle.git_objects.specs.Paths.{Path, is_path}
-use Rattle.decision_lists.specs.Hits.{onto_rest, target_of}
+use Rattle.std.proofs.Common.{◌<◌, ◌+◌, ◌-◌, drop, take, length, sym, ap, subst, ◌∙◌}
+use Rattle.git_objects.specs.Paths.{Path}
+use Rattle.decision_lists.specs.Hits.{onto_rest}
 use Rattle.filter_text.specs.Shapes.{shape}
 use Rattle.filter_unapply.proofs.Hidings.{all-behind, image-long}
 use Rattle.filter_unapply.proofs.hiding.image_of.Goals as goal

@@ -48,8 +48,8 @@ returns-in-Err-Collision-clause-store c =
     let none = none-clash c.in_ok-first_clash.field-0 a b c.in_ok-first_clash.ensures c.if-is_some.ensures in
     grown-by (IsShared a b) (IsMadeOf (λ p x. IsIn a p x ⊎ IsIn b p x)) (shared-made a b h g none) S c.join_apart.new.store c.join_apart.ensures.store
 
-pub returns-clause-store : goal.returns-clause-store
-returns-clause-store c =
+pub returns-in-Err-OutOfMemory-clause-store : goal.returns-in-Err-OutOfMemory-clause-store
+returns-in-Err-OutOfMemory-clause-store c =
     let S = c.args.store.now in
     let a = flat S c.args.a.0 in
     let b = flat S c.args.b.0 in

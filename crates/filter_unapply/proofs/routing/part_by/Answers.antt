@@ -1,7 +1,6 @@
 use Rattle.std.proofs.Common.{◌≡◌, inl, inr, true, [], Some, sym, ap, subst, ◌∙◌}
 use Rattle.git_objects.specs.Paths.{Path}
 use Rattle.git_objects.specs.Trees.{Flat, at}
-use Rattle.git_objects.specs.declared.kind.Kind.TheVariants.{Tree}
 use Rattle.object_store.specs.Unfolding.{flat}
 use Rattle.object_store.proofs.Growth.{grown_as, grown_then, stands-grown}
 use Rattle.decision_lists.specs.Backward.{IsWayBack}
