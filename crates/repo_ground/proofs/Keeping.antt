@@ -11,13 +11,13 @@ use Rattle.std.specs.List.{cons_option, filter_map, flat_map, list_any}
 use Rattle.std.specs.Cmp.Lexicographic.{bytes_decides}
 use Rattle.std.specs.Int.{to_be_bytes, w16, w32}
 use Rattle.commit_map.specs.Rules.{rule_number}
+use Rattle.history_ground.proofs.Filling.{kept-each}
 use Rattle.state_items.proofs.Lengths.{item-some}
 use Rattle.std.proofs.lemmas.List.{length-map, map-append, take-append-drop, take_all}
 use Rattle.std.proofs.lemmas.Option.{none-some, same_Some}
 use Rattle.git_objects.specs.declared.name.Name.{Name}
 use Rattle.commit_map.specs.declared.commit_map.Shown as declared
 use Rattle.git_objects.specs.Paths.{Bytes, same_bytes}
-use Rattle.git_objects.specs.Lists.{Each}
 use Rattle.git_objects.proofs.Basics.{same_bytes-back}
 use Rattle.commit_graph.specs.Graphs.{Row, place_of}
 use Rattle.commit_map.specs.Shown.{Entries, Shown, entry_value, entry_values, kept_at}

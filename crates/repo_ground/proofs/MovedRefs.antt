@@ -1,17 +1,13 @@
 -- Refs in order of arrival after some were moved.
-use Rattle.std.proofs.Common.{◌≡◌, true, false, cond, not, ◌&&◌, T, List, [], ◌∷◌, ◌++◌, filter, Option, Some, None, refl, sym, ap, subst, ◌∙◌, true≢false}
+use Rattle.std.proofs.Common.{◌≡◌, true, false, not, ◌&&◌, T, List, [], ◌∷◌, ◌++◌, filter, Option, Some, None, refl, sym, ap, ◌∙◌}
 use Rattle.std.specs.Cmp.{first_so, second_so}
 use Rattle.std.specs.Option.{option_map_or, option_or}
-use Rattle.std.specs.Ordering.{eq_by_cmp, is_eq, is_lt}
-use Rattle.std.specs.declared.cmp.Ordering.{Ordering}
-use Rattle.std.specs.declared.cmp.Ordering.TheVariants.{Less, Equal, Greater}
 use Rattle.std.specs.FinMap.{find, put, is_sorted, slice_cmp-IsAntisymmetric, nat_cmp-IsAntisymmetric}
-use Rattle.std.specs.FinMap.Entries.{below_all, find-put, same_entries}
+use Rattle.std.specs.FinMap.Entries.{same_entries}
 use Rattle.std.specs.Cmp.Lexicographic.{nat_list_cmp_total}
 use Rattle.git_objects.specs.Paths.{Bytes, same_bytes}
 use Rattle.git_objects.specs.Refs.{Refs, bytes_cmp}
 use Rattle.git_objects.specs.declared.kind.Kind.TheVariants.{Commit}
-use Rattle.git_objects.proofs.Basics.{first, second}
 use Rattle.object_store.specs.Objects.{Object, has}
 use Rattle.object_store.proofs.Held.{has-above}
 use Rattle.path_names.specs.RefNames.{is_ref_name}

@@ -85,13 +85,9 @@ fn open_tree<'a>(
             if object.kind != Kind::Tree {
                 return Ok(());
             }
-            match TreeView::of(object.body) {
-                None => unreachable!(),
-                Some(entries) => {
-                    frames.push(Frame { name, entries })?;
-                    Ok(())
-                }
-            }
+            let entries = TreeView::of_canonical(object.body);
+            frames.push(Frame { name, entries })?;
+            Ok(())
         }
     }
 }

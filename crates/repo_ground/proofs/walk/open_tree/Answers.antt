@@ -1,6 +1,6 @@
-use Rattle.std.proofs.Common.{List, [], ◌∷◌, ◌++◌, length, None, Some, sym, ap, subst, ◌∙◌, arith, length-append}
+use Rattle.std.proofs.Common.{◌≡◌, true, Option, List, [], ◌∷◌, ◌++◌, length, None, Some, refl, sym, ap, subst, ◌∙◌, arith, length-append}
 use Rattle.std.proofs.lemmas.Bool.{not-true}
-use Rattle.std.specs.Option.{unwrap_or}
+use Rattle.std.specs.Option.{is_some, unwrap_or}
 use Rattle.git_objects.specs.Bodies.{tree_entries}
 use Rattle.git_objects.specs.declared.entry.Entry.{Entry}
 use Rattle.git_objects.specs.declared.kind.Kind.TheVariants.{Tree}
@@ -35,35 +35,39 @@ returns-then-ne-clause-step c = λ r.
     (sym (has-found Tree S c.args.name.0 (Some (object_value c.in-Some.object)) c.in-Some.ensures.store c.in-Some.ensures.object)
     ∙ sym (kind_test c.in-Some.object.kind Tree) ∙ not-true _ (sym c.ne.ensures ∙ c.if-ne.true)) r
 
-pub unreachable-requires : goal.unreachable-requires
-unreachable-requires c =
+some-read : (o : Option (List Entry)) → (o ≡ None → ⊥) → is_some o ≡ true
+some-read None h = absurd (h refl)
+some-read (Some es) h = refl
+
+pub of_canonical-entries-requires : goal.of_canonical-entries-requires
+of_canonical-entries-requires c =
     let S = c.args.store.now in
     let t = tree-found S c.args.name.0 (object_value c.in-Some.object) c.in-Some.ensures.store c.in-Some.ensures.object (sym c.ne.ensures ∙ c.if-ne.false) in
-    tree-read S c.args.name.0 c.in-Some.ensures.store t.0 (ap tree_entries t.1 ∙ sym c.of.ensures ∙ c.in-None-of.is)
+    some-read (tree_entries c.in-Some.object.body.now) (λ q. tree-read S c.args.name.0 c.in-Some.ensures.store t.0 (ap tree_entries t.1 ∙ q))
 
-pub returns-in_ok-push-in-Some-of-clause-step : goal.returns-in_ok-push-in-Some-of-clause-step
-returns-in_ok-push-in-Some-of-clause-step c = λ r.
+pub returns-in_ok-push-in-Some-clause-step : goal.returns-in_ok-push-in-Some-clause-step
+returns-in_ok-push-in-Some-clause-step c = λ r.
     let S = c.args.store.now in
     let t = tree-found S c.args.name.0 (object_value c.in-Some.object) c.in-Some.ensures.store c.in-Some.ensures.object (sym c.ne.ensures ∙ c.if-ne.false) in
     same-step S c.args.held.now.keys (stored_objects S c.args.name.0 ++ frames_steps itself [] S c.args.frames.now.items) (frames_steps itself [] S c.push.new.self.items)
-    (frames-open itself [] S c.args.frames.now.items c.args.name c.in-Some-of.entries c.in-Some.ensures.store t.0
-    (ap listed t.1 ∙ ap (λ o. unwrap_or o []) (sym c.of.ensures ∙ c.in-Some-of.is)) ∙ ap (frames_steps itself [] S) (sym c.in_ok-push-in-Some-of.ensures.items)) r
+    (frames-open itself [] S c.args.frames.now.items c.args.name c.of_canonical-entries.result c.in-Some.ensures.store t.0
+    (ap listed t.1 ∙ ap (λ o. unwrap_or o []) (sym c.of_canonical-entries.ensures)) ∙ ap (frames_steps itself [] S) (sym c.in_ok-push-in-Some.ensures.items)) r
 
-pub returns-in_ok-push-in-Some-of-clause-work : goal.returns-in_ok-push-in-Some-of-clause-work
-returns-in_ok-push-in-Some-of-clause-work c =
+pub returns-in_ok-push-in-Some-clause-work : goal.returns-in_ok-push-in-Some-clause-work
+returns-in_ok-push-in-Some-clause-work c =
     let S = c.args.store.now in
     let t = tree-found S c.args.name.0 (object_value c.in-Some.object) c.in-Some.ensures.store c.in-Some.ensures.object (sym c.ne.ensures ∙ c.if-ne.false) in
     let e = ap length
-    (frames-open counted (tt ∷ []) S c.args.frames.now.items c.args.name c.in-Some-of.entries c.in-Some.ensures.store t.0
-    (ap listed t.1 ∙ ap (λ o. unwrap_or o []) (sym c.of.ensures ∙ c.in-Some-of.is)) ∙ ap (frames_steps counted (tt ∷ []) S) (sym c.in_ok-push-in-Some-of.ensures.items)) in
+    (frames-open counted (tt ∷ []) S c.args.frames.now.items c.args.name c.of_canonical-entries.result c.in-Some.ensures.store t.0
+    (ap listed t.1 ∙ ap (λ o. unwrap_or o []) (sym c.of_canonical-entries.ensures)) ∙ ap (frames_steps counted (tt ∷ []) S) (sym c.in_ok-push-in-Some.ensures.items)) in
     omega (arith, e, length-append (tree_steps counted (tt ∷ []) S c.args.name.0) (frames_steps counted (tt ∷ []) S c.args.frames.now.items))
 
-pub returns-in_ok-push-in-Some-of-clause-opened : goal.returns-in_ok-push-in-Some-of-clause-opened
-returns-in_ok-push-in-Some-of-clause-opened c =
+pub returns-in_ok-push-in-Some-clause-opened : goal.returns-in_ok-push-in-Some-clause-opened
+returns-in_ok-push-in-Some-clause-opened c =
     let S = c.args.store.now in
     let t = tree-found S c.args.name.0 (object_value c.in-Some.object) c.in-Some.ensures.store c.in-Some.ensures.object (sym c.ne.ensures ∙ c.if-ne.false) in
-    subst (λ (ds : List Frame). AreOpen S ds) (sym c.in_ok-push-in-Some-of.ensures.items)
-    (open-push S c.args.frames.now.items (record { name = c.args.name; entries = c.in-Some-of.entries }) c.requires (record {
+    subst (λ (ds : List Frame). AreOpen S ds) (sym c.in_ok-push-in-Some.ensures.items)
+    (open-push S c.args.frames.now.items (record { name = c.args.name; entries = c.of_canonical-entries.result }) c.requires (record {
       tree = t.0;
-      children = subst (λ (es : List Entry). HasChildren S es) (ap listed t.1 ∙ ap (λ o. unwrap_or o []) (sym c.of.ensures ∙ c.in-Some-of.is)) (tree-children S c.args.name.0 c.in-Some.ensures.store t.0);
+      children = subst (λ (es : List Entry). HasChildren S es) (ap listed t.1 ∙ ap (λ o. unwrap_or o []) (sym c.of_canonical-entries.ensures)) (tree-children S c.args.name.0 c.in-Some.ensures.store t.0);
     }))
