@@ -103,8 +103,8 @@ fn cleared(stage: &mut Stage, store: &Store) -> Result<(), StageFault>
     Ok(())
 }
 
-/// Edits a stage. Each file that is set has the same blob. `stored` is the tree from which something is put, where there
-/// is one.
+/// Edits a stage. Each file that is set has the same blob. `stored` is the tree from which something is put, where
+/// there is one.
 pub fn edit(
     stage: &mut Stage,
     store: &Store,
