@@ -1,5 +1,5 @@
 -- What became of an export.
-use Rattle.std.proofs.Common.{◌≡◌, ℕ, inl, inr, Bool, not, ◌&&◌, true, List, [], ◌∷◌, ◌++◌, reverse, take, Option, Some, None, Result, Ok, Err, append-nil, refl, sym, ap, subst, ◌∙◌}
+use Rattle.std.proofs.Common.{◌≡◌, ℕ, inr, Bool, not, ◌&&◌, true, List, [], ◌∷◌, reverse, take, Option, Some, None, Result, Ok, append-nil, refl, sym, ap, subst, ◌∙◌}
 use Rattle.std.specs.List.{list_all}
 use Rattle.std.specs.FinMap.{find}
 use Rattle.std.specs.Io.KnownBytes.{Appends, Keeps}
@@ -26,7 +26,7 @@ use Rattle.state_items.specs.Repos.{repo}
 use Rattle.repo_ground.specs.Contents.{Contents, room_in}
 use Rattle.proj_words.specs.declared.outcome.Outcome.{Outcome}
 use Rattle.proj_words.specs.declared.outcome.Outcome.TheVariants.{Collision, Done, OutOfMemory, UnknownRef, WriteFault}
-use Rattle.proj_cli.specs.Cases.{Case, ExportCase, head_of, unchanged}
+use Rattle.proj_cli.specs.Cases.{Case, ExportCase, head_of}
 use Rattle.proj_cli.specs.Filters.{history}
 use Rattle.proj_cli.specs.Hands.{IsInHands}
 use Rattle.proj_cli.specs.Makes.{IsAtHand, IsExported, IsFlowed, IsStateOf, hands_of, step_in}

@@ -25,7 +25,7 @@ use Rattle.fast_import.specs.declared.whole.ReplayError.TheVariants as replays
 use Rattle.history_ground.specs.Grounds.{IsGround}
 use Rattle.proj_io.specs.Stops.{IsPresent, OnlyAdds, adds_as}
 use Rattle.proj_io.specs.Views.{KeeperView}
-use Rattle.state_items.specs.Changes.{NoPlan, Plan, Room, change_plan, objects_of, passed}
+use Rattle.state_items.specs.Changes.{NoPlan, Plan, change_plan, objects_of}
 use Rattle.state_items.specs.Hands.{IsTwice}
 use Rattle.state_items.specs.Imported.{AreRefsTo, with_commits}
 use Rattle.state_items.specs.Items.{Held}
@@ -35,7 +35,7 @@ use Rattle.state_items.proofs.Limits.{change-law}
 use Rattle.state_items.proofs.ReadEntries.{read-law}
 use Rattle.state_items.proofs.ReadObjects.{ok-same}
 use Rattle.state_items.proofs.Twices.{clash-twice}
-use Rattle.repo_ground.specs.Changes.{Appends, IsBatchOf, IsCommitted, IsRefusal as IsRefusedBy, IsRefused, IsStopOf, KeepsItems, batch_plan, settings_of}
+use Rattle.repo_ground.specs.Changes.{Appends, IsBatchOf, IsCommitted, IsRefusal as IsRefusedBy, IsRefused, IsStopOf, batch_plan, settings_of}
 use Rattle.repo_ground.specs.Contents.{Contents, room_in}
 use Rattle.repo_ground.specs.Laws.{base_of}
 use Rattle.repo_ground.specs.Moves.{Move, first_backward}
@@ -49,10 +49,10 @@ use Rattle.proj_words.specs.declared.outcome.Outcome.TheVariants as outcomes
 use Rattle.proj_cli.specs.Cases.{Case, ImportCase, Made, all_forward, import_plan, made, no_backward, ref_line, within}
 use Rattle.proj_cli.specs.Filters.{project_by}
 use Rattle.proj_cli.specs.Hands.{IsInHand, IsInHands, hand}
-use Rattle.proj_cli.specs.Makes.{IsAtHand, IsMadeOf, IsRefusal, IsStateAfter, IsStateOf, IsStored, PlansFor, hands_of}
+use Rattle.proj_cli.specs.Makes.{IsAtHand, IsMadeOf, IsRefusal, IsStateOf, hands_of}
 use Rattle.proj_cli.specs.Refusals.{commit_outcome, replay_outcome}
 use Rattle.proj_cli.specs.Replaying.{IsPrepared, IsReplayedUpon}
-use Rattle.proj_cli.proofs.Committing.{IsCase, keeps-self, made-done, made-refused, made-untouched, made-without, planned_by, stop-as, stops-by}
+use Rattle.proj_cli.proofs.Committing.{IsCase, made-done, made-refused, made-untouched, made-without, planned_by, stop-as, stops-by}
 use Rattle.proj_cli.proofs.StatesAfter.{passed-same}
 use Rattle.proj_cli.proofs.Staying.{stay}
 use Rattle.proj_cli.proofs.StreamBatches.{stream-batch, stream-replayed, whole-trees}

@@ -17,7 +17,7 @@ use Rattle.proj_cli.specs.Makes.{IsGoodPlan}
 use Rattle.proj_cli.specs.Plans.{AreKept, RecallLaw}
 use Rattle.proj_cli.specs.Runs.{MayLeave}
 use Rattle.proj_cli.specs.Sent.{TakesMemory}
-use Rattle.proj_cli.specs.Steps.{cases, step}
+use Rattle.proj_cli.specs.Steps.{cases}
 use Rattle.proj_cli.specs.Stopped.{ForInput, IsLengthened, CommandLeaves}
 use Rattle.proj_cli.proofs.Answering.{plan-longer, plan-planned, step-done}
 use Rattle.proj_cli.proofs.CasePlans.{HoldWhatTheyShould}

@@ -1,5 +1,5 @@
 -- What each form makes is what the command makes.
-use Rattle.std.proofs.Common.{◌≡◌, ◌≢◌, ℕ, true, false, List, Some, Result, Err, sym, ◌∙◌, true≢false, arith}
+use Rattle.std.proofs.Common.{◌≡◌, ◌≢◌, ℕ, true, List, Some, Result, Err, sym, ◌∙◌, true≢false, arith}
 use Rattle.git_objects.specs.Paths.{Bytes}
 use Rattle.proj_io.specs.Counts.{Counts}
 use Rattle.proj_io.specs.Stops.{OnlyAdds}

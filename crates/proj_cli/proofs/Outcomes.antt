@@ -1,5 +1,5 @@
 -- Which outcomes lower crates' refusals have.
-use Rattle.std.proofs.Common.{◌≡◌, List, [], Option, None, Some, IfSome, refl, sym}
+use Rattle.std.proofs.Common.{◌≡◌, [], Option, None, Some, IfSome, refl, sym}
 use Rattle.std.specs.Prelude.{◌≢◌}
 use Rattle.git_objects.specs.Paths.{Bytes}
 use Rattle.stream_reader.specs.declared.fault.StreamFault.{StreamFault}
@@ -12,7 +12,7 @@ use Rattle.repo_ground.specs.declared.commit.CommitError.{CommitError}
 use Rattle.repo_ground.specs.declared.commit.CommitError.TheVariants as commits
 use Rattle.proj_words.specs.Faults.{stream_outcome}
 use Rattle.proj_words.specs.declared.outcome.Outcome.{Outcome}
-use Rattle.proj_words.specs.declared.outcome.Outcome.TheVariants.{Syntax, Unsupported, Unresolved, BadPath, NoSource, Limit, Collision, OutOfMemory, ReadFault, WriteFault, StoreFault}
+use Rattle.proj_words.specs.declared.outcome.Outcome.TheVariants.{Limit, OutOfMemory, ReadFault, WriteFault, StoreFault}
 use Rattle.proj_cli.specs.Refusals.{apply_outcome, commit_outcome, replay_outcome}
 
 -- none of the faults of devices

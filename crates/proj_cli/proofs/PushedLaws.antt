@@ -1,12 +1,12 @@
 -- What a push that is committed has done.
-use Rattle.std.proofs.Common.{◌≡◌, ◌+◌, ◌≤◌, ◌<◌, ℕ, zero, suc, Bool, true, false, cond, ◌||◌, List, [], ◌∷◌, ◌++◌, map, length, Option, None, Some, Result, Ok, Err, refl, sym, ap, ap₂, subst, ◌∙◌, true≢false, arith}
-use Rattle.std.specs.Prelude.{slice_get, unwrap_or}
+use Rattle.std.proofs.Common.{◌≡◌, ◌+◌, ◌≤◌, ℕ, zero, suc, Bool, true, false, cond, ◌||◌, List, [], ◌∷◌, map, length, Option, None, Some, Result, Ok, Err, refl, sym, ap, ap₂, subst, ◌∙◌, true≢false, arith}
+use Rattle.std.specs.Prelude.{unwrap_or}
 use Rattle.std.specs.Cmp.Lexicographic.{bytes_decides, texts_ties}
 use Rattle.std.specs.FinMap.{find}
 use Rattle.std.specs.List.{last_or}
 use Rattle.std.specs.Option.{option_map, option_map_or, option_or}
 use Rattle.std.specs.Ordering.{is_eq}
-use Rattle.std.proofs.lemmas.Option.{none-some, same_Some}
+use Rattle.std.proofs.lemmas.Option.{none-some}
 use Rattle.git_objects.specs.Lists.{Each}
 use Rattle.git_objects.specs.Paths.{Bytes, same_bytes}
 use Rattle.git_objects.specs.Refs.{Refs, bytes_cmp}
@@ -18,7 +18,6 @@ use Rattle.filter_text.specs.Filters.{Filter}
 use Rattle.workspace.specs.Laws.{IsUsable}
 use Rattle.workspace.specs.Workspaces.{shown}
 use Rattle.commit_graph.specs.Graphs.{Row}
-use Rattle.commit_map.specs.Shown.{Shown}
 use Rattle.commit_map.specs.declared.rule.Rule.{Rule}
 use Rattle.history_ground.specs.Projections.{projection, shown_of}
 use Rattle.history_ground.specs.StoredGraphs.{IsGraphIn, graph_of, snapshot_named}
@@ -30,7 +29,7 @@ use Rattle.push_back.specs.PushVerdicts.{Pair, Refusal, Verdict, original_of, or
 use Rattle.push_back.specs.Pushes.{Pushing, StreamRefused, CommitRefused, pushing, refusal_of}
 use Rattle.push_back.proofs.Chains.{chain-law}
 use Rattle.push_back.proofs.Pushing.{elsewhere-law, made-law, projected-law, pushed-law, steps-law}
-use Rattle.state_items.specs.Changes.{NoPlan, Plan, change_plan, held_after, objects_of, with_refs}
+use Rattle.state_items.specs.Changes.{held_after, with_refs}
 use Rattle.state_items.specs.Imported.{IsBrought, has_leaves}
 use Rattle.state_items.specs.Items.{Held}
 use Rattle.state_items.specs.Repos.{repo}
@@ -39,7 +38,7 @@ use Rattle.state_items.proofs.ReadObjects.{ok-same}
 use Rattle.import_laws.proofs.EditLeaves.{held-trees}
 use Rattle.proj_cli.specs.Cases.{push_plan}
 use Rattle.proj_cli.specs.Filters.{projected, rule_by}
-use Rattle.proj_cli.specs.Lawful.{ArePairs, IsPair, IsPushed}
+use Rattle.proj_cli.specs.Lawful.{ArePairs, IsPushed}
 use Rattle.proj_cli.proofs.CommitGraphs.{stored-graph}
 use Rattle.proj_cli.proofs.Staying.{with-added}
 

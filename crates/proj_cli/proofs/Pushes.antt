@@ -1,6 +1,6 @@
 -- What becomes of a push.
-use Rattle.std.proofs.Common.{◌≡◌, ◌∙◌, ◌-◌, ℕ, suc, Bool, true, false, cond, T, List, [], ◌∷◌, ◌++◌, map, length, Contains, Option, None, Some, Result, Ok, Err, inl, inr, ⊎_elim, refl, sym, ap, ap₂, subst, append-nil, arith}
-use Rattle.std.specs.Prelude.{◌≢◌, ◌⊎◌, ◌&&◌, slice_get, zip, nat_le}
+use Rattle.std.proofs.Common.{◌≡◌, ◌∙◌, ◌-◌, ℕ, suc, Bool, true, false, cond, T, List, [], ◌∷◌, ◌++◌, map, length, Contains, Option, None, Some, Result, Ok, Err, inl, inr, refl, sym, ap, ap₂, subst, append-nil, arith}
+use Rattle.std.specs.Prelude.{◌≢◌, slice_get, zip}
 use Rattle.std.specs.Cmp.{first_so, second_so}
 use Rattle.std.specs.Cmp.Lexicographic.{bytes_decides, texts_ties}
 use Rattle.std.specs.FinMap.{find, is_sorted}
@@ -11,11 +11,11 @@ use Rattle.std.proofs.lemmas.Option.{none-some, same_Some}
 use Rattle.git_objects.specs.Lists.{Each}
 use Rattle.git_objects.specs.Names.{tree_name}
 use Rattle.git_objects.specs.Parts.{name_bytes}
-use Rattle.git_objects.specs.Paths.{Bytes, is_bytes, same_bytes}
+use Rattle.git_objects.specs.Paths.{Bytes, is_bytes}
 use Rattle.git_objects.specs.Refs.{Refs, bytes_cmp}
 use Rattle.git_objects.specs.Results.{◌>>=◌, or_refuse}
 use Rattle.git_objects.specs.Snapshots.{Graph, Snapshot, add_all, has, snapshot_name, tree_at}
-use Rattle.git_objects.specs.Trees.{Flat, IsTree}
+use Rattle.git_objects.specs.Trees.{IsTree}
 use Rattle.git_objects.specs.declared.name.Name.{Name}
 use Rattle.git_objects.proofs.Basics.{and_both, same_bytes-back}
 use Rattle.path_names.specs.RefNames.{is_ref_name}
@@ -27,8 +27,7 @@ use Rattle.workspace.specs.Laws.{IsUsable}
 use Rattle.workspace.specs.Workspaces.{shown}
 use Rattle.stream_reader.specs.declared.fault.StreamFault.{StreamFault}
 use Rattle.stream_reader.specs.declared.fault.StreamFault.TheVariants as streams
-use Rattle.commit_map.specs.declared.rule.Rule.{Rule}
-use Rattle.history_ground.specs.Grounds.{IsGround, commits_of}
+use Rattle.history_ground.specs.Grounds.{IsGround}
 use Rattle.history_ground.specs.Projections.{projection}
 use Rattle.fast_import.specs.Made.{IsPutFault}
 use Rattle.fast_import.specs.Standing.{AreBlobsIn, AreCommitsIn}
@@ -36,8 +35,7 @@ use Rattle.fast_import.specs.declared.replayed.Made.{Made as MadeNames}
 use Rattle.push_back.specs.Faults.{IsPushFault}
 use Rattle.push_back.specs.Given.{AreBrought, IsGiven, IsGivenCommit, IsSeenTree, blobs_in}
 use Rattle.push_back.specs.Originals as pushed_names
-use Rattle.push_back.specs.Planning.{IsPlanOf}
-use Rattle.push_back.specs.PushReplays.{StreamRefusal, OtherRef as OnOtherRef, NotAtHead as IsNotAtHead, MergePushed as IsMerge, Faulty}
+use Rattle.push_back.specs.PushReplays.{OtherRef as OnOtherRef, NotAtHead as IsNotAtHead, MergePushed as IsMerge, Faulty}
 use Rattle.push_back.specs.PushLaws.{AreTrees, originals}
 use Rattle.push_back.specs.PushVerdicts.{verdict}
 use Rattle.push_back.specs.PushVerdicts as verdicts
@@ -49,9 +47,9 @@ use Rattle.push_back.specs.declared.brought.Plan.{Plan as Planned}
 use Rattle.push_back.proofs.Pushing.{made-law}
 use Rattle.proj_io.specs.Stops.{IsPresent, OnlyAdds, adds_as}
 use Rattle.proj_io.specs.Views.{KeeperView}
-use Rattle.state_items.specs.Changes.{NoPlan, Plan, Room, change_plan, held_after, objects_of, passed}
+use Rattle.state_items.specs.Changes.{NoPlan, Plan, change_plan, held_after, objects_of}
 use Rattle.state_items.specs.Hands.{IsTwice}
-use Rattle.state_items.specs.Imported.{AreRefsTo, AreSmall, AreWhole, IsBrought, has_leaves, is_among, with_commits}
+use Rattle.state_items.specs.Imported.{AreRefsTo, AreSmall, IsBrought, is_among, with_commits}
 use Rattle.state_items.specs.Items.{Held}
 use Rattle.state_items.specs.Repos.{repo}
 use Rattle.state_items.proofs.Kepts.{kept-law}
@@ -60,7 +58,7 @@ use Rattle.state_items.proofs.ReadEntries.{read-law}
 use Rattle.state_items.proofs.TreesStored.{stored-law}
 use Rattle.import_laws.proofs.EditLeaves.{held-bytes}
 use Rattle.import_laws.proofs.StoredReplaying.{stored-replay-law}
-use Rattle.repo_ground.specs.Changes.{Appends, AreNamedIn, IsBatchOf, IsCommitted, IsRefusal as IsRefusedBy, IsRefused, IsStopOf, KeepsItems, batch_plan, settings_of}
+use Rattle.repo_ground.specs.Changes.{Appends, AreNamedIn, IsBatchOf, IsCommitted, IsRefusal as IsRefusedBy, IsRefused, IsStopOf, batch_plan, settings_of}
 use Rattle.repo_ground.specs.Contents.{Contents, room_in}
 use Rattle.repo_ground.specs.declared.commit.Batch.{Batch}
 use Rattle.repo_ground.specs.declared.commit.CommitError.{CommitError}
@@ -68,11 +66,11 @@ use Rattle.repo_ground.proofs.Stopping.{adds_none}
 use Rattle.proj_words.specs.Faults.{stream_outcome}
 use Rattle.proj_words.specs.declared.outcome.Outcome.{Outcome}
 use Rattle.proj_words.specs.declared.outcome.Outcome.TheVariants as outcomes
-use Rattle.proj_cli.specs.Cases.{Case, PushCase, Made, head_of, made, name_or_none, no_refusal, pair_line, push_case, push_outcome, push_plan, unchanged, within}
+use Rattle.proj_cli.specs.Cases.{Case, PushCase, Made, made, name_or_none, no_refusal, pair_line, push_case, push_outcome, push_plan, unchanged, within}
 use Rattle.proj_cli.specs.Filters.{project_by, rule_by}
 use Rattle.proj_cli.specs.Hands.{IsInHands}
 use Rattle.proj_cli.specs.Lawful.{IsPushed}
-use Rattle.proj_cli.specs.Makes.{IsAtHand, IsMadeOf, IsPlanIn, IsRefusal, IsStateOf, hands_of}
+use Rattle.proj_cli.specs.Makes.{IsAtHand, IsMadeOf, IsRefusal, IsStateOf, hands_of}
 use Rattle.proj_cli.specs.Pushing.{IsMadeOver, IsPlannedUpon, IsPushPrepared, digits_line, fault_outcome}
 use Rattle.proj_cli.specs.Refusals.{commit_outcome}
 use Rattle.proj_cli.proofs.Committing.{IsCase, good-none, keeps-self, made-done, made-refused, made-untouched, made-without, planned_by, stop-as, stops-by, told-report}

@@ -1,5 +1,5 @@
 -- Setting the rule of a state.
-use Rattle.std.proofs.Common.{◌≡◌, ℕ, Bool, true, false, List, [], ◌++◌, None, Result, Ok, Err, refl, sym, ap, subst, ◌∙◌}
+use Rattle.std.proofs.Common.{◌≡◌, ℕ, Bool, true, false, List, ◌++◌, None, Result, Ok, Err, refl, sym, ap, subst, ◌∙◌}
 use Rattle.std.specs.Prelude.{◌==◌, if◌then◌else◌}
 use Rattle.std.specs.Result.{IsErrAnd}
 use Rattle.git_objects.specs.Paths.{Bytes}
@@ -15,7 +15,7 @@ use Rattle.history_ground.specs.StoredGraphs.{IsGraphIn, graph_of}
 use Rattle.history_ground.specs.TrueMaps.{AreTrueMaps}
 use Rattle.state_items.specs.Arrivals.{rows_of}
 use Rattle.state_items.specs.Appending.{IsAddition}
-use Rattle.state_items.specs.Changes.{NoPlan, Plan, Room, RulePlan, held_after, passed, plan_items, room_of, rule_plan}
+use Rattle.state_items.specs.Changes.{NoPlan, Plan, RulePlan, held_after, passed, plan_items, room_of, rule_plan}
 use Rattle.state_items.specs.Items.{Held, is_rule}
 use Rattle.state_items.proofs.Kepts.{kept-law}
 use Rattle.proj_io.specs.Stops.{IsPresent, OnlyAdds}
@@ -25,7 +25,7 @@ use Rattle.proj_words.specs.declared.outcome.Outcome.TheVariants as outcomes
 use Rattle.repo_ground.specs.Changes.{Appends, IsCommitted, IsRefusal as IsRefusedBy, IsRefused, IsStopOf}
 use Rattle.repo_ground.specs.declared.commit.CommitError.{CommitError}
 use Rattle.repo_ground.proofs.Stopping.{adds_none}
-use Rattle.repo_ground.specs.Contents.{Contents, room_in}
+use Rattle.repo_ground.specs.Contents.{Contents}
 use Rattle.proj_cli.specs.Cases.{RuleCase, rule_line}
 use Rattle.proj_cli.specs.Filters.{project_by}
 use Rattle.proj_cli.specs.Hands.{IsInHands}

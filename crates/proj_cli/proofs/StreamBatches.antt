@@ -1,9 +1,9 @@
 -- What a stream gives is a batch.
-use Rattle.std.proofs.Common.{◌≡◌, ℕ, true, T, List, [], ◌∷◌, ◌++◌, map, All, Contains, Some, refl, sym, ap, subst, ◌∙◌}
+use Rattle.std.proofs.Common.{◌≡◌, true, T, List, [], ◌∷◌, map, All, Contains, Some, refl, sym, ap, subst, ◌∙◌}
 use Rattle.std.specs.FinMap.{is_sorted}
 use Rattle.std.specs.List.{list_all}
 use Rattle.std.specs.Option.{option_map}
-use Rattle.git_objects.specs.Commits.{Commit, commit_body}
+use Rattle.git_objects.specs.Commits.{commit_body}
 use Rattle.git_objects.specs.CommitBodies.{commit_from}
 use Rattle.git_objects.specs.Lists.{Each}
 use Rattle.git_objects.specs.Names.{tree_name}

@@ -5,16 +5,15 @@ use Rattle.std.specs.List.{flat_map}
 use Rattle.std.specs.Option.{option_to_list}
 use Rattle.std.proofs.lemmas.List.Elements.{All-contains, Contains-append_left, Contains-append_right, Contains-push}
 use Rattle.git_objects.specs.Lists.{Each}
-use Rattle.git_objects.specs.Paths.{Bytes, Path}
+use Rattle.git_objects.specs.Paths.{Bytes}
 use Rattle.git_objects.specs.Results.{◌>>=◌, or_refuse}
 use Rattle.git_objects.specs.Snapshots.{Snapshot}
-use Rattle.git_objects.specs.Trees.{Flat, IsTree, Leaf, under}
+use Rattle.git_objects.specs.Trees.{IsTree, Leaf, under}
 use Rattle.object_store.specs.Hands.{IsComponentOf, IsLeafOf, IsTreeMade}
 use Rattle.object_store.specs.Objects.{Object}
 use Rattle.object_store.specs.StoredSnapshots.{snapshot_object}
 use Rattle.stream_reader.specs.declared.command.Command.{Command}
 use Rattle.stream_reader.specs.declared.command.Command.TheVariants as commands
-use Rattle.stream_reader.specs.declared.command.CommitHead.{CommitHead}
 use Rattle.stream_reader.specs.declared.command.Placed.{Placed}
 use Rattle.stream_reader.specs.declared.fault.StreamFault.{StreamFault}
 use Rattle.stream_reader.specs.declared.fault.StreamFault.TheVariants.{Syntax}

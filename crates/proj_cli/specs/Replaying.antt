@@ -2,7 +2,6 @@
 use Rattle.std.specs.Prelude.{◌≡◌, List, map, IfOk, IfErr, IsOkAnd, Result}
 use Rattle.std.specs.List.{flat_map}
 use Rattle.git_objects.specs.Paths.{Bytes}
-use Rattle.git_objects.specs.declared.name.Name.{Name}
 use Rattle.object_store.specs.Growth.{IsGrownBy}
 use Rattle.fast_import.specs.Replaying.{setting_value}
 use Rattle.fast_import.specs.Replays.{replay}

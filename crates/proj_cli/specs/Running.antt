@@ -17,7 +17,7 @@ use Rattle.proj_cli.specs.Cases.{case}
 use Rattle.proj_cli.specs.Hands.{IsInHands}
 use Rattle.proj_cli.specs.Makes.{IsMadeOf, IsReported, IsStateOf, hands_of, step_in}
 use Rattle.proj_cli.specs.Plans.{AreKept}
-use Rattle.proj_cli.specs.Turns.{IsBrokenTurn, IsSafeTurn, IsTurn, Turn, appended, items_after, turn_hands, turn_text}
+use Rattle.proj_cli.specs.Turns.{IsBrokenTurn, IsSafeTurn, IsTurn, Turn, items_after, turn_hands, turn_text}
 
 -- What a command made of a state: of its case, or of the refusal before one. What a stop may leave since then is of a kind. A form that
 -- doesn't load has no object of the state in hand.

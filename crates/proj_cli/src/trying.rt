@@ -187,6 +187,18 @@ fn trial_report(alloc: Global, state: &mut State) -> Result<Bytes, Outcome>
     Ok(Bytes::of(report))
 }
 
+// The import, the pushes, and the report of both.
+fn report_tried(alloc: Global, state: &mut State, count: u64) -> Result<Bytes, Outcome>
+    requires count { (1 ≤ count) × (count ≤ 100000) }
+    requires empty { IsEmpty state.old }
+    ensures made { IsReported (IsInHands (trial_hands count)) (trial_made count) result }
+    ensures early { (result ≢ Err Outcome.ReadFault) × (result ≢ Err Outcome.WriteFault) ×
+        (result ≢ Err Outcome.StoreFault) }
+{
+    tried(alloc, state, count)?;
+    trial_report(alloc, state)
+}
+
 /// Imports so many commits, 1 to 100,000, into a state of its own, and takes three pushes back. The report has the
 /// number of commits, and for each push's filter its canonical text and the length of its history.
 pub fn trial(alloc: Global, count: u64) -> Result<Bytes, Outcome>
@@ -195,7 +207,8 @@ pub fn trial(alloc: Global, count: u64) -> Result<Bytes, Outcome>
     ensures early { (result ≢ Err Outcome.ReadFault) × (result ≢ Err Outcome.WriteFault) ×
         (result ≢ Err Outcome.StoreFault) }
 {
-    let mut state = State::empty(alloc)?;
-    tried(alloc, &mut state, count)?;
-    trial_report(alloc, &mut state)
+    match State::empty(alloc) {
+        Err(_) => Err(Outcome::OutOfMemory),
+        Ok(mut state) => report_tried(alloc, &mut state, count),
+    }
 }

@@ -1,5 +1,5 @@
 -- Proves what src/exporting.rt needs of `export`.
-use Rattle.std.proofs.Common.{◌≡◌, ◌∙◌, List, map, sym, ap, subst}
+use Rattle.std.proofs.Common.{List, map, sym, subst}
 use Rattle.git_objects.specs.Paths.{Bytes}
 use Rattle.git_objects.specs.Parts.{name_bytes}
 use Rattle.git_objects.specs.declared.name.Name.{Name}
@@ -11,7 +11,6 @@ use Rattle.history_ground.specs.Grounds.{commits_of}
 use Rattle.history_ground.specs.Histories.{AreMade, IsOfHistory}
 use Rattle.history_ground.specs.Projections.{history_graph}
 use Rattle.proj_io.specs.Views.{sink_view}
-use Rattle.state_items.specs.Items.{Held}
 use Rattle.repo_ground.specs.Contents.{Contents}
 use Rattle.repo_ground.specs.contracts.state.State.{the_view}
 use Rattle.proj_words.specs.declared.outcome.Outcome.TheVariants.{Collision, Done, OutOfMemory, WriteFault}

@@ -1,5 +1,4 @@
 -- Proves what src/naming.rt needs of `name`.
-use Rattle.std.proofs.Common.{ap}
 use Rattle.filter_text.specs.Shapes.{shape}
 use Rattle.proj_cli.proofs.NamesGiven.{some-bytes, untold-memory}
 use Rattle.proj_cli.proofs.naming.name.Goals as goal

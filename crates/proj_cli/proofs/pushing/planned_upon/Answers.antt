@@ -1,5 +1,5 @@
 -- Proves what src/pushing.rt needs of `planned_upon`.
-use Rattle.std.proofs.Common.{Err, Ok, ap, sym, subst, ◌∙◌}
+use Rattle.std.proofs.Common.{sym, subst}
 use Rattle.git_objects.specs.Paths.{Bytes}
 use Rattle.filter_text.specs.Filters.{Filter}
 use Rattle.filter_text.specs.Shapes.{shape}

@@ -1,10 +1,9 @@
 -- Proves what src/pushing.rt needs of `push`.
-use Rattle.std.proofs.Common.{◌≡◌, ◌∙◌, None, Some, Err, Ok, ap, sym, subst}
+use Rattle.std.proofs.Common.{◌∙◌, None, Err, ap, sym}
 use Rattle.std.specs.List.{last_or}
 use Rattle.std.proofs.lemmas.Result.{err_from_is_err_and}
 use Rattle.filter_text.specs.Filters.{Filter}
 use Rattle.filter_text.specs.Shapes.{shape}
-use Rattle.git_objects.specs.Paths.{Bytes}
 use Rattle.proj_io.specs.Views.{KeeperView, keeper_view}
 use Rattle.proj_cli.proofs.Outcomes.{some-input}
 use Rattle.proj_cli.proofs.Pushes.{commit-done, commit-refused, is-batch, last-at, no-memory, no-ref, none-pushed, unplanned}

@@ -1,42 +1,11 @@
 -- Proves what src/trying.rt needs of `trial`.
+use Rattle.std.proofs.Common.{Err}
 use Rattle.proj_words.specs.declared.outcome.Outcome.TheVariants.{OutOfMemory}
-use Rattle.git_objects.specs.Paths.{Bytes}
-use Rattle.proj_cli.specs.Trials.{third_hands}
-use Rattle.proj_cli.proofs.NamesGiven.{passed-whole}
-use Rattle.proj_cli.proofs.TrialReports.{IsTrialTold, trial-calm, trial-ended, trial-reported, trial-told}
+use Rattle.proj_cli.proofs.TrialReports.{trial-calm, trial-reported}
 use Rattle.proj_cli.proofs.trying.trial.Goals as goal
 
-pub returns-in_err-state-clause-made : goal.returns-in_err-state-clause-made
-returns-in_err-state-clause-made c =
-    let n = c.args.count in
-    trial-reported n c.from_residual.result (passed-whole Bytes c.from_residual.result OutOfMemory c.from_residual.ensures.1 (IsTrialTold n) tt)
+pub returns-in-Err-clause-made : goal.returns-in-Err-clause-made
+returns-in-Err-clause-made c = trial-reported c.args.count (Err OutOfMemory) tt
 
-pub returns-in_err-state-clause-early : goal.returns-in_err-state-clause-early
-returns-in_err-state-clause-early c =
-    let n = c.args.count in
-    trial-calm n c.from_residual.result (passed-whole Bytes c.from_residual.result OutOfMemory c.from_residual.ensures.1 (IsTrialTold n) tt)
-
-pub returns-in_err-tried-clause-made : goal.returns-in_err-tried-clause-made
-returns-in_err-tried-clause-made c =
-    let n = c.args.count in
-    trial-reported n c.from_residual-in_err-tried.result
-    (passed-whole Bytes c.from_residual-in_err-tried.result c.in_err-tried.field-0.0 c.from_residual-in_err-tried.ensures.1 (IsTrialTold n) (trial-ended n c.in_err-tried.field-0.0 c.in_err-tried.ensures))
-
-pub returns-in_err-tried-clause-early : goal.returns-in_err-tried-clause-early
-returns-in_err-tried-clause-early c =
-    let n = c.args.count in
-    trial-calm n c.from_residual-in_err-tried.result
-    (passed-whole Bytes c.from_residual-in_err-tried.result c.in_err-tried.field-0.0 c.from_residual-in_err-tried.ensures.1 (IsTrialTold n) (trial-ended n c.in_err-tried.field-0.0 c.in_err-tried.ensures))
-
-pub trial_report-requires : goal.trial_report-requires
-trial_report-requires c = let w = c.in_ok-tried.ensures in (w.0, w.1, third_hands c.args.count, w.3)
-
-pub returns-clause-made : goal.returns-clause-made
-returns-clause-made c =
-    let n = c.args.count in
-    trial-reported n c.trial_report.result (trial-told n c.tried.new.state tt c.trial_report.result c.in_ok-tried.ensures c.trial_report.ensures)
-
-pub returns-clause-early : goal.returns-clause-early
-returns-clause-early c =
-    let n = c.args.count in
-    trial-calm n c.trial_report.result (trial-told n c.tried.new.state tt c.trial_report.result c.in_ok-tried.ensures c.trial_report.ensures)
+pub returns-in-Err-clause-early : goal.returns-in-Err-clause-early
+returns-in-Err-clause-early c = trial-calm c.args.count (Err OutOfMemory) tt
