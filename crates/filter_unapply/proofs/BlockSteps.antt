@@ -17,6 +17,7 @@ use Rattle.filter_unapply.specs.Parts.{AreApart, IsBlockIn, any_at, with_parts}
 use Rattle.filter_unapply.proofs.Leasts.{Meets, clash-meets, clashes-least, least-as, least-or}
 use Rattle.filter_unapply.proofs.PartLists.{any-app, or-assoc}
 use Rattle.filter_unapply.proofs.Told.{is_tree}
+use Rattle.filter_unapply.proofs.Somes.{or-left, or-right, some-of, some-or}
 
 -- a path of the first parts, and another path of all that is comparable with it
 pub record IsBlockUpTo (S : List Object) (k : Name) (all ns : List Name) (p q : Path) : Type 0 where
@@ -48,22 +49,6 @@ apart-rest S (n ∷ xs) ys a = apart-rest S xs ys a.1
 each-split : (P : Name → Type 0) (xs ys : List Name) → Each P (xs ++ ys) → Each P xs × Each P ys
 each-split P [] ys h = (tt, h)
 each-split P (n ∷ xs) ys h = let r = each-split P xs ys h.1 in ((h.0, r.0), r.1)
-
-some-of : {A : Type 0} (o : Option A) → is_some o ≡ true → (x : A) × (o ≡ Some x)
-some-of None e = absurd (true≢false (sym e))
-some-of (Some x) e = (x, refl)
-
-some-or : (x y : Option Leaf) → is_some (option_or x y) ≡ true → (is_some x ≡ true) ⊎ (is_some y ≡ true)
-some-or None y e = inr e
-some-or (Some x) y e = inl refl
-
-or-left : (x y : Option Leaf) → is_some x ≡ true → is_some (option_or x y) ≡ true
-or-left None y e = absurd (true≢false (sym e))
-or-left (Some x) y e = refl
-
-or-right : (x y : Option Leaf) → is_some y ≡ true → is_some (option_or x y) ≡ true
-or-right None y e = e
-or-right (Some x) y e = refl
 
 module _ (S : List Object) (s : IsStore S) (kept a : Name) (xs ys : List Name) (hk : has Tree S kept.0 ≡ true) (trees : Each (λ n. has Tree S n.0 ≡ true) (xs ++ a ∷ ys))
     (apart : AreApart S (xs ++ a ∷ ys)) (other : (p : Path) (x : Leaf) → at (flat S kept.0) p ≡ Some x → any_at S (xs ++ a ∷ ys) p ≡ None) where

@@ -19,6 +19,7 @@ use Rattle.filter_unapply.specs.Parts.{AreApart, IsNear, IsOfAny, IsPair, IsWhol
 use Rattle.filter_unapply.specs.declared.fault.LayFault.{LayFault}
 use Rattle.filter_unapply.proofs.MadeTrees.{known-as}
 use Rattle.filter_unapply.proofs.PartLists.{any-grown, apart-grown, clash-near, each-grown, or-assoc, or-none, or-parts}
+use Rattle.filter_unapply.proofs.Somes.{some-of}
 
 first-none : (x y : Option Leaf) → option_or x y ≡ None → x ≡ None
 first-none None y e = refl
@@ -27,10 +28,6 @@ first-none (Some x) y e = e
 second-none : (x y : Option Leaf) → option_or x y ≡ None → y ≡ None
 second-none None y e = e
 second-none (Some x) y e = absurd (none-some x (sym e))
-
-some-of : {A : Type 0} (o : Option A) → is_some o ≡ true → (x : A) × (o ≡ Some x)
-some-of None e = absurd (true≢false (sym e))
-some-of (Some x) e = (x, refl)
 
 pub each-first : (P : Name → Type 0) (ms ns : List Name) → Each P (ms ++ ns) → Each P ms
 each-first P [] ns h = tt

@@ -46,6 +46,7 @@ use Rattle.filter_unapply.proofs.Lawful.{at-image, at-kept, free, pre-paths, pre
 use Rattle.filter_unapply.proofs.Fittings.{sifted-within}
 use Rattle.filter_unapply.proofs.PartLists.{or-parts}
 use Rattle.filter_unapply.proofs.Told.{is_tree}
+use Rattle.filter_unapply.proofs.Somes.{some-of}
 
 -- ---- lists
 
@@ -60,10 +61,6 @@ first-filter g (e ∷ t) = by (g e.0) (first-filter g t)
     by : (b : Bool) → first_of (filter (λ e. g e.0) t) ≡ first_path g t → first_of (cond b (e ∷ filter (λ e. g e.0) t) (filter (λ e. g e.0) t)) ≡ cond b (Some e.0) (first_path g t)
     by true r = refl
     by false r = r
-
-some-of : {A : Type 0} (o : Option A) → is_some o ≡ true → (x : A) × (o ≡ Some x)
-some-of None e = absurd (true≢false (sym e))
-some-of (Some x) e = (x, refl)
 
 is-some : {A : Type 0} (o : Option A) (x : A) → o ≡ Some x → is_some o ≡ true
 is-some o x e = ap is_some e

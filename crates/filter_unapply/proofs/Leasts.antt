@@ -24,6 +24,7 @@ use Rattle.filter_unapply.specs.Laying.{first_path}
 use Rattle.filter_unapply.specs.Parts.{any_at}
 use Rattle.filter_unapply.proofs.Firsts.{first-first, first-none, first-passes}
 use Rattle.filter_unapply.proofs.Told.{is_tree}
+use Rattle.filter_unapply.proofs.Somes.{or-left, or-right, some-of, some-or}
 
 -- ---- pairs in order
 
@@ -129,10 +130,6 @@ comparable-first : (p : Path) (b : Flat) → first_comparable p b ≡ first_path
 comparable-first p [] = refl
 comparable-first p (d ∷ b) = ap (λ o. cond (comparable p d.0) (Some d.0) o) (comparable-first p b)
 
-some-of : {A : Type 0} (o : Option A) → is_some o ≡ true → (x : A) × (o ≡ Some x)
-some-of None e = absurd (true≢false (sym e))
-some-of (Some x) e = (x, refl)
-
 module _ (b : Flat) (sb : T (is_sorted path_cmp b)) where
   at-first : (d : Path × Leaf) (a : Flat) → is_some (at (d ∷ a) d.0) ≡ true
   at-first d a = ap (λ v. is_some (cond v (Some d.1) (at a d.0))) ((path_decides d.0 d.0).1 refl)
@@ -181,18 +178,6 @@ module _ (b : Flat) (sb : T (is_sorted path_cmp b)) where
 -- ---- the first clashes of one tree with others
 
 module _ (S : List Object) (s : IsStore S) (a : Name) (h : has Tree S a.0 ≡ true) where
-  some-or : (x y : Option Leaf) → is_some (option_or x y) ≡ true → (is_some x ≡ true) ⊎ (is_some y ≡ true)
-  some-or None y e = inr e
-  some-or (Some x) y e = inl refl
-
-  or-left : (x y : Option Leaf) → is_some x ≡ true → is_some (option_or x y) ≡ true
-  or-left None y e = absurd (true≢false (sym e))
-  or-left (Some x) y e = refl
-
-  or-right : (x y : Option Leaf) → is_some y ≡ true → is_some (option_or x y) ≡ true
-  or-right None y e = e
-  or-right (Some x) y e = refl
-
   pub clash-meets : (n : Name) → has Tree S n.0 ≡ true → IsLeast (Meets (flat S a.0) (λ q. at (flat S n.0) q)) (clash (flat S a.0) (flat S n.0))
   clash-meets n g = clash-least (flat S n.0) (is_tree S s n.0 g).sorted (flat S a.0) (is_tree S s a.0 h).sorted
 

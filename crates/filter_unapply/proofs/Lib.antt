@@ -6,6 +6,7 @@ pub mod Outcomes
 pub mod Places
 pub mod Told
 pub mod Fronts
+mod Somes
 mod MadeTrees
 mod Sieves
 mod Fittings

@@ -23,20 +23,13 @@ use Rattle.filter_unapply.specs.declared.fault.LayFault.TheVariants.{NotHeld as 
 use Rattle.filter_unapply.proofs.Leasts.{least-as}
 use Rattle.filter_unapply.proofs.PartLists.{any-grown}
 use Rattle.filter_unapply.proofs.Told.{is_tree}
+use Rattle.filter_unapply.proofs.Somes.{some-of, some-or}
 
 swap : (a b : Bool) → (b || a) ≡ (a || b)
 swap true true = refl
 swap true false = refl
 swap false true = refl
 swap false false = refl
-
-some-of : {A : Type 0} (o : Option A) → is_some o ≡ true → (x : A) × (o ≡ Some x)
-some-of None e = absurd (true≢false (sym e))
-some-of (Some x) e = (x, refl)
-
-some-or : (x y : Option Leaf) → is_some (option_or x y) ≡ true → (is_some x ≡ true) ⊎ (is_some y ≡ true)
-some-or None y e = inr e
-some-or (Some x) y e = inl refl
 
 pub near-block : (S : List Object) → IsStore S → (k : Name) (ns : List Name) → has Tree S k.0 ≡ true → (p : Path) × (q : Path) × IsNear S (k ∷ ns) p q → IsLeast (IsBlockIn S k ns) None → ⊥
 near-block S s k ns h (p, q, w) none = by (some-or (at (flat S k.0) p) (any_at S ns p) w.path) (some-or (at (flat S k.0) q) (any_at S ns q) w.by)

@@ -10,8 +10,8 @@ use crate::Found;
 use git_objects::{Kind, Mode, Name, TreeView};
 use object_store::{ObjectRef, Store};
 
-// The entries of an object, unless it is no tree.
-fn entries_in<'a>(object: ObjectRef<'a>) -> Option<TreeView<'a>>
+/// The entries of an object of a store, unless it is no tree. Needs no memory.
+pub fn entries_in<'a>(object: ObjectRef<'a>) -> Option<TreeView<'a>>
     requires { object.kind ≡ Kind.Tree → is_some (tree_entries object.body.now) ≡ true }
     ensures { result ≡ entries_of (object_value object.entry) }
 {

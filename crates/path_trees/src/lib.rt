@@ -13,6 +13,7 @@ mod rebuild;
 mod walk;
 
 pub use clash::first_clash;
+pub use directory::entries_in;
 pub use edits::{put_at, remove_at, taken_in};
 pub use found::{Found, Leaf, TreeFault};
 pub use join::{JoinFault, join_apart, join_disjoint};

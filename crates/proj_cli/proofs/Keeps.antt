@@ -39,7 +39,9 @@ use Rattle.repo_ground.specs.Contents.{Contents, Spells, entries_in, is_selected
 use Rattle.repo_ground.specs.Keeping.{AreNamed, AreOfGraph, keep_plan, may_keep, new_entries, news, unheld}
 use Rattle.repo_ground.specs.Selecting.{IsSelected}
 use Rattle.history_ground.proofs.Filling.{kept-each}
-use Rattle.repo_ground.proofs.Keeping.{kept-append, spells-kept, with_kept}
+use Rattle.history_ground.proofs.Filling.{kept-append}
+use Rattle.repo_ground.proofs.Keeping.{spells-kept, with_kept}
+use Rattle.repo_ground.proofs.Reaching.{some-of}
 use Rattle.repo_ground.proofs.MapFronts.{rule-known}
 use Rattle.proj_cli.specs.Filters.{entries_of, recalled}
 use Rattle.proj_cli.specs.Makes.{HoldsEntry, IsKeepOf, IsKeepPlanOf, IsStateOf}
@@ -58,10 +60,6 @@ projections-agree k see a b e [] = refl
 projections-agree k see a b e (c ∷ g) =
     let older = projections-agree k see a b e g in
     λ i. (snapshot_name c, unwrap_or (e (snapshot_name c) i) (projected (choice_of k see g (older i) c))) ∷ older i
-
-some-is : {A : Type 0} (o : Option A) → is_some o ≡ true → (x : A) × (o ≡ Some x)
-some-is None e = absurd (true≢false (sym e))
-some-is (Some x) e = (x, refl)
 
 none-is : {A : Type 0} (o : Option A) → is_none o ≡ true → o ≡ None
 none-is None e = refl
@@ -176,12 +174,12 @@ module _ (items : List Bytes) (h : Held) (s : Contents) (f : Filter) (w : IsStat
 
     unkept : (e : Bytes × Option Shown) → IsNew old added e → kept_at e.0 old ≡ None
     unkept e k =
-        let o = some-is (kept_at e.0 added) k.there in
+        let o = some-of (kept_at e.0 added) k.there in
         kept-each (λ m v. kept_at m old ≡ None) e.0 added o.0 filled.lacked o.1
 
     value-is : (e : Bytes × Option Shown) → IsNew old added e → e.1 ≡ recalled (entries_of h f) h.rule f (repo h).commits e.0
     value-is e k =
-        let o = some-is (kept_at e.0 added) k.there in
+        let o = some-of (kept_at e.0 added) k.there in
         same_Some e.1 o.0 (sym k.value ∙ kept-append e.0 old added (unkept e k) ∙ o.1)
         ∙ kept-each (λ m v. v ≡ projection_by s1.basis.rule (shown f) old (commits_of s1.basis) m) e.0 added o.0 filled.values o.1
         ∙ recalled-as e.0
@@ -203,7 +201,7 @@ module _ (items : List Bytes) (h : Held) (s : Contents) (f : Filter) (w : IsStat
 
     unkept-row : (i : ℕ) (q : Row) → slice_get g.graph i ≡ Some q → IsSome (kept_at q.name added) → list_any (is_of (printed f) h.rule q.name) h.kept ≡ false
     unkept-row i q e k =
-        let o = some-is (kept_at q.name added) k in
+        let o = some-of (kept_at q.name added) k in
         fresh-one q.name (kept-each (λ m v. kept_at m old ≡ None) q.name added o.0 filled.lacked o.1)
 
     rows-length : length g.graph ≡ length (repo h).commits
@@ -245,7 +243,7 @@ module _ (items : List Bytes) (h : Held) (s : Contents) (f : Filter) (w : IsStat
 
     named-one : (e : Bytes × Option Shown) → IsNew old added e → is_name e.0 ≡ true
     named-one e k =
-        let o = some-is (kept_at e.0 added) k.there in
+        let o = some-of (kept_at e.0 added) k.there in
         let m : has (ancestors (commits_of s1.basis) n) e.0 ≡ true = kept-each (λ m v. has (ancestors (commits_of s1.basis) n) m ≡ true) e.0 added o.0 filled.among o.1 in
         name-there e.0 h.objects
         (sym (has-commit e.0 h.objects w.spells.store) ∙ ap (λ (q : Graph). has q e.0) (sym (commits-are items h s1 f n state-selected)) ∙ reached-has (commits_of s1.basis) (n ∷ []) e.0 m)
@@ -266,7 +264,7 @@ module _ (items : List Bytes) (h : Held) (s : Contents) (f : Filter) (w : IsStat
     -- what is held then has the head's entry
     head-there : IsSome (kept_at n g.map) → list_any (is_of (printed f) h.rule n) (h.kept ++ map (entry_of h.rule (printed f)) (new_entries after)) ≡ true
     head-there found =
-        let o = some-is (kept_at n g.map) found in
+        let o = some-of (kept_at n g.map) found in
         let kept = spells-kept h after (printed f) 0 state-projected.spells of-graph selected-now in
         let same : kept_at n (entries_in (with_kept after 0) (printed f) h.rule) ≡ Some o.0 =
         ap (λ p. kept_at n (cond (is_selected p (printed f) h.rule) (take (length g.map) g.map) (entries_at h.rule (printed f) after.maps))) selected-now

@@ -3,13 +3,11 @@ use Rattle.std.specs.Prelude.{◌≡◌, refl, false, true, List, [], ◌∷◌,
 use Rattle.std.specs.Fmt.{digits}
 use Rattle.std.specs.Str.{chars, is_utf8}
 use lib.Utf8.{encode}
-use Rattle.hex.specs.Hex.{decode_pairs}
 use Rattle.git_objects.specs.Paths.{Bytes, Path}
-use Rattle.git_objects.specs.Trees.{FileLeaf, put, remove}
+use Rattle.git_objects.specs.Trees.{FileLeaf}
 use Rattle.git_objects.specs.Bodies.{tree_entries}
 use Rattle.git_objects.specs.Commits.{hex}
 use Rattle.git_objects.specs.CommitBodies.{commit_from, digits_name}
-use Rattle.git_objects.specs.Idents.{is_ident}
 use Rattle.git_objects.specs.Results.{◌>>=◌}
 use Rattle.git_objects.specs.Snapshots.{Snapshot, snapshot_name}
 use Rattle.git_objects.specs.declared.quantity.Quantity.TheVariants as limits
@@ -22,20 +20,13 @@ use Rattle.object_store.specs.Unfolding.{flat}
 use Rattle.filter_text.specs.Filters.{sub}
 use Rattle.filter_text.specs.Limits.{read}
 use Rattle.filter_routes.specs.FaultTests.{fault}
-use Rattle.stream_lex.specs.Lines.{any_line, line_at, block_at}
-use Rattle.stream_reader.specs.Words.{first_word, mark}
-use Rattle.stream_reader.specs.Reading.{option_line, need_line}
-use Rattle.stream_reader.specs.Names.{target}
-use Rattle.stream_reader.specs.Blocks.{data_behind, blob_data, message_data}
-use Rattle.stream_reader.specs.PathWords.{last_path, first_path, two_paths}
-use Rattle.stream_reader.specs.Changes.{mode, dataref, modify_line, modify, change_line, change}
-use Rattle.stream_reader.specs.Heads.{mark_lines, blob, people, ref_line, parents, head, reset}
-use Rattle.stream_reader.specs.Commands.{command_line, turn, read_command}
-use Rattle.stream_reader.specs.Verdicts.{verdict_from}
+use Rattle.stream_reader.specs.Heads.{blob}
+use Rattle.stream_reader.specs.Commands.{turn}
 use Rattle.fast_export.specs.ExportTexts.{export_text}
 use Rattle.state_items.specs.Items.{change_text, is_canonical, kept_text, read_item, read_items, rule_text}
 use Rattle.state_items.specs.Changes.{fresh, plan_items, room_of}
 use Rattle.push_back.specs.Examples.{commit, naming, reading, showing}
+use Rattle.push_back.specs.StreamExamples.{replaying}
 use Rattle.proj_words.specs.Entries.{Entry, entries}
 use Rattle.proj_words.specs.Words.{Import, Project, Export, Push, Name, Rule, Trial, Batch, Unknown}
 use Rattle.proj_words.specs.declared.outcome.Outcome.{Outcome}
@@ -67,13 +58,6 @@ loading = None
 unfoldable holding : Option Path
 unfolding change_text kept_text fresh find_named has has_name body_of flat tree_entries commit_from tree_objects
 holding = None
-
--- the same of streams
-unfoldable replaying : Option Path
-unfolding put remove any_line line_at block_at option_line need_line first_word number mark target data_behind blob_data
-    message_data last_path first_path two_paths is_ref_name is_ident mode dataref modify_line modify change_line change
-    mark_lines blob people ref_line parents head reset command_line turn read_command verdict_from decode_pairs
-replaying = None
 
 abbrev main : Bytes
 main = codes "refs/heads/main"

@@ -29,7 +29,7 @@ use Rattle.push_back.specs.Pushes.{Pushing, PushRefusal, StreamRefused, CommitRe
 use Rattle.push_back.specs.Examples.{a, b, f, g, k, hello, one, first, beside, reading, showing, naming}
 
 -- what a theorem about streams unfolds, so that it computes
-unfoldable replaying : Option Path
+unfoldable pub replaying : Option Path
 unfolding put remove any_line line_at block_at option_line need_line first_word number mark target data_behind blob_data
     message_data last_path first_path two_paths is_ref_name is_ident mode dataref modify_line modify change_line change
     mark_lines blob people ref_line parents head reset command_line turn read_command verdict_from decode_pairs

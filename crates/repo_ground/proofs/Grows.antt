@@ -11,16 +11,14 @@ use Rattle.object_store.specs.Objects.{Object, object_name, find_named, has_name
 use Rattle.indexmap.specs.IndexSet.{insert_key}
 use Rattle.state_items.specs.Changes.{fresh}
 use Rattle.state_items.specs.Arrivals.{AreNamed}
-use Rattle.repo_ground.specs.Growing.{with_one, grown, AreFed, held_of, IsReady, IsStep, Extends}
+use Rattle.state_items.specs.Growing.{with_one, grown}
+use Rattle.state_items.proofs.Growing.{AreKnown, grown-append}
+use Rattle.repo_ground.specs.Growing.{AreFed, held_of, IsReady, IsStep, Extends}
 use Rattle.state_items.specs.Writings.{objects_named as named}
 use Rattle.state_items.proofs.Naming.{name-known, named-more}
 use Rattle.object_store.proofs.Parts.{find-name, AreIn}
 
 -- ---- lists of objects, one behind another
-
-pub grown-append : (H a b : List Object) → grown H (a ++ b) ≡ grown (grown H a) b
-grown-append H [] b = refl
-grown-append H (o ∷ a) b = grown-append (with_one H o) a b
 
 pub fed-front : (S H a b : List Object) → AreFed S H (a ++ b) → AreFed S H a
 fed-front S H [] b h = tt
@@ -34,20 +32,7 @@ pub fed-both : (S H a b : List Object) → AreFed S H a → AreFed S (grown H a)
 fed-both S H [] b h g = g
 fed-both S H (o ∷ a) b h g = (h.0, h.1, fed-both S (with_one H o) a b h.2 g)
 
--- what is new stands in front of what was held
-pub grown-fresh : (H os : List Object) → grown H os ≡ reverse (fresh H os) ++ H
-unfolding fresh
-grown-fresh H [] = refl
-grown-fresh H (o ∷ os) =
-    elim (has_name H (object_name o)) as (λ b. grown (cond b H (o ∷ H)) os ≡ reverse (cond b (fresh H os) (o ∷ fresh (o ∷ H) os)) ++ H) [
-      | true ↦ grown-fresh H os
-      | false ↦ grown-fresh (o ∷ H) os ∙ sym (ap (λ (r : List Object). r ++ H) (reverse-append (o ∷ []) (fresh (o ∷ H) os)) ∙ append_assoc (reverse (fresh (o ∷ H) os)) (o ∷ []) H)
-    ]
-
 -- where all are held, nothing is new
-abbrev pub AreKnown : List Object → List Object → Type 0
-AreKnown H os = Each (λ o. has_name H (object_name o) ≡ true) os
-
 pub grown-known : (H os : List Object) → AreKnown H os → grown H os ≡ H
 grown-known H [] h = refl
 grown-known H (o ∷ os) h = ap (λ b. grown (cond b H (o ∷ H)) os) h.0 ∙ grown-known H os h.1

@@ -11,7 +11,7 @@ use Rattle.std.specs.List.{cons_option, filter_map, flat_map, list_any}
 use Rattle.std.specs.Cmp.Lexicographic.{bytes_decides}
 use Rattle.std.specs.Int.{to_be_bytes, w16, w32}
 use Rattle.commit_map.specs.Rules.{rule_number}
-use Rattle.history_ground.proofs.Filling.{kept-each}
+use Rattle.history_ground.proofs.Filling.{kept-append, kept-each, kept-front}
 use Rattle.state_items.proofs.Lengths.{item-some}
 use Rattle.std.proofs.lemmas.List.{length-map, map-append, take-append-drop, take_all}
 use Rattle.std.proofs.lemmas.Option.{none-some, same_Some}
@@ -36,22 +36,6 @@ abbrev pub with_kept : Contents → ℕ → Contents
 with_kept s n = record s { kept = length s.basis.map; number = s.number + 1; size = s.size + n }
 
 -- ---- look-ups
-
-pub kept-append : (n : Bytes) (xs ys : Entries) → kept_at n xs ≡ None → kept_at n (xs ++ ys) ≡ kept_at n ys
-kept-append n [] ys h = refl
-kept-append n (x ∷ xs) ys h = by (same_bytes n x.0) h (kept-append n xs ys)
-  where
-    by : (b : Bool) → cond b (Some x.1) (kept_at n xs) ≡ None → (kept_at n xs ≡ None → kept_at n (xs ++ ys) ≡ kept_at n ys) → cond b (Some x.1) (kept_at n (xs ++ ys)) ≡ kept_at n ys
-    by true e k = absurd (none-some x.1 (sym e))
-    by false e k = k e
-
-kept-front : (n : Bytes) (xs ys : Entries) (o : Option Shown) → kept_at n xs ≡ Some o → kept_at n (xs ++ ys) ≡ Some o
-kept-front n [] ys o h = absurd (none-some o h)
-kept-front n (x ∷ xs) ys o h = by (same_bytes n x.0) h (kept-front n xs ys o)
-  where
-    by : (b : Bool) → cond b (Some x.1) (kept_at n xs) ≡ Some o → (kept_at n xs ≡ Some o → kept_at n (xs ++ ys) ≡ Some o) → cond b (Some x.1) (kept_at n (xs ++ ys)) ≡ Some o
-    by true e k = e
-    by false e k = k e
 
 -- lists that agree on a commit, with lists behind them that agree on it where the first have nothing of it
 same-behind : (q : Bytes) (a c b d : Entries) → kept_at q a ≡ kept_at q c → (kept_at q a ≡ None → kept_at q b ≡ kept_at q d) → kept_at q (a ++ b) ≡ kept_at q (c ++ d)

@@ -37,7 +37,9 @@ use Rattle.repo_ground.specs.Changes.{AreNamedIn, IsBatchOf, batch_plan, setting
 use Rattle.repo_ground.specs.Contents.{Contents, Spells, room_in}
 use Rattle.repo_ground.specs.Drafting.{HasMore, IsDraft, IsItemOf, IsNoDraft, passed_with}
 use Rattle.repo_ground.specs.Entering.{IsFront, with_all}
-use Rattle.repo_ground.specs.Growing.{AreFed, Extends, IsReady, IsStep, grown, held_of}
+use Rattle.state_items.specs.Growing.{grown}
+use Rattle.state_items.proofs.Growing.{grown-fresh}
+use Rattle.repo_ground.specs.Growing.{AreFed, Extends, IsReady, IsStep, held_of}
 use Rattle.repo_ground.specs.Moving.{moves_in, with_heads}
 use Rattle.repo_ground.specs.declared.commit.Batch.{Batch}
 use Rattle.repo_ground.specs.declared.commit.CommitError.{CommitError}
@@ -46,7 +48,7 @@ use Rattle.repo_ground.specs.declared.draft.Draft.{Draft}
 use Rattle.repo_ground.proofs.Batches.{fed-from}
 use Rattle.repo_ground.proofs.Brought.{batch-found, batch-new, batch-ready, held-named, held-own}
 use Rattle.repo_ground.proofs.FreshNames.{AreFreshNames, fed-fresh, fresh-names, names-fresh}
-use Rattle.repo_ground.proofs.Grows.{grown-fresh, named-in}
+use Rattle.repo_ground.proofs.Grows.{named-in}
 use Rattle.repo_ground.proofs.MovedRefs.{moves-same, heads-after, heads-distinct, heads-sorted}
 use Rattle.repo_ground.proofs.RowsBehind.{rows-behind}
 use Rattle.repo_ground.proofs.RowsGround.{rows_ground}

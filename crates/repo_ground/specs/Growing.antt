@@ -1,18 +1,11 @@
 -- Objects that are taken in one after another, each once.
-use Rattle.std.specs.Prelude.{◌≡◌, if◌then◌else◌, List, [], ◌∷◌, ◌++◌, map, reverse, Some}
+use Rattle.std.specs.Prelude.{◌≡◌, List, [], ◌∷◌, ◌++◌, map, reverse, Some}
 use Rattle.git_objects.specs.Parts.{name_bytes}
 use Rattle.git_objects.specs.declared.name.Name.{Name}
-use Rattle.object_store.specs.Objects.{Object, object_name, find_named, has_name, IsStore}
+use Rattle.object_store.specs.Objects.{Object, object_name, find_named, IsStore}
 use Rattle.state_items.specs.Arrivals.{AreNamed}
+use Rattle.state_items.specs.Growing.{grown, with_one}
 use Rattle.state_items.specs.Writings.{objects_named as named}
-
--- from the newest to the oldest
-abbrev pub with_one : List Object → Object → List Object
-with_one H o = if has_name H (object_name o) then H else o ∷ H
-
-abbrev pub grown : List Object → List Object → List Object
-grown H [] = H
-grown H (o ∷ os) = grown (with_one H o) os
 
 -- each of them is in S, and what is held with it is a store
 abbrev pub AreFed : List Object → List Object → List Object → Type 0

@@ -21,7 +21,8 @@ use Rattle.object_store.specs.Unfolding.{flat}
 use Rattle.object_store.proofs.Held.{has-above}
 use Rattle.object_store.proofs.Unfolding.{unfolding_law}
 use Rattle.state_items.specs.Changes.{fresh, blob_object, commit_objects}
-use Rattle.state_items.proofs.Growing.{grown, with_one, known-grown, grown-append, grown-fresh}
+use Rattle.state_items.specs.Growing.{grown, with_one}
+use Rattle.state_items.proofs.Growing.{known-grown, grown-append, grown-fresh}
 use Rattle.git_objects.specs.Snapshots.{Snapshot, snapshot_commit, snapshot_name}
 use Rattle.object_store.specs.StoredSnapshots.{blob_in, blobs_in, snapshot_in, snapshot_object, snapshot_of, snapshots_in}
 use Rattle.object_store.specs.TreeObjects.{leaf_objects, objects_at, objects_within, tree_objects}

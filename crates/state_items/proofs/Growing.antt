@@ -9,14 +9,7 @@ use Rattle.git_objects.proofs.Basics.{same_bytes-self}
 use Rattle.object_store.specs.Objects.{Object, IsStore, find_named, has_name, object_name}
 use Rattle.object_store.proofs.Parts.{AreIn}
 use Rattle.state_items.specs.Changes.{fresh}
-
--- from the newest to the oldest
-abbrev pub with_one : List Object → Object → List Object
-with_one H o = cond (has_name H (object_name o)) H (o ∷ H)
-
-abbrev pub grown : List Object → List Object → List Object
-grown H [] = H
-grown H (o ∷ os) = grown (with_one H o) os
+use Rattle.state_items.specs.Growing.{grown, with_one}
 
 pub grown-append : (H a b : List Object) → grown H (a ++ b) ≡ grown (grown H a) b
 grown-append H [] b = refl

@@ -21,7 +21,8 @@ use Rattle.object_store.specs.Objects.{Object, IsStore, body_of, has, has_name, 
 use Rattle.object_store.specs.Unfolding.{flat}
 use Rattle.object_store.proofs.Held.{named_kind}
 use Rattle.state_items.specs.Changes.{fresh, moved, with_refs, ChangePlan, NoPlan, change_plan, held_after, blob_object, commit_objects, objects_of}
-use Rattle.state_items.proofs.Growing.{grown, with_one, grown-all, in-self, known-grown, AreKnown, grown-append, grown-fresh}
+use Rattle.state_items.specs.Growing.{grown, with_one}
+use Rattle.state_items.proofs.Growing.{grown-all, in-self, known-grown, AreKnown, grown-append, grown-fresh}
 use Rattle.git_objects.specs.Refs.{Refs}
 use Rattle.git_objects.specs.Snapshots.{Snapshot, snapshot_commit}
 use Rattle.object_store.specs.StoredSnapshots.{blobs_in, snapshot_in, snapshot_object, snapshot_of, snapshots_in}

@@ -1,5 +1,10 @@
 -- Lengths of items.
-use Rattle.std.proofs.Common.{◌+◌, ◌≤◌, ◌<◌, List, [], ◌∷◌, ◌++◌, length, arith, length-append}
+use Rattle.std.proofs.Common.{◌≡◌, ◌+◌, ◌≤◌, ◌<◌, ◌^◌, true, List, [], ◌∷◌, ◌++◌, length, arith, length-append}
+use borrow.Author.Tests.{leb-true}
+use Rattle.std.specs.Prelude.{nat_le}
+use Rattle.std.specs.Cmp.{first_so, second_so}
+use Rattle.git_objects.specs.Paths.{Bytes}
+use Rattle.path_names.specs.RefNames.{is_ref_name}
 use Rattle.std.specs.Int.{to_be_bytes, w16, w32}
 use Rattle.std.specs.List.{flat_map}
 use Rattle.object_store.specs.Objects.{Object}
@@ -37,3 +42,11 @@ objects-long os rs =
     let c = to_be_bytes w32 (length rs) in
     let d = flat_map ref_text rs in
     omega (arith, length-append (a ++ b ++ c) d, length-append (a ++ b) c, length-append a b)
+
+-- a ref name has at most 1,024 bytes
+pub ref-short : (t : Bytes) → is_ref_name t ≡ true → length t < 2 ^ 16
+unfolding is_ref_name
+ref-short t h =
+    let few = leb-true (length t) 1024
+    (second_so (nat_le 6 (length t)) _ (first_so _ _ (first_so _ _ (first_so _ _ (first_so _ _ (first_so _ _ (first_so _ _ (first_so _ _ (first_so _ _ h))))))))) in
+    omega (arith, few)

@@ -36,4 +36,3 @@ pub mod KeptRead
 pub mod KeptHeld
 pub mod ItemSteps
 pub mod Gathering
-pub mod ChangeLengths

@@ -26,7 +26,8 @@ use Rattle.object_store.specs.Sizes.{longest}
 use Rattle.object_store.specs.Unfolding.{flat}
 use Rattle.object_store.proofs.Unfolding.{growing_law}
 use Rattle.state_items.specs.Changes.{fresh, moved, ChangePlan, NoPlan, blob_object, commit_objects, objects_of}
-use Rattle.state_items.proofs.Growing.{grown, grown-fresh}
+use Rattle.state_items.specs.Growing.{grown}
+use Rattle.state_items.proofs.Growing.{grown-fresh}
 use Rattle.git_objects.specs.Refs.{Refs}
 use Rattle.object_store.specs.Fits.{body_fits, tree_fits, tree_map}
 use Rattle.git_objects.specs.Snapshots.{Snapshot, snapshot_commit}

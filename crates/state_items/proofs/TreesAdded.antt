@@ -24,7 +24,8 @@ use Rattle.git_objects.proofs.Tops as tops_of
 use Rattle.git_objects.proofs.TreeReading.{spelled_law}
 use Rattle.git_objects.proofs.Under.{at-under, under-tree}
 use Rattle.object_store.specs.Objects.{Object, IsStore, body_of, has, has_child, has_name, is_body, missing_entry, object_name, same_kind}
-use Rattle.state_items.proofs.Growing.{grown, with_one, grown-all, AreKnown}
+use Rattle.state_items.specs.Growing.{grown, with_one}
+use Rattle.state_items.proofs.Growing.{grown-all, AreKnown}
 use Rattle.object_store.specs.TreeObjects.{leaf_objects, objects_at, objects_within}
 use Rattle.state_items.proofs.TreesHeld.{IsIn, among, begins, each-back, each-front, each-pick, each-top, no-tops, parts, top-at, tree_object}
 

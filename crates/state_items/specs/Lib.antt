@@ -18,3 +18,4 @@ pub mod Steps
 pub mod Readings
 pub mod Lending
 pub mod Writings
+pub mod Growing

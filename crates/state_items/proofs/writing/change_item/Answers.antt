@@ -2,7 +2,7 @@ use Rattle.std.proofs.Common.{arith}
 use Rattle.std.proofs.lemmas.List.{length-map}
 use Rattle.ref_store.specs.Pairs.{pair, pairs}
 use Rattle.state_items.specs.Writings.{found}
-use Rattle.state_items.proofs.ChangeLengths.{item-long}
+use Rattle.state_items.proofs.Lengths.{item-long}
 use Rattle.state_items.proofs.writing.change_item.Goals as goal
 
 pub write_number-requires : goal.write_number-requires

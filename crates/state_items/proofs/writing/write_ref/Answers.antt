@@ -1,6 +1,6 @@
 use Rattle.std.proofs.Common.{◌<◌, ◌^◌, length, sym, subst}
 use Rattle.git_objects.specs.Paths.{Bytes}
-use Rattle.state_items.proofs.ChangeLengths.{ref-short}
+use Rattle.state_items.proofs.Lengths.{ref-short}
 use Rattle.state_items.proofs.writing.write_ref.Goals as goal
 
 pub overflow_cast-name : goal.overflow_cast-name
