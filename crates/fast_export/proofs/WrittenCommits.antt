@@ -5,7 +5,7 @@ use Rattle.git_objects.specs.Parts.{name_bytes}
 use Rattle.git_objects.specs.declared.name.Name.{Name}
 use Rattle.object_store.specs.Objects.{Object, IsStore}
 use Rattle.fast_export.specs.ExportTexts.{Marks, commits_text, marks_behind, no_marks}
-use Rattle.fast_export.specs.Given.{Given, commit_names, marks_in}
+use Rattle.fast_export.specs.Given.{Given, commit_names, marks_in, no_given}
 use Rattle.fast_export.specs.Histories.{IsHistoryIn, snapshots_at}
 use Rattle.fast_export.specs.Known.{AreWritten}
 use Rattle.fast_export.specs.Sending.{IsPut}
@@ -70,10 +70,10 @@ module _ (S : List Object) (refname : Bytes) (names : List Name) (history : IsHi
 
 -- nothing is written yet
 module _ {O : Type 0} {tells : O → Type 0} {written : O → Option Bytes} {faults refusals : O → ℕ} where
-  pub no_commits : (a : O) (k : Bytes) (S : List Object) (refname : Bytes) (names : List Name) (g : Given) (known : List (Name × Lines)) → g ≡ record { blobs = []; commits = []; trees = [] } → known ≡ [] → AreCommitsWritten tells written faults refusals a a k k S refname names 0 g known
+  pub no_commits : (a : O) (k : Bytes) (S : List Object) (refname : Bytes) (names : List Name) (g : Given) (known : List (Name × Lines)) → g ≡ no_given → known ≡ [] → AreCommitsWritten tells written faults refusals a a k k S refname names 0 g known
   no_commits a k S refname names g known e f =
       subst (λ (h : Given). AreCommitsWritten tells written faults refusals a a k k S refname names 0 h known) (sym e)
-      (subst (λ (es : List (Name × Lines)). AreCommitsWritten tells written faults refusals a a k k S refname names 0 (record { blobs = []; commits = []; trees = [] }) es) (sym f)
+      (subst (λ (es : List (Name × Lines)). AreCommitsWritten tells written faults refusals a a k k S refname names 0 no_given es) (sym f)
       (record {
         put = put_idle a k;
         marks = refl;

@@ -25,6 +25,10 @@ pub record Given : Type 0 where
 abbrev pub is_named : Name → Name → Bool
 is_named n k = same_bytes n.0 k.0
 
+-- no marks yet
+abbrev pub no_given : Given
+no_given = record { blobs = []; commits = []; trees = [] }
+
 -- the next number: marks are numbered from 1
 abbrev pub next_of : Given → ℕ
 next_of g = length g.blobs + length g.commits + 1
@@ -104,3 +108,7 @@ head_text refname number c =
     (if is_nil c.parents then line (codes "reset ") refname else [])
     ++ line (codes "commit ") refname ++ mark_line (codes "mark ") number ++ line (codes "author ") c.letter.author
     ++ line (codes "committer ") c.letter.committer ++ line (codes "data ") (decimal (length c.letter.message))
+
+-- and those in front of the lines of its leaves
+abbrev pub front_text : Bytes → ℕ → List (ℕ × Bytes) → Commit → Bytes
+front_text refname number marks c = (((head_text refname number c ++ c.letter.message) ++ 10 ∷ []) ++ parents_from marks 0 c.parents) ++ codes "deleteall\n"

@@ -3,6 +3,7 @@ pub mod Examples
 pub mod ExportTexts
 pub mod Histories
 pub mod Given
+pub mod MarkedStores
 pub mod Known
 pub mod Sending
 pub mod Errors

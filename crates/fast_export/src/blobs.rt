@@ -16,7 +16,7 @@ use git_objects::Name;
 use object_store::Store;
 use path_trees::{Leaf, Walk};
 use proj_io::Sink;
-use std::alloc::{AllocError, Global};
+use std::alloc::AllocError;
 
 // What stands in front of a blob's bytes.
 fn add_blob_head(out: &mut Vec<u8>, number: u64, size: usize) -> Result<(), AllocError>
@@ -80,7 +80,6 @@ fn write_new_blob<O: Sink>(
 
 // Writes the blobs of a tree that have no mark, leaf by leaf.
 fn write_each_new_blob<O: Sink>(
-    alloc: Global,
     store: &Store,
     tree: Name,
     marks: &mut GivenMarks,
@@ -98,7 +97,7 @@ fn write_each_new_blob<O: Sink>(
     ensures given { OnOk result (AreGivenIn store.now marks.new) }
     ensures commits { OnOk result (marks.new.commits ≡ marks.old.commits) }
 {
-    let mut walk = Walk::new(alloc, store, tree)?;
+    let mut walk = Walk::new(marks.alloc(), store, tree)?;
     'leaves: while walk.next()? {
         write_new_blob(store, walk.leaf(), marks, sink, kept)?;
     }
@@ -109,7 +108,6 @@ fn write_each_new_blob<O: Sink>(
 /// each blob is known to have one isn't read. In directories that are more than `depth` levels down every leaf is
 /// looked at.
 pub fn write_new_blobs<O: Sink>(
-    alloc: Global,
     store: &Store,
     tree: Name,
     depth: u32,
@@ -132,12 +130,12 @@ pub fn write_new_blobs<O: Sink>(
         return Ok(());
     }
     if depth == 0 {
-        return write_each_new_blob(alloc, store, tree, marks, sink, kept);
+        return write_each_new_blob(store, tree, marks, sink, kept);
     }
     let mut left = entries_of(store, &tree);
     'entries: while let Some(entry) = left.next() {
         if entry.mode.is_dir() {
-            write_new_blobs(alloc, store, entry.name, depth - 1, marks, sink, kept)?;
+            write_new_blobs(store, entry.name, depth - 1, marks, sink, kept)?;
         } else {
             let leaf = Leaf {
                 mode: entry.mode,

@@ -9,24 +9,26 @@ ghost use Rattle.object_store.specs.Objects.{IsStore, has};
 ghost use Rattle.object_store.specs.StoredSnapshots.{snapshot_of};
 ghost use Rattle.object_store.specs.Unfolding.{flat};
 ghost use Rattle.fast_export.specs.ExportTexts.{commit_text, commits_text, line, mark_line, marks_behind};
-ghost use Rattle.fast_export.specs.Given.{AreHeldBlobs, HasMarks, commit_mark, commit_names, head_text};
+ghost use Rattle.fast_export.specs.Given.{HasMarks, commit_mark, commit_names, front_text, head_text};
 ghost use Rattle.fast_export.specs.Given.{is_named, marks_in, parent_word, parents_from};
 ghost use Rattle.fast_export.specs.Histories.{snapshots_at};
 ghost use Rattle.fast_export.specs.Known.{AreKnown, AreWritten};
+ghost use Rattle.fast_export.specs.MarkedStores.{IsMarked, blobs_of, marks_of};
 ghost use Rattle.fast_export.specs.Sending.{IsPut};
 
 use crate::ExportError;
 use crate::blobs::write_new_blobs;
 use crate::given::GivenMarks;
-use crate::known::KnownLines;
+use crate::kept::Kept;
 use crate::leaves::write_lines;
 use crate::lines::{add_data_line, add_line, add_mark_line};
+use crate::marked_store::MarkedStore;
 use crate::sending::put;
 use git_objects::{CommitView, Name};
 use object_store::Store;
 use path_names::RefName;
 use proj_io::Sink;
-use std::alloc::{AllocError, Global};
+use std::alloc::AllocError;
 
 // How many levels of directories are gone down one by one.
 const DEPTH: u32 = 64;
@@ -82,68 +84,68 @@ fn add_parents(
     Ok(())
 }
 
-// A commit, of which the blobs were written and the mark is given.
-fn write_made<O: Sink>(
-    alloc: Global,
-    store: &Store,
+// A commit's lines in front of those of its leaves.
+fn write_front<O: Sink>(
+    marks: &GivenMarks,
     refname: &RefName,
     number: u64,
     commit: &CommitView<'_>,
-    marks: &GivenMarks,
-    known: &mut KnownLines,
     sink: &mut O,
     kept: &mut Vec<u8>,
 ) -> Result<(), ExportError>
-    requires store { IsStore store.now }
-    requires tree { has Tree store.now commit.now.tree ≡ true }
-    requires held { AreHeldBlobs store.now marks.now }
-    requires marks { HasMarks (marks_in store.now marks.now).blobs (flat store.now commit.now.tree) }
-    requires known { AreKnown store.now (marks_in store.now marks.now).blobs known.old }
-    ensures put { IsPut O.tells O.written O.faults O.refusals sink.old sink.new
-        kept.old.items kept.new.items
-        (commit_text refname.now number (marks_in store.now marks.now) (snapshot_of store.now commit.now)) result }
-    ensures known { OnOk result (AreKnown store.now (marks_in store.now marks.now).blobs known.new) }
+    ensures { IsPut O.tells O.written O.faults O.refusals sink.old sink.new kept.old.items kept.new.items
+        (front_text refname.now number (map commit_mark marks.now.commits) commit.now) result }
 {
     add_head(kept, refname, number, commit)?;
     put(sink, kept, commit.message())?;
     kept.push(b'\n')?;
     add_parents(kept, marks, commit)?;
     kept.extend_from_slice(b"deleteall\n")?;
-    write_lines(
-        alloc,
-        store,
-        commit.tree(),
-        b"",
-        DEPTH,
-        marks,
-        known,
-        sink,
-        kept,
-    )?;
-    kept.push(b'\n')?;
+    Ok(())
+}
+
+// A commit, of which the blobs were written and the mark is given.
+fn write_made<O: Sink>(
+    marked: &MarkedStore<'_>,
+    refname: &RefName,
+    number: u64,
+    commit: &CommitView<'_>,
+    sink: &mut O,
+    kept: &mut Kept,
+) -> Result<(), ExportError>
+    requires marked { IsMarked marked.now }
+    requires tree { has Tree marked.now.store.now commit.now.tree ≡ true }
+    requires marks { HasMarks (blobs_of marked.now) (flat marked.now.store.now commit.now.tree) }
+    requires known { AreKnown marked.now.store.now (blobs_of marked.now) kept.old.lines }
+    ensures put { IsPut O.tells O.written O.faults O.refusals sink.old sink.new
+        kept.old.text.items kept.new.text.items
+        (commit_text refname.now number (marks_of marked.now) (snapshot_of marked.now.store.now commit.now)) result }
+    ensures known { OnOk result (AreKnown marked.now.store.now (blobs_of marked.now) kept.new.lines) }
+{
+    write_front(marked.marks, refname, number, commit, sink, &mut kept.text)?;
+    write_lines(marked, commit.tree(), b"", DEPTH, sink, kept)?;
+    kept.text.push(b'\n')?;
     Ok(())
 }
 
 /// Writes a commit behind the new blobs of its tree.
 pub fn write_commit<O: Sink>(
-    alloc: Global,
     store: &Store,
     refname: &RefName,
     name: &Name,
     marks: &mut GivenMarks,
-    known: &mut KnownLines,
     sink: &mut O,
-    kept: &mut Vec<u8>,
+    kept: &mut Kept,
 ) -> Result<(), ExportError>
     requires commit { has CommitKind store.now name.now.0 ≡ true }
     requires new { lookup (is_named name.now) marks.old.commits ≡ None }
-    requires given { AreWritten store.now marks.old known.old }
+    requires given { AreWritten store.now marks.old kept.old.lines }
     ensures put { IsPut O.tells O.written O.faults O.refusals sink.old sink.new
-        kept.old.items kept.new.items
+        kept.old.text.items kept.new.text.items
         (commits_text refname.now (marks_in store.now marks.old) (snapshots_at store.now (name.now.0 ∷ []))) result }
     ensures marks { OnOk result (marks_in store.now marks.new
         ≡ marks_behind (marks_in store.now marks.old) (snapshots_at store.now (name.now.0 ∷ []))) }
-    ensures given { OnOk result (AreWritten store.now marks.new known.new) }
+    ensures given { OnOk result (AreWritten store.now marks.new kept.new.lines) }
     ensures names { OnOk result (commit_names marks.new ≡ commit_names marks.old ++ name.now ∷ []) }
     ensures store { IsStore store.now }
 {
@@ -153,10 +155,9 @@ pub fn write_commit<O: Sink>(
     let Some(commit) = CommitView::of(object.body) else {
         unreachable!();
     };
-    write_new_blobs(alloc, store, commit.tree(), DEPTH, marks, sink, kept)?;
+    write_new_blobs(store, commit.tree(), DEPTH, marks, sink, &mut kept.text)?;
     let number = marks.next();
     marks.add_commit(*name)?;
-    write_made(
-        alloc, store, refname, number, &commit, marks, known, sink, kept,
-    )
+    let marked = MarkedStore { store, marks };
+    write_made(&marked, refname, number, &commit, sink, kept)
 }

@@ -1,50 +1,49 @@
 // Histories, written to a sink.
 ghost use Rattle.std.specs.Prelude.{◌≡◌, ◌<◌, ◌≤◌, ◌↔◌, ◌-◌, ℕ, [], ◌++◌};
-ghost use Rattle.std.specs.Prelude.{◌∷◌, codes, length, map, take, IfOk, IsErrOf, OnErr, OnOk};
+ghost use Rattle.std.specs.Prelude.{◌∷◌, codes, length, map, take, IsErrOf, OnErr, OnOk};
 ghost use Rattle.std.specs.Io.KnownBytes.{Appends};
 ghost use Rattle.git_objects.specs.Parts.{name_bytes};
 ghost use Rattle.object_store.specs.Objects.{IsStore};
 ghost use Rattle.proj_io.specs.Counts.{Counts};
 ghost use Rattle.fast_export.specs.ExportTexts.{commits_text, export_text, line, mark_line, marks_behind, no_marks};
+ghost use Rattle.fast_export.specs.Given.{marks_in, no_given};
 ghost use Rattle.fast_export.specs.Histories.{IsHistoryIn, snapshots_at};
-ghost use Rattle.fast_export.specs.Sending.{IsPut, unit_of};
+ghost use Rattle.fast_export.specs.Sending.{IsPut};
 
 use crate::ExportError;
 use crate::commits::write_commit;
 use crate::given::GivenMarks;
-use crate::known::KnownLines;
+use crate::kept::Kept;
 use crate::lines::{add_line, add_mark_line};
-use crate::sending::{PIECE, send};
+use crate::sending::send;
 use git_objects::Name;
 use object_store::Store;
 use path_names::RefName;
 use proj_io::Sink;
 use std::alloc::{AllocError, Global};
 
-// Writes commits behind one another, and gives the mark of the last.
+// Writes commits behind one another.
 fn write_commits<O: Sink>(
-    alloc: Global,
     store: &Store,
     commits: &[Name],
     refname: &RefName,
+    marks: &mut GivenMarks,
     sink: &mut O,
-    kept: &mut Vec<u8>,
-) -> Result<u64, ExportError>
-    requires { IsHistoryIn store.now (map name_bytes commits.now) }
-    ensures put { IsPut O.tells O.written O.faults O.refusals sink.old sink.new kept.old.items kept.new.items
-        (commits_text refname.now no_marks (snapshots_at store.now (map name_bytes commits.now))) (unit_of result) }
-    ensures last { IfOk result (λ n.
-        n ≡ (marks_behind no_marks (snapshots_at store.now (map name_bytes commits.now))).next - 1) }
+    kept: &mut Kept,
+) -> Result<(), ExportError>
+    requires history { IsHistoryIn store.now (map name_bytes commits.now) }
+    requires marks { marks.old ≡ no_given }
+    requires lines { kept.old.lines ≡ [] }
+    ensures put { IsPut O.tells O.written O.faults O.refusals sink.old sink.new kept.old.text.items kept.new.text.items
+        (commits_text refname.now no_marks (snapshots_at store.now (map name_bytes commits.now))) result }
+    ensures marks { OnOk result (marks_in store.now marks.new
+        ≡ marks_behind no_marks (snapshots_at store.now (map name_bytes commits.now))) }
     ensures store { 0 < length commits.now → OnOk result (IsStore store.now) }
 {
-    let mut marks = GivenMarks::new(alloc);
-    let mut known = KnownLines::new(alloc);
     for name in commits {
-        write_commit(
-            alloc, store, refname, name, &mut marks, &mut known, sink, kept,
-        )?;
+        write_commit(store, refname, name, marks, sink, kept)?;
     }
-    Ok(marks.next() - 1)
+    Ok(())
 }
 
 // The ref is set to the last commit.
@@ -56,6 +55,28 @@ fn add_last(out: &mut Vec<u8>, refname: &RefName, number: u64) -> Result<(), All
     add_mark_line(out, b"from ", number)?;
     out.push(b'\n')?;
     Ok(())
+}
+
+// Writes one commit at least, and then the ref.
+fn write_text<O: Sink>(
+    store: &Store,
+    commits: &[Name],
+    refname: &RefName,
+    marks: &mut GivenMarks,
+    sink: &mut O,
+    kept: &mut Kept,
+) -> Result<(), ExportError>
+    requires history { IsHistoryIn store.now (map name_bytes commits.now) }
+    requires some { 0 < length commits.now }
+    requires marks { marks.old ≡ no_given }
+    requires lines { kept.old.lines ≡ [] }
+    ensures put { IsPut O.tells O.written O.faults O.refusals sink.old sink.new kept.old.text.items kept.new.text.items
+        (export_text (snapshots_at store.now (map name_bytes commits.now)) refname.now) result }
+    ensures none { OnOk result (kept.new.text.items ≡ []) }
+{
+    write_commits(store, commits, refname, marks, sink, kept)?;
+    add_last(&mut kept.text, refname, marks.next() - 1)?;
+    send(sink, &mut kept.text)
 }
 
 /// Writes the stream of git-fast-import(1) that makes these commits on a ref: each with its whole tree, as
@@ -83,8 +104,7 @@ pub fn write_history<O: Sink>(
     if commits.is_empty() {
         return Ok(());
     }
-    let mut kept = Vec::with_capacity(alloc, 2 * PIECE)?;
-    let last = write_commits(alloc, store, commits, refname, sink, &mut kept)?;
-    add_last(&mut kept, refname, last)?;
-    send(sink, &mut kept)
+    let mut kept = Kept::new(alloc)?;
+    let mut marks = GivenMarks::new(alloc);
+    write_text(store, commits, refname, &mut marks, sink, &mut kept)
 }

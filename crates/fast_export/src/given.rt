@@ -3,7 +3,7 @@ ghost use Rattle.std.specs.Prelude.{◌≡◌, ◌<◌, ◌≤◌, ◌++◌, ◌
 ghost use Rattle.std.specs.List.{list_any};
 ghost use Rattle.std.specs.Map.{lookup};
 ghost use Rattle.indexmap.specs.IndexSet.{insert_key};
-ghost use Rattle.fast_export.specs.Given.{is_named, next_of};
+ghost use Rattle.fast_export.specs.Given.{is_named, next_of, no_given};
 
 use git_objects::Name;
 use indexmap::{IndexMap, IndexSet};
@@ -14,6 +14,7 @@ use std::marker::Model;
 /// trees of which each blob has one.
 #[derive(Drop)]
 pub struct GivenMarks {
+    alloc: Global,
     blobs: IndexMap<Name, u64>,
     commits: IndexMap<Name, u64>,
     trees: IndexSet<Name>,
@@ -29,13 +30,19 @@ impl Model for GivenMarks {
 
 impl GivenMarks {
     pub fn new(alloc: Global) -> GivenMarks
-        ensures { result ≡ record { blobs = []; commits = []; trees = [] } }
+        ensures { result ≡ no_given }
     {
         GivenMarks {
+            alloc,
             blobs: IndexMap::new(alloc),
             commits: IndexMap::new(alloc),
             trees: IndexSet::new(alloc),
         }
+    }
+
+    /// The allocator of what is kept of marks.
+    pub fn alloc(&self) -> Global {
+        self.alloc
     }
 
     /// The number of the next blob or commit.

@@ -2,20 +2,20 @@
 ghost use Rattle.std.specs.Prelude.{◌≡◌, ◌++◌, ◌∷◌, [], true, Ok, IfOk, OnOk};
 ghost use Rattle.git_objects.specs.Views.{entry_value};
 ghost use Rattle.git_objects.specs.declared.kind.Kind.TheVariants.{Tree};
-ghost use Rattle.object_store.specs.Objects.{IsStore, has, has_child};
+ghost use Rattle.object_store.specs.Objects.{has, has_child};
 ghost use Rattle.object_store.specs.Unfolding.{entry_flat, flat};
-ghost use Rattle.fast_export.specs.Given.{AreHeldBlobs, HasMarks, marks_in};
+ghost use Rattle.fast_export.specs.Given.{HasMarks};
 ghost use Rattle.fast_export.specs.Known.{AreKnown, lines_behind};
+ghost use Rattle.fast_export.specs.MarkedStores.{IsMarked, blobs_of};
 ghost use Rattle.fast_export.specs.Sending.{IsPut, unit_of};
 
 use crate::ExportError;
 use crate::entries::entries_of;
-use crate::given::GivenMarks;
-use crate::known::KnownLines;
+use crate::kept::Kept;
 use crate::lines::add_leaf_line;
+use crate::marked_store::MarkedStore;
 use crate::sending::{put_piece, send_piece};
 use git_objects::{EntryView, Name};
-use object_store::Store;
 use path_trees::{Leaf, Walk};
 use proj_io::Sink;
 use std::alloc::{AllocError, Global};
@@ -42,26 +42,24 @@ fn below(alloc: Global, front: &[u8], component: &[u8]) -> Result<Vec<u8>, Alloc
 
 // The lines of a tree's leaves behind a front, leaf by leaf.
 fn write_each_leaf<O: Sink>(
-    alloc: Global,
-    store: &Store,
+    marked: &MarkedStore<'_>,
     tree: Name,
     front: &[u8],
-    marks: &GivenMarks,
     sink: &mut O,
     kept: &mut Vec<u8>,
 ) -> Result<(), ExportError>
-    requires store { IsStore store.now }
-    requires tree { has Tree store.now tree.0 ≡ true }
-    requires marks { AreHeldBlobs store.now marks.now }
+    requires marked { IsMarked marked.now }
+    requires tree { has Tree marked.now.store.now tree.0 ≡ true }
     ensures { IsPut O.tells O.written O.faults O.refusals sink.old sink.new
         kept.old.items kept.new.items
-        (lines_behind (marks_in store.now marks.now).blobs front.now (flat store.now tree.0)) result }
+        (lines_behind (blobs_of marked.now) front.now (flat marked.now.store.now tree.0)) result }
 {
-    let mut walk = Walk::new(alloc, store, tree)?;
+    let alloc = marked.marks.alloc();
+    let mut walk = Walk::new(alloc, marked.store, tree)?;
     'leaves: while walk.next()? {
         let path = walk.path().text(alloc)?;
         let text = behind(alloc, front, &path)?;
-        add_leaf_line(alloc, kept, marks, &text, walk.leaf())?;
+        add_leaf_line(alloc, kept, marked.marks, &text, walk.leaf())?;
         send_piece(sink, kept)?;
     }
     Ok(())
@@ -72,46 +70,32 @@ fn write_each_leaf<O: Sink>(
 /// leaf is looked at.
 #[cycle(lines)]
 pub fn write_lines<O: Sink>(
-    alloc: Global,
-    store: &Store,
+    marked: &MarkedStore<'_>,
     tree: Name,
     front: &[u8],
     depth: u32,
-    marks: &GivenMarks,
-    known: &mut KnownLines,
     sink: &mut O,
-    kept: &mut Vec<u8>,
+    kept: &mut Kept,
 ) -> Result<bool, ExportError>
-    requires store { IsStore store.now }
-    requires tree { has Tree store.now tree.0 ≡ true }
-    requires held { AreHeldBlobs store.now marks.now }
-    requires marks { HasMarks (marks_in store.now marks.now).blobs (flat store.now tree.0) }
-    requires known { AreKnown store.now (marks_in store.now marks.now).blobs known.old }
+    requires marked { IsMarked marked.now }
+    requires tree { has Tree marked.now.store.now tree.0 ≡ true }
+    requires marks { HasMarks (blobs_of marked.now) (flat marked.now.store.now tree.0) }
+    requires known { AreKnown marked.now.store.now (blobs_of marked.now) kept.old.lines }
     ensures put { IsPut O.tells O.written O.faults O.refusals sink.old sink.new
-        kept.old.items kept.new.items
-        (lines_behind (marks_in store.now marks.now).blobs front.now (flat store.now tree.0)) (unit_of result) }
-    ensures whole { result ≡ Ok true → kept.new.items ≡ kept.old.items
-        ++ lines_behind (marks_in store.now marks.now).blobs front.now (flat store.now tree.0) }
-    ensures known { AreKnown store.now (marks_in store.now marks.now).blobs known.new }
+        kept.old.text.items kept.new.text.items
+        (lines_behind (blobs_of marked.now) front.now (flat marked.now.store.now tree.0)) (unit_of result) }
+    ensures whole { result ≡ Ok true → kept.new.text.items ≡ kept.old.text.items
+        ++ lines_behind (blobs_of marked.now) front.now (flat marked.now.store.now tree.0) }
+    ensures known { AreKnown marked.now.store.now (blobs_of marked.now) kept.new.lines }
 {
     if depth == 0 {
-        write_each_leaf(alloc, store, tree, front, marks, sink, kept)?;
+        write_each_leaf(marked, tree, front, sink, &mut kept.text)?;
         return Ok(false);
     }
-    let mut left = entries_of(store, &tree);
+    let mut left = entries_of(marked.store, &tree);
     let mut whole = true;
     'entries: while let Some(entry) = left.next() {
-        let stays = write_entry(
-            alloc,
-            store,
-            &entry,
-            front,
-            depth - 1,
-            marks,
-            known,
-            sink,
-            kept,
-        )?;
+        let stays = write_entry(marked, &entry, front, depth - 1, sink, kept)?;
         whole = whole && stays;
     }
     Ok(whole)
@@ -120,78 +104,69 @@ pub fn write_lines<O: Sink>(
 // The lines of an entry's leaves.
 #[cycle(lines)]
 fn write_entry<O: Sink>(
-    alloc: Global,
-    store: &Store,
+    marked: &MarkedStore<'_>,
     entry: &EntryView<'_>,
     front: &[u8],
     depth: u32,
-    marks: &GivenMarks,
-    known: &mut KnownLines,
     sink: &mut O,
-    kept: &mut Vec<u8>,
+    kept: &mut Kept,
 ) -> Result<bool, ExportError>
-    requires store { IsStore store.now }
-    requires entry { has_child store.now entry.now.mode entry.now.name.0 ≡ true }
-    requires held { AreHeldBlobs store.now marks.now }
-    requires marks { HasMarks (marks_in store.now marks.now).blobs
-        (entry_flat store.now (entry_value entry.now)) }
-    requires known { AreKnown store.now (marks_in store.now marks.now).blobs known.old }
+    requires marked { IsMarked marked.now }
+    requires entry { has_child marked.now.store.now entry.now.mode entry.now.name.0 ≡ true }
+    requires marks { HasMarks (blobs_of marked.now)
+        (entry_flat marked.now.store.now (entry_value entry.now)) }
+    requires known { AreKnown marked.now.store.now (blobs_of marked.now) kept.old.lines }
     ensures put { IsPut O.tells O.written O.faults O.refusals sink.old sink.new
-        kept.old.items kept.new.items
-        (lines_behind (marks_in store.now marks.now).blobs front.now (entry_flat store.now (entry_value entry.now)))
+        kept.old.text.items kept.new.text.items
+        (lines_behind (blobs_of marked.now) front.now (entry_flat marked.now.store.now (entry_value entry.now)))
         (unit_of result) }
-    ensures whole { result ≡ Ok true → kept.new.items ≡ kept.old.items
-        ++ lines_behind (marks_in store.now marks.now).blobs front.now
-        (entry_flat store.now (entry_value entry.now)) }
-    ensures known { AreKnown store.now (marks_in store.now marks.now).blobs known.new }
+    ensures whole { result ≡ Ok true → kept.new.text.items ≡ kept.old.text.items
+        ++ lines_behind (blobs_of marked.now) front.now
+        (entry_flat marked.now.store.now (entry_value entry.now)) }
+    ensures known { AreKnown marked.now.store.now (blobs_of marked.now) kept.new.lines }
 {
+    let alloc = marked.marks.alloc();
     if entry.mode.is_dir() {
         let inner = below(alloc, front, entry.component)?;
-        return write_directory(
-            alloc, store, entry.name, &inner, depth, marks, known, sink, kept,
-        );
+        return write_directory(marked, entry.name, &inner, depth, sink, kept);
     }
     let text = behind(alloc, front, entry.component)?;
     let leaf = Leaf {
         mode: entry.mode,
         name: entry.name,
     };
-    add_leaf_line(alloc, kept, marks, &text, leaf)?;
-    send_piece(sink, kept)
+    add_leaf_line(alloc, &mut kept.text, marked.marks, &text, leaf)?;
+    send_piece(sink, &mut kept.text)
 }
 
 // The lines of a directory, as they are known, or as they are from now on.
 #[cycle(lines)]
 fn write_directory<O: Sink>(
-    alloc: Global,
-    store: &Store,
+    marked: &MarkedStore<'_>,
     tree: Name,
     front: &[u8],
     depth: u32,
-    marks: &GivenMarks,
-    known: &mut KnownLines,
     sink: &mut O,
-    kept: &mut Vec<u8>,
+    kept: &mut Kept,
 ) -> Result<bool, ExportError>
-    requires store { IsStore store.now }
-    requires tree { has Tree store.now tree.0 ≡ true }
-    requires held { AreHeldBlobs store.now marks.now }
-    requires marks { HasMarks (marks_in store.now marks.now).blobs (flat store.now tree.0) }
-    requires known { AreKnown store.now (marks_in store.now marks.now).blobs known.old }
+    requires marked { IsMarked marked.now }
+    requires tree { has Tree marked.now.store.now tree.0 ≡ true }
+    requires marks { HasMarks (blobs_of marked.now) (flat marked.now.store.now tree.0) }
+    requires known { AreKnown marked.now.store.now (blobs_of marked.now) kept.old.lines }
     ensures put { IsPut O.tells O.written O.faults O.refusals sink.old sink.new
-        kept.old.items kept.new.items
-        (lines_behind (marks_in store.now marks.now).blobs front.now (flat store.now tree.0)) (unit_of result) }
-    ensures whole { result ≡ Ok true → kept.new.items ≡ kept.old.items
-        ++ lines_behind (marks_in store.now marks.now).blobs front.now (flat store.now tree.0) }
-    ensures known { AreKnown store.now (marks_in store.now marks.now).blobs known.new }
+        kept.old.text.items kept.new.text.items
+        (lines_behind (blobs_of marked.now) front.now (flat marked.now.store.now tree.0)) (unit_of result) }
+    ensures whole { result ≡ Ok true → kept.new.text.items ≡ kept.old.text.items
+        ++ lines_behind (blobs_of marked.now) front.now (flat marked.now.store.now tree.0) }
+    ensures known { AreKnown marked.now.store.now (blobs_of marked.now) kept.new.lines }
 {
-    if let Some(text) = known.find(&tree, front) {
-        return put_piece(sink, kept, text);
+    if let Some(text) = kept.lines.find(&tree, front) {
+        return put_piece(sink, &mut kept.text, text);
     }
-    let start = kept.len();
-    let whole = write_lines(alloc, store, tree, front, depth, marks, known, sink, kept)?;
+    let start = kept.text.len();
+    let whole = write_lines(marked, tree, front, depth, sink, kept)?;
     if whole {
-        known.add(tree, front, &kept[start..]);
+        kept.lines.add(tree, front, &kept.text[start..]);
     }
     Ok(whole)
 }

@@ -7,10 +7,12 @@ mod entries;
 mod error;
 mod export;
 mod given;
+mod kept;
 mod known;
 mod laws;
 mod leaves;
 mod lines;
+mod marked_store;
 mod sending;
 
 pub use error::ExportError;

@@ -63,6 +63,13 @@ returns-clause-marks g c =
     let blobs = c.in_ok-write_new_blobs.ensures.marks ∙ ap (λ (n : Bytes). with_blobs (marks_in S c.args.marks.now) (flat S n)) c.tree.ensures in
     whenever c.write_made.result _ (marks_put S c.args.name.now c.in-Some-of.commit stored c.args.marks.now c.write_new_blobs.new.marks c.add_commit.new.self blobs c.in_ok-add_commit.ensures.ok)
 
+pub write_made-requires-clause-marked : goal.write_made-requires-clause-marked
+write_made-requires-clause-marked g c =
+    let S = c.args.store.now in
+    let blobs = c.in_ok-write_new_blobs.ensures.marks ∙ ap (λ (n : Bytes). with_blobs (marks_in S c.args.marks.now) (flat S n)) c.tree.ensures in
+    let all = still_written S c.args.name.now c.in-Some-of.commit c.args.marks.now c.write_new_blobs.new.marks c.add_commit.new.self c.args.kept.now.lines blobs c.in_ok-add_commit.ensures.ok c.requires.given c.in_ok-write_new_blobs.ensures.given in
+    record { store = c.in-Some.ensures.store; held = all.given.held }
+
 pub write_made-requires-clause-marks : goal.write_made-requires-clause-marks
 write_made-requires-clause-marks g c =
     let S = c.args.store.now in
@@ -73,11 +80,11 @@ pub write_made-requires-clause-known : goal.write_made-requires-clause-known
 write_made-requires-clause-known g c =
     let S = c.args.store.now in
     let blobs = c.in_ok-write_new_blobs.ensures.marks ∙ ap (λ (n : Bytes). with_blobs (marks_in S c.args.marks.now) (flat S n)) c.tree.ensures in
-    (still_written S c.args.name.now c.in-Some-of.commit c.args.marks.now c.write_new_blobs.new.marks c.add_commit.new.self c.args.known.now blobs c.in_ok-add_commit.ensures.ok c.requires.given c.in_ok-write_new_blobs.ensures.given).lines
+    (still_written S c.args.name.now c.in-Some-of.commit c.args.marks.now c.write_new_blobs.new.marks c.add_commit.new.self c.args.kept.now.lines blobs c.in_ok-add_commit.ensures.ok c.requires.given c.in_ok-write_new_blobs.ensures.given).lines
 
 pub returns-clause-given : goal.returns-clause-given
 returns-clause-given g c =
     let S = c.args.store.now in
     let blobs = c.in_ok-write_new_blobs.ensures.marks ∙ ap (λ (n : Bytes). with_blobs (marks_in S c.args.marks.now) (flat S n)) c.tree.ensures in
-    let all = still_written S c.args.name.now c.in-Some-of.commit c.args.marks.now c.write_new_blobs.new.marks c.add_commit.new.self c.args.known.now blobs c.in_ok-add_commit.ensures.ok c.requires.given c.in_ok-write_new_blobs.ensures.given in
+    let all = still_written S c.args.name.now c.in-Some-of.commit c.args.marks.now c.write_new_blobs.new.marks c.add_commit.new.self c.args.kept.now.lines blobs c.in_ok-add_commit.ensures.ok c.requires.given c.in_ok-write_new_blobs.ensures.given in
     on_ok_weaker c.write_made.result (λ k. record { given = all.given; lines = k }) c.write_made.ensures.known

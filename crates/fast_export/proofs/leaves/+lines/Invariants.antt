@@ -1,8 +1,8 @@
 use Rattle.std.proofs.Common.{◌+◌, ◌*◌, length}
 use Rattle.git_objects.specs.Trees.{Flat}
 use Rattle.object_store.specs.Unfolding.{flat}
-use Rattle.fast_export.specs.Given.{marks_in}
 use Rattle.fast_export.specs.Known.{AreKnown}
+use Rattle.fast_export.specs.MarkedStores.{blobs_of}
 use Rattle.fast_export.proofs.WrittenLeaves.{AreEntryLinesWritten}
 use Rattle.fast_export.proofs.leaves.+lines.Given as goal
 
@@ -17,8 +17,8 @@ decreases-write_entry g l = 3 * l.depth + 2
 
 abbrev pub invariant-write_lines-entries : goal.invariant-write_lines-entries
 invariant-write_lines-entries g l =
-    ((done : Flat) × AreEntryLinesWritten g.O.Sink.tells g.O.Sink.written g.O.Sink.faults g.O.Sink.refusals l.fn.sink l.sink l.fn.kept.items l.kept.items l.store (marks_in l.store l.marks).blobs l.front (flat l.store l.fn.tree.0) done l.left l.whole)
-    × AreKnown l.store (marks_in l.store l.marks).blobs l.known
+    ((done : Flat) × AreEntryLinesWritten g.O.Sink.tells g.O.Sink.written g.O.Sink.faults g.O.Sink.refusals l.fn.sink l.sink l.fn.kept.text.items l.kept.text.items l.marked.store.now (blobs_of l.marked) l.front (flat l.marked.store.now l.fn.tree.0) done l.left l.whole)
+    × AreKnown l.marked.store.now (blobs_of l.marked) l.kept.lines
 
 abbrev pub decreases-write_lines-entries : goal.decreases-write_lines-entries
 decreases-write_lines-entries g l = length l.left

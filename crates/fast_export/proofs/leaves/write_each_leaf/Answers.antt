@@ -6,7 +6,7 @@ use Rattle.fast_export.proofs.WrittenLeaves.{less_lines, more_lines, no_lines, o
 use Rattle.fast_export.proofs.leaves.write_each_leaf.Goals as goal
 
 pub leaves-init : goal.leaves-init
-leaves-init g c = ([], no_lines c.args.front.now _ _ c.args.store.now c.args.tree.0 c.in_ok-walk.walk c.args.marks.now c.requires.store c.requires.tree c.in_ok-walk.ensures)
+leaves-init g c = ([], no_lines c.args.front.now _ _ c.args.marked.now.store.now c.args.tree.0 c.in_ok-walk.walk c.args.marked.now.marks.now c.requires.marked.store c.requires.tree c.in_ok-walk.ensures)
 
 pub returns-in_err-next : goal.returns-in_err-next
 returns-in_err-next g c = put_err _ _ _ _ _ _ _ c.from_residual-in_err-next.ensures.1 (short_lines c.args.front.now _ _ _ _ _ _ _ _ _ _ c.leaves.invariant.1)
@@ -18,17 +18,17 @@ returns-in_err-add_leaf_line g c =
 pub leaves-preserved : goal.leaves-preserved
 leaves-preserved g c =
     let step = stepped _ _ _ c.leaves.walk.left _ c.next.new.self c.leaves.invariant.1.passed c.in_ok-next.ensures c.if-branch.true in
-    let here = leaf_here c.args.store.now c.next.new.self.current step.0 c.leaf.result step.1 c.leaf.ensures.mode c.leaf.ensures.name step.3 in
-    let line = one_line c.args.front.now c.args.store.now c.args.marks.now step.0 c.path.result.now c.leaf.result c.requires.marks here.0 here.1 (path_here _ step.0 _ step.1 c.path.ensures) c.in_ok-path.path.items c.deref-in-leaves.result.now c.in_ok-path.ensures (c.deref-in-leaves.ensures.value ∙ c.in_ok-text.ensures ∙ ap (λ (b : Bytes). c.args.front.now ++ b) c.deref.ensures.value) in
-    (_, more_lines c.args.front.now _ _ _ _ _ _ _ _ _ _ _ _ step.0 _ c.args.marks.now c.leaves.invariant.1 step.2 c.in_ok-add_leaf_line.ensures line c.in_ok-send_piece.ensures.put)
+    let here = leaf_here c.args.marked.now.store.now c.next.new.self.current step.0 c.leaf.result step.1 c.leaf.ensures.mode c.leaf.ensures.name step.3 in
+    let line = one_line c.args.front.now c.args.marked.now.store.now c.args.marked.now.marks.now step.0 c.path.result.now c.leaf.result c.requires.marked.held here.0 here.1 (path_here _ step.0 _ step.1 c.path.ensures) c.in_ok-path.path.items c.deref-in-leaves.result.now c.in_ok-path.ensures (c.deref-in-leaves.ensures.value ∙ c.in_ok-text.ensures ∙ ap (λ (b : Bytes). c.args.front.now ++ b) c.deref.ensures.value) in
+    (_, more_lines c.args.front.now _ _ _ _ _ _ _ _ _ _ _ _ step.0 _ c.args.marked.now.marks.now c.leaves.invariant.1 step.2 c.in_ok-add_leaf_line.ensures line c.in_ok-send_piece.ensures.put)
 
 pub returns-in_err-send_piece : goal.returns-in_err-send_piece
 returns-in_err-send_piece g c =
     let step = stepped _ _ _ c.leaves.walk.left _ c.next.new.self c.leaves.invariant.1.passed c.in_ok-next.ensures c.if-branch.true in
-    let here = leaf_here c.args.store.now c.next.new.self.current step.0 c.leaf.result step.1 c.leaf.ensures.mode c.leaf.ensures.name step.3 in
-    let line = one_line c.args.front.now c.args.store.now c.args.marks.now step.0 c.path.result.now c.leaf.result c.requires.marks here.0 here.1 (path_here _ step.0 _ step.1 c.path.ensures) c.in_ok-path.path.items c.deref-in-leaves.result.now c.in_ok-path.ensures (c.deref-in-leaves.ensures.value ∙ c.in_ok-text.ensures ∙ ap (λ (b : Bytes). c.args.front.now ++ b) c.deref.ensures.value) in
+    let here = leaf_here c.args.marked.now.store.now c.next.new.self.current step.0 c.leaf.result step.1 c.leaf.ensures.mode c.leaf.ensures.name step.3 in
+    let line = one_line c.args.front.now c.args.marked.now.store.now c.args.marked.now.marks.now step.0 c.path.result.now c.leaf.result c.requires.marked.held here.0 here.1 (path_here _ step.0 _ step.1 c.path.ensures) c.in_ok-path.path.items c.deref-in-leaves.result.now c.in_ok-path.ensures (c.deref-in-leaves.ensures.value ∙ c.in_ok-text.ensures ∙ ap (λ (b : Bytes). c.args.front.now ++ b) c.deref.ensures.value) in
     put_err _ _ _ _ _ c.in_err-send_piece.field-0.0 _ c.from_residual-in_err-send_piece.ensures.1
-    (less_lines c.args.front.now _ _ _ _ _ _ _ _ _ _ _ _ step.0 _ c.args.marks.now _ c.leaves.invariant.1 step.2 c.in_ok-add_leaf_line.ensures line c.in_err-send_piece.ensures.put)
+    (less_lines c.args.front.now _ _ _ _ _ _ _ _ _ _ _ _ step.0 _ c.args.marked.now.marks.now _ c.leaves.invariant.1 step.2 c.in_ok-add_leaf_line.ensures line c.in_err-send_piece.ensures.put)
 
 pub returns-in_err-path : goal.returns-in_err-path
 returns-in_err-path g c = put_err _ _ _ _ _ _ _ c.from_residual-in_err-path.ensures.1 (short_lines c.args.front.now _ _ _ _ _ _ _ _ _ _ c.leaves.invariant.1)
