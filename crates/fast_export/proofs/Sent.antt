@@ -113,19 +113,6 @@ module _ {O : Type 0} {tells : O → Type 0} {written : O → Option Bytes} {fau
   pub put_as : (a b : O) (k l t u : Bytes) (r : Result Unit ExportError) → t ≡ u → IsPut tells written faults refusals a b k l t r → IsPut tells written faults refusals a b k l u r
   put_as a b k l t u r e p = subst (λ (x : Bytes). IsPut tells written faults refusals a b k l x r) e p
 
-  -- what is kept is filled up by a front of bytes, and sent
-  pub put_filled : (a b : O) (k k1 l front : Bytes) → k1 ≡ k ++ front → l ≡ [] → IsPut tells written faults refusals a b k1 l [] (Ok tt) → IsPut tells written faults refusals a b k [] front (Ok tt)
-  put_filled a b k k1 l front e f p =
-      let q = subst (λ (x : Bytes). IsPut tells written faults refusals a b k1 x [] (Ok tt)) f p in
-      put_as a b k [] (front ++ []) front (Ok tt) (append-nil front)
-      (put_then a a b k (k ++ front) [] front [] (Ok tt) (put_kept a k front) (subst (λ (x : Bytes). IsPut tells written faults refusals a b x [] [] (Ok tt)) e q))
-
-  pub put_unfilled : (a b : O) (k k1 l m front rest : Bytes) (e : ExportError) → k1 ≡ k ++ front → IsPut tells written faults refusals a b k1 l [] (Err e) → IsPut tells written faults refusals a b k m (front ++ rest) (Err e)
-  put_unfilled a b k k1 l m front rest e same p =
-      put_stop a b k l m front rest e
-      (put_as a b k l (front ++ []) front (Err e) (append-nil front)
-      (put_then a a b k (k ++ front) l front [] (Err e) (put_kept a k front) (subst (λ (x : Bytes). IsPut tells written faults refusals a b x l [] (Err e)) same p)))
-
   -- an error that was told, as it is answered
   pub put_err : (a b : O) (k l t : Bytes) (e : ExportError) (r : Result Unit ExportError) → IsErrAnd r (λ x. x ≡ e) → IsPut tells written faults refusals a b k l t (Err e) → IsPut tells written faults refusals a b k l t r
   put_err a b k l t e r h p = subst (λ (x : Result Unit ExportError). IsPut tells written faults refusals a b k l t x) (sym (err_of r e h)) p

@@ -1,6 +1,6 @@
 -- How far the lines of a tree's leaves are written.
 use Rattle.std.proofs.Common.{◌≡◌, inl, inr, ⊎_elim, ℕ, Bool, true, false, cond, List, [], ◌∷◌, ◌++◌, slice_get, drop, Option, Some, None, Result, Ok, Err, refl, sym, ap, subst, ◌∙◌, append_assoc, append-nil}
-use Rattle.std.specs.Prelude.{unwrap_or, if◌then◌else◌}
+use Rattle.std.specs.Prelude.{if◌then◌else◌}
 use Rattle.std.specs.Cmp.Lexicographic.{bytes_decides}
 use Rattle.std.specs.Map.{lookup}
 use Rattle.std.specs.Option.{option_and_then, option_map}
@@ -17,7 +17,7 @@ use Rattle.object_store.proofs.Children.{first-child, listed, tree-children}
 use Rattle.object_store.proofs.FlatParts.{flat-unfolds}
 use Rattle.path_trees.specs.Walked.{Walked, leaf_of}
 use Rattle.path_trees.specs.declared.found.Leaf.{Leaf as FoundLeaf}
-use Rattle.fast_export.specs.Given.{Given, AreHeldBlobs, HasMarks, data_ref, is_named, marks_in, modify_line}
+use Rattle.fast_export.specs.Given.{Given, AreHeldBlobs, HasMarks, is_named, leaf_text, marks_in}
 use Rattle.fast_export.specs.Known.{AreKnown, IsAdded, IsKnown, found_lines, line_behind, lines_behind}
 use Rattle.fast_export.specs.declared.known.Lines.{Lines}
 use Rattle.fast_export.specs.Sending.{IsPut}
@@ -25,7 +25,7 @@ use Rattle.fast_export.specs.declared.error.ExportError.{ExportError}
 use Rattle.fast_export.specs.declared.error.ExportError.TheVariants.{OutOfMemory}
 use Rattle.fast_export.proofs.Behind.{first_of_left, joined_in, line_is, none_of_left}
 use Rattle.fast_export.proofs.Marked.{marks_parts}
-use Rattle.fast_export.proofs.Sent.{put_as, put_behind, put_idle, put_short, put_stop, put_then}
+use Rattle.fast_export.proofs.Sent.{put_as, put_idle, put_short, put_stop, put_then}
 use Rattle.fast_export.proofs.WrittenBlobs.{children_more, parts_more}
 use Rattle.fast_import.proofs.WalkedLeaves.{IsPassed, none_passed}
 
@@ -40,10 +40,10 @@ pub record AreLinesWritten {O : Type 0} (tells : O → Type 0) (written : O → 
   pub put : IsPut tells written faults refusals a b k l (lines_text S g front done) (Ok tt)
 
 module _ (front : Bytes) where
-  pub one_line : (S : List Object) (g : Given) (e : Path × Leaf) (p : Path) (leaf : FoundLeaf) → AreHeldBlobs S g → has_child S leaf.mode leaf.name.0 ≡ true → leaf_of (body_of Blob S) leaf.mode leaf.name.0 ≡ e.1 → e.0 ≡ p → (spelled place : Bytes) → spelled ≡ text p → place ≡ front ++ spelled
-      → modify_line leaf.mode (data_ref leaf.mode leaf.name.0 (unwrap_or (lookup (is_named leaf.name) g.blobs) 0)) place ≡ lines_text S g front (e ∷ [])
-  one_line S g e p leaf held child same at spelled place spells stands =
-      ap (λ (t : Bytes). modify_line leaf.mode (data_ref leaf.mode leaf.name.0 (unwrap_or (lookup (is_named leaf.name) g.blobs) 0)) t) (stands ∙ ap (λ (t : Bytes). front ++ t) spells)
+  pub one_line : (S : List Object) (g : Given) (e : Path × Leaf) (p : Path) (leaf : FoundLeaf) → AreHeldBlobs S g → has_child S leaf.mode leaf.name.0 ≡ true → leaf_of (body_of Blob S) leaf.mode leaf.name.0 ≡ e.1 → e.0 ≡ p → (spelled : Bytes) → spelled ≡ text p
+      → leaf_text g leaf (front ++ spelled) ≡ lines_text S g front (e ∷ [])
+  one_line S g e p leaf held child same at spelled spells =
+      ap (λ (t : Bytes). leaf_text g leaf (front ++ t)) spells
       ∙ line_is S g front p leaf.mode leaf.name held leaf.is_leaf child
       ∙ (λ i. line_behind (marks_in S g).blobs front (sym at i, same i))
       ∙ sym (append-nil (line_behind (marks_in S g).blobs front e))
@@ -53,23 +53,22 @@ module _ (front : Bytes) where
         → AreLinesWritten tells written faults refusals a a k k S front (flat S n) [] w.left g
     no_lines a k S n w g s h e = record { passed = none_passed S n w s h e; put = put_idle a k }
 
-    -- a line was gathered, and then pieces were sent
-    line_put : (a b c : O) (k l l1 m : Bytes) (S : List Object) (g : Given) (done : Flat) (e : Path × Leaf) (text : Bytes) (r : Result Unit ExportError) → IsPut tells written faults refusals a b k l (lines_text S g front done) (Ok tt)
-        → l1 ≡ l ++ text → text ≡ lines_text S g front (e ∷ []) → IsPut tells written faults refusals b c l1 m [] r → IsPut tells written faults refusals a c k m (lines_text S g front (done ++ e ∷ [])) r
-    line_put a b c k l l1 m S g done e text r p more same q =
+    line_put : (a b c : O) (k l m : Bytes) (S : List Object) (g : Given) (done : Flat) (e : Path × Leaf) (text : Bytes) (r : Result Unit ExportError) → IsPut tells written faults refusals a b k l (lines_text S g front done) (Ok tt)
+        → text ≡ lines_text S g front (e ∷ []) → IsPut tells written faults refusals b c l m text r → IsPut tells written faults refusals a c k m (lines_text S g front (done ++ e ∷ [])) r
+    line_put a b c k l m S g done e text r p same q =
         put_as a c k m _ _ r
-        (ap (λ (t : Bytes). lines_text S g front done ++ t) (append-nil text ∙ same) ∙ sym (flat_map-append (line_behind (marks_in S g).blobs front) done (e ∷ [])))
-        (put_then a b c k l m _ (text ++ []) r p (put_behind b c l l1 m text [] r more q))
+        (ap (λ (t : Bytes). lines_text S g front done ++ t) same ∙ sym (flat_map-append (line_behind (marks_in S g).blobs front) done (e ∷ [])))
+        (put_then a b c k l m _ text r p q)
 
-    pub more_lines : (a b c : O) (k l l1 m : Bytes) (S : List Object) (t done before left : Flat) (e : Path × Leaf) (text : Bytes) (g : Given) → AreLinesWritten tells written faults refusals a b k l S front t done before g
-        → IsPassed S t (done ++ e ∷ []) left → l1 ≡ l ++ text → text ≡ lines_text S g front (e ∷ []) → IsPut tells written faults refusals b c l1 m [] (Ok tt) → AreLinesWritten tells written faults refusals a c k m S front t (done ++ e ∷ []) left g
-    more_lines a b c k l l1 m S t done before left e text g p passed more same q = record { passed = passed; put = line_put a b c k l l1 m S g done e text (Ok tt) p.put more same q }
+    pub more_lines : (a b c : O) (k l m : Bytes) (S : List Object) (t done before left : Flat) (e : Path × Leaf) (text : Bytes) (g : Given) → AreLinesWritten tells written faults refusals a b k l S front t done before g
+        → IsPassed S t (done ++ e ∷ []) left → text ≡ lines_text S g front (e ∷ []) → IsPut tells written faults refusals b c l m text (Ok tt) → AreLinesWritten tells written faults refusals a c k m S front t (done ++ e ∷ []) left g
+    more_lines a b c k l m S t done before left e text g p passed same q = record { passed = passed; put = line_put a b c k l m S g done e text (Ok tt) p.put same q }
 
-    pub less_lines : (a b c : O) (k l l1 m : Bytes) (S : List Object) (t done before left : Flat) (e : Path × Leaf) (text : Bytes) (g : Given) (f : ExportError) → AreLinesWritten tells written faults refusals a b k l S front t done before g
-        → IsPassed S t (done ++ e ∷ []) left → l1 ≡ l ++ text → text ≡ lines_text S g front (e ∷ []) → IsPut tells written faults refusals b c l1 m [] (Err f) → IsPut tells written faults refusals a c k m (lines_text S g front t) (Err f)
-    less_lines a b c k l l1 m S t done before left e text g f p passed more same q =
+    pub less_lines : (a b c : O) (k l m : Bytes) (S : List Object) (t done before left : Flat) (e : Path × Leaf) (text : Bytes) (g : Given) (f : ExportError) → AreLinesWritten tells written faults refusals a b k l S front t done before g
+        → IsPassed S t (done ++ e ∷ []) left → text ≡ lines_text S g front (e ∷ []) → IsPut tells written faults refusals b c l m text (Err f) → IsPut tells written faults refusals a c k m (lines_text S g front t) (Err f)
+    less_lines a b c k l m S t done before left e text g f p passed same q =
         put_as a c k m _ _ (Err f) (sym (flat_map-append (line_behind (marks_in S g).blobs front) (done ++ e ∷ []) left) ∙ ap (lines_text S g front) passed.parts)
-        (put_stop a c k m m _ (lines_text S g front left) f (line_put a b c k l l1 m S g done e text (Err f) p.put more same q))
+        (put_stop a c k m m _ (lines_text S g front left) f (line_put a b c k l m S g done e text (Err f) p.put same q))
 
     pub short_lines : (a b : O) (k l m : Bytes) (S : List Object) (t done left : Flat) (g : Given) → AreLinesWritten tells written faults refusals a b k l S front t done left g → IsPut tells written faults refusals a b k m (lines_text S g front t) (Err OutOfMemory)
     short_lines a b k l m S t done left g p =

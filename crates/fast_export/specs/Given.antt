@@ -1,5 +1,7 @@
 -- The marks that the code has given, by the names of blobs and commits.
 use Rattle.std.specs.Prelude.{◌≡◌, ℕ, ◌+◌, Bool, true, false, if◌then◌else◌, ◌==◌, decimal, List, [], ◌∷◌, ◌++◌, length, map, codes, Some}
+use Rattle.std.specs.Map.{lookup}
+use Rattle.std.specs.Option.{unwrap_or}
 use Rattle.git_objects.specs.Lists.{Each}
 use Rattle.git_objects.specs.Paths.{Bytes, is_nil, same_bytes}
 use Rattle.git_objects.specs.Trees.{Leaf, Flat}
@@ -92,6 +94,10 @@ data_ref Dir n number = codes ":" ++ decimal number
 
 abbrev pub modify_line : Mode → Bytes → Bytes → Bytes
 modify_line mode ref place = line (codes "M " ++ mode_text mode ++ codes " " ++ ref ++ codes " ") (quote place)
+
+-- the line of a leaf that stands at a place
+abbrev pub leaf_text : Given → FoundLeaf → Bytes → Bytes
+leaf_text g leaf place = modify_line leaf.mode (data_ref leaf.mode leaf.name.0 (unwrap_or (lookup (is_named leaf.name) g.blobs) 0)) place
 
 -- the word in front of a parent: `from` for the first
 abbrev pub parent_word : ℕ → Bytes

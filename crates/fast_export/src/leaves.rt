@@ -4,13 +4,14 @@ ghost use Rattle.git_objects.specs.Views.{entry_value};
 ghost use Rattle.git_objects.specs.declared.kind.Kind.TheVariants.{Tree};
 ghost use Rattle.object_store.specs.Objects.{has, has_child};
 ghost use Rattle.object_store.specs.Unfolding.{entry_flat, flat};
-ghost use Rattle.fast_export.specs.Given.{HasMarks};
+ghost use Rattle.fast_export.specs.Given.{HasMarks, leaf_text};
 ghost use Rattle.fast_export.specs.Known.{AreKnown, lines_behind};
 ghost use Rattle.fast_export.specs.MarkedStores.{IsMarked, blobs_of};
 ghost use Rattle.fast_export.specs.Sending.{IsPut, unit_of};
 
 use crate::ExportError;
 use crate::entries::entries_of;
+use crate::given::GivenMarks;
 use crate::kept::Kept;
 use crate::lines::add_leaf_line;
 use crate::marked_store::MarkedStore;
@@ -40,6 +41,27 @@ fn below(alloc: Global, front: &[u8], component: &[u8]) -> Result<Vec<u8>, Alloc
     Ok(both)
 }
 
+// The line of a leaf at a path behind a front; true where nothing was sent.
+fn write_leaf<O: Sink>(
+    marks: &GivenMarks,
+    front: &[u8],
+    path: &[u8],
+    leaf: Leaf,
+    sink: &mut O,
+    kept: &mut Vec<u8>,
+) -> Result<bool, ExportError>
+    ensures put { IsPut O.tells O.written O.faults O.refusals sink.old sink.new
+        kept.old.items kept.new.items
+        (leaf_text marks.now leaf (front.now ++ path.now)) (unit_of result) }
+    ensures whole { result ≡ Ok true → kept.new.items ≡ kept.old.items
+        ++ leaf_text marks.now leaf (front.now ++ path.now) }
+{
+    let alloc = marks.alloc();
+    let text = behind(alloc, front, path)?;
+    add_leaf_line(alloc, kept, marks, &text, leaf)?;
+    send_piece(sink, kept)
+}
+
 // The lines of a tree's leaves behind a front, leaf by leaf.
 fn write_each_leaf<O: Sink>(
     marked: &MarkedStore<'_>,
@@ -58,9 +80,7 @@ fn write_each_leaf<O: Sink>(
     let mut walk = Walk::new(alloc, marked.store, tree)?;
     'leaves: while walk.next()? {
         let path = walk.path().text(alloc)?;
-        let text = behind(alloc, front, &path)?;
-        add_leaf_line(alloc, kept, marked.marks, &text, walk.leaf())?;
-        send_piece(sink, kept)?;
+        write_leaf(marked.marks, front, &path, walk.leaf(), sink, kept)?;
     }
     Ok(())
 }
@@ -125,18 +145,22 @@ fn write_entry<O: Sink>(
         (entry_flat marked.now.store.now (entry_value entry.now)) }
     ensures known { AreKnown marked.now.store.now (blobs_of marked.now) kept.new.lines }
 {
-    let alloc = marked.marks.alloc();
     if entry.mode.is_dir() {
-        let inner = below(alloc, front, entry.component)?;
+        let inner = below(marked.marks.alloc(), front, entry.component)?;
         return write_directory(marked, entry.name, &inner, depth, sink, kept);
     }
-    let text = behind(alloc, front, entry.component)?;
     let leaf = Leaf {
         mode: entry.mode,
         name: entry.name,
     };
-    add_leaf_line(alloc, &mut kept.text, marked.marks, &text, leaf)?;
-    send_piece(sink, &mut kept.text)
+    write_leaf(
+        marked.marks,
+        front,
+        entry.component,
+        leaf,
+        sink,
+        &mut kept.text,
+    )
 }
 
 // The lines of a directory, as they are known, or as they are from now on.

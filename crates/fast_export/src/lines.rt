@@ -1,10 +1,8 @@
 // Lines of git-fast-import(1), added to a text.
 ghost use Rattle.std.specs.Prelude.{◌≡◌, ◌++◌, ◌∷◌, [], codes, decimal, length, IfOk, OnOk};
-ghost use Rattle.std.specs.Map.{lookup};
-ghost use Rattle.std.specs.Option.{unwrap_or};
 ghost use Rattle.git_objects.specs.Names.{mode_text};
 ghost use Rattle.fast_export.specs.ExportTexts.{line, mark_line};
-ghost use Rattle.fast_export.specs.Given.{data_ref, is_module, is_named, modify_line};
+ghost use Rattle.fast_export.specs.Given.{data_ref, is_module, leaf_text};
 
 use crate::given::GivenMarks;
 use git_objects::Mode;
@@ -83,8 +81,7 @@ pub fn add_leaf_line(
     text: &[u8],
     leaf: Leaf,
 ) -> Result<(), AllocError>
-    ensures { OnOk result (out.new.items ≡ out.old.items ++ modify_line leaf.mode
-        (data_ref leaf.mode leaf.name.0 (unwrap_or (lookup (is_named leaf.name) marks.now.blobs) 0)) text.now) }
+    ensures { OnOk result (out.new.items ≡ out.old.items ++ leaf_text marks.now leaf text.now) }
 {
     let quoted = quote(alloc, text)?;
     out.extend_from_slice(b"M ")?;

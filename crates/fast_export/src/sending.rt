@@ -68,6 +68,16 @@ pub fn put_piece<O: Sink>(
     send_piece(sink, kept)
 }
 
+// Puts bytes behind what is kept, and sends all of it.
+fn fill<O: Sink>(sink: &mut O, kept: &mut Vec<u8>, bytes: &[u8]) -> Result<(), ExportError>
+    ensures put { IsPut O.tells O.written O.faults O.refusals sink.old sink.new
+        kept.old.items kept.new.items bytes.now result }
+    ensures none { OnOk result (kept.new.items ≡ []) }
+{
+    kept.extend_from_slice(bytes)?;
+    send(sink, kept)
+}
+
 /// Puts bytes behind what is kept. Many bytes go to the sink without a copy, but for those that fill a piece.
 pub fn put<O: Sink>(sink: &mut O, kept: &mut Vec<u8>, bytes: &[u8]) -> Result<(), ExportError>
     ensures { IsPut O.tells O.written O.faults O.refusals sink.old sink.new
@@ -79,8 +89,7 @@ pub fn put<O: Sink>(sink: &mut O, kept: &mut Vec<u8>, bytes: &[u8]) -> Result<()
         return Ok(());
     }
     let (front, rest) = bytes.split_at(room);
-    kept.extend_from_slice(front)?;
-    send(sink, kept)?;
+    fill(sink, kept, front)?;
     if rest.len() < PIECE {
         kept.extend_from_slice(rest)?;
         return Ok(());

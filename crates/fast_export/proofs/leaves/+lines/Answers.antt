@@ -1,4 +1,4 @@
-use Rattle.std.proofs.Common.{rules, ◌≡◌, ◌∙◌, ◌++◌, true, [], Ok, sym, ap, append-nil, true≢false}
+use Rattle.std.proofs.Common.{rules, ◌≡◌, ◌∙◌, ◌++◌, true, [], Ok, refl, sym, ap, true≢false}
 use Rattle.git_objects.specs.Paths.{Bytes}
 use Rattle.git_objects.specs.Entries.{is_dir}
 use Rattle.git_objects.specs.Views.{entry_value}
@@ -9,7 +9,7 @@ use Rattle.fast_export.specs.MarkedStores.{blobs_of}
 use Rattle.fast_export.proofs.Behind.{behind_is, directory_lines, leaf_lines}
 use Rattle.fast_export.proofs.Exported.{unit_err}
 use Rattle.fast_export.proofs.Marked.{directory_marks}
-use Rattle.fast_export.proofs.Sent.{put_as, put_behind, put_result}
+use Rattle.fast_export.proofs.Sent.{put_as, put_result}
 use Rattle.fast_export.proofs.WrittenLeaves.{entry_child, entry_marks, known_added, known_text, less_entry_lines, more_entry_lines, no_entry_lines}
 use Rattle.fast_export.proofs.leaves.+lines.Goals as goal
 
@@ -57,15 +57,15 @@ write_entry-returns-then-is_dir-clause-whole g t c r =
 
 pub write_entry-returns-clause-put : goal.write_entry-returns-clause-put
 write_entry-returns-clause-put g t c =
-    let line = leaf_lines c.args.marked.now.store.now c.args.marked.now.marks.now c.args.front.now c.deref-2.result.now c.args.entry.now.component.now c.args.entry.now.mode c.args.entry.now.name c.requires.marked.held (sym c.is_dir.ensures ∙ c.if-is_dir.false) c.requires.entry
-    (c.deref-2.ensures.value ∙ c.in_ok-text.ensures) in
-    put_as _ _ _ _ _ _ _ (append-nil _ ∙ line) (put_behind _ _ _ _ _ _ _ _ c.in_ok-add_leaf_line.ensures c.send_piece.ensures.put)
+    let line = leaf_lines c.args.marked.now.store.now c.args.marked.now.marks.now c.args.front.now (c.args.front.now ++ c.args.entry.now.component.now) c.args.entry.now.component.now c.args.entry.now.mode c.args.entry.now.name c.requires.marked.held
+    (sym c.is_dir.ensures ∙ c.if-is_dir.false) c.requires.entry refl in
+    put_as _ _ _ _ _ _ _ line c.write_leaf.ensures.put
 
 pub write_entry-returns-clause-whole : goal.write_entry-returns-clause-whole
 write_entry-returns-clause-whole g t c r =
-    let line = leaf_lines c.args.marked.now.store.now c.args.marked.now.marks.now c.args.front.now c.deref-2.result.now c.args.entry.now.component.now c.args.entry.now.mode c.args.entry.now.name c.requires.marked.held (sym c.is_dir.ensures ∙ c.if-is_dir.false) c.requires.entry
-    (c.deref-2.ensures.value ∙ c.in_ok-text.ensures) in
-    c.send_piece.ensures.whole r ∙ c.in_ok-add_leaf_line.ensures ∙ ap (λ (x : Bytes). c.args.kept.now.text.items ++ x) line
+    let line = leaf_lines c.args.marked.now.store.now c.args.marked.now.marks.now c.args.front.now (c.args.front.now ++ c.args.entry.now.component.now) c.args.entry.now.component.now c.args.entry.now.mode c.args.entry.now.name c.requires.marked.held
+    (sym c.is_dir.ensures ∙ c.if-is_dir.false) c.requires.entry refl in
+    c.write_leaf.ensures.whole r ∙ ap (λ (x : Bytes). c.args.kept.now.text.items ++ x) line
 
 -- ---- one entry after another
 

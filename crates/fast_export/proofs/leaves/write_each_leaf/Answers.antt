@@ -1,5 +1,4 @@
-use Rattle.std.proofs.Common.{[], ◌++◌, ◌∙◌, ap}
-use Rattle.git_objects.specs.Paths.{Bytes}
+use Rattle.std.proofs.Common.{[], ◌∙◌}
 use Rattle.fast_export.proofs.Sent.{put_err}
 use Rattle.fast_import.proofs.WalkedLeaves.{leaf_here, stepped}
 use Rattle.fast_export.proofs.WrittenLeaves.{less_lines, more_lines, no_lines, one_line, path_here, short_lines}
@@ -11,27 +10,20 @@ leaves-init g c = ([], no_lines c.args.front.now _ _ c.args.marked.now.store.now
 pub returns-in_err-next : goal.returns-in_err-next
 returns-in_err-next g c = put_err _ _ _ _ _ _ _ c.from_residual-in_err-next.ensures.1 (short_lines c.args.front.now _ _ _ _ _ _ _ _ _ _ c.leaves.invariant.1)
 
-pub returns-in_err-add_leaf_line : goal.returns-in_err-add_leaf_line
-returns-in_err-add_leaf_line g c =
-    put_err _ _ _ _ _ _ _ c.from_residual-in_err-add_leaf_line.ensures.1 (short_lines c.args.front.now _ _ _ _ _ _ _ _ _ _ c.leaves.invariant.1)
+pub returns-in_err-path : goal.returns-in_err-path
+returns-in_err-path g c = put_err _ _ _ _ _ _ _ c.from_residual-in_err-path.ensures.1 (short_lines c.args.front.now _ _ _ _ _ _ _ _ _ _ c.leaves.invariant.1)
 
 pub leaves-preserved : goal.leaves-preserved
 leaves-preserved g c =
     let step = stepped _ _ _ c.leaves.walk.left _ c.next.new.self c.leaves.invariant.1.passed c.in_ok-next.ensures c.if-branch.true in
     let here = leaf_here c.args.marked.now.store.now c.next.new.self.current step.0 c.leaf.result step.1 c.leaf.ensures.mode c.leaf.ensures.name step.3 in
-    let line = one_line c.args.front.now c.args.marked.now.store.now c.args.marked.now.marks.now step.0 c.path.result.now c.leaf.result c.requires.marked.held here.0 here.1 (path_here _ step.0 _ step.1 c.path.ensures) c.in_ok-path.path.items c.deref-in-leaves.result.now c.in_ok-path.ensures (c.deref-in-leaves.ensures.value ∙ c.in_ok-text.ensures ∙ ap (λ (b : Bytes). c.args.front.now ++ b) c.deref.ensures.value) in
-    (_, more_lines c.args.front.now _ _ _ _ _ _ _ _ _ _ _ _ step.0 _ c.args.marked.now.marks.now c.leaves.invariant.1 step.2 c.in_ok-add_leaf_line.ensures line c.in_ok-send_piece.ensures.put)
+    let line = one_line c.args.front.now c.args.marked.now.store.now c.args.marked.now.marks.now step.0 c.path.result.now c.leaf.result c.requires.marked.held here.0 here.1 (path_here _ step.0 _ step.1 c.path.ensures) c.deref.result.now (c.deref.ensures.value ∙ c.in_ok-path.ensures) in
+    (_, more_lines c.args.front.now _ _ _ _ _ _ _ _ _ _ _ step.0 _ c.args.marked.now.marks.now c.leaves.invariant.1 step.2 line c.in_ok-write_leaf.ensures.put)
 
-pub returns-in_err-send_piece : goal.returns-in_err-send_piece
-returns-in_err-send_piece g c =
+pub returns-in_err-write_leaf : goal.returns-in_err-write_leaf
+returns-in_err-write_leaf g c =
     let step = stepped _ _ _ c.leaves.walk.left _ c.next.new.self c.leaves.invariant.1.passed c.in_ok-next.ensures c.if-branch.true in
     let here = leaf_here c.args.marked.now.store.now c.next.new.self.current step.0 c.leaf.result step.1 c.leaf.ensures.mode c.leaf.ensures.name step.3 in
-    let line = one_line c.args.front.now c.args.marked.now.store.now c.args.marked.now.marks.now step.0 c.path.result.now c.leaf.result c.requires.marked.held here.0 here.1 (path_here _ step.0 _ step.1 c.path.ensures) c.in_ok-path.path.items c.deref-in-leaves.result.now c.in_ok-path.ensures (c.deref-in-leaves.ensures.value ∙ c.in_ok-text.ensures ∙ ap (λ (b : Bytes). c.args.front.now ++ b) c.deref.ensures.value) in
-    put_err _ _ _ _ _ c.in_err-send_piece.field-0.0 _ c.from_residual-in_err-send_piece.ensures.1
-    (less_lines c.args.front.now _ _ _ _ _ _ _ _ _ _ _ _ step.0 _ c.args.marked.now.marks.now _ c.leaves.invariant.1 step.2 c.in_ok-add_leaf_line.ensures line c.in_err-send_piece.ensures.put)
-
-pub returns-in_err-path : goal.returns-in_err-path
-returns-in_err-path g c = put_err _ _ _ _ _ _ _ c.from_residual-in_err-path.ensures.1 (short_lines c.args.front.now _ _ _ _ _ _ _ _ _ _ c.leaves.invariant.1)
-
-pub returns-in_err-text : goal.returns-in_err-text
-returns-in_err-text g c = put_err _ _ _ _ _ _ _ c.from_residual-in_err-text.ensures.1 (short_lines c.args.front.now _ _ _ _ _ _ _ _ _ _ c.leaves.invariant.1)
+    let line = one_line c.args.front.now c.args.marked.now.store.now c.args.marked.now.marks.now step.0 c.path.result.now c.leaf.result c.requires.marked.held here.0 here.1 (path_here _ step.0 _ step.1 c.path.ensures) c.deref.result.now (c.deref.ensures.value ∙ c.in_ok-path.ensures) in
+    put_err _ _ _ _ _ c.in_err-write_leaf.field-0.0 _ c.from_residual-in_err-write_leaf.ensures.1
+    (less_lines c.args.front.now _ _ _ _ _ _ _ _ _ _ _ step.0 _ c.args.marked.now.marks.now _ c.leaves.invariant.1 step.2 line c.in_err-write_leaf.ensures.put)
