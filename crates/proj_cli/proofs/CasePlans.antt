@@ -10,7 +10,7 @@ use Rattle.filter_text.specs.Printing.{printed}
 use Rattle.commit_map.specs.Shown.{Entries, Shown}
 use Rattle.stream_reader.specs.declared.fault.StreamFault.{StreamFault}
 use Rattle.fast_import.specs.Replays.{Ran, empty_base, ran}
-use Rattle.push_back.specs.Pushes.{pushing}
+use Rattle.push_laws.specs.Pushes.{pushing}
 use Rattle.state_items.specs.Items.{Break, Held, nothing, read_items}
 use Rattle.state_items.specs.Repos.{repo}
 use Rattle.state_items.specs.Changes.{KeepPlan, NoPlan, Plan, Room, fresh, held_after, objects_of, passed_by_objects, room_of}

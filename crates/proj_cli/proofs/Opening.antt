@@ -6,7 +6,7 @@ use Rattle.git_objects.specs.Results.{◌>>=◌}
 use Rattle.object_store.specs.Objects.{Object}
 use Rattle.filter_text.specs.Filters.{Filter}
 use Rattle.filter_text.specs.Shapes.{shape}
-use Rattle.push_back.specs.Pushes.{pushing}
+use Rattle.push_laws.specs.Pushes.{pushing}
 use Rattle.proj_io.specs.Stops.{OnlyAdds, Nothing}
 use Rattle.proj_io.specs.Views.{SinkView, KeeperView}
 use Rattle.state_items.specs.Items.{Held, read_items}

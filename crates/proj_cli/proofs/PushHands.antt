@@ -27,10 +27,10 @@ use Rattle.stream_reader.specs.Verdicts.{start, verdict}
 use Rattle.fast_import.specs.Made.{IsMadeAt, IsMadeBy, IsMadeOf}
 use Rattle.fast_import.specs.Replays.{Base, Draft, Replay, committed, nothing_yet, ran_by}
 use Rattle.push_back.specs.Originals.{IsMadeFor, IsMadeUpon}
-use Rattle.push_back.specs.PushReplays.{StreamRefusal, Faulty, push_base, push_step}
-use Rattle.push_back.specs.PushVerdicts.{Refusal, original_of, original_tree}
-use Rattle.push_back.specs.Pushes.{Pushing, made_from, made_upon, pushing}
-use Rattle.push_back.proofs.Judging.{goes-on}
+use Rattle.push_laws.specs.PushReplays.{StreamRefusal, Faulty, push_base, push_step}
+use Rattle.push_laws.specs.PushVerdicts.{Refusal, original_of, original_tree}
+use Rattle.push_laws.specs.Pushes.{Pushing, made_from, made_upon, pushing}
+use Rattle.push_laws.proofs.PushSteps.{goes-on}
 use Rattle.state_items.specs.Items.{Held}
 use Rattle.state_items.specs.Repos.{repo}
 use Rattle.proj_cli.specs.Cases.{PushCase}

@@ -9,7 +9,7 @@ use Rattle.history_ground.specs.Grounds.{commits_of}
 use Rattle.history_ground.specs.declared.ground.Ground.{Ground}
 use Rattle.push_back.specs.Faults.{IsPushFault}
 use Rattle.push_back.specs.Planning.{IsPlanOf, IsPlanned}
-use Rattle.push_back.specs.Pushes.{pushing}
+use Rattle.push_laws.specs.Pushes.{pushing}
 use Rattle.push_back.specs.declared.fault.PushFault.{PushFault}
 use Rattle.push_back.specs.declared.brought.Plan.{Plan}
 use Rattle.state_items.specs.Items.{Held}

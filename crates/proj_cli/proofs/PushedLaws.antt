@@ -23,12 +23,12 @@ use Rattle.history_ground.specs.Projections.{projection, shown_of}
 use Rattle.history_ground.specs.StoredGraphs.{IsGraphIn, graph_of, snapshot_named}
 use Rattle.history_ground.proofs.GraphLemmas.{has-newer, has-self}
 use Rattle.history_ground.proofs.StoredGraphs.{at-row, older, older-all, older-suc, row-at}
-use Rattle.push_back.specs.PushLaws.{Agrees, AreFound, AreTrees, EachStep, IsChain, IsPush, IsStep, commit_of, last_of, originals}
-use Rattle.push_back.specs.PushReplays.{StreamRefusal}
-use Rattle.push_back.specs.PushVerdicts.{Pair, Refusal, Verdict, original_of, original_tree, upon, verdict, verdict_from, with_pair}
-use Rattle.push_back.specs.Pushes.{Pushing, StreamRefused, CommitRefused, pushing, refusal_of}
-use Rattle.push_back.proofs.Chains.{chain-law}
-use Rattle.push_back.proofs.Pushing.{elsewhere-law, made-law, projected-law, pushed-law, steps-law}
+use Rattle.push_laws.specs.PushLaws.{Agrees, AreFound, AreTrees, EachStep, IsChain, IsPush, IsStep, commit_of, last_of, originals}
+use Rattle.push_laws.specs.PushReplays.{StreamRefusal}
+use Rattle.push_laws.specs.PushVerdicts.{Pair, Refusal, Verdict, original_of, original_tree, upon, verdict, verdict_from, with_pair}
+use Rattle.push_laws.specs.Pushes.{Pushing, StreamRefused, CommitRefused, pushing, refusal_of}
+use Rattle.push_laws.proofs.Chains.{chain-law}
+use Rattle.push_laws.proofs.Pushing.{elsewhere-law, made-law, projected-law, pushed-law, steps-law}
 use Rattle.state_items.specs.Changes.{held_after, with_refs}
 use Rattle.state_items.specs.Imported.{IsBrought, has_leaves}
 use Rattle.state_items.specs.Items.{Held}

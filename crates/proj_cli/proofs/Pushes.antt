@@ -33,18 +33,18 @@ use Rattle.fast_import.specs.Made.{IsPutFault}
 use Rattle.fast_import.specs.Standing.{AreBlobsIn, AreCommitsIn}
 use Rattle.fast_import.specs.declared.replayed.Made.{Made as MadeNames}
 use Rattle.push_back.specs.Faults.{IsPushFault}
-use Rattle.push_back.specs.Given.{AreBrought, IsGiven, IsGivenCommit, IsSeenTree, blobs_in}
+use Rattle.push_laws.specs.Given.{AreBrought, IsGiven, IsGivenCommit, IsSeenTree, blobs_in}
 use Rattle.push_back.specs.Originals as pushed_names
-use Rattle.push_back.specs.PushReplays.{OtherRef as OnOtherRef, NotAtHead as IsNotAtHead, MergePushed as IsMerge, Faulty}
-use Rattle.push_back.specs.PushLaws.{AreTrees, originals}
-use Rattle.push_back.specs.PushVerdicts.{verdict}
-use Rattle.push_back.specs.PushVerdicts as verdicts
-use Rattle.push_back.specs.Pushes.{PushRefusal, StreamRefused, CommitRefused, Pushing, pushing}
+use Rattle.push_laws.specs.PushReplays.{OtherRef as OnOtherRef, NotAtHead as IsNotAtHead, MergePushed as IsMerge, Faulty}
+use Rattle.push_laws.specs.PushLaws.{AreTrees, originals}
+use Rattle.push_laws.specs.PushVerdicts.{verdict}
+use Rattle.push_laws.specs.PushVerdicts as verdicts
+use Rattle.push_laws.specs.Pushes.{PushRefusal, StreamRefused, CommitRefused, Pushing, pushing}
 use Rattle.push_back.specs.declared.fault.PushFault.{PushFault}
 use Rattle.push_back.specs.declared.fault.PushFault.TheVariants as faults
 use Rattle.push_back.specs.declared.brought.Pair.{Pair}
 use Rattle.push_back.specs.declared.brought.Plan.{Plan as Planned}
-use Rattle.push_back.proofs.Pushing.{made-law}
+use Rattle.push_laws.proofs.Pushing.{made-law}
 use Rattle.proj_io.specs.Stops.{IsPresent, OnlyAdds, adds_as}
 use Rattle.proj_io.specs.Views.{KeeperView}
 use Rattle.state_items.specs.Changes.{NoPlan, Plan, change_plan, held_after, objects_of}
@@ -75,9 +75,9 @@ use Rattle.proj_cli.specs.Pushing.{IsMadeOver, IsPlannedUpon, IsPushPrepared, di
 use Rattle.proj_cli.specs.Refusals.{commit_outcome}
 use Rattle.proj_cli.proofs.Committing.{IsCase, good-none, keeps-self, made-done, made-refused, made-untouched, made-without, planned_by, stop-as, stops-by, told-report}
 use Rattle.proj_cli.proofs.InHands.{twice-at}
-use Rattle.push_back.proofs.BroughtOriginals.{brought-law}
-use Rattle.push_back.proofs.GivenStreams.{given-law}
-use Rattle.push_back.proofs.SeenTrees.{seen-tree}
+use Rattle.push_laws.proofs.BroughtOriginals.{brought-law}
+use Rattle.push_laws.proofs.GivenStreams.{given-law}
+use Rattle.push_laws.proofs.SeenTrees.{seen-tree}
 use Rattle.proj_cli.proofs.PushHands.{made-in-hand}
 use Rattle.proj_cli.proofs.PushedLaws.{IsAccepted, IsNamedIn, accepted, graph-named, has-added, head-tree, held-are-trees, pushed}
 use Rattle.proj_cli.proofs.StatesAfter.{passed-same}

@@ -27,7 +27,7 @@ use Rattle.history_ground.specs.Histories.{AreMade, IsOfHistory}
 use Rattle.history_ground.specs.Projections.{history_graph, projection}
 use Rattle.history_ground.specs.declared.ground.Ground.{Ground}
 use Rattle.history_ground.specs.declared.heads.Seen.{Seen}
-use Rattle.push_back.specs.Pushes.{pushing}
+use Rattle.push_laws.specs.Pushes.{pushing}
 use Rattle.state_items.specs.Items.{Held}
 use Rattle.state_items.specs.Repos.{repo}
 use Rattle.repo_ground.specs.Contents.{Contents}

@@ -9,7 +9,7 @@ use Rattle.filter_text.specs.Filters.{Filter}
 use Rattle.fast_import.specs.Replays.{ran}
 use Rattle.path_names.specs.RefNames.{is_ref_name}
 use Rattle.proj_io.specs.Views.{KeeperView}
-use Rattle.push_back.specs.Pushes.{pushing}
+use Rattle.push_laws.specs.Pushes.{pushing}
 use Rattle.state_items.specs.Changes.{Plan}
 use Rattle.state_items.specs.Items.{Break, Held, nothing, read_items}
 use Rattle.state_items.specs.Repos.{repo}

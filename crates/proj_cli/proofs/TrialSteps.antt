@@ -9,7 +9,7 @@ use Rattle.fast_import.specs.Replays.{ran}
 use Rattle.filter_text.specs.Filters.{Filter}
 use Rattle.proj_io.specs.Counts.{Counts}
 use Rattle.proj_io.specs.Views.{KeeperView}
-use Rattle.push_back.specs.Pushes.{pushing}
+use Rattle.push_laws.specs.Pushes.{pushing}
 use Rattle.state_items.specs.Hands.{IsTwice}
 use Rattle.state_items.specs.Items.{Held}
 use Rattle.state_items.specs.Repos.{repo}

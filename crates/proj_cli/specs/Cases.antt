@@ -19,9 +19,9 @@ use Rattle.state_items.specs.Repos.{repo}
 use Rattle.state_items.specs.Changes.{NoPlan, Plan, Room, change_plan, fresh, held_after, objects_of, passed, passed_by_objects, rule_plan}
 use Rattle.repo_ground.specs.Laws.{base_of}
 use Rattle.repo_ground.specs.Moves.{Move, first_backward}
-use Rattle.push_back.specs.Pushes.{PushRefusal, StreamRefused, CommitRefused, Pushing, pushing}
-use Rattle.push_back.specs.PushReplays.{StreamRefusal, OtherRef as OnOtherRef, NotAtHead as IsNotAtHead, MergePushed as IsMerge, Faulty}
-use Rattle.push_back.specs.PushVerdicts.{Refusal, NoChange as IsUnchanged, BadWorkspace as IsBadWorkspace, Unseen as IsUnseen, NotHeld as IsNotHeld, Blocked as IsBlocked, TreeLimit}
+use Rattle.push_laws.specs.Pushes.{PushRefusal, StreamRefused, CommitRefused, Pushing, pushing}
+use Rattle.push_laws.specs.PushReplays.{StreamRefusal, OtherRef as OnOtherRef, NotAtHead as IsNotAtHead, MergePushed as IsMerge, Faulty}
+use Rattle.push_laws.specs.PushVerdicts.{Refusal, NoChange as IsUnchanged, BadWorkspace as IsBadWorkspace, Unseen as IsUnseen, NotHeld as IsNotHeld, Blocked as IsBlocked, TreeLimit}
 use Rattle.proj_words.specs.Faults.{stream_outcome}
 use Rattle.proj_words.specs.Words.{Command, Import, Project, Push, Export, Name, Rule}
 use Rattle.proj_words.specs.declared.outcome.Outcome.{Outcome}

@@ -25,8 +25,8 @@ use Rattle.stream_reader.specs.Commands.{turn}
 use Rattle.fast_export.specs.ExportTexts.{export_text}
 use Rattle.state_items.specs.Items.{change_text, is_canonical, kept_text, read_item, read_items, rule_text}
 use Rattle.state_items.specs.Changes.{fresh, plan_items, room_of}
-use Rattle.push_back.specs.Examples.{commit, naming, reading, showing}
-use Rattle.push_back.specs.StreamExamples.{replaying}
+use Rattle.push_laws.specs.Examples.{commit, naming, reading, showing}
+use Rattle.push_laws.specs.StreamExamples.{replaying}
 use Rattle.proj_words.specs.Entries.{Entry, entries}
 use Rattle.proj_words.specs.Words.{Import, Project, Export, Push, Name, Rule, Trial, Batch, Unknown}
 use Rattle.proj_words.specs.declared.outcome.Outcome.{Outcome}

@@ -13,7 +13,7 @@ use Rattle.filter_text.specs.Filters.{Filter}
 use Rattle.filter_apply.specs.Hands.{parts_in}
 use Rattle.workspace.specs.Workspaces.{next, resolve, shown}
 use Rattle.history_ground.specs.Projections.{own_commits}
-use Rattle.push_back.specs.PushVerdicts.{Refusal, original_tree}
+use Rattle.push_laws.specs.PushVerdicts.{Refusal, original_tree}
 use Rattle.stream_reader.specs.declared.command.Command.{Command}
 use Rattle.stream_reader.specs.declared.command.Command.TheVariants as commands
 use Rattle.stream_reader.specs.declared.command.Change.{Change}

@@ -11,8 +11,8 @@ use Rattle.git_objects.specs.Snapshots.{Snapshot, snapshot_name, tree_at}
 use Rattle.filter_text.specs.Filters.{Filter}
 use Rattle.workspace.specs.Laws.{IsUsable}
 use Rattle.history_ground.specs.Projections.{shown_of}
-use Rattle.push_back.specs.PushLaws.{Agrees, IsStep}
-use Rattle.push_back.specs.Pushes.{Pushing}
+use Rattle.push_laws.specs.PushLaws.{Agrees, IsStep}
+use Rattle.push_laws.specs.Pushes.{Pushing}
 use Rattle.state_items.specs.Items.{Held}
 use Rattle.state_items.specs.Repos.{repo}
 use Rattle.state_items.specs.Changes.{Plan, held_after}

@@ -18,7 +18,7 @@ use Rattle.fast_import.specs.Replays.{nothing_yet}
 use Rattle.push_back.specs.Faults.{IsPushFault}
 use Rattle.push_back.specs.Originals.{IsMadeFor}
 use Rattle.push_back.specs.Planning.{IsPlanOf}
-use Rattle.push_back.specs.Pushes.{pushing}
+use Rattle.push_laws.specs.Pushes.{pushing}
 use Rattle.push_back.specs.declared.fault.PushFault.{PushFault}
 use Rattle.push_back.specs.declared.fault.PushFault.TheVariants as faults
 use Rattle.push_back.specs.declared.brought.Plan.{Plan}

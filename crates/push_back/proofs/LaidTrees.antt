@@ -29,8 +29,8 @@ use Rattle.history_ground.specs.declared.ground.Ground.{Ground}
 use Rattle.history_ground.proofs.Growing.{extends-as, extends-self, extends-then, ground-tables}
 use Rattle.history_ground.proofs.TakenTurns.{extends-store}
 use Rattle.workspace.specs.Workspaces.{next, resolve}
-use Rattle.push_back.specs.PushVerdicts.{Refusal, is_bad_workspace, judged, original_tree, passed, tree_upon}
-use Rattle.push_back.specs.PushVerdicts as verdicts
+use Rattle.push_laws.specs.PushVerdicts.{Refusal, is_bad_workspace, judged, original_tree, passed, tree_upon}
+use Rattle.push_laws.specs.PushVerdicts as verdicts
 use Rattle.push_back.specs.Originals.{Grows}
 use Rattle.push_back.specs.Refusals.{IsRefusedBy, IsTreeAnswer, of_lay}
 use Rattle.push_back.specs.declared.refusal.TreeRefusal.{TreeRefusal}

@@ -31,7 +31,7 @@ use Rattle.history_ground.proofs.HeldCommits.{held}
 use Rattle.history_ground.proofs.Putting.{commit_fits}
 use Rattle.fast_import.specs.Standing.{IsCommitIn}
 use Rattle.fast_import.specs.declared.replayed.Made.{Made}
-use Rattle.push_back.specs.PushVerdicts.{Refusal, original_of, original_tree}
+use Rattle.push_laws.specs.PushVerdicts.{Refusal, original_of, original_tree}
 use Rattle.push_back.specs.Originals.{Grows, IsMadeOne, IsMadeUpon, IsOriginal}
 use Rattle.push_back.specs.Refusals.{IsRefusedBy, IsTreeAnswer, of_apply}
 use Rattle.push_back.specs.declared.refusal.TreeRefusal.{TreeRefusal}

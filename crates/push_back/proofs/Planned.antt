@@ -40,10 +40,10 @@ use Rattle.push_back.specs.Faults.{IsPushFault, of_apply, of_original, of_stream
 use Rattle.push_back.specs.Grounds.{Ground as Base, from_of}
 use Rattle.push_back.specs.Originals.{AreNamedIn, AreOriginals, Grows, IsMadeFor, IsOriginalError}
 use Rattle.push_back.specs.Planning.{IsMadeByPush, IsPlanned, IsPlanOf}
-use Rattle.push_back.specs.Pushes.{Pushing, PushRefusal, StreamRefused, made_from, made_upon, pushed, refusal_of}
-use Rattle.push_back.specs.PushReplays.{StreamRefusal, push_base, push_replay}
-use Rattle.push_back.specs.PushReplays as replays
-use Rattle.push_back.specs.PushVerdicts.{Refusal, Pair as PairOf, Verdict, original_of, original_tree, upon, verdict, verdict_from, with_pair}
+use Rattle.push_laws.specs.Pushes.{Pushing, PushRefusal, StreamRefused, made_from, made_upon, pushed, refusal_of}
+use Rattle.push_laws.specs.PushReplays.{StreamRefusal, push_base, push_replay}
+use Rattle.push_laws.specs.PushReplays as replays
+use Rattle.push_laws.specs.PushVerdicts.{Refusal, Pair as PairOf, Verdict, original_of, original_tree, upon, verdict, verdict_from, with_pair}
 use Rattle.push_back.specs.Refusals.{IsRefusedBy}
 use Rattle.push_back.specs.Replaying.{IsPushError, IsPushedWhole, Tells, told}
 use Rattle.push_back.specs.declared.error.PushError.{PushError}

@@ -18,11 +18,11 @@ use Rattle.fast_import.specs.Standing.{IsReplayOf, IsReplayedOf}
 use Rattle.fast_import.specs.Whole.{IsFed}
 use Rattle.fast_import.specs.declared.replayed.Replayed.{Replayed as ReplayedNames}
 use Rattle.fast_import.proofs.Running.{with_all}
-use Rattle.push_back.specs.PushReplays.{StreamRefusal, end_refusal, push_base, push_replay, push_step}
+use Rattle.push_laws.specs.PushReplays.{StreamRefusal, end_refusal, push_base, push_replay, push_step}
 use Rattle.push_back.specs.Replaying.{IsPushFault, IsPushedWhole, Tells}
 use Rattle.push_back.specs.declared.error.PushError.{PushError}
 use Rattle.push_back.specs.declared.error.PushError.TheVariants as errors
-use Rattle.push_back.proofs.Judging.{goes-on}
+use Rattle.push_laws.proofs.PushSteps.{goes-on}
 use Rattle.push_back.proofs.Running.{Goes, IsRunSoFar, all, all_bytes, all_told, fed_run, may_rest, nothing_run, one_run, rest}
 use Rattle.push_back.proofs.RunEnds.{IsRunWhole, closed, ran_at, run_closed, run_given, run_refused, run_unfed, run_unread}
 

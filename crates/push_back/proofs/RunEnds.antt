@@ -16,7 +16,7 @@ use Rattle.fast_import.specs.Standing.{IsReplayedOf}
 use Rattle.fast_import.specs.declared.replayed.Replayed.{Replayed as ReplayedNames}
 use Rattle.fast_import.proofs.Putting.{fault_as}
 use Rattle.fast_import.proofs.Running.{IsRunTo, Step, after_by, made-behind, made-front, run-on, with_all}
-use Rattle.push_back.specs.PushReplays.{StreamRefusal, Faulty}
+use Rattle.push_laws.specs.PushReplays.{StreamRefusal, Faulty}
 use Rattle.push_back.specs.Replaying.{IsFreeFault, IsPushError, IsPushFault, Tells}
 use Rattle.push_back.specs.declared.error.PushError.{PushError}
 use Rattle.push_back.specs.declared.error.PushError.TheVariants as errors

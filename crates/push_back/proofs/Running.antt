@@ -21,7 +21,7 @@ use Rattle.fast_import.specs.Replays.{Base, Replay, nothing_yet, step}
 use Rattle.fast_import.specs.Standing.{IsReplayOf}
 use Rattle.fast_import.specs.Whole.{IsFed}
 use Rattle.fast_import.proofs.Running.{Step, after-push, after_all, after_by, both_bytes, made-behind, made-front, with_all}
-use Rattle.push_back.specs.PushReplays.{StreamRefusal}
+use Rattle.push_laws.specs.PushReplays.{StreamRefusal}
 
 -- ---- what was read
 

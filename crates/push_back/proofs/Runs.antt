@@ -18,8 +18,8 @@ use Rattle.history_ground.specs.declared.ground.Ground.{Ground}
 use Rattle.fast_import.specs.Standing.{AreCommitsIn, IsCommitIn}
 use Rattle.fast_import.specs.declared.replayed.Made.{Made}
 use Rattle.fast_import.proofs.Growing.{commits-grown}
-use Rattle.push_back.specs.PushVerdicts.{Pair, Refusal, Verdict, original_of, original_tree, upon, verdict_from, with_pair}
-use Rattle.push_back.specs.Pushes.{made_from, made_upon}
+use Rattle.push_laws.specs.PushVerdicts.{Pair, Refusal, Verdict, original_of, original_tree, upon, verdict_from, with_pair}
+use Rattle.push_laws.specs.Pushes.{made_from, made_upon}
 use Rattle.push_back.specs.Originals.{AreNamedIn, AreOriginals, Grows, IsMadeFor, IsMadeOne, IsMadeUpon, IsOriginal, IsOriginalError}
 use Rattle.push_back.specs.Refusals.{IsRefusedBy}
 use Rattle.push_back.specs.declared.refusal.TreeRefusal.{TreeRefusal}

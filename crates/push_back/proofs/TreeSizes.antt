@@ -1,5 +1,5 @@
 -- The first limit that a stored tree passes, by its sizes.
-use Rattle.std.proofs.Common.{◌≡◌, ℕ, ◌<◌, true, false, cond, ◌||◌, List, [], ◌∷◌, length, max, Some, None, sym, ap, ◌∙◌, arith, lit<}
+use Rattle.std.proofs.Common.{◌≡◌, ℕ, ◌<◌, true, cond, List, length, Some, None, sym, ap, ◌∙◌, arith, lit<}
 use Rattle.std.specs.Prelude.{nat_lt}
 use Rattle.std.specs.List.{list_any}
 use Rattle.std.proofs.lemmas.Bool.Decides.{nat_tests}
@@ -14,25 +14,12 @@ use Rattle.object_store.specs.Objects.{Object, has}
 use Rattle.object_store.specs.Sizes.{held_number, longest, sizes, stats_of}
 use Rattle.object_store.specs.Unfolding.{flat}
 use Rattle.object_store.specs.declared.store.TreeStats.{TreeStats}
-use Rattle.push_back.specs.PushVerdicts.{passed}
+use Rattle.push_laws.specs.PushVerdicts.{passed}
 use Rattle.push_back.specs.Refusals.{passed_by}
+use Rattle.push_laws.proofs.Depths.{deeper, longer}
 
 held-lt : (n m : ℕ) → m < 4294967295 → nat_lt m (held_number n) ≡ nat_lt m n
 held-lt n m h = grind (arith, nat_tests)
-
-lt-max : (m a b : ℕ) → nat_lt m (max a b) ≡ (nat_lt m a || nat_lt m b)
-lt-max m a b = grind (arith, nat_tests)
-
-none-below : (m : ℕ) → false ≡ nat_lt m 0
-none-below m = grind (arith, nat_tests)
-
-pub deeper : (m : ℕ) (t : Flat) → list_any (λ e. nat_lt m (length e.0)) t ≡ nat_lt m (depth t)
-deeper m [] = none-below m
-deeper m (e ∷ t) = ap (λ b. nat_lt m (length e.0) || b) (deeper m t) ∙ sym (lt-max m (length e.0) (depth t))
-
-pub longer : (m : ℕ) (t : Flat) → list_any (λ e. nat_lt m (length (text e.0))) t ≡ nat_lt m (longest t)
-longer m [] = none-below m
-longer m (e ∷ t) = ap (λ b. nat_lt m (length (text e.0)) || b) (longer m t) ∙ sym (lt-max m (length (text e.0)) (longest t))
 
 passed-sizes : (t : Flat) → passed_by (sizes t) ≡ passed t
 passed-sizes t =

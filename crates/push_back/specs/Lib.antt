@@ -1,13 +1,6 @@
-pub mod PushVerdicts
-pub mod PushReplays
-pub mod Pushes
-pub mod PushLaws
 pub mod Refusals
 pub mod Originals
 pub mod Grounds
 pub mod Replaying
 pub mod Faults
 pub mod Planning
-pub mod Given
-pub mod Examples
-pub mod StreamExamples

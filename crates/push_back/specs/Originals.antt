@@ -17,8 +17,8 @@ use Rattle.history_ground.specs.Grounds.{Extends}
 use Rattle.history_ground.specs.declared.ground.Ground.{Ground}
 use Rattle.fast_import.specs.Standing.{IsCommitIn}
 use Rattle.fast_import.specs.declared.replayed.Made.{Made}
-use Rattle.push_back.specs.PushVerdicts.{Refusal, is_bad_workspace, original_of, original_tree, verdict_from}
-use Rattle.push_back.specs.Pushes.{made_from}
+use Rattle.push_laws.specs.PushVerdicts.{Refusal, is_bad_workspace, original_of, original_tree, verdict_from}
+use Rattle.push_laws.specs.Pushes.{made_from}
 use Rattle.push_back.specs.Refusals.{IsRefusedBy}
 use Rattle.push_back.specs.declared.refusal.OriginalError.{OriginalError}
 use Rattle.push_back.specs.declared.refusal.TreeRefusal.{TreeRefusal}

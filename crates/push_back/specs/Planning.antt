@@ -13,7 +13,7 @@ use Rattle.fast_import.specs.Replays.{nothing_yet}
 use Rattle.fast_import.specs.Standing.{AreBlobsIn}
 use Rattle.push_back.specs.Faults.{IsPushFault}
 use Rattle.push_back.specs.Originals.{AreNamedIn, IsMadeFor}
-use Rattle.push_back.specs.Pushes.{Pushing, pushing}
+use Rattle.push_laws.specs.Pushes.{Pushing, pushing}
 use Rattle.push_back.specs.declared.fault.PushFault.{PushFault}
 use Rattle.push_back.specs.declared.brought.Plan.{Plan}
 

@@ -13,8 +13,8 @@ use Rattle.filter_apply.specs.declared.fault.ApplyError.{ApplyError}
 use Rattle.filter_apply.specs.declared.fault.ApplyError.TheVariants as apply
 use Rattle.filter_unapply.specs.declared.fault.LayFault.{LayFault}
 use Rattle.filter_unapply.specs.declared.fault.LayFault.TheVariants as lay
-use Rattle.push_back.specs.PushVerdicts.{Refusal}
-use Rattle.push_back.specs.PushVerdicts as verdicts
+use Rattle.push_laws.specs.PushVerdicts.{Refusal}
+use Rattle.push_laws.specs.PushVerdicts as verdicts
 use Rattle.push_back.specs.declared.refusal.TreeRefusal.{TreeRefusal}
 use Rattle.push_back.specs.declared.refusal.TreeRefusal.TheVariants.{NoChange, BadWorkspace, Unseen, NotHeld, Blocked, TreeLimit, Collision, OutOfMemory}
 

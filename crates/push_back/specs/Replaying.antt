@@ -15,7 +15,7 @@ use Rattle.fast_import.specs.Replays.{Replay, branch, given_by, nothing_yet, ste
 use Rattle.fast_import.specs.Standing.{IsReplayOf, IsReplayedOf}
 use Rattle.fast_import.specs.declared.replayed.Replayed.{Replayed as ReplayedNames}
 use Rattle.push_back.specs.Grounds.{Ground, IsGroundIn, from_of, push_base_in}
-use Rattle.push_back.specs.PushReplays.{StreamRefusal, OtherRef, NotAtHead, MergePushed, Faulty, end_refusal, push_base, push_replay, push_step}
+use Rattle.push_laws.specs.PushReplays.{StreamRefusal, OtherRef, NotAtHead, MergePushed, Faulty, end_refusal, push_base, push_replay, push_step}
 use Rattle.push_back.specs.declared.error.PushError.{PushError}
 use Rattle.push_back.specs.declared.error.PushError.TheVariants as errors
 

@@ -7,7 +7,7 @@ ghost use Rattle.fast_import.specs.Replays.{Replay as ReplayOf};
 ghost use Rattle.fast_import.specs.Standing.{IsReplayOf};
 ghost use Rattle.stream_reader.specs.Replayable.{is_replayable};
 ghost use Rattle.push_back.specs.Grounds.{IsGroundIn, from_of};
-ghost use Rattle.push_back.specs.PushReplays.{chain_end, is_same_name};
+ghost use Rattle.push_laws.specs.PushReplays.{chain_end, is_same_name};
 ghost use Rattle.push_back.specs.Replaying.{IsEndJudged, IsJudged, IsPushStepped};
 
 use crate::{PushBase, PushError};

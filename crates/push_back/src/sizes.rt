@@ -3,7 +3,7 @@ ghost use Rattle.std.specs.Prelude.{◌≡◌, true};
 ghost use Rattle.git_objects.specs.declared.kind.Kind.TheVariants.{Tree};
 ghost use Rattle.object_store.specs.Objects.{has};
 ghost use Rattle.object_store.specs.Unfolding.{flat};
-ghost use Rattle.push_back.specs.PushVerdicts.{passed};
+ghost use Rattle.push_laws.specs.PushVerdicts.{passed};
 ghost use Rattle.push_back.specs.Refusals.{passed_by};
 
 use git_objects::limits::{TREE_DEPTH, TREE_FILES, TREE_PATH_BYTES};

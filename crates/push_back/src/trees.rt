@@ -12,7 +12,7 @@ ghost use Rattle.filter_unapply.specs.Laying.{laid_through, unseen};
 ghost use Rattle.workspace.specs.Laws.{IsUsable};
 ghost use Rattle.workspace.specs.Workspaces.{next};
 ghost use Rattle.history_ground.specs.Grounds.{IsGround};
-ghost use Rattle.push_back.specs.PushVerdicts.{judged, original_tree};
+ghost use Rattle.push_laws.specs.PushVerdicts.{judged, original_tree};
 ghost use Rattle.push_back.specs.Originals.{Grows};
 ghost use Rattle.push_back.specs.Refusals.{IsTreeAnswer};
 

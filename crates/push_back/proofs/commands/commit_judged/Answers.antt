@@ -8,8 +8,9 @@ use Rattle.stream_reader.specs.declared.command.Command.TheVariants.{Commit}
 use Rattle.stream_reader.specs.declared.commit_ref.CommitRef.{CommitRef}
 use Rattle.fast_import.specs.Replays.{Base, named_parent}
 use Rattle.push_back.specs.Grounds.{from_of}
-use Rattle.push_back.specs.PushReplays.{is_same_name}
-use Rattle.push_back.proofs.Judging.{judged-passed, nil-empty, taken}
+use Rattle.push_laws.specs.PushReplays.{is_same_name}
+use Rattle.push_laws.proofs.PushSteps.{nil-empty, taken}
+use Rattle.push_back.proofs.Judging.{judged-passed}
 use Rattle.push_back.proofs.commands.commit_judged.Goals as goal
 
 pub returns-clause-judged : goal.returns-clause-judged

@@ -6,7 +6,7 @@ use Rattle.filter_text.specs.Shapes.{shape}
 use Rattle.fast_import.specs.Standing.{AreCommitsIn}
 use Rattle.fast_import.specs.declared.replayed.Made.{Made}
 use Rattle.push_back.specs.Faults.{of_apply, of_original, of_stream}
-use Rattle.push_back.specs.PushReplays.{push_replay}
+use Rattle.push_laws.specs.PushReplays.{push_replay}
 use Rattle.push_back.specs.declared.fault.PushFault.TheVariants.{OutOfMemory}
 use Rattle.push_back.specs.declared.brought.Plan.{Plan}
 use Rattle.push_back.proofs.Planned.{apply-reads, as-many, as-planned, commits-there, early, from, handed, no-base, no-pairs, not-replayed, not-seen, not-worked, original-reads, planned, quiet-fault, quiet-memory, quiet-plan, replayed-head, replayed-same, replayed-tree, seen, told-fault, upon-base, whole-as}

@@ -10,7 +10,7 @@ use Rattle.fast_import.specs.Replays.{Replay, nothing_yet}
 use Rattle.fast_import.specs.Standing.{IsReplayOf}
 use Rattle.fast_import.proofs.Stopping.{ahead, ahead_fed, more_open, within_fed}
 use Rattle.push_back.specs.Grounds.{from_of}
-use Rattle.push_back.specs.PushReplays.{StreamRefusal, push_base}
+use Rattle.push_laws.specs.PushReplays.{StreamRefusal, push_base}
 use Rattle.push_back.specs.Replaying.{IsPushFault}
 use Rattle.push_back.proofs.Grounding.{ground-grown, step-grown}
 use Rattle.push_back.proofs.PushedSoFar.{IsPushSoFar, all_given, end_refused, fed_waiting, feeding_refused, nothing_so_far, one_more, reading_refused, step_refused}

@@ -5,7 +5,7 @@ use Rattle.filter_text.specs.Shapes.{shape}
 use Rattle.filter_unapply.specs.Hands.{IsLaidMade}
 use Rattle.workspace.specs.Workspaces.{next, resolve}
 use Rattle.history_ground.proofs.Growing.{has-within}
-use Rattle.push_back.specs.PushVerdicts.{Refusal, original_tree}
+use Rattle.push_laws.specs.PushVerdicts.{Refusal, original_tree}
 use Rattle.push_back.specs.Refusals.{IsTreeAnswer}
 use Rattle.push_back.specs.declared.refusal.TreeRefusal.TheVariants.{BadWorkspace}
 use Rattle.push_back.proofs.LaidTrees.{grows-store, grows-tables, grows-then, nothing-made, tree-bad, tree-laid, tree-names}

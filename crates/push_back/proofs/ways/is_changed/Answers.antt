@@ -3,7 +3,7 @@ use Rattle.std.specs.Option.{option_and_then}
 use Rattle.git_objects.specs.Trees.{at}
 use Rattle.object_store.specs.Unfolding.{flat}
 use Rattle.workspace.specs.Views.{leaf_value}
-use Rattle.push_back.specs.PushVerdicts.{same_found}
+use Rattle.push_laws.specs.PushVerdicts.{same_found}
 use Rattle.push_back.proofs.NextFilters.{changed-both}
 use Rattle.push_back.proofs.ways.is_changed.Goals as goal
 

@@ -7,7 +7,7 @@ use Rattle.filter_text.specs.Shapes.{shape}
 use Rattle.filter_routes.specs.Images.{image}
 use Rattle.workspace.specs.Views.{found_value}
 use Rattle.workspace.specs.Workspaces.{with_leaf}
-use Rattle.push_back.specs.PushVerdicts.{same_found, same_place}
+use Rattle.push_laws.specs.PushVerdicts.{same_found, same_place}
 use Rattle.push_back.proofs.NextFilters.{front-after, way-some}
 use Rattle.push_back.proofs.ways.next_way.Goals as goal
 

@@ -1,0 +1,10 @@
+pub mod Stepping
+pub mod Pushing
+pub mod Chains
+pub mod GivenStreams
+pub mod LaidLeaves
+pub mod SeenTrees
+pub mod BroughtOriginals
+pub mod Refusing
+pub mod PushSteps
+pub mod Depths

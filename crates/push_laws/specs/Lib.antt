@@ -1,0 +1,7 @@
+pub mod PushVerdicts
+pub mod PushReplays
+pub mod Pushes
+pub mod PushLaws
+pub mod Given
+pub mod Examples
+pub mod StreamExamples
