@@ -1,11 +1,11 @@
 -- Changes, in the code and in the replay.
-use Rattle.std.proofs.Common.{◌≡◌, ◌⊎◌, inl, inr, ℕ, zero, true, false, cond, List, [], ◌∷◌, ◌++◌, length, Option, Some, None, Result, Ok, Err, IfErr, IfOk, OnOk, refl, sym, ap, subst, ◌∙◌, append-nil, arith}
+use Rattle.std.proofs.Common.{◌≡◌, ◌⊎◌, inl, inr, ℕ, zero, true, false, cond, List, [], ◌∷◌, ◌++◌, length, Option, Some, None, Result, Ok, Err, refl, sym, ap, subst, ◌∙◌, append-nil, arith}
 use Rattle.std.specs.Prelude.{IsOkAnd, nat_le}
 use Rattle.std.specs.List.{list_all}
 use Rattle.git_objects.specs.Paths.{Bytes, Path, text}
 use Rattle.git_objects.specs.Results.{◌>>=◌, must, or_refuse, refused_by}
 use Rattle.git_objects.specs.Trees.{Flat, Node, LeafNode, FileLeaf, ExecLeaf, LinkLeaf, put, remove, standing}
-use Rattle.git_objects.specs.declared.kind.Kind.TheVariants.{Blob}
+use Rattle.git_objects.specs.declared.kind.Kind.TheVariants.{Blob, Commit as CommitKind}
 use Rattle.git_objects.specs.declared.limits.TheConstants.{PATH_BYTES, PATH_COMPONENTS, TREE_FILES}
 use Rattle.git_objects.specs.declared.mode.Mode.{Mode}
 use Rattle.git_objects.specs.declared.mode.Mode.TheVariants.{File, Exec, Link, Module, Dir}
@@ -16,6 +16,7 @@ use Rattle.object_store.proofs.Growth.{grown_as, grown_self}
 use Rattle.object_store.proofs.Parts.{found-has}
 use Rattle.path_trees.specs.Standing.{node}
 use Rattle.stage_tree.specs.Edits as stage
+use Rattle.stage_tree.specs.Stages.{Shows, Staged}
 use Rattle.stage_tree.specs.declared.fault.StageFault.{StageFault}
 use Rattle.stage_tree.specs.declared.fault.StageFault.TheVariants as edits
 use Rattle.fast_import.specs.Made.{IsBlobAmong, IsRefusal, blob_object}
@@ -32,7 +33,7 @@ use Rattle.fast_import.specs.declared.draft.Draft.{Draft as DraftNames}
 use Rattle.stream_reader.specs.declared.fault.StreamFault.{StreamFault}
 use Rattle.stream_reader.specs.declared.fault.StreamFault.TheVariants.{OutOfMemory, Syntax, Unresolved}
 use Rattle.fast_import.proofs.Committing.{draft_there, with_draft}
-use Rattle.fast_import.proofs.Growing.{replay-grown}
+use Rattle.fast_import.proofs.Growing.{all-grown, replay-grown}
 use Rattle.fast_import.proofs.Putting.{fault_as}
 use Rattle.fast_import.proofs.Stepping.{with_blob}
 
@@ -116,23 +117,32 @@ no_leaf : {made : Object → Type 0} (T : List Object) (left : Result Flat Strea
 no_leaf T left f (inl q) = inl q
 no_leaf T left f (inr q) = inr (inl q)
 
-module _ (base : Base) (S T : List Object) (w : Replaying) (r : Replay) (d : Draft) (at : ℕ) (m : Mode) (x : BlobRef) (p : Path) (n : Name) (fit : is_fit m x ≡ true) (given : IsGiven S T w r m x (given_bytes base r at m x) (Ok n)) where
+module _ (base : Base) (S T : List Object) (w : Replaying) (s : Staged) (r : Replay) (t : Flat) (at : ℕ) (m : Mode) (x : BlobRef) (p : Path) where
   abbrev leaves : Bytes → Result Flat StreamFault
-  leaves b = few_files at (put d.tree p (LeafNode (leaf_of m b)))
+  leaves b = few_files at (put t p (LeafNode (leaf_of m b)))
 
-  leaf_put : (b : Bytes) (result : Result DraftNames StreamFault) → IsRedrawn T d (leaves b) result → IsChanged S T w r d (changes.Modify m x p) (leaves b) result
-  leaf_put b (Ok v) q = record { changed = q.drawn; blobs_read = given.read; why = tt; brought = given.grown }
-  leaf_put b (Err e) q = record { changed = tt; blobs_read = tt; why = no_leaf T (leaves b) e q.not_drawn; brought = given.grown }
-
-  pub modify_done : (result : Result DraftNames StreamFault) → IsRedrawn T d (refused_by (fault_at at) (stage.set_in d.tree p (node T (record { mode = m; name = n })))) result
-      → IsChanged S T w r d (changes.Modify m x p) (edited base r at d.tree (changes.Modify m x p)) result
-  modify_done result k = by (given_bytes base r at m x) given.leaf
+  -- none was given
+  pub none_given : (f : StreamFault) → IsGiven S T w r m x (given_bytes base r at m x) (Err f) → IsChanged S T w s r (changes.Modify m x p) (edited base r at t (changes.Modify m x p)) (Err f)
+  none_given f k = record { changed = tt; blobs_read = tt; why = by k.refused; brought = k.grown }
     where
-      by : (left : Result Bytes StreamFault) → IsOkAnd left (IsLeafIn T m n) → IsChanged S T w r d (changes.Modify m x p) (left >>= leaves) result
-      by (Err e) h = absurd h
-      by (Ok b) h = leaf_put b result
-          (subst (λ (l : Result Flat StreamFault). IsRedrawn T d l result) (few at (put d.tree p (LeafNode (leaf_of m b))))
-          (subst (λ (y : Node). IsRedrawn T d (refused_by (fault_at at) (stage.set_in d.tree p y)) result) (leaf_node T m x n b fit h) k))
+      by : IsRefusal (IsBlobAmong (blob_inline x)) T (given_bytes base r at m x) f → IsRefusal (IsBlobAmong (blob_inline x)) T (edited base r at t (changes.Modify m x p)) f
+      by (inl q) = inl (ap (λ (y : Result Bytes StreamFault). y >>= leaves) q)
+      by (inr q) = inr q
+
+  module _ (n : Name) (fit : is_fit m x ≡ true) (given : IsGiven S T w r m x (given_bytes base r at m x) (Ok n)) where
+    leaf_put : (b : Bytes) (result : Result Unit StreamFault) → IsRedrawn T s (leaves b) result → IsChanged S T w s r (changes.Modify m x p) (leaves b) result
+    leaf_put b (Ok u) q = record { changed = q.drawn; blobs_read = given.read; why = tt; brought = given.grown }
+    leaf_put b (Err e) q = record { changed = tt; blobs_read = tt; why = no_leaf T (leaves b) e q.not_drawn; brought = given.grown }
+
+    pub modify_done : (result : Result Unit StreamFault) → IsRedrawn T s (refused_by (fault_at at) (stage.set_in t p (node T (record { mode = m; name = n })))) result
+        → IsChanged S T w s r (changes.Modify m x p) (edited base r at t (changes.Modify m x p)) result
+    modify_done result k = by (given_bytes base r at m x) given.leaf
+      where
+        by : (left : Result Bytes StreamFault) → IsOkAnd left (IsLeafIn T m n) → IsChanged S T w s r (changes.Modify m x p) (left >>= leaves) result
+        by (Err e) h = absurd h
+        by (Ok b) h = leaf_put b result
+            (subst (λ (l : Result Flat StreamFault). IsRedrawn T s l result) (few at (put t p (LeafNode (leaf_of m b))))
+            (subst (λ (y : Node). IsRedrawn T s (refused_by (fault_at at) (stage.set_in t p y)) result) (leaf_node T m x n b fit h) k))
 
 -- ---- moves and copies
 
@@ -174,9 +184,9 @@ copy_is base r at t s p = by (standing t s)
 
 -- ---- an edit that reads no blob
 
-pub redrawn_changed : (S : List Object) (v : Replaying) (r : Replay) (d : Draft) (c : Change) (left : Result Flat StreamFault) → inline_blob c ≡ [] → IsStore S → IsReplayOf S v r → (result : Result DraftNames StreamFault) → IsRedrawn S d left result → IsChanged S S v r d c left result
-redrawn_changed S v r d c left e s h (Ok x) k = record { changed = k.drawn; blobs_read = more_none S v r (inline_blob c) e h; why = tt; brought = grown_self (IsBlobAmong (inline_blob c)) S s }
-redrawn_changed S v r d c left e s h (Err f) k = record { changed = tt; blobs_read = tt; why = by k.not_drawn; brought = grown_self (IsBlobAmong (inline_blob c)) S s }
+pub redrawn_changed : (S : List Object) (v : Replaying) (s : Staged) (r : Replay) (c : Change) (left : Result Flat StreamFault) → inline_blob c ≡ [] → IsStore S → IsReplayOf S v r → (result : Result Unit StreamFault) → IsRedrawn S s left result → IsChanged S S v s r c left result
+redrawn_changed S v s r c left e i h (Ok x) k = record { changed = k.drawn; blobs_read = more_none S v r (inline_blob c) e h; why = tt; brought = grown_self (IsBlobAmong (inline_blob c)) S i }
+redrawn_changed S v s r c left e i h (Err f) k = record { changed = tt; blobs_read = tt; why = by k.not_drawn; brought = grown_self (IsBlobAmong (inline_blob c)) S i }
   where
     by : (left ≡ Err f) ⊎ (f ≡ OutOfMemory) → IsRefusal (IsBlobAmong (inline_blob c)) S left f
     by (inl q) = inl q
@@ -209,46 +219,44 @@ edited_same base r at t (changes.Rename s p) = refl
 edited_same base r at t (changes.Copy s p) = refl
 edited_same base r at t changes.DeleteAll = refl
 
-module _ (base : Base) (S T : List Object) (v u : Replaying) (r : Replay) (at : ℕ) (c : Change) (x : DraftNames) (h : IsReplayOf S v r) (drafted : v.draft ≡ Some x) (taken : u ≡ record v { draft = None }) where
+module _ (S : List Object) (v u : Replaying) (r : Replay) (x : DraftNames) (h : IsReplayOf S v r) (drafted : v.draft ≡ Some x) (taken : u ≡ record v { draft = None }) where
   pub undrafted : IsReplayOf S u (record r { draft = None })
   undrafted = subst (λ (y : Replaying). IsReplayOf S y (record r { draft = None })) (sym taken) (with_draft S v r None None h tt)
 
-  module _ (w : Replaying) (result : Result DraftNames StreamFault)
-      (k : (s : Replay) (d : Draft) → IsReplayOf S u s → IsDraftOf S x d → IsChanged S T w s d c (edited base s at d.tree c) result) where
-    here : (d : Draft) × (r.draft ≡ Some d) × IsDraftOf S x d
-    here = draft_there S v r x h drafted
+  pub drafted_as : (d : Draft) × (r.draft ≡ Some d) × IsDraftOf S x d
+  drafted_as = draft_there S v r x h drafted
 
+  module _ (base : Base) (T : List Object) (w : Replaying) (s : Staged) (at : ℕ) (c : Change) (result : Result Unit StreamFault)
+      (k : (q : Replay) (t : Flat) → IsReplayOf S u q → Shows S x.stage t → IsChanged S T w s q c (edited base q at t c) result) where
     abbrev d : Draft
-    d = here.0
+    d = drafted_as.0
 
-    is : IsChanged S T w (record r { draft = None }) d c (edited base r at d.tree c) result
-    is = subst (λ (y : Result Flat StreamFault). IsChanged S T w (record r { draft = None }) d c y result) (edited_same base r at d.tree c) (k (record r { draft = None }) d undrafted here.2)
+    is : IsChanged S T w s (record r { draft = None }) c (edited base r at d.tree c) result
+    is = subst (λ (y : Result Flat StreamFault). IsChanged S T w s (record r { draft = None }) c y result) (edited_same base r at d.tree c) (k (record r { draft = None }) d.tree undrafted drafted_as.2.stage)
 
     step_is : command_step base r at (commands.Change c) ≡ (edited base r at d.tree c >>= λ t. Ok (record r { blobs = r.blobs ++ inline_blob c; draft = Some (record d { tree = t }) }))
-    step_is = ap (λ (o : Option Draft). or_refuse (Syntax at) o >>= λ d. edited base r at d.tree c >>= λ t. Ok (record r { blobs = r.blobs ++ inline_blob c; draft = Some (record d { tree = t }) })) here.1
+    step_is = ap (λ (o : Option Draft). or_refuse (Syntax at) o >>= λ d. edited base r at d.tree c >>= λ t. Ok (record r { blobs = r.blobs ++ inline_blob c; draft = Some (record d { tree = t }) })) drafted_as.1
 
-    pub change_refused : (z : Replaying) (f : StreamFault) → result ≡ Err f → IsStepped base S T z r (record { at = at; command = commands.Change c }) (Err f)
-    change_refused z f e = record { done = tt; refused = by (subst (λ (y : Result DraftNames StreamFault). IfErr y (IsRefusal (IsBlobAmong (inline_blob c)) T (edited base r at d.tree c))) e is.why); grown = is.brought }
-      where
-        by : IsRefusal (IsBlobAmong (inline_blob c)) T (edited base r at d.tree c) f → IsRefusal (IsBlobAmong (inline_blob c)) T (command_step base r at (commands.Change c)) f
-        by (inl q) = inl (step_is ∙ ap (λ (y : Result Flat StreamFault). y >>= λ t. Ok (record r { blobs = r.blobs ++ inline_blob c; draft = Some (record d { tree = t }) })) q)
-        by (inr q) = inr q
+    -- the draft behind the change
+    redrawn : (t : Flat) → Shows T s t → IsDraftOf T (record x { stage = s }) (record d { tree = t })
+    redrawn t g = let o = drafted_as.2 in record { of_branch = o.of_branch; with_mark = o.with_mark; letter = o.letter; parents = o.parents; held = all-grown S T is.brought CommitKind d.parents o.held; few = o.few; stage = g }
 
-    pub change_done : (z : Replaying) (y : DraftNames) → result ≡ Ok y → z ≡ record w { draft = Some y } → IsStepped base S T z r (record { at = at; command = commands.Change c }) (Ok tt)
-    change_done z y e q = record {
-      done = by (edited base r at d.tree c) refl (subst (λ (o : Result DraftNames StreamFault). IfOk o (λ v. IsOkAnd (edited base r at d.tree c) (λ t. IsDraftOf T v (record d { tree = t })))) e is.changed);
-      refused = tt;
-      grown = is.brought;
-    }
-      where
-        read : IsReplayOf T w (record r { blobs = r.blobs ++ inline_blob c; draft = None })
-        read = subst (λ (o : Result DraftNames StreamFault). OnOk o (IsReplayOf T w (record r { blobs = r.blobs ++ inline_blob c; draft = None }))) e is.blobs_read
+    module _ (z : Replaying) (put : z ≡ record w { draft = Some (record x { stage = s }) }) where
+      refused_as : (f : StreamFault) → IsRefusal (IsBlobAmong (inline_blob c)) T (edited base r at d.tree c) f → IsRefusal (IsBlobAmong (inline_blob c)) T (command_step base r at (commands.Change c)) f
+      refused_as f (inl q) = inl (step_is ∙ ap (λ (y : Result Flat StreamFault). y >>= λ t. Ok (record r { blobs = r.blobs ++ inline_blob c; draft = Some (record d { tree = t }) })) q)
+      refused_as f (inr q) = inr q
 
-        by : (left : Result Flat StreamFault) → edited base r at d.tree c ≡ left → IsOkAnd (edited base r at d.tree c) (λ t. IsDraftOf T y (record d { tree = t })) → IsOkAnd (command_step base r at (commands.Change c)) (IsReplayOf T z)
-        by (Err f) g j = absurd (subst (λ (l : Result Flat StreamFault). IsOkAnd l (λ t. IsDraftOf T y (record d { tree = t }))) g j)
-        by (Ok t) g j =
-            subst (λ (l : Result Replay StreamFault). IsOkAnd l (IsReplayOf T z))
-            (sym (step_is ∙ ap (λ (l : Result Flat StreamFault). l >>= λ t. Ok (record r { blobs = r.blobs ++ inline_blob c; draft = Some (record d { tree = t }) })) g))
-            (subst (λ (a : Replaying). IsReplayOf T a (record r { blobs = r.blobs ++ inline_blob c; draft = Some (record d { tree = t }) })) (sym q)
-            (with_draft T w (record r { blobs = r.blobs ++ inline_blob c; draft = None }) (Some y) (Some (record d { tree = t })) read
-            (subst (λ (l : Result Flat StreamFault). IsOkAnd l (λ t. IsDraftOf T y (record d { tree = t }))) g j)))
+      done_as : IsReplayOf T w (record r { blobs = r.blobs ++ inline_blob c; draft = None }) → (left : Result Flat StreamFault) → edited base r at d.tree c ≡ left → IsOkAnd left (Shows T s) → IsOkAnd (command_step base r at (commands.Change c)) (IsReplayOf T z)
+      done_as read (Err f) g j = absurd j
+      done_as read (Ok t) g j =
+          subst (λ (l : Result Replay StreamFault). IsOkAnd l (IsReplayOf T z))
+          (sym (step_is ∙ ap (λ (l : Result Flat StreamFault). l >>= λ t. Ok (record r { blobs = r.blobs ++ inline_blob c; draft = Some (record d { tree = t }) })) g))
+          (subst (λ (a : Replaying). IsReplayOf T a (record r { blobs = r.blobs ++ inline_blob c; draft = Some (record d { tree = t }) })) (sym put)
+          (with_draft T w (record r { blobs = r.blobs ++ inline_blob c; draft = None }) (Some (record x { stage = s })) (Some (record d { tree = t })) read (redrawn t j)))
+
+      by_result : (y : Result Unit StreamFault) → IsChanged S T w s (record r { draft = None }) c (edited base r at d.tree c) y → IsStepped base S T z r (record { at = at; command = commands.Change c }) y
+      by_result (Ok u) k = record { done = done_as k.blobs_read (edited base r at d.tree c) refl k.changed; refused = tt; grown = k.brought }
+      by_result (Err f) k = record { done = tt; refused = refused_as f k.why; grown = k.brought }
+
+      pub change_done : IsStepped base S T z r (record { at = at; command = commands.Change c }) result
+      change_done = by_result result is

@@ -19,9 +19,10 @@ use Rattle.fast_import.specs.Bases.{IsBaseIn, base_in}
 use Rattle.fast_import.specs.Made.{IsMadeOf, IsPutFault}
 use Rattle.fast_import.specs.Replays.{Base, CommitMark, Draft, Replay, begun, command_step, commit_of, committed, entered, first_parent, tree_of, tree_upon, with_branch, with_mark, with_merges}
 use Rattle.fast_import.specs.Replaying.{Replaying, with_head}
-use Rattle.fast_import.specs.Standing.{IsDraftIn, IsDraftOf, IsEnded, IsGivenMark, IsReplayOf, IsStepped, IsTried}
+use Rattle.fast_import.specs.Standing.{IsBegun, IsDraftIn, IsDraftOf, IsEnded, IsGivenMark, IsReplayOf, IsStepped, IsTried, draft_of}
 use Rattle.stream_reader.specs.declared.command.Command.TheVariants as commands
 use Rattle.stream_reader.specs.declared.command.CommitHead.{CommitHead}
+use Rattle.fast_import.specs.declared.draft.Begun.{Begun}
 use Rattle.fast_import.specs.declared.draft.Draft.{Draft as DraftNames}
 use Rattle.fast_import.specs.declared.draft.Ended.{Ended}
 use Rattle.stream_reader.specs.declared.fault.StreamFault.{StreamFault}
@@ -47,36 +48,41 @@ upon_known base r first n t e q = ap (λ (o : Option Name). tree_upon base r (op
 pub with_draft : (S : List Object) (v : Replaying) (r : Replay) (x : Option DraftNames) (d : Option Draft) → IsReplayOf S v r → IsDraftIn S x d → IsReplayOf S (record v { draft = x }) (record r { draft = d })
 with_draft S v r x d h k = record { blobs = h.blobs; commits = h.commits; branches = h.branches; sorted = h.sorted; held = h.held; marks = h.marks; draft = k }
 
-module _ (S : List Object) (v w : Replaying) (r : Replay) (h : IsReplayOf S v r) (commits : List (Bytes × Bytes)) (refs : Refs) (blobs : List Bytes) (b : IsBaseIn S commits refs blobs) (at : ℕ) (head : CommitHead) where
+module _ (S : List Object) (v : Replaying) (r : Replay) (h : IsReplayOf S v r) (commits : List (Bytes × Bytes)) (refs : Refs) (blobs : List Bytes) (b : IsBaseIn S commits refs blobs) (at : ℕ) (head : CommitHead) where
   abbrev base : Base
   base = base_in S commits refs blobs
 
-  pub no_parent : (f : StreamFault) → first_parent base r head ≡ Err f → IsTried S w (command_step base r at (commands.Commit head)) (Err f)
-  no_parent f e = record { done = tt; refused = inl (ap (λ (x : Result (Option Bytes) StreamFault). x >>= λ first. with_merges base r (option_to_list first) head.merges >>= λ parents. Ok (begun base r head first parents)) e) }
+  abbrev left : Result Replay StreamFault
+  left = command_step base r at (commands.Commit head)
+
+  pub no_parent : (f : StreamFault) → first_parent base r head ≡ Err f → IsBegun S v head left (Err f)
+  no_parent f e = record { begins = tt; not_begun = inl (ap (λ (x : Result (Option Bytes) StreamFault). x >>= λ first. with_merges base r (option_to_list first) head.merges >>= λ parents. Ok (begun base r head first parents)) e) }
 
   module _ (first : Option Name) (upon : first_parent base r head ≡ Ok (option_map name_bytes first)) where
-    step_is : command_step base r at (commands.Commit head) ≡ (with_merges base r (option_to_list (option_map name_bytes first)) head.merges >>= λ parents. Ok (begun base r head (option_map name_bytes first) parents))
+    step_is : left ≡ (with_merges base r (option_to_list (option_map name_bytes first)) head.merges >>= λ parents. Ok (begun base r head (option_map name_bytes first) parents))
     step_is = ap (λ (x : Result (Option Bytes) StreamFault). x >>= λ first. with_merges base r (option_to_list first) head.merges >>= λ parents. Ok (begun base r head first parents)) upon
 
-    pub no_merge : (f : StreamFault) → (with_merges base r (option_to_list (option_map name_bytes first)) head.merges ≡ Err f) ⊎ (f ≡ OutOfMemory) → IsTried S w (command_step base r at (commands.Commit head)) (Err f)
-    no_merge f (inl e) = record { done = tt; refused = inl (step_is ∙ ap (λ (x : Result (List Bytes) StreamFault). x >>= λ parents. Ok (begun base r head (option_map name_bytes first) parents)) e) }
-    no_merge f (inr e) = record { done = tt; refused = inr e }
+    pub no_merge : (f : StreamFault) → (with_merges base r (option_to_list (option_map name_bytes first)) head.merges ≡ Err f) ⊎ (f ≡ OutOfMemory) → IsBegun S v head left (Err f)
+    no_merge f (inl e) = record { begins = tt; not_begun = inl (step_is ∙ ap (λ (x : Result (List Bytes) StreamFault). x >>= λ parents. Ok (begun base r head (option_map name_bytes first) parents)) e) }
+    no_merge f (inr e) = record { begins = tt; not_begun = inr e }
 
-    pub no_stage : IsTried S w (command_step base r at (commands.Commit head)) (Err OutOfMemory)
-    no_stage = record { done = tt; refused = inr refl }
+    pub no_stage : IsBegun S v head left (Err OutOfMemory)
+    no_stage = record { begins = tt; not_begun = inr refl }
 
-    pub commit_begun : (x : DraftNames) → x.head ≡ head → with_merges base r (option_to_list (option_map name_bytes first)) head.merges ≡ Ok (map name_bytes x.parents.items)
-        → Shows S x.stage (tree_upon base r (option_map name_bytes first)) → w ≡ record v { draft = Some x } → IsTried S w (command_step base r at (commands.Commit head)) (Ok tt)
-    commit_begun x q e s g = record {
-      done = subst (λ (y : Result Replay StreamFault). IsOkAnd y (IsReplayOf S w)) (sym (step_is ∙ ap (λ (y : Result (List Bytes) StreamFault). y >>= λ parents. Ok (begun base r head (option_map name_bytes first) parents)) e))
-          (subst (λ (u : Replaying). IsReplayOf S u (begun base r head (option_map name_bytes first) (map name_bytes x.parents.items))) (sym g)
-          (with_draft S v r (Some x) (begun base r head (option_map name_bytes first) (map name_bytes x.parents.items)).draft h (record { head = q; parents = refl; held = ps.held; few = ps.few; stage = s })));
-      refused = tt;
+    pub commit_begun : (x : Begun) → with_merges base r (option_to_list (option_map name_bytes first)) head.merges ≡ Ok (map name_bytes x.parents.items)
+        → Shows S x.stage (tree_upon base r (option_map name_bytes first)) → IsBegun S v head left (Ok x)
+    commit_begun x e s = record {
+      begins = subst (λ (y : Result Replay StreamFault). IsOkAnd y (IsReplayOf S (record v { draft = Some (draft_of head x) }))) (sym (step_is ∙ ap (λ (y : Result (List Bytes) StreamFault). y >>= λ parents. Ok (begun base r head (option_map name_bytes first) parents)) e))
+          (with_draft S v r (Some (draft_of head x)) (begun base r head (option_map name_bytes first) (map name_bytes x.parents.items)).draft h (record { of_branch = refl; with_mark = refl; letter = refl; parents = refl; held = ps.held; few = ps.few; stage = s }));
+      not_begun = tt;
     }
       where
         ps : AreParents S v r h commits refs blobs b (map name_bytes x.parents.items)
         ps = merges-there S v r h commits refs blobs b head.merges (option_to_list (option_map name_bytes first)) (map name_bytes x.parents.items)
             (first-parents S v r h commits refs blobs b (option_map name_bytes first) (first-there S v r h commits refs blobs b head (option_map name_bytes first) upon)) e
+
+pub begun_done : (S : List Object) (v w : Replaying) (h : CommitHead) (left : Result Replay StreamFault) (x : Begun) → IsBegun S v h left (Ok x) → w ≡ record v { draft = Some (draft_of h x) } → IsTried S w left (Ok tt)
+begun_done S v w h left x k e = record { done = subst (λ (y : Replaying). IsOkAnd left (IsReplayOf S y)) (sym e) k.begins; refused = tt }
 
 -- ---- a commit ends
 

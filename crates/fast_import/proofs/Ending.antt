@@ -20,9 +20,9 @@ use Rattle.path_trees.specs.declared.found.TreeFault.{TreeFault}
 use Rattle.path_trees.specs.declared.found.TreeFault.TheVariants as trees
 use Rattle.stage_tree.specs.Finished.{HasDirectory}
 use Rattle.fast_import.specs.Made.{IsDirectoryOf, IsMadeOf, IsPutFault}
-use Rattle.fast_import.specs.Replays.{Draft, commit_of, letter_of}
+use Rattle.fast_import.specs.Replays.{Draft, commit_of}
 use Rattle.fast_import.specs.Replaying.{tree_fault}
-use Rattle.fast_import.specs.Standing.{IsCommitIn, IsDraftOf}
+use Rattle.fast_import.specs.Standing.{IsCommitIn, IsDraftOf, letter_by}
 use Rattle.fast_import.proofs.Growing.{all-grown}
 use Rattle.fast_import.proofs.Putting.{fault_as}
 use Rattle.git_objects.specs.Lists.{Each}
@@ -67,18 +67,15 @@ directories_fault T t trees.OutOfMemory h = inl refl
 -- ---- the commit
 
 module _ (S T : List Object) (v : DraftNames) (d : Draft) (h : IsDraftOf S v d) (tree : Name) (whole : IsStore T) (stands : StandsFor T tree.0 d.tree) where
-  letter_is : letter_of v.head ≡ letter_of d.head
-  letter_is = ap letter_of h.head
-
   tree_is : tree_name d.tree ≡ tree.0
   tree_is = ap tree_name (sym stands.map) ∙ (unfolding_law T tree.0 whole stands.held).named
 
   -- the body that is put
-  pub body_is : commit_body (record { tree = tree.0; parents = map name_bytes v.parents.items; letter = letter_of v.head }) ≡ commit_body (snapshot_commit (commit_of d))
-  body_is = λ i. commit_body (record { tree = sym tree_is i; parents = h.parents i; letter = letter_is i })
+  pub body_is : commit_body (record { tree = tree.0; parents = map name_bytes v.parents.items; letter = letter_by v }) ≡ commit_body (snapshot_commit (commit_of d))
+  body_is = λ i. commit_body (record { tree = sym tree_is i; parents = h.parents i; letter = h.letter i })
 
   abbrev put_body : Bytes
-  put_body = commit_body (record { tree = tree.0; parents = map name_bytes v.parents.items; letter = letter_of v.head })
+  put_body = commit_body (record { tree = tree.0; parents = map name_bytes v.parents.items; letter = letter_by v })
 
   object_is : record { kind = CommitKind; body = put_body } ≡ snapshot_object (commit_of d)
   object_is = ap (λ (b : Bytes). record { kind = CommitKind; body = b }) body_is

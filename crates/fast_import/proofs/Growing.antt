@@ -121,11 +121,11 @@ module _ {made : Object → Type 0} (S T : List Object) (g : IsGrownBy made S T)
   mark-grown (Some (names.Commit n)) (Some (BlobMark b)) h = absurd h
   mark-grown (Some (names.Commit n)) (Some (CommitMark c)) h = h
 
-  shows-grown : (v : Staged) (t : Flat) → Shows S v t → Shows T v t
+  pub shows-grown : (v : Staged) (t : Flat) → Shows S v t → Shows T v t
   shows-grown v t h = subst (λ (R : List Object). Shows R v t) g.above (grown_store g.newer S v t (subst IsStore (sym g.above) g.store) h)
 
   pub draft-grown : (v : DraftNames) (d : Draft) → IsDraftOf S v d → IsDraftOf T v d
-  draft-grown v d h = record { head = h.head; parents = h.parents; held = all-grown CommitKind d.parents h.held; few = h.few; stage = shows-grown v.stage d.tree h.stage }
+  draft-grown v d h = record { of_branch = h.of_branch; with_mark = h.with_mark; letter = h.letter; parents = h.parents; held = all-grown CommitKind d.parents h.held; few = h.few; stage = shows-grown v.stage d.tree h.stage }
 
   drafts-grown : (v : Option DraftNames) (d : Option Draft) → IsDraftIn S v d → IsDraftIn T v d
   drafts-grown None None h = tt

@@ -5,6 +5,7 @@ use Rattle.std.specs.Io.KnownBytes.{Consumes, IsAtEnd}
 use Rattle.std.proofs.KnownBytes.{Consumes-nil, Consumes-trans}
 use Rattle.std.proofs.lemmas.List.Folds.{list_all-append}
 use Rattle.git_objects.specs.Paths.{Bytes, is_bytes}
+use Rattle.git_objects.specs.Refs.{Refs}
 use Rattle.git_objects.specs.Results.{◌>>=◌}
 use Rattle.git_objects.proofs.Basics.{and_both}
 use Rattle.object_store.specs.Growth.{IsGrownBy}
@@ -12,6 +13,7 @@ use Rattle.object_store.specs.Objects.{Object, IsStore}
 use Rattle.object_store.proofs.Growth.{grown_as, grown_self, grown_then}
 use Rattle.stream_lex.specs.Lines.{Input}
 use Rattle.stream_lex.proofs.Passing.{grown_twice}
+use Rattle.fast_import.specs.Bases.{IsBaseIn, base_in}
 use Rattle.fast_import.specs.Made.{IsMadeAt, IsMadeBy, IsMadeOn}
 use Rattle.stream_lex.specs.Cutting.{grown}
 use Rattle.stream_reader.specs.Readers.{IsBefore, MayFollow, Reading, came, next_command, verdict_with}
@@ -23,6 +25,7 @@ use Rattle.fast_import.specs.Standing.{IsReplayOf, IsStepped}
 use Rattle.stream_reader.specs.Verdicts.{Verdict, start, stopped, verdict, weight, with_command}
 use Rattle.fast_import.specs.Waited.{waited, waited_from, waited_on, waited_told}
 use Rattle.fast_import.specs.Whole.{IsFed}
+use Rattle.fast_import.proofs.Growing.{base-grown, is_base-grown}
 use Rattle.fast_import.proofs.Taking.{next_near, waited-is}
 use Rattle.stream_reader.specs.declared.command.Placed.{Placed}
 use Rattle.stream_reader.specs.declared.fault.StreamFault.{StreamFault}
@@ -119,6 +122,15 @@ pub record IsSoFar (base : Base) (S T : List Object) (before now : Option Bytes)
   pub came : came rd ≡ length taken
   pub waited : (more : Bytes) → MayFollow rd more true → waited base (taken ++ more) ≡ waited_with base state rd more
   pub near : (more : Bytes) → MayFollow rd more true → length taken ≤ waited_with base state rd more + 33488896
+
+-- what was there before the stream is there still
+pub is_base-so_far : (base : Base) (S T : List Object) (before now : Option Bytes) (rd : Reading) (v : Replaying) → IsSoFar base S T before now rd v → (commits : List (Bytes × Bytes)) (refs : Refs) (blobs : List Bytes) → IsBaseIn S commits refs blobs → IsBaseIn T commits refs blobs
+is_base-so_far base S T before now rd v h commits refs blobs b = is_base-grown {made = IsMadeBy base nothing_yet h.told} S T h.grown commits refs blobs b
+
+pub stepped_so_far : (S T : List Object) (before now : Option Bytes) (rd : Reading) (v : Replaying) (commits : List (Bytes × Bytes)) (refs : Refs) (blobs : List Bytes) → IsBaseIn S commits refs blobs → (h : IsSoFar (base_in S commits refs blobs) S T before now rd v)
+    → (R : List Object) (w : Replaying) (p : Placed) (result : Result Unit StreamFault) → IsStepped (base_in T commits refs blobs) T R w h.state p result → IsStepped (base_in S commits refs blobs) T R w h.state p result
+stepped_so_far S T before now rd v commits refs blobs b h R w p result k =
+    subst (λ (x : Base). IsStepped x T R w h.state p result) (base-grown {made = IsMadeBy (base_in S commits refs blobs) nothing_yet h.told} S T h.grown commits refs blobs b) k
 
 pub nothing_so_far : (base : Base) (S : List Object) (before : Option Bytes) (v : Replaying) → IsStore S → IsReplayOf S v nothing_yet → IsSoFar base S S before before (record { progress = start; input = record { at = 0; rest = [] }; ended = false }) v
 nothing_so_far base S before v s h = record {

@@ -131,6 +131,10 @@ first_parent base r h = said base r h.from >>= λ n. Ok (option_or n (branch r h
 abbrev pub one_more : ℕ → List Bytes → Bytes → Result (List Bytes) StreamFault
 one_more at parents n = if nat_lt (length parents) PARENTS then Ok (parents ++ n ∷ []) else Err (Limit at Parents)
 
+-- with the commit of a line `merge` behind
+abbrev pub one_merge : Base → Replay → List Bytes → CommitRef → Result (List Bytes) StreamFault
+one_merge base r parents m = known base r m >>= λ n. one_more m.at parents n
+
 -- with the commits of the lines `merge` behind, line by line
 abbrev pub with_merges : Base → Replay → List Bytes → List CommitRef → Result (List Bytes) StreamFault
 with_merges base r parents [] = Ok parents

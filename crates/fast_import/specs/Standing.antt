@@ -2,6 +2,7 @@
 use Rattle.std.specs.Prelude.{◌≡◌, ◌⊎◌, ◌≤◌, ⊤, ℕ, true, T, cond, nat_eq, List, [], ◌∷◌, ◌++◌, length, map, OnOk, IfOk, IfErr, IsOkAnd, Option, Some, None, Result, Ok, Err}
 use Rattle.std.specs.FinMap.{is_sorted}
 use Rattle.std.specs.Map.{lookup}
+use Rattle.git_objects.specs.Commits.{Letter}
 use Rattle.git_objects.specs.Lists.{Each}
 use Rattle.git_objects.specs.Parts.{name_bytes}
 use Rattle.git_objects.specs.Paths.{Bytes}
@@ -15,15 +16,17 @@ use Rattle.object_store.specs.Growth.{IsGrownBy, IsOnly}
 use Rattle.object_store.specs.Objects.{Object, find_named, has}
 use Rattle.object_store.specs.StoredSnapshots.{snapshot_object}
 use Rattle.object_store.specs.Unfolding.{StandsFor}
-use Rattle.stage_tree.specs.Stages.{Shows}
+use Rattle.stage_tree.specs.Stages.{Shows, Staged}
 use Rattle.fast_import.specs.Made.{IsBlobAmong, IsMadeAt, IsPutFault, IsRefusal, blob_object}
-use Rattle.fast_import.specs.Replays.{Base, Marked, BlobMark, CommitMark, Draft, Replay, Replayed, blob_inline, commit_of, heads_of, inline_blob, step}
+use Rattle.fast_import.specs.Replays.{Base, Marked, BlobMark, CommitMark, Draft, Replay, Replayed, blob_inline, commit_of, heads_of, inline_blob, letter_of, step}
 use Rattle.fast_import.specs.Replaying.{Replaying, setting_value}
 use Rattle.git_objects.specs.declared.mode.Mode.{Mode}
 use Rattle.git_objects.specs.declared.mode.Mode.TheVariants.{Module}
 use Rattle.stream_reader.specs.declared.command.BlobRef.{BlobRef}
 use Rattle.stream_reader.specs.declared.command.Change.{Change}
+use Rattle.stream_reader.specs.declared.command.CommitHead.{CommitHead}
 use Rattle.stream_reader.specs.declared.command.Placed.{Placed}
+use Rattle.fast_import.specs.declared.draft.Begun.{Begun}
 use Rattle.fast_import.specs.declared.draft.Draft.{Draft as DraftNames}
 use Rattle.fast_import.specs.declared.draft.Ended.{Ended}
 use Rattle.stream_reader.specs.declared.fault.StreamFault.{StreamFault}
@@ -62,9 +65,15 @@ IsMarkIn S (Some (marked.Blob n)) (Some (BlobMark b)) = IsBlobIn S n b
 IsMarkIn S (Some (marked.Commit n)) (Some (CommitMark c)) = n.0 ≡ c
 IsMarkIn S _ _ = ⊥
 
+-- author, committer and message of the commit that is being made
+abbrev pub letter_by : DraftNames → Letter
+letter_by v = record { author = v.author; committer = v.committer; message = v.message }
+
 -- the commit that is being made
 pub record IsDraftOf (S : List Object) (v : DraftNames) (d : Draft) : Type 0 where
-  pub head : v.head ≡ d.head
+  pub of_branch : v.refname ≡ d.head.refname
+  pub with_mark : v.mark ≡ d.head.mark
+  pub letter : letter_by v ≡ letter_of d.head
   pub parents : map name_bytes v.parents.items ≡ d.parents
   pub held : Each (λ n. has CommitKind S n ≡ true) d.parents
   pub few : length d.parents ≤ PARENTS
@@ -102,6 +111,15 @@ pub record IsReplayedOf (S : List Object) (v : ReplayedNames) (g : Replayed) : T
 pub record IsTried (S : List Object) (after : Replaying) (left : Result Replay StreamFault) (result : Result Unit StreamFault) : Type 0 where
   pub done : OnOk result (IsOkAnd left (IsReplayOf S after))
   pub refused : IfErr result (λ f. (left ≡ Err f) ⊎ (f ≡ OutOfMemory))
+
+-- the draft of a commit that begins with this head
+abbrev pub draft_of : CommitHead → Begun → DraftNames
+draft_of h b = record { refname = h.refname; mark = h.mark; author = h.author; committer = h.committer; message = h.message; parents = b.parents; stage = b.stage }
+
+-- a commit begins with these parents and the tree that this stage shows, or the command is refused
+pub record IsBegun (S : List Object) (v : Replaying) (h : CommitHead) (left : Result Replay StreamFault) (result : Result Begun StreamFault) : Type 0 where
+  pub begins : IfOk result (λ b. IsOkAnd left (IsReplayOf S (record v { draft = Some (draft_of h b) })))
+  pub not_begun : IfErr result (λ f. (left ≡ Err f) ⊎ (f ≡ OutOfMemory))
 
 -- a blob was brought
 pub record IsBrought (S S' : List Object) (before after : Replaying) (b : Bytes) (result : Result Name StreamFault) : Type 0 where
@@ -142,14 +160,14 @@ pub record IsGiven (S S' : List Object) (after : Replaying) (r : Replay) (mode :
   pub refused : IfErr result (IsRefusal (IsBlobAmong (blob_inline blob)) S' left)
   pub grown : IsGrownBy (IsBlobAmong (blob_inline blob)) S S'
 
--- the tree of a draft was changed, or it wasn't
-pub record IsChanged (S S' : List Object) (after : Replaying) (r : Replay) (d : Draft) (change : Change) (left : Result Flat StreamFault) (result : Result DraftNames StreamFault) : Type 0 where
-  pub changed : IfOk result (λ v. IsOkAnd left (λ t. IsDraftOf S' v (record d { tree = t })))
+-- the tree that a stage shows was changed, or it wasn't
+pub record IsChanged (S S' : List Object) (after : Replaying) (stage : Staged) (r : Replay) (change : Change) (left : Result Flat StreamFault) (result : Result Unit StreamFault) : Type 0 where
+  pub changed : OnOk result (IsOkAnd left (Shows S' stage))
   pub blobs_read : OnOk result (IsReplayOf S' after (record r { blobs = r.blobs ++ inline_blob change }))
   pub why : IfErr result (IsRefusal (IsBlobAmong (inline_blob change)) S' left)
   pub brought : IsGrownBy (IsBlobAmong (inline_blob change)) S S'
 
--- the tree of a draft was changed by an edit that reads no blob, or it wasn't
-pub record IsRedrawn (S : List Object) (d : Draft) (left : Result Flat StreamFault) (result : Result DraftNames StreamFault) : Type 0 where
-  pub drawn : IfOk result (λ v. IsOkAnd left (λ t. IsDraftOf S v (record d { tree = t })))
+-- the tree that a stage shows was changed by an edit that reads no blob, or it wasn't
+pub record IsRedrawn (S : List Object) (stage : Staged) (left : Result Flat StreamFault) (result : Result Unit StreamFault) : Type 0 where
+  pub drawn : OnOk result (IsOkAnd left (Shows S stage))
   pub not_drawn : IfErr result (λ f. (left ≡ Err f) ⊎ (f ≡ OutOfMemory))

@@ -2,27 +2,27 @@
 ghost use Rattle.std.specs.Prelude.{◌≡◌, ◌||◌, true, List};
 ghost use Rattle.std.specs.List.{list_any};
 ghost use Rattle.git_objects.specs.Paths.{same_bytes};
+ghost use Rattle.git_objects.specs.Trees.{Flat};
 ghost use Rattle.git_objects.specs.declared.mode.Mode.{Mode};
 ghost use Rattle.object_store.specs.Objects.{IsStore, Object};
+ghost use Rattle.stage_tree.specs.Stages.{Shows};
 ghost use Rattle.fast_import.specs.Bases.{IsBaseIn, base_in};
-ghost use Rattle.fast_import.specs.Replays.{Base as BaseOf, Draft as DraftOf, Replay as ReplayOf, edited};
+ghost use Rattle.fast_import.specs.Replays.{Base as BaseOf, Replay as ReplayOf, edited};
 ghost use Rattle.fast_import.specs.Replays.{given_bytes};
 ghost use Rattle.stream_reader.specs.Replayable.{is_fit, is_replayable};
 ghost use Rattle.fast_import.specs.Replaying.{is_named};
-ghost use Rattle.fast_import.specs.Standing.{Gives, IsChanged, IsDraftOf, IsGiven, IsLeafIn};
+ghost use Rattle.fast_import.specs.Standing.{Gives, IsChanged, IsGiven, IsLeafIn};
 ghost use Rattle.fast_import.specs.Standing.{IsReplayOf, IsStepped};
 ghost use Rattle.stream_reader.specs.declared.command.BlobRef.TheVariants.{Digits, Mark};
 ghost use Rattle.stream_reader.specs.declared.command.Command.TheVariants.{Change as ChangeCommand};
-ghost use Rattle.stream_reader.specs.declared.command.Change.TheVariants.{Modify};
 
-use crate::draft::Draft;
-use crate::edits::{doubled, emptied, moved, with_leaf, without};
+use crate::edits::{copy_path, move_path, remove_path, set_leaf};
 use crate::marks::Marked;
 use crate::{Base, BlobRef, Change, Replay, StreamFault};
 use git_objects::{Mode, Name};
 use object_store::Store;
-use path_names::Path;
 use path_trees::Leaf;
+use stage_tree::Stage;
 
 impl Replay {
     // Whether a blob of that name was read or known before.
@@ -93,60 +93,39 @@ impl Replay {
         }
     }
 
-    // The draft in which a change puts a blob or a module at a path.
-    fn modified<B: Base>(
-        &mut self,
-        base: &B,
-        store: &mut Store,
-        at: u64,
-        draft: Draft,
-        mode: Mode,
-        blob: &BlobRef,
-        path: &Path,
-    ) -> Result<Draft, StreamFault>
-        requires store { IsStore store.old }
-        requires base { IsBaseIn store.old (B.commits base.now) (B.refs base.now) (B.blobs base.now) }
-        requires fit { is_fit mode blob.now ≡ true }
-        requires so_far { (r : ReplayOf) × IsReplayOf store.old self.old r }
-        requires draft { (d : DraftOf) × IsDraftOf store.old draft d }
-        ensures { (r : ReplayOf) (d : DraftOf) → IsReplayOf store.old self.old r → IsDraftOf store.old draft d →
-            IsChanged store.old store.new self.new r d (Modify mode blob.now path.now)
-            (edited (base_in store.old (B.commits base.now) (B.refs base.now) (B.blobs base.now)) r at d.tree
-            (Modify mode blob.now path.now)) result }
-    {
-        match self.given(base, store, at, mode, blob) {
-            Err(fault) => Err(fault),
-            Ok(name) => with_leaf(store, at, draft, path, Leaf { mode, name }),
-        }
-    }
-
-    // The draft with a change of its tree.
+    // Edits the tree of the commit that is being made.
     fn edited<B: Base>(
         &mut self,
         base: &B,
         store: &mut Store,
         at: u64,
-        draft: Draft,
+        stage: &mut Stage,
         change: &Change,
-    ) -> Result<Draft, StreamFault>
+    ) -> Result<(), StreamFault>
         requires store { IsStore store.old }
         requires base { IsBaseIn store.old (B.commits base.now) (B.refs base.now) (B.blobs base.now) }
         requires fit { is_replayable (ChangeCommand change.now) ≡ true }
         requires so_far { (r : ReplayOf) × IsReplayOf store.old self.old r }
-        requires draft { (d : DraftOf) × IsDraftOf store.old draft d }
-        ensures { (r : ReplayOf) (d : DraftOf) → IsReplayOf store.old self.old r → IsDraftOf store.old draft d →
-            IsChanged store.old store.new self.new r d change.now
-            (edited (base_in store.old (B.commits base.now) (B.refs base.now) (B.blobs base.now)) r at d.tree
+        requires stage { (t : Flat) × Shows store.old stage.old t }
+        ensures { (r : ReplayOf) (t : Flat) → IsReplayOf store.old self.old r → Shows store.old stage.old t →
+            IsChanged store.old store.new self.new stage.new r change.now
+            (edited (base_in store.old (B.commits base.now) (B.refs base.now) (B.blobs base.now)) r at t
             change.now) result }
     {
         match change {
             Change::Modify { mode, blob, path } => {
-                self.modified(base, store, at, draft, *mode, blob, path)
+                match self.given(base, store, at, *mode, blob) {
+                    Err(fault) => Err(fault),
+                    Ok(name) => set_leaf(stage, store, at, path, Leaf { mode: *mode, name }),
+                }
             }
-            Change::Delete { path } => without(store, draft, path),
-            Change::Rename { from, to } => moved(store, at, draft, from, to),
-            Change::Copy { from, to } => doubled(store, at, draft, from, to),
-            Change::DeleteAll => Ok(emptied(draft)),
+            Change::Delete { path } => remove_path(stage, store, path),
+            Change::Rename { from, to } => move_path(stage, store, at, from, to),
+            Change::Copy { from, to } => copy_path(stage, store, at, from, to),
+            Change::DeleteAll => {
+                stage.clear();
+                Ok(())
+            }
         }
     }
 
@@ -166,15 +145,11 @@ impl Replay {
             (base_in store.old (B.commits base.now) (B.refs base.now) (B.blobs base.now))
             store.old store.new self.new r (record { at = at; command = ChangeCommand change.now }) result }
     {
-        let Some(draft) = self.take_draft() else {
+        let Some(mut draft) = self.take_draft() else {
             return Err(StreamFault::Syntax { at });
         };
-        match self.edited(base, store, at, draft, change) {
-            Err(fault) => Err(fault),
-            Ok(draft) => {
-                self.draft = Some(draft);
-                Ok(())
-            }
-        }
+        let changed = self.edited(base, store, at, &mut draft.stage, change);
+        self.put_draft(draft);
+        changed
     }
 }

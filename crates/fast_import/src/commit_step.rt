@@ -12,11 +12,11 @@ ghost use Rattle.fast_import.specs.Made.{IsDirectoryOf, IsMadeOf, IsPutFault};
 ghost use Rattle.fast_import.specs.Replays.{Base as BaseOf, Draft as DraftOf, Replay as ReplayOf};
 ghost use Rattle.fast_import.specs.Replays.{command_step, commit_of, entered, tree_upon};
 ghost use Rattle.fast_import.specs.Replaying.{tree_fault};
-ghost use Rattle.fast_import.specs.Standing.{IsDraftOf, IsEnded, IsReplayOf, IsStepped, IsTried};
+ghost use Rattle.fast_import.specs.Standing.{IsBegun, IsDraftOf, IsEnded, IsReplayOf, IsStepped, IsTried};
 ghost use Rattle.stream_reader.specs.declared.command.Command.TheVariants.{Commit, CommitEnd};
 ghost use Rattle.stream_reader.specs.declared.fault.StreamFault.TheVariants.{OutOfMemory};
 
-use crate::draft::{Draft, Ended};
+use crate::draft::{Begun, Draft, Ended, draft_of};
 use crate::marks::Marked;
 use crate::puts::put_commit;
 use crate::{Base, CommitHead, Made, Replay, StreamFault};
@@ -51,6 +51,33 @@ impl Replay {
         }
     }
 
+    // The parents of a commit that begins, and the tree of the first one.
+    fn begun<B: Base>(
+        &self,
+        base: &B,
+        store: &Store,
+        head: &CommitHead,
+    ) -> Result<Begun, StreamFault>
+        requires base { IsBaseIn store.now (B.commits base.now) (B.refs base.now) (B.blobs base.now) }
+        requires so_far { (r : ReplayOf) × IsReplayOf store.now self.now r }
+        ensures { (at : ℕ) (r : ReplayOf) → IsReplayOf store.now self.now r → IsBegun store.now self.now head.now
+            (command_step (base_in store.now (B.commits base.now) (B.refs base.now) (B.blobs base.now)) r at
+            (Commit head.now)) result }
+    {
+        let first = match self.first_parent(base, head) {
+            Err(fault) => return Err(fault),
+            Ok(first) => first,
+        };
+        let parents = match self.with_merges(base, first, head.merges.refs()) {
+            Err(fault) => return Err(fault),
+            Ok(parents) => parents,
+        };
+        match self.stage_upon(base, store, first) {
+            Err(_) => Err(StreamFault::OutOfMemory),
+            Ok(stage) => Ok(Begun { parents, stage }),
+        }
+    }
+
     // A commit begins, upon its first parent.
     pub(crate) fn commit<B: Base>(
         &mut self,
@@ -63,24 +90,20 @@ impl Replay {
         ensures { (at : ℕ) (r : ReplayOf) → IsReplayOf store.now self.old r → IsTried store.now self.new (command_step
             (base_in store.now (B.commits base.now) (B.refs base.now) (B.blobs base.now)) r at (Commit head)) result }
     {
-        let first = match self.first_parent(base, &head) {
-            Err(fault) => return Err(fault),
-            Ok(first) => first,
-        };
-        let parents = match self.with_merges(base, first, head.merges.refs()) {
-            Err(fault) => return Err(fault),
-            Ok(parents) => parents,
-        };
-        let stage = match self.stage_upon(base, store, first) {
-            Err(_) => return Err(StreamFault::OutOfMemory),
-            Ok(stage) => stage,
-        };
-        self.draft = Some(Draft {
-            head,
-            parents,
-            stage,
-        });
-        Ok(())
+        match self.begun(base, store, &head) {
+            Err(fault) => Err(fault),
+            Ok(begun) => {
+                self.put_draft(draft_of(head, begun));
+                Ok(())
+            }
+        }
+    }
+
+    // This commit is being made, and no other.
+    pub(crate) fn put_draft(&mut self, draft: Draft)
+        ensures { self.new ≡ record self.old { draft = Some draft } }
+    {
+        self.draft = Some(draft);
     }
 
     fn add_commit(&mut self, made: Made) -> Result<(), StreamFault>
@@ -173,7 +196,11 @@ fn end_of(alloc: Global, store: &mut Store, draft: Draft) -> Result<Ended, Strea
         IsGrownBy (IsMadeOf (Some d)) store.old store.new }
 {
     let Draft {
-        head,
+        refname,
+        mark,
+        author,
+        committer,
+        message,
         parents,
         mut stage,
     } = draft;
@@ -181,15 +208,6 @@ fn end_of(alloc: Global, store: &mut Store, draft: Draft) -> Result<Ended, Strea
         Err(fault) => return Err(fault),
         Ok(tree) => tree,
     };
-    let CommitHead {
-        refname,
-        mark,
-        author,
-        committer,
-        message,
-        from: _,
-        merges: _,
-    } = head;
     let parts = CommitParts {
         tree,
         parents,

@@ -1,5 +1,5 @@
 // Edits of the tree of the commit that is being made.
-ghost use Rattle.std.specs.Prelude.{◌≡◌, ◌<◌, true, [], List, Err, Ok};
+ghost use Rattle.std.specs.Prelude.{◌≡◌, ◌<◌, true, List, Ok};
 ghost use Rattle.git_objects.specs.Results.{refused_by};
 ghost use Rattle.git_objects.specs.Trees.{Flat, remove};
 ghost use Rattle.object_store.specs.Objects.{Object, has_child};
@@ -7,12 +7,10 @@ ghost use Rattle.path_trees.specs.Standing.{node};
 ghost use Rattle.path_trees.specs.declared.found.Found.{Found};
 ghost use Rattle.stage_tree.specs.Edits.{IsEdited, copied, renamed, set_in};
 ghost use Rattle.stage_tree.specs.Stages.{Shows};
-ghost use Rattle.fast_import.specs.Replays.{Draft as DraftOf};
 ghost use Rattle.fast_import.specs.Replaying.{fault_at};
-ghost use Rattle.fast_import.specs.Standing.{IsDraftOf, IsRedrawn};
+ghost use Rattle.fast_import.specs.Standing.{IsRedrawn};
 
 use crate::StreamFault;
-use crate::draft::Draft;
 use git_objects::{Quantity, Steps};
 use object_store::Store;
 use path_names::Path;
@@ -43,36 +41,34 @@ fn fault_at(at: u64, fault: StageFault) -> StreamFault
     }
 }
 
-// The draft with a leaf at a path.
-pub(crate) fn with_leaf(
+// Puts a leaf at a path.
+pub(crate) fn set_leaf(
+    stage: &mut Stage,
     store: &Store,
     at: u64,
-    draft: Draft,
     path: &Path,
     leaf: Leaf,
-) -> Result<Draft, StreamFault>
+) -> Result<(), StreamFault>
     requires leaf { has_child store.now leaf.mode leaf.name.0 ≡ true }
-    requires draft { (d : DraftOf) × IsDraftOf store.now draft d }
-    ensures { (d : DraftOf) → IsDraftOf store.now draft d → IsRedrawn store.now d (refused_by (fault_at at)
-        (set_in d.tree path.now (node store.now (record { mode = leaf.mode; name = leaf.name })))) result }
+    requires stage { (t : Flat) × Shows store.now stage.old t }
+    ensures { (t : Flat) → Shows store.now stage.old t → IsRedrawn store.now stage.new (refused_by (fault_at at)
+        (set_in t path.now (node store.now (record { mode = leaf.mode; name = leaf.name })))) result }
 {
-    let mut draft = draft;
-    match draft.stage.set(store, path, leaf) {
+    match stage.set(store, path, leaf) {
         Err(fault) => Err(fault_at(at, fault)),
-        Ok(()) => Ok(draft),
+        Ok(()) => Ok(()),
     }
 }
 
-// The draft without a path.
-pub(crate) fn without(store: &Store, draft: Draft, path: &Path) -> Result<Draft, StreamFault>
-    requires { (d : DraftOf) × IsDraftOf store.now draft d }
-    ensures { (d : DraftOf) → IsDraftOf store.now draft d →
-        IsRedrawn store.now d (Ok (remove d.tree path.now)) result }
+// Removes a path.
+pub(crate) fn remove_path(stage: &mut Stage, store: &Store, path: &Path) -> Result<(), StreamFault>
+    requires { (t : Flat) × Shows store.now stage.old t }
+    ensures { (t : Flat) → Shows store.now stage.old t →
+        IsRedrawn store.now stage.new (Ok (remove t path.now)) result }
 {
-    let mut draft = draft;
-    match draft.stage.remove(store, path) {
+    match stage.remove(store, path) {
         Err(_) => Err(StreamFault::OutOfMemory),
-        Ok(()) => Ok(draft),
+        Ok(()) => Ok(()),
     }
 }
 
@@ -95,50 +91,38 @@ fn rename<L: Ledger>(
     stage.rename(store, from, to, &mut steps)
 }
 
-// The draft in which what stands at a path was moved to another one.
-pub(crate) fn moved(
+// Moves what stands at a path to another one.
+pub(crate) fn move_path(
+    stage: &mut Stage,
     store: &Store,
     at: u64,
-    draft: Draft,
     from: &Path,
     to: &Path,
-) -> Result<Draft, StreamFault>
-    requires { (d : DraftOf) × IsDraftOf store.now draft d }
-    ensures { (d : DraftOf) → IsDraftOf store.now draft d → IsRedrawn store.now d
-        (refused_by (fault_at at) (renamed d.tree from.now to.now)) result }
+) -> Result<(), StreamFault>
+    requires { (t : Flat) × Shows store.now stage.old t }
+    ensures { (t : Flat) → Shows store.now stage.old t → IsRedrawn store.now stage.new
+        (refused_by (fault_at at) (renamed t from.now to.now)) result }
 {
-    let mut draft = draft;
-    match rename::<Brand>(&mut draft.stage, store, from, to, Blank::new(1)) {
+    match rename::<Brand>(stage, store, from, to, Blank::new(1)) {
         Err(fault) => Err(fault_at(at, fault)),
-        Ok(()) => Ok(draft),
+        Ok(()) => Ok(()),
     }
 }
 
-// The draft in which what stands at a path was put at another one too.
-pub(crate) fn doubled(
+// Puts what stands at a path at another one too.
+pub(crate) fn copy_path(
+    stage: &mut Stage,
     store: &Store,
     at: u64,
-    draft: Draft,
     from: &Path,
     to: &Path,
-) -> Result<Draft, StreamFault>
-    requires { (d : DraftOf) × IsDraftOf store.now draft d }
-    ensures { (d : DraftOf) → IsDraftOf store.now draft d → IsRedrawn store.now d
-        (refused_by (fault_at at) (copied d.tree from.now to.now)) result }
+) -> Result<(), StreamFault>
+    requires { (t : Flat) × Shows store.now stage.old t }
+    ensures { (t : Flat) → Shows store.now stage.old t → IsRedrawn store.now stage.new
+        (refused_by (fault_at at) (copied t from.now to.now)) result }
 {
-    let mut draft = draft;
-    match draft.stage.copy(store, from, to) {
+    match stage.copy(store, from, to) {
         Err(fault) => Err(fault_at(at, fault)),
-        Ok(()) => Ok(draft),
+        Ok(()) => Ok(()),
     }
-}
-
-// The draft without any path.
-pub(crate) fn emptied(draft: Draft) -> Draft
-    ensures { (S : List Object) (d : DraftOf) → IsDraftOf S draft d →
-        IsDraftOf S result (record d { tree = [] }) }
-{
-    let mut draft = draft;
-    draft.stage.clear();
-    draft
 }

@@ -7,7 +7,7 @@ ghost use Rattle.object_store.specs.Objects.{Object, has};
 ghost use Rattle.object_store.specs.Unfolding.{flat};
 ghost use Rattle.fast_import.specs.Bases.{IsBaseIn, base_in};
 ghost use Rattle.fast_import.specs.Replays.{Replay as ReplayOf, first_parent, known, named_parent, said, tree_of};
-ghost use Rattle.fast_import.specs.Replays.{with_merges};
+ghost use Rattle.fast_import.specs.Replays.{one_merge, with_merges};
 ghost use Rattle.fast_import.specs.Replaying.{Answers, AnswersIfRoom};
 ghost use Rattle.fast_import.specs.Standing.{IsReplayOf};
 
@@ -93,6 +93,29 @@ impl Replay {
         }
     }
 
+    // Adds the commit of a line `merge` to the parents.
+    fn add_merge<B: Base>(
+        &self,
+        base: &B,
+        parents: &mut Vec<Name>,
+        merge: &CommitRef,
+    ) -> Result<(), StreamFault>
+        ensures { (S : List Object) (r : ReplayOf) → IsReplayOf S self.now r →
+            AnswersIfRoom (λ _. map name_bytes parents.new.items) result
+            (one_merge (base_in S (B.commits base.now) (B.refs base.now) (B.blobs base.now)) r
+            (map name_bytes parents.old.items) merge.now) }
+    {
+        let name = self.known(base, merge)?;
+        if parents.len() >= PARENTS {
+            return Err(StreamFault::Limit {
+                at: merge.at,
+                which: Quantity::Parents,
+            });
+        }
+        parents.push(name)?;
+        Ok(())
+    }
+
     // The parents of a commit: the first one, and those of its lines `merge`.
     pub(crate) fn with_merges<B: Base>(
         &self,
@@ -110,14 +133,7 @@ impl Replay {
             parents.push(name)?;
         }
         for merge in merges {
-            let name = self.known(base, merge)?;
-            if parents.len() >= PARENTS {
-                return Err(StreamFault::Limit {
-                    at: merge.at,
-                    which: Quantity::Parents,
-                });
-            }
-            parents.push(name)?;
+            self.add_merge(base, &mut parents, merge)?;
         }
         Ok(parents)
     }

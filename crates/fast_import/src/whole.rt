@@ -45,35 +45,34 @@ pub fn replay_all<S: Source, B: Base>(
     ensures told { S.tells input.new ↔ S.tells input.old }
     ensures cause { Counts (S.faults input.old) (S.faults input.new) (IsErrOf result ReplayError.ReadFault) }
 {
-    let mut piece = [0u8; PIECE];
-    replay_by(alloc, input, base, store, &mut piece)
+    let mut replay = Replay::new(alloc);
+    match replay_by(alloc, input, base, store, &mut replay) {
+        Err(error) => Err(error),
+        Ok(()) => Ok(replay.finish()),
+    }
 }
 
-// Replays a stream, read in pieces of at most the buffer's length.
+// Replays a stream. Nothing has been replayed.
 fn replay_by<S: Source, B: Base>(
     alloc: Global,
     input: &mut S,
     base: &B,
     store: &mut Store,
-    piece: &mut [u8],
-) -> Result<Replayed, ReplayError>
+    replay: &mut Replay,
+) -> Result<(), ReplayError>
     requires base { IsBaseIn store.old (B.commits base.now) (B.refs base.now) (B.blobs base.now) }
-    requires some { 0 < length piece.old }
-    requires few { length piece.old ≤ 65536 }
-    ensures stream { (all : List ℕ) × (is_bytes all ≡ true) × IfSome (S.left input.old) (λ bytes. bytes ≡ all) × IsWhole
-        (base_in store.old (B.commits base.now) (B.refs base.now) (B.blobs base.now)) store.old store.new all result }
+    requires nothing { (S : List Object) → IsReplayOf S replay.old nothing_yet }
+    ensures stream { (all : List ℕ) × (is_bytes all ≡ true) × IfSome (S.left input.old) (λ bytes. bytes ≡ all) ×
+        IsWholeBy (base_in store.old (B.commits base.now) (B.refs base.now) (B.blobs base.now))
+        store.old store.new all replay.new result }
     ensures taken { IsTaken (base_in store.old (B.commits base.now) (B.refs base.now) (B.blobs base.now))
         (S.left input.old) (S.left input.new) result }
-    ensures few { IfOk result (λ g. length g.commits.items ≤ STREAM_BYTES) }
     ensures told { S.tells input.new ↔ S.tells input.old }
     ensures cause { Counts (S.faults input.old) (S.faults input.new) (IsErrOf result ReplayError.ReadFault) }
 {
+    let mut piece = [0u8; PIECE];
     let mut reader = Reader::new(alloc);
-    let mut replay = Replay::new(alloc);
-    match replay_with(input, base, store, piece, &mut reader, &mut replay) {
-        Err(error) => Err(error),
-        Ok(()) => Ok(replay.finish()),
-    }
+    replay_with(input, base, store, &mut piece, &mut reader, replay)
 }
 
 // Replays what a reader tells, up to its end. It has told nothing yet, and nothing has been replayed.
@@ -86,8 +85,7 @@ fn replay_with<S: Source, B: Base>(
     replay: &mut Replay,
 ) -> Result<(), ReplayError>
     requires base { IsBaseIn store.old (B.commits base.now) (B.refs base.now) (B.blobs base.now) }
-    requires some { 0 < length piece.old }
-    requires few { length piece.old ≤ 65536 }
+    requires size { (0 < length piece.old) × (length piece.old ≤ 65536) }
     requires unread { reader.old ≡ unread }
     requires nothing { (S : List Object) → IsReplayOf S replay.old nothing_yet }
     ensures stream { (all : List ℕ) × (is_bytes all ≡ true) × IfSome (S.left input.old) (λ bytes. bytes ≡ all) ×

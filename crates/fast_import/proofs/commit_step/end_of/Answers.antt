@@ -1,5 +1,3 @@
-use Rattle.std.proofs.Common.{ap}
-use Rattle.stream_reader.specs.declared.command.CommitHead.{CommitHead}
 use Rattle.fast_import.proofs.Ending.{commit_fault, commit_grown, commit_in, parents_there, tree_clash, tree_grown}
 use Rattle.fast_import.proofs.commit_step.end_of.Goals as goal
 
@@ -23,14 +21,14 @@ pub returns-in-Err-put_commit-clause-store : goal.returns-in-Err-put_commit-clau
 returns-in-Err-put_commit-clause-store c = λ d h.
     commit_grown c.args.store.now c.finished.new.store c.args.draft d h c.in-Ok.tree (c.finished.ensures.store d.tree h.stage).store (c.in-Ok.ensures.ok d.tree h.stage) c.put_commit.new.store (c.finished.ensures.store d.tree h.stage) c.put_commit.ensures.store
 
-pub returns-clause-store : goal.returns-clause-store
-returns-clause-store c = λ d h.
+pub returns-in-Ok-put_commit-clause-store : goal.returns-in-Ok-put_commit-clause-store
+returns-in-Ok-put_commit-clause-store c = λ d h.
     commit_grown c.args.store.now c.finished.new.store c.args.draft d h c.in-Ok.tree (c.finished.ensures.store d.tree h.stage).store (c.in-Ok.ensures.ok d.tree h.stage) c.put_commit.new.store (c.finished.ensures.store d.tree h.stage) c.put_commit.ensures.store
 
-pub returns-clause-ok : goal.returns-clause-ok
-returns-clause-ok c = λ d h. record {
+pub returns-in-Ok-put_commit-clause-ok : goal.returns-in-Ok-put_commit-clause-ok
+returns-in-Ok-put_commit-clause-ok c = λ d h. record {
   made_commit = commit_in c.args.store.now c.finished.new.store c.args.draft d h c.in-Ok.tree (c.finished.ensures.store d.tree h.stage).store (c.in-Ok.ensures.ok d.tree h.stage) c.put_commit.new.store c.in-Ok-put_commit.name c.put_commit.ensures.store
       c.in-Ok-put_commit.ensures.ok.0 c.in-Ok-put_commit.ensures.ok.1;
-  on_branch = ap (λ (x : CommitHead). x.refname) h.head;
-  at_mark = ap (λ (x : CommitHead). x.mark) h.head;
+  on_branch = h.of_branch;
+  at_mark = h.with_mark;
 }

@@ -3,13 +3,10 @@ use Rattle.git_objects.specs.declared.limits.TheConstants.{STREAM_BYTES}
 use Rattle.fast_import.specs.Bases.{base_in}
 use Rattle.stream_reader.specs.Readers.{Follows, OnMore, Reading, TellsNext, came}
 use Rattle.stream_reader.specs.Waited.{IsNear}
-use Rattle.fast_import.specs.Replays.{Base}
 use Rattle.fast_import.specs.declared.replayed.Replayed.{Replayed}
 use Rattle.fast_import.specs.declared.whole.ReplayError.TheVariants.{Stream}
-use Rattle.fast_import.specs.Standing.{IsStepped}
 use Rattle.stream_reader.specs.declared.reader.Next.{Next}
-use Rattle.fast_import.proofs.Growing.{base-grown, is_base-grown}
-use Rattle.fast_import.proofs.Running.{IsSoFar, fed_waiting, nothing_so_far, one_more}
+use Rattle.fast_import.proofs.Running.{IsSoFar, fed_waiting, is_base-so_far, nothing_so_far, one_more, stepped_so_far}
 use Rattle.fast_import.proofs.Stopping.{ahead, ahead_fed, all, all_bytes, all_given, all_told, feeding_refused, more_open, reading_refused, step_refused, taken_feeding, taken_given, taken_refused, within_fed}
 use Rattle.fast_import.proofs.whole.replay_with.Goals as goal
 
@@ -43,7 +40,7 @@ returns-in-Ok-Ended-clause-stream g c =
 pub step-requires-clause-base : goal.step-requires-clause-base
 step-requires-clause-base g c =
     let h = c.stream.invariant.so_far in
-    is_base-grown c.args.store.now c.stream.store h.grown (g.B.Base.commits c.args.base.now) (g.B.Base.refs c.args.base.now) (g.B.Base.blobs c.args.base.now) c.requires.base
+    is_base-so_far (base_in c.args.store.now (g.B.Base.commits c.args.base.now) (g.B.Base.refs c.args.base.now) (g.B.Base.blobs c.args.base.now)) c.args.store.now c.stream.store (g.S.Source.left c.args.input.now) (g.S.Source.left c.stream.input) c.stream.reader c.stream.replay h (g.B.Base.commits c.args.base.now) (g.B.Base.refs c.args.base.now) (g.B.Base.blobs c.args.base.now) c.requires.base
 
 pub returns-in-Err-step-clause-stream : goal.returns-in-Err-step-clause-stream
 returns-in-Err-step-clause-stream g c =
@@ -55,7 +52,7 @@ returns-in-Err-step-clause-stream g c =
       step_refused (base_in c.args.store.now (g.B.Base.commits c.args.base.now) (g.B.Base.refs c.args.base.now) (g.B.Base.blobs c.args.base.now)) c.args.store.now c.stream.store (g.S.Source.left c.args.input.now) (g.S.Source.left c.stream.input) c.stream.reader c.stream.replay h p c.next.new.self
           (subst (λ (n : Next). Follows (Ok n) c.stream.reader c.next.new.self) c.in-Ok-Command.field-0-is c.in-Ok-Command.ensures.follows)
           c.step.new.store c.step.new.self c.in-Err-step.fault
-          (subst (λ (x : Base). IsStepped x c.stream.store c.step.new.store c.step.new.self h.state p (Err c.in-Err-step.fault)) (base-grown c.args.store.now c.stream.store h.grown (g.B.Base.commits c.args.base.now) (g.B.Base.refs c.args.base.now) (g.B.Base.blobs c.args.base.now) c.requires.base) (c.in-Err-step.ensures h.state h.stands)),
+          (stepped_so_far c.args.store.now c.stream.store (g.S.Source.left c.args.input.now) (g.S.Source.left c.stream.input) c.stream.reader c.stream.replay (g.B.Base.commits c.args.base.now) (g.B.Base.refs c.args.base.now) (g.B.Base.blobs c.args.base.now) c.requires.base h c.step.new.store c.step.new.self p (Err c.in-Err-step.fault) (c.in-Err-step.ensures h.state h.stands)),
     )
 
 pub stream-preserved-in-Ok : goal.stream-preserved-in-Ok
@@ -67,7 +64,7 @@ stream-preserved-in-Ok g c =
       so_far = one_more (base_in c.args.store.now (g.B.Base.commits c.args.base.now) (g.B.Base.refs c.args.base.now) (g.B.Base.blobs c.args.base.now)) c.args.store.now c.stream.store (g.S.Source.left c.args.input.now) (g.S.Source.left c.stream.input) c.stream.reader c.next.new.self c.stream.replay h p t.0 t.1 c.in-Ok-Command.ensures.came
           (subst (λ (n : Next). Follows (Ok n) c.stream.reader c.next.new.self) c.in-Ok-Command.field-0-is c.in-Ok-Command.ensures.follows)
           c.step.new.store c.step.new.self
-          (subst (λ (x : Base). IsStepped x c.stream.store c.step.new.store c.step.new.self h.state p (Ok c.in-Ok.field-0)) (base-grown c.args.store.now c.stream.store h.grown (g.B.Base.commits c.args.base.now) (g.B.Base.refs c.args.base.now) (g.B.Base.blobs c.args.base.now) c.requires.base) (c.in-Ok.ensures h.state h.stands));
+          (stepped_so_far c.args.store.now c.stream.store (g.S.Source.left c.args.input.now) (g.S.Source.left c.stream.input) c.stream.reader c.stream.replay (g.B.Base.commits c.args.base.now) (g.B.Base.refs c.args.base.now) (g.B.Base.blobs c.args.base.now) c.requires.base h c.step.new.store c.step.new.self p (Ok c.in-Ok.field-0) (c.in-Ok.ensures h.state h.stands));
       told = c.stream.invariant.told;
       later = c.stream.invariant.later;
       within = omega (arith, c.in-Ok-Command.ensures.came, c.stream.invariant.within);
@@ -90,7 +87,7 @@ pub stream-smaller : goal.stream-smaller
 stream-smaller g c =
     let t = subst (λ (n : Next). TellsNext (Ok n) c.stream.reader c.next.new.self) c.in-Ok-More.field-0-is c.in-Ok-More.ensures.told in
     let w = subst (λ (n : Next). OnMore (Ok n) (came c.stream.reader ≤ STREAM_BYTES)) c.in-Ok-More.field-0-is c.in-Ok-More.ensures.more in
-    let s : ahead c.feed_on.new.reader < ahead c.stream.reader = ahead_fed (g.S.Source.left c.stream.input) (g.S.Source.left c.feed_on.new.input) c.stream.reader c.next.new.self c.feed_on.new.reader _ c.in-Ok-More.ensures.came t.1.ended (more_open c.stream.reader c.next.new.self t) w (omega (arith, c.requires.few, c.stream.auto.piece)) c.in-Ok-feed_on.ensures.fed in
+    let s : ahead c.feed_on.new.reader < ahead c.stream.reader = ahead_fed (g.S.Source.left c.stream.input) (g.S.Source.left c.feed_on.new.input) c.stream.reader c.next.new.self c.feed_on.new.reader _ c.in-Ok-More.ensures.came t.1.ended (more_open c.stream.reader c.next.new.self t) w (omega (arith, c.requires.size.1, c.stream.auto.piece)) c.in-Ok-feed_on.ensures.fed in
     s
 
 pub stream-preserved : goal.stream-preserved
@@ -99,13 +96,13 @@ stream-preserved g c =
     let t = subst (λ (n : Next). TellsNext (Ok n) c.stream.reader c.next.new.self) c.in-Ok-More.field-0-is c.in-Ok-More.ensures.told in
     let w = subst (λ (n : Next). OnMore (Ok n) (came c.stream.reader ≤ STREAM_BYTES)) c.in-Ok-More.field-0-is c.in-Ok-More.ensures.more in
     record {
-      so_far = fed_waiting (base_in c.args.store.now (g.B.Base.commits c.args.base.now) (g.B.Base.refs c.args.base.now) (g.B.Base.blobs c.args.base.now)) c.args.store.now c.stream.store (g.S.Source.left c.args.input.now) (g.S.Source.left c.stream.input) (g.S.Source.left c.feed_on.new.input) c.stream.reader c.next.new.self c.feed_on.new.reader c.stream.replay _ (omega (arith, c.requires.few, c.stream.auto.piece)) h t.1
+      so_far = fed_waiting (base_in c.args.store.now (g.B.Base.commits c.args.base.now) (g.B.Base.refs c.args.base.now) (g.B.Base.blobs c.args.base.now)) c.args.store.now c.stream.store (g.S.Source.left c.args.input.now) (g.S.Source.left c.stream.input) (g.S.Source.left c.feed_on.new.input) c.stream.reader c.next.new.self c.feed_on.new.reader c.stream.replay _ (omega (arith, c.requires.size.1, c.stream.auto.piece)) h t.1
           (subst (λ (n : Next). OnMore (Ok n) (IsNear c.stream.reader)) c.in-Ok-More.field-0-is c.in-Ok-More.ensures.near)
           (subst (λ (n : Next). Follows (Ok n) c.stream.reader c.next.new.self) c.in-Ok-More.field-0-is c.in-Ok-More.ensures.follows)
           (more_open c.stream.reader c.next.new.self t) c.in-Ok-feed_on.ensures.fed;
       told = (λ x. c.stream.invariant.told.0 (c.in-Ok-feed_on.ensures.told.0 x), λ x. c.in-Ok-feed_on.ensures.told.1 (c.stream.invariant.told.1 x));
       later = omega (arith, c.stream.invariant.later, c.in-Ok-feed_on.ensures.cause.later);
-      within = within_fed (g.S.Source.left c.stream.input) (g.S.Source.left c.feed_on.new.input) c.next.new.self c.feed_on.new.reader _ (omega (arith, w, c.in-Ok-More.ensures.came)) c.in-Ok-feed_on.ensures.fed (omega (arith, c.requires.few, c.stream.auto.piece));
+      within = within_fed (g.S.Source.left c.stream.input) (g.S.Source.left c.feed_on.new.input) c.next.new.self c.feed_on.new.reader _ (omega (arith, w, c.in-Ok-More.ensures.came)) c.in-Ok-feed_on.ensures.fed (omega (arith, c.requires.size.1, c.stream.auto.piece));
     }
 
 -- ---- how much was given
@@ -132,4 +129,4 @@ returns-in-Err-feed_on-clause-taken g c =
     let t = subst (λ (n : Next). TellsNext (Ok n) c.stream.reader c.next.new.self) c.in-Ok-More.field-0-is c.in-Ok-More.ensures.told in
     taken_feeding (base_in c.args.store.now (g.B.Base.commits c.args.base.now) (g.B.Base.refs c.args.base.now) (g.B.Base.blobs c.args.base.now)) c.args.store.now c.stream.store (g.S.Source.left c.args.input.now) (g.S.Source.left c.stream.input) c.stream.reader c.stream.replay h (subst (λ (n : Next). OnMore (Ok n) (IsNear c.stream.reader)) c.in-Ok-More.field-0-is c.in-Ok-More.ensures.near)
     (sym t.1.ended ∙ more_open c.stream.reader c.next.new.self t) (g.S.Source.left c.feed_on.new.input)
-    (c.in-Err-feed_on.ensures.given.0, c.in-Err-feed_on.ensures.given.1, omega (arith, c.in-Err-feed_on.ensures.given.2, c.requires.few, c.stream.auto.piece)) c.in-Err-feed_on.error
+    (c.in-Err-feed_on.ensures.given.0, c.in-Err-feed_on.ensures.given.1, omega (arith, c.in-Err-feed_on.ensures.given.2, c.requires.size.1, c.stream.auto.piece)) c.in-Err-feed_on.error

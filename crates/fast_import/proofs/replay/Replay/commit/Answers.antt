@@ -1,18 +1,17 @@
-use Rattle.std.proofs.Common.{List, Some, refl, sym, ap, ◌∙◌}
-use Rattle.std.specs.Option.{option_map, option_to_list}
-use Rattle.git_objects.specs.Parts.{name_bytes}
+use Rattle.std.proofs.Common.{Some, ap, ◌∙◌}
 use Rattle.fast_import.specs.Bases.{base_in}
-use Rattle.fast_import.specs.Replays.{with_merges}
-use Rattle.fast_import.specs.Replaying.{Replaying}
-use Rattle.stream_reader.specs.declared.commit_ref.CommitRef.{CommitRef}
-use Rattle.fast_import.proofs.Committing.{commit_begun}
+use Rattle.fast_import.specs.Replays.{command_step}
+use Rattle.fast_import.specs.declared.draft.Draft.{Draft}
+use Rattle.stream_reader.specs.declared.command.Command.TheVariants.{Commit}
+use Rattle.fast_import.proofs.Committing.{begun_done}
 use Rattle.fast_import.proofs.replay.Replay.commit.Goals as goal
 
-pub returns : goal.returns
-returns g c = λ at r h.
-    let base = base_in c.args.store.now (g.B.Base.commits c.args.base.now) (g.B.Base.refs c.args.base.now) (g.B.Base.blobs c.args.base.now) in
-    commit_begun c.args.store.now c.args.self.now _ r h (g.B.Base.commits c.args.base.now) (g.B.Base.refs c.args.base.now) (g.B.Base.blobs c.args.base.now) c.requires.base at c.args.head c.in-Ok.first (c.in-Ok.ensures c.args.store.now r h)
-    (record { head = c.args.head; parents = c.in-Ok-with_merges.parents; stage = c.in-Ok-stage_upon.stage }) refl
-    (ap (λ (ms : List CommitRef). with_merges base r (option_to_list (option_map name_bytes c.in-Ok.first)) ms) (sym c.refs.ensures) ∙ c.in-Ok-with_merges.ensures c.args.store.now r h)
-    (c.in-Ok-stage_upon.ensures r h)
-    (ap (λ (v : Replaying). record v { draft = Some (record { head = c.args.head; parents = c.in-Ok-with_merges.parents; stage = c.in-Ok-stage_upon.stage }) }) c.self.view_is)
+pub returns-in-Err : goal.returns-in-Err
+returns-in-Err g c = λ at r h. record { done = tt; refused = (c.in-Err.ensures at r h).not_begun }
+
+pub returns-in-Ok : goal.returns-in-Ok
+returns-in-Ok g c = λ at r h.
+    begun_done c.args.store.now c.args.self.now c.put_draft.new.self c.args.head
+    (command_step (base_in c.args.store.now (g.B.Base.commits c.args.base.now) (g.B.Base.refs c.args.base.now) (g.B.Base.blobs c.args.base.now)) r at (Commit c.args.head))
+    c.in-Ok.begun (c.in-Ok.ensures at r h)
+    (c.put_draft.ensures ∙ ap (λ (d : Draft). record c.args.self.now { draft = Some d }) c.draft_of.ensures)
