@@ -1,5 +1,6 @@
 -- What names of commits stand for, in the code and in the replay.
-use Rattle.std.proofs.Common.{◌≡◌, true, false, cond, List, [], ◌∷◌, ◌++◌, length, map, Option, Some, None, Result, Ok, IfSome, refl, sym, ap, subst, ◌∙◌, arith}
+use Rattle.std.proofs.Common.{◌≡◌, ◌⊎◌, inl, inr, ◌+◌, ◌<◌, ℕ, true, false, cond, List, [], ◌∷◌, ◌++◌, drop, get_or, length, map, Option, Some, None, Result, Ok, Err, IfSome, refl, sym, ap, subst, ◌∙◌, arith}
+use Rattle.std.proofs.lemmas.List.{at_drop_more}
 use Rattle.std.specs.FinMap.{find}
 use Rattle.std.specs.List.{last_or}
 use Rattle.std.specs.Option.{option_map, option_or}
@@ -17,13 +18,14 @@ use Rattle.object_store.specs.Objects.{Object, has}
 use Rattle.object_store.specs.StoredSnapshots.{IsTreeOf}
 use Rattle.object_store.specs.Unfolding.{flat}
 use Rattle.fast_import.specs.Bases.{IsBaseIn, base_in}
-use Rattle.fast_import.specs.Replays.{Base, Replay, branch, first_parent, named_parent, named_tree, said, target_name, tree_of, value_at}
+use Rattle.fast_import.specs.Replays.{Base, Replay, branch, first_parent, known, named_parent, named_tree, one_merge, one_more, said, target_name, tree_of, value_at, with_merges}
 use Rattle.fast_import.specs.Replaying.{Replaying, is_named, tree_made}
 use Rattle.fast_import.specs.Standing.{AreCommitsIn, IsReplayOf}
 use Rattle.fast_import.specs.declared.replayed.Made.{Made}
 use Rattle.stream_reader.specs.declared.command.CommitHead.{CommitHead}
 use Rattle.stream_reader.specs.declared.commit_ref.CommitRef.{CommitRef}
 use Rattle.stream_reader.specs.declared.fault.StreamFault.{StreamFault}
+use Rattle.stream_reader.specs.declared.fault.StreamFault.TheVariants.{OutOfMemory}
 use Rattle.stream_reader.specs.declared.commit_ref.Target.{Target}
 use Rattle.stream_reader.specs.declared.commit_ref.Target.TheVariants as targets
 use Rattle.fast_import.proofs.Heading.{branch-heads}
@@ -130,3 +132,27 @@ parent_none base r h e = ap (λ (f : Option CommitRef). named_parent base r (rec
 -- without a line `from`, the branch's commit
 pub upon_branch : (base : Base) (r : Replay) (h : CommitHead) → said base r h.from ≡ Ok None → first_parent base r h ≡ Ok (branch r h.refname)
 upon_branch base r h e = ap (λ (x : Result (Option Bytes) StreamFault). x >>= λ n. Ok (option_or n (branch r h.refname))) e
+
+-- with the lines `merge` from one of them on
+module _ (base : Base) (r : Replay) where
+  merge_then : (ps : List Bytes) (m : CommitRef) (ms : List CommitRef) → with_merges base r ps (m ∷ ms) ≡ (one_merge base r ps m >>= λ more. with_merges base r more ms)
+  merge_then ps m ms = by (known base r m)
+    where
+      by : (x : Result Bytes StreamFault) → (x >>= λ n. one_more m.at ps n >>= λ more. with_merges base r more ms) ≡ ((x >>= λ n. one_more m.at ps n) >>= λ more. with_merges base r more ms)
+      by (Ok n) = refl
+      by (Err f) = refl
+
+  module _ (ms : List CommitRef) (i : ℕ) (m : CommitRef) (ps : List Bytes) (left : Result (List Bytes) StreamFault) (so_far : left ≡ with_merges base r ps (drop i ms)) (in_list : i < length ms) (is_item : m ≡ get_or ms i m) where
+    merges_from : left ≡ (one_merge base r ps m >>= λ more. with_merges base r more (drop (i + 1) ms))
+    merges_from =
+        so_far
+        ∙ at_drop_more (with_merges base r ps) ms i m in_list
+        ∙ ap (λ (x : CommitRef). with_merges base r ps (x ∷ drop (i + 1) ms)) (sym is_item)
+        ∙ merge_then ps m (drop (i + 1) ms)
+
+    pub merge_added : (qs : List Bytes) → one_merge base r ps m ≡ Ok qs → left ≡ with_merges base r qs (drop (i + 1) ms)
+    merge_added qs e = merges_from ∙ ap (λ (x : Result (List Bytes) StreamFault). x >>= λ more. with_merges base r more (drop (i + 1) ms)) e
+
+    pub merge_refused : (f : StreamFault) → (one_merge base r ps m ≡ Err f) ⊎ (f ≡ OutOfMemory) → (left ≡ Err f) ⊎ (f ≡ OutOfMemory)
+    merge_refused f (inl e) = inl (merges_from ∙ ap (λ (x : Result (List Bytes) StreamFault). x >>= λ more. with_merges base r more (drop (i + 1) ms)) e)
+    merge_refused f (inr e) = inr e

@@ -133,7 +133,10 @@ impl Replay {
             parents.push(name)?;
         }
         for merge in merges {
-            self.add_merge(base, &mut parents, merge)?;
+            match self.add_merge(base, &mut parents, merge) {
+                Err(fault) => return Err(fault),
+                Ok(()) => {}
+            }
         }
         Ok(parents)
     }

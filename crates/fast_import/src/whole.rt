@@ -46,9 +46,11 @@ pub fn replay_all<S: Source, B: Base>(
     ensures cause { Counts (S.faults input.old) (S.faults input.new) (IsErrOf result ReplayError.ReadFault) }
 {
     let mut replay = Replay::new(alloc);
-    match replay_by(alloc, input, base, store, &mut replay) {
+    let ran = replay_by(alloc, input, base, store, &mut replay);
+    let replayed = replay.finish();
+    match ran {
         Err(error) => Err(error),
-        Ok(()) => Ok(replay.finish()),
+        Ok(()) => Ok(replayed),
     }
 }
 
