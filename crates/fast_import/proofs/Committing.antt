@@ -1,6 +1,7 @@
 -- A commit that begins, and one that ends, in the replay.
 use Rattle.std.proofs.Common.{◌≡◌, ◌⊎◌, inl, inr, ℕ, List, [], ◌∷◌, ◌++◌, map, Option, Some, None, Result, Ok, Err, IfErr, OnOk, refl, sym, ap, subst, ◌∙◌}
 use Rattle.std.specs.Prelude.{IsOkAnd}
+use Rattle.std.specs.Global.{Vec}
 use Rattle.std.specs.Option.{option_map, option_to_list, unwrap_or}
 use Rattle.git_objects.specs.Parts.{name_bytes}
 use Rattle.git_objects.specs.Paths.{Bytes}
@@ -14,12 +15,12 @@ use Rattle.object_store.specs.Growth.{IsGrownBy}
 use Rattle.object_store.specs.Objects.{Object}
 use Rattle.object_store.specs.StoredSnapshots.{snapshot_object}
 use Rattle.object_store.proofs.Parts.{found-has}
-use Rattle.stage_tree.specs.Stages.{Shows}
+use Rattle.stage_tree.specs.Stages.{Shows, Staged}
 use Rattle.fast_import.specs.Bases.{IsBaseIn, base_in}
 use Rattle.fast_import.specs.Made.{IsMadeOf, IsPutFault}
 use Rattle.fast_import.specs.Replays.{Base, CommitMark, Draft, Replay, begun, command_step, commit_of, committed, entered, first_parent, tree_of, tree_upon, with_branch, with_mark, with_merges}
 use Rattle.fast_import.specs.Replaying.{Replaying, with_head}
-use Rattle.fast_import.specs.Standing.{IsBegun, IsDraftIn, IsDraftOf, IsEnded, IsGivenMark, IsReplayOf, IsStepped, IsTried, draft_of}
+use Rattle.fast_import.specs.Standing.{IsBegun, IsDraftIn, IsDraftOf, IsDrawnUp, IsEnded, IsGivenMark, IsReplayOf, IsStepped, IsTried}
 use Rattle.stream_reader.specs.declared.command.Command.TheVariants as commands
 use Rattle.stream_reader.specs.declared.command.CommitHead.{CommitHead}
 use Rattle.fast_import.specs.declared.draft.Begun.{Begun}
@@ -72,8 +73,9 @@ module _ (S : List Object) (v : Replaying) (r : Replay) (h : IsReplayOf S v r) (
     pub commit_begun : (x : Begun) → with_merges base r (option_to_list (option_map name_bytes first)) head.merges ≡ Ok (map name_bytes x.parents.items)
         → Shows S x.stage (tree_upon base r (option_map name_bytes first)) → IsBegun S v head left (Ok x)
     commit_begun x e s = record {
-      begins = subst (λ (y : Result Replay StreamFault). IsOkAnd y (IsReplayOf S (record v { draft = Some (draft_of head x) }))) (sym (step_is ∙ ap (λ (y : Result (List Bytes) StreamFault). y >>= λ parents. Ok (begun base r head (option_map name_bytes first) parents)) e))
-          (with_draft S v r (Some (draft_of head x)) (begun base r head (option_map name_bytes first) (map name_bytes x.parents.items)).draft h (record { of_branch = refl; with_mark = refl; letter = refl; parents = refl; held = ps.held; few = ps.few; stage = s }));
+      begins = λ y k. subst (λ (l : Result Replay StreamFault). IsOkAnd l (IsReplayOf S (record v { draft = Some y }))) (sym (step_is ∙ ap (λ (l : Result (List Bytes) StreamFault). l >>= λ parents. Ok (begun base r head (option_map name_bytes first) parents)) e))
+          (with_draft S v r (Some y) (begun base r head (option_map name_bytes first) (map name_bytes x.parents.items)).draft h
+          (record { of_branch = k.to_branch; with_mark = k.to_mark; letter = k.says; parents = ap (λ (l : Vec Name). map name_bytes l.items) k.upon; held = ps.held; few = ps.few; stage = subst (λ (z : Staged). Shows S z (tree_upon base r (option_map name_bytes first))) (sym k.staged) s }));
       not_begun = tt;
     }
       where
@@ -81,8 +83,8 @@ module _ (S : List Object) (v : Replaying) (r : Replay) (h : IsReplayOf S v r) (
         ps = merges-there S v r h commits refs blobs b head.merges (option_to_list (option_map name_bytes first)) (map name_bytes x.parents.items)
             (first-parents S v r h commits refs blobs b (option_map name_bytes first) (first-there S v r h commits refs blobs b head (option_map name_bytes first) upon)) e
 
-pub begun_done : (S : List Object) (v w : Replaying) (h : CommitHead) (left : Result Replay StreamFault) (x : Begun) → IsBegun S v h left (Ok x) → w ≡ record v { draft = Some (draft_of h x) } → IsTried S w left (Ok tt)
-begun_done S v w h left x k e = record { done = subst (λ (y : Replaying). IsOkAnd left (IsReplayOf S y)) (sym e) k.begins; refused = tt }
+pub begun_done : (S : List Object) (v w : Replaying) (h : CommitHead) (left : Result Replay StreamFault) (b : Begun) (x : DraftNames) → IsBegun S v h left (Ok b) → IsDrawnUp h b x → w ≡ record v { draft = Some x } → IsTried S w left (Ok tt)
+begun_done S v w h left b x k d e = record { done = subst (λ (y : Replaying). IsOkAnd left (IsReplayOf S y)) (sym e) (k.begins x d); refused = tt }
 
 -- ---- a commit ends
 

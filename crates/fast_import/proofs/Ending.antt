@@ -71,11 +71,11 @@ module _ (S T : List Object) (v : DraftNames) (d : Draft) (h : IsDraftOf S v d) 
   tree_is = ap tree_name (sym stands.map) ∙ (unfolding_law T tree.0 whole stands.held).named
 
   -- the body that is put
-  pub body_is : commit_body (record { tree = tree.0; parents = map name_bytes v.parents.items; letter = letter_by v }) ≡ commit_body (snapshot_commit (commit_of d))
+  pub body_is : commit_body (record { tree = tree.0; parents = map name_bytes v.parts.parents.items; letter = letter_by v }) ≡ commit_body (snapshot_commit (commit_of d))
   body_is = λ i. commit_body (record { tree = sym tree_is i; parents = h.parents i; letter = h.letter i })
 
   abbrev put_body : Bytes
-  put_body = commit_body (record { tree = tree.0; parents = map name_bytes v.parents.items; letter = letter_by v })
+  put_body = commit_body (record { tree = tree.0; parents = map name_bytes v.parts.parents.items; letter = letter_by v })
 
   object_is : record { kind = CommitKind; body = put_body } ≡ snapshot_object (commit_of d)
   object_is = ap (λ (b : Bytes). record { kind = CommitKind; body = b }) body_is
@@ -103,5 +103,5 @@ tree_grown S T d g = grown_as (IsDirectoryOf d.tree) (IsMadeOf (Some d)) S T (λ
 pub tree_clash : (T : List Object) (d : Draft) (f : StreamFault) → IsPutFault (IsDirectoryOf d.tree) T f → IsPutFault (IsMadeOf (Some d)) T f
 tree_clash T d f h = fault_as (IsDirectoryOf d.tree) (IsMadeOf (Some d)) T f (λ o m. inr m) h
 
-pub parents_there : (S T : List Object) (v : DraftNames) (d : Draft) → IsDraftOf S v d → {made : Object → Type 0} → IsGrownBy made S T → Each (λ n. has CommitKind T n ≡ true) (map name_bytes v.parents.items)
+pub parents_there : (S T : List Object) (v : DraftNames) (d : Draft) → IsDraftOf S v d → {made : Object → Type 0} → IsGrownBy made S T → Each (λ n. has CommitKind T n ≡ true) (map name_bytes v.parts.parents.items)
 parents_there S T v d h g = subst (λ (ps : List Bytes). Each (λ n. has CommitKind T n ≡ true) ps) (sym h.parents) (all-grown S T g CommitKind d.parents h.held)

@@ -67,14 +67,14 @@ IsMarkIn S _ _ = ⊥
 
 -- author, committer and message of the commit that is being made
 abbrev pub letter_by : DraftNames → Letter
-letter_by v = record { author = v.author; committer = v.committer; message = v.message }
+letter_by v = record { author = v.parts.author; committer = v.parts.committer; message = v.parts.message }
 
 -- the commit that is being made
 pub record IsDraftOf (S : List Object) (v : DraftNames) (d : Draft) : Type 0 where
   pub of_branch : v.refname ≡ d.head.refname
   pub with_mark : v.mark ≡ d.head.mark
   pub letter : letter_by v ≡ letter_of d.head
-  pub parents : map name_bytes v.parents.items ≡ d.parents
+  pub parents : map name_bytes v.parts.parents.items ≡ d.parents
   pub held : Each (λ n. has CommitKind S n ≡ true) d.parents
   pub few : length d.parents ≤ PARENTS
   pub stage : Shows S v.stage d.tree
@@ -112,13 +112,17 @@ pub record IsTried (S : List Object) (after : Replaying) (left : Result Replay S
   pub done : OnOk result (IsOkAnd left (IsReplayOf S after))
   pub refused : IfErr result (λ f. (left ≡ Err f) ⊎ (f ≡ OutOfMemory))
 
--- the draft of a commit that begins with this head
-abbrev pub draft_of : CommitHead → Begun → DraftNames
-draft_of h b = record { refname = h.refname; mark = h.mark; author = h.author; committer = h.committer; message = h.message; parents = b.parents; stage = b.stage }
+-- the draft of a commit that begins with this head, these parents and this stage
+pub record IsDrawnUp (h : CommitHead) (b : Begun) (v : DraftNames) : Type 0 where
+  pub to_branch : v.refname ≡ h.refname
+  pub to_mark : v.mark ≡ h.mark
+  pub says : letter_by v ≡ letter_of h
+  pub upon : v.parts.parents ≡ b.parents
+  pub staged : v.stage ≡ b.stage
 
 -- a commit begins with these parents and the tree that this stage shows, or the command is refused
 pub record IsBegun (S : List Object) (v : Replaying) (h : CommitHead) (left : Result Replay StreamFault) (result : Result Begun StreamFault) : Type 0 where
-  pub begins : IfOk result (λ b. IsOkAnd left (IsReplayOf S (record v { draft = Some (draft_of h b) })))
+  pub begins : IfOk result (λ b. (x : DraftNames) → IsDrawnUp h b x → IsOkAnd left (IsReplayOf S (record v { draft = Some x })))
   pub not_begun : IfErr result (λ f. (left ≡ Err f) ⊎ (f ≡ OutOfMemory))
 
 -- a blob was brought

@@ -18,6 +18,7 @@ ghost use Rattle.stream_reader.specs.declared.command.Command.TheVariants.{Chang
 
 use crate::edits::{copy_path, move_path, remove_path, set_leaf};
 use crate::marks::Marked;
+use crate::puts::look_at;
 use crate::{Base, BlobRef, Change, Replay, StreamFault};
 use git_objects::{Mode, Name};
 use object_store::Store;
@@ -137,7 +138,6 @@ impl Replay {
         at: u64,
         change: &Change,
     ) -> Result<(), StreamFault>
-        requires store { IsStore store.old }
         requires base { IsBaseIn store.old (B.commits base.now) (B.refs base.now) (B.blobs base.now) }
         requires fit { is_replayable (ChangeCommand change.now) ≡ true }
         requires so_far { (r : ReplayOf) × IsReplayOf store.old self.old r }
@@ -146,6 +146,7 @@ impl Replay {
             store.old store.new self.new r (record { at = at; command = ChangeCommand change.now }) result }
     {
         let Some(mut draft) = self.take_draft() else {
+            look_at(store);
             return Err(StreamFault::Syntax { at });
         };
         let changed = self.edited(base, store, at, &mut draft.stage, change);

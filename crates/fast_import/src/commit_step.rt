@@ -4,7 +4,7 @@ ghost use Rattle.std.specs.Option.{option_map};
 ghost use Rattle.git_objects.specs.Parts.{name_bytes};
 ghost use Rattle.git_objects.specs.Trees.{Flat};
 ghost use Rattle.object_store.specs.Growth.{IsGrownBy};
-ghost use Rattle.object_store.specs.Objects.{Object, IsStore};
+ghost use Rattle.object_store.specs.Objects.{Object};
 ghost use Rattle.object_store.specs.Unfolding.{StandsFor};
 ghost use Rattle.stage_tree.specs.Stages.{Shows};
 ghost use Rattle.fast_import.specs.Bases.{IsBaseIn, base_in};
@@ -12,15 +12,16 @@ ghost use Rattle.fast_import.specs.Made.{IsDirectoryOf, IsMadeOf, IsPutFault};
 ghost use Rattle.fast_import.specs.Replays.{Base as BaseOf, Draft as DraftOf, Replay as ReplayOf};
 ghost use Rattle.fast_import.specs.Replays.{command_step, commit_of, entered, tree_upon};
 ghost use Rattle.fast_import.specs.Replaying.{tree_fault};
-ghost use Rattle.fast_import.specs.Standing.{IsBegun, IsDraftOf, IsEnded, IsReplayOf, IsStepped, IsTried};
+ghost use Rattle.fast_import.specs.Standing.{IsBegun, IsCommitIn, IsDraftOf, IsEnded, IsReplayOf, IsStepped};
+ghost use Rattle.fast_import.specs.Standing.{IsTried};
 ghost use Rattle.stream_reader.specs.declared.command.Command.TheVariants.{Commit, CommitEnd};
 ghost use Rattle.stream_reader.specs.declared.fault.StreamFault.TheVariants.{OutOfMemory};
 
 use crate::draft::{Begun, Draft, Ended, draft_of};
 use crate::marks::Marked;
-use crate::puts::put_commit;
+use crate::puts::{look_at, put_commit};
 use crate::{Base, CommitHead, Made, Replay, StreamFault};
-use git_objects::{CommitParts, Name};
+use git_objects::Name;
 use object_store::Store;
 use path_trees::TreeFault;
 use stage_tree::Stage;
@@ -40,13 +41,15 @@ impl Replay {
             (base_in store.now (B.commits base.now) (B.refs base.now) (B.blobs base.now)) r
             (option_map name_bytes first))) }
     {
-        // Every answer rests on what the store keeps.
-        let _ = store.get(&Name([0; 20]));
         let Some(name) = first else {
+            look_at(store);
             return Stage::empty(self.alloc);
         };
         match self.tree_of(base, &name) {
-            None => Stage::empty(self.alloc),
+            None => {
+                look_at(store);
+                Stage::empty(self.alloc)
+            }
             Some(tree) => Stage::begin(self.alloc, store, tree),
         }
     }
@@ -146,17 +149,28 @@ impl Replay {
 
     // The end of a commit.
     pub(crate) fn commit_end(&mut self, store: &mut Store, at: u64) -> Result<(), StreamFault>
-        requires store { IsStore store.old }
         requires so_far { (r : ReplayOf) × IsReplayOf store.old self.old r }
         ensures { (base : BaseOf) (r : ReplayOf) → IsReplayOf store.old self.old r →
             IsStepped base store.old store.new self.new r (record { at = at; command = CommitEnd }) result }
     {
-        let Some(draft) = self.take_draft() else {
+        let Some(mut draft) = self.take_draft() else {
+            look_at(store);
             return Err(StreamFault::Syntax { at });
         };
-        match end_of(self.alloc, store, draft) {
+        let ended = end_of(self.alloc, store, &mut draft);
+        let Draft {
+            refname,
+            mark,
+            parts: _,
+            stage: _,
+        } = draft;
+        match ended {
             Err(fault) => Err(fault),
-            Ok(ended) => self.enter(ended),
+            Ok(made) => self.enter(Ended {
+                made,
+                refname,
+                mark,
+            }),
         }
     }
 }
@@ -187,40 +201,23 @@ fn finished(store: &mut Store, stage: &mut Stage) -> Result<Name, StreamFault>
 }
 
 // Brings a commit and its tree into the store.
-fn end_of(alloc: Global, store: &mut Store, draft: Draft) -> Result<Ended, StreamFault>
-    requires { (d : DraftOf) × IsDraftOf store.old draft d }
-    ensures ok { IfOk result (λ e. (d : DraftOf) → IsDraftOf store.old draft d → IsEnded store.new e d) }
-    ensures err { IfErr result (λ f. (d : DraftOf) → IsDraftOf store.old draft d →
+fn end_of(alloc: Global, store: &mut Store, draft: &mut Draft) -> Result<Made, StreamFault>
+    requires { (d : DraftOf) × IsDraftOf store.old draft.old d }
+    ensures ok { IfOk result (λ m. (d : DraftOf) → IsDraftOf store.old draft.old d →
+        IsCommitIn store.new m (commit_of d)) }
+    ensures err { IfErr result (λ f. (d : DraftOf) → IsDraftOf store.old draft.old d →
         IsPutFault (IsMadeOf (Some d)) store.new f) }
-    ensures store { (d : DraftOf) → IsDraftOf store.old draft d →
+    ensures store { (d : DraftOf) → IsDraftOf store.old draft.old d →
         IsGrownBy (IsMadeOf (Some d)) store.old store.new }
+    ensures same { (draft.new.refname ≡ draft.old.refname) × (draft.new.mark ≡ draft.old.mark) }
 {
-    let Draft {
-        refname,
-        mark,
-        author,
-        committer,
-        message,
-        parents,
-        mut stage,
-    } = draft;
-    let tree = match finished(store, &mut stage) {
+    let tree = match finished(store, &mut draft.stage) {
         Err(fault) => return Err(fault),
         Ok(tree) => tree,
     };
-    let parts = CommitParts {
-        tree,
-        parents,
-        author,
-        committer,
-        message,
-    };
-    match put_commit(alloc, store, &parts) {
+    draft.parts.tree = tree;
+    match put_commit(alloc, store, &draft.parts) {
         Err(fault) => Err(fault),
-        Ok(name) => Ok(Ended {
-            made: Made { name, tree },
-            refname,
-            mark,
-        }),
+        Ok(name) => Ok(Made { name, tree }),
     }
 }

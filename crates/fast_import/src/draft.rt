@@ -1,21 +1,17 @@
 // The commit that is being made.
-ghost use Rattle.std.specs.Prelude.{◌≡◌};
-ghost use Rattle.fast_import.specs.Standing.{draft_of};
+ghost use Rattle.fast_import.specs.Standing.{IsDrawnUp};
 
 use crate::{CommitHead, Made};
-use git_objects::{Bytes, Ident, Name};
+use git_objects::{CommitParts, Name};
 use path_names::RefName;
 use stage_tree::Stage;
 
-/// What the end of a commit needs: what its first lines say, its parents, and its tree so far.
+/// Where the commit goes, what it says, and its tree so far. The tree among its parts is only known at its end.
 #[derive(Drop)]
 pub(crate) struct Draft {
     pub(crate) refname: RefName,
     pub(crate) mark: Option<u64>,
-    pub(crate) author: Ident,
-    pub(crate) committer: Ident,
-    pub(crate) message: Bytes,
-    pub(crate) parents: Vec<Name>,
+    pub(crate) parts: CommitParts,
     pub(crate) stage: Stage,
 }
 
@@ -36,7 +32,7 @@ pub(crate) struct Ended {
 
 // The draft of a commit that begins.
 pub(crate) fn draft_of(head: CommitHead, begun: Begun) -> Draft
-    ensures { result ≡ draft_of head begun }
+    ensures { IsDrawnUp head begun result }
 {
     let CommitHead {
         refname,
@@ -48,13 +44,17 @@ pub(crate) fn draft_of(head: CommitHead, begun: Begun) -> Draft
         merges: _,
     } = head;
     let Begun { parents, stage } = begun;
-    Draft {
-        refname,
-        mark,
+    let parts = CommitParts {
+        tree: Name([0; 20]),
+        parents,
         author,
         committer,
         message,
-        parents,
+    };
+    Draft {
+        refname,
+        mark,
+        parts,
         stage,
     }
 }

@@ -6,7 +6,7 @@ ghost use Rattle.git_objects.specs.Names.{name};
 ghost use Rattle.git_objects.specs.Parts.{commit_of, name_bytes};
 ghost use Rattle.git_objects.specs.declared.kind.Kind.TheVariants.{Commit, Tree};
 ghost use Rattle.object_store.specs.Growth.{IsGrownBy, IsOnly};
-ghost use Rattle.object_store.specs.Objects.{find_named, has};
+ghost use Rattle.object_store.specs.Objects.{IsStore, find_named, has};
 ghost use Rattle.object_store.specs.Puts.{of_body};
 ghost use Rattle.fast_import.specs.Made.{IsPutFault};
 
@@ -14,6 +14,13 @@ use crate::StreamFault;
 use git_objects::{CommitParts, Kind, Name, encode_commit};
 use object_store::{PutError, Store};
 use std::alloc::Global;
+
+// Looks at a store, so that a proof has what each store keeps.
+pub(crate) fn look_at(store: &Store)
+    ensures { IsStore store.now }
+{
+    let _ = store.get(&Name([0; 20]));
+}
 
 // Takes in an object whose children are there.
 pub(crate) fn put_object(store: &mut Store, kind: Kind, body: &[u8]) -> Result<Name, StreamFault>

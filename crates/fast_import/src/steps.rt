@@ -10,7 +10,7 @@ ghost use Rattle.stream_reader.specs.declared.command.Command.TheVariants.{Blob,
 ghost use Rattle.stream_reader.specs.declared.fault.StreamFault.TheVariants.{OutOfMemory};
 
 use crate::marks::Marked;
-use crate::puts::put_object;
+use crate::puts::{look_at, put_object};
 use crate::{Base, Command, CommitRef, Placed, Replay, StreamFault};
 use git_objects::{Bytes, Kind, Name};
 use object_store::Store;
@@ -33,16 +33,23 @@ impl Replay {
             (base_in store.old (B.commits base.now) (B.refs base.now) (B.blobs base.now))
             store.old store.new self.new r placed result }
     {
-        // The store is looked at so that the proof has what each store keeps.
-        let _ = store.get(&Name([0; 20]));
         let Placed { at, command } = placed;
         match command {
             Command::Blob { mark, content } => self.blob(store, mark, &content),
-            Command::Commit(head) => self.commit(base, store, head),
+            Command::Commit(head) => {
+                look_at(store);
+                self.commit(base, store, head)
+            }
             Command::Change(change) => self.change(base, store, at, &change),
             Command::CommitEnd => self.commit_end(store, at),
-            Command::Reset { refname, from } => self.reset(base, refname, &from),
-            Command::Done => Ok(()),
+            Command::Reset { refname, from } => {
+                look_at(store);
+                self.reset(base, refname, &from)
+            }
+            Command::Done => {
+                look_at(store);
+                Ok(())
+            }
         }
     }
 

@@ -11,24 +11,21 @@ pub put_commit-requires-clause-parents : goal.put_commit-requires-clause-parents
 put_commit-requires-clause-parents c =
     let d = c.requires.0 in
     let h = c.requires.1 in
-    parents_there c.args.store.now c.finished.new.store c.args.draft d h (c.finished.ensures.store d.tree h.stage)
+    parents_there c.args.store.now c.finished.new.store c.args.draft.now d h (c.finished.ensures.store d.tree h.stage)
 
 pub returns-in-Err-put_commit-clause-err : goal.returns-in-Err-put_commit-clause-err
 returns-in-Err-put_commit-clause-err c = λ d h.
-    commit_fault c.args.store.now c.finished.new.store c.args.draft d h c.in-Ok.tree (c.finished.ensures.store d.tree h.stage).store (c.in-Ok.ensures.ok d.tree h.stage) c.put_commit.new.store c.in-Err-put_commit.fault c.in-Err-put_commit.ensures.err
+    commit_fault c.args.store.now c.finished.new.store c.args.draft.now d h c.in-Ok.tree (c.finished.ensures.store d.tree h.stage).store (c.in-Ok.ensures.ok d.tree h.stage) c.put_commit.new.store c.in-Err-put_commit.fault c.in-Err-put_commit.ensures.err
 
 pub returns-in-Err-put_commit-clause-store : goal.returns-in-Err-put_commit-clause-store
 returns-in-Err-put_commit-clause-store c = λ d h.
-    commit_grown c.args.store.now c.finished.new.store c.args.draft d h c.in-Ok.tree (c.finished.ensures.store d.tree h.stage).store (c.in-Ok.ensures.ok d.tree h.stage) c.put_commit.new.store (c.finished.ensures.store d.tree h.stage) c.put_commit.ensures.store
+    commit_grown c.args.store.now c.finished.new.store c.args.draft.now d h c.in-Ok.tree (c.finished.ensures.store d.tree h.stage).store (c.in-Ok.ensures.ok d.tree h.stage) c.put_commit.new.store (c.finished.ensures.store d.tree h.stage) c.put_commit.ensures.store
 
 pub returns-in-Ok-put_commit-clause-store : goal.returns-in-Ok-put_commit-clause-store
 returns-in-Ok-put_commit-clause-store c = λ d h.
-    commit_grown c.args.store.now c.finished.new.store c.args.draft d h c.in-Ok.tree (c.finished.ensures.store d.tree h.stage).store (c.in-Ok.ensures.ok d.tree h.stage) c.put_commit.new.store (c.finished.ensures.store d.tree h.stage) c.put_commit.ensures.store
+    commit_grown c.args.store.now c.finished.new.store c.args.draft.now d h c.in-Ok.tree (c.finished.ensures.store d.tree h.stage).store (c.in-Ok.ensures.ok d.tree h.stage) c.put_commit.new.store (c.finished.ensures.store d.tree h.stage) c.put_commit.ensures.store
 
 pub returns-in-Ok-put_commit-clause-ok : goal.returns-in-Ok-put_commit-clause-ok
-returns-in-Ok-put_commit-clause-ok c = λ d h. record {
-  made_commit = commit_in c.args.store.now c.finished.new.store c.args.draft d h c.in-Ok.tree (c.finished.ensures.store d.tree h.stage).store (c.in-Ok.ensures.ok d.tree h.stage) c.put_commit.new.store c.in-Ok-put_commit.name c.put_commit.ensures.store
-      c.in-Ok-put_commit.ensures.ok.0 c.in-Ok-put_commit.ensures.ok.1;
-  on_branch = h.of_branch;
-  at_mark = h.with_mark;
-}
+returns-in-Ok-put_commit-clause-ok c = λ d h.
+    commit_in c.args.store.now c.finished.new.store c.args.draft.now d h c.in-Ok.tree (c.finished.ensures.store d.tree h.stage).store (c.in-Ok.ensures.ok d.tree h.stage) c.put_commit.new.store c.in-Ok-put_commit.name c.put_commit.ensures.store
+    c.in-Ok-put_commit.ensures.ok.0 c.in-Ok-put_commit.ensures.ok.1

@@ -3,6 +3,11 @@ use Rattle.fast_import.specs.Bases.{base_in}
 use Rattle.fast_import.proofs.Changing.{change_done, drafted_as, undrafted}
 use Rattle.fast_import.proofs.replay.Replay.change.Goals as goal
 
+pub edited-changed-requires-clause-store : goal.edited-changed-requires-clause-store
+edited-changed-requires-clause-store g c =
+    let d = drafted_as c.args.store.now c.args.self.now c.take_draft.new.self c.requires.so_far.0 c.in-Some.draft c.requires.so_far.1 (sym c.take_draft.ensures.value ∙ c.in-Some.is) c.take_draft.ensures.after in
+    d.2.stage.store
+
 pub edited-changed-requires-clause-so_far : goal.edited-changed-requires-clause-so_far
 edited-changed-requires-clause-so_far g c =
     (record c.requires.so_far.0 { draft = None }, undrafted c.args.store.now c.args.self.now c.take_draft.new.self c.requires.so_far.0 c.in-Some.draft c.requires.so_far.1 (sym c.take_draft.ensures.value ∙ c.in-Some.is) c.take_draft.ensures.after)
