@@ -40,6 +40,10 @@ use Rattle.stage_tree.proofs.Replacing.{sound_named}
 use Rattle.stage_tree.proofs.Room.{place_files}
 use Rattle.stage_tree.proofs.Staging.{as_test, most_stays, node_is, shows_open}
 
+-- the components of a path
+pub path_components : (p : Path) → is_path p ≡ true → list_all is_component p ≡ true
+path_components p h = second_so (not (is_nil p)) (list_all is_component p) h
+
 -- ---- how many files there are then
 
 abbrev zeros : Path → List ℕ

@@ -24,6 +24,9 @@ use object_store::Store;
 use path_trees::{TreeFault, taken_in};
 use std::alloc::{AllocError, Global};
 
+// Many directories have no more entries than these.
+const ENTRIES: usize = 32;
+
 impl Nodes {
     // A node's component.
     fn component(&self, node: Node) -> &[u8]
@@ -39,7 +42,7 @@ impl Nodes {
         ensures { IfOk result (λ entries. map entry_value entries.items
             ≡ gathered [] (hanging self.now (Link.First directory))) }
     {
-        let mut entries = Vec::new(alloc);
+        let mut entries = Vec::with_capacity(alloc, ENTRIES)?;
         let mut link = Link::First(directory);
         'children: while let Some(number) = self.target(link) {
             let node = self.cells[number];

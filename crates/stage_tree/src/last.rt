@@ -5,7 +5,7 @@ ghost use Rattle.object_store.specs.Objects.{Object};
 ghost use Rattle.stage_tree.specs.Branches.{IsRemoved};
 ghost use Rattle.stage_tree.specs.Forests.{is_link, sought, target};
 ghost use Rattle.stage_tree.specs.Pools.{Walks, hanging};
-ghost use Rattle.stage_tree.specs.Sets.{IsArrived, IsChildOf, IsPlaceBehind, IsUnmoved};
+ghost use Rattle.stage_tree.specs.Sets.{IsArrived, IsChildOf, IsMarked, IsPlaceBehind, IsUnmoved};
 ghost use Rattle.stage_tree.specs.Stages.{IsRooted, IsStage, items_of};
 ghost use Rattle.stage_tree.specs.Ways.{IsOpen, IsPlaceOf, named_first};
 
@@ -116,7 +116,7 @@ impl Nodes {
     }
 
     // The way to a path, from a node of its directory where that stands before it.
-    pub fn way_to(
+    fn way_to(
         &mut self,
         alloc: Global,
         store: &Store,
@@ -139,5 +139,25 @@ impl Nodes {
         }
         self.open_root(alloc, store)?;
         self.way(alloc, store, components)
+    }
+    // The way to a path, from the node that was set last where that stands before it in its directory. That node is
+    // forgotten.
+    pub fn arrive(
+        &mut self,
+        last: &mut Last,
+        alloc: Global,
+        store: &Store,
+        components: &[Component],
+    ) -> Result<Way, AllocError>
+        requires marked { IsMarked self.old last.old }
+        requires held { IsRooted store.now (items_of self.old) }
+        requires path { is_path components.now ≡ true }
+        ensures ok { IfOk result (λ w. IsArrived store.now self.old self.new components.now
+            w.level w.spot.link w.spot.child) }
+        ensures err { OnErr result (IsUnmoved store.now self.old self.new) }
+        ensures forgotten { last.new.child ≡ None }
+    {
+        let beside = last.taken(components);
+        self.way_to(alloc, store, beside, components)
     }
 }

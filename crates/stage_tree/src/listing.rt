@@ -10,6 +10,9 @@ use git_objects::{EntryView, Kind, Name, TreeView};
 use object_store::{ObjectRef, Store};
 use std::alloc::{AllocError, Global};
 
+// No entry of a tree's body has fewer bytes, and none has more beside its component.
+pub const ENTRY_BYTES: usize = 28;
+
 // The entries of an object, unless it is no tree.
 fn entries_in<'a>(object: ObjectRef<'a>) -> Option<TreeView<'a>>
     requires { object.kind ≡ Kind.Tree → is_some (tree_entries object.body.now) ≡ true }
@@ -22,18 +25,7 @@ fn entries_in<'a>(object: ObjectRef<'a>) -> Option<TreeView<'a>>
     }
 }
 
-// The entries of the tree of that name. None: no tree has the name.
-fn entries_of<'a>(store: &'a Store, name: &Name) -> Option<TreeView<'a>>
-    ensures entries { result ≡ listed store.now name.now.0 }
-    ensures store { IsStore store.now }
-{
-    match store.get(name) {
-        None => None,
-        Some(object) => entries_in(object),
-    }
-}
-
-// The same entries, one beside another; none where no tree has the name.
+// The entries of the tree of that name, one beside another; none where no tree has the name.
 pub fn listing<'a>(
     alloc: Global,
     store: &'a Store,
@@ -42,10 +34,25 @@ pub fn listing<'a>(
     ensures entries { IfOk result (λ entries. map entry_value entries.items ≡ listed_at store.now (Some name.now.0)) }
     ensures store { IsStore store.now }
 {
-    let mut entries = Vec::new(alloc);
-    let Some(mut view) = entries_of(store, name) else {
-        return Ok(entries);
+    let Some(object) = store.get(name) else {
+        return Ok(Vec::new(alloc));
     };
+    let room = object.body.len() / ENTRY_BYTES;
+    match entries_in(object) {
+        None => Ok(Vec::new(alloc)),
+        Some(view) => collected(alloc, view, room),
+    }
+}
+
+// The entries of a view, with room for so many.
+fn collected<'a>(
+    alloc: Global,
+    mut view: TreeView<'a>,
+    room: usize,
+) -> Result<Vec<EntryView<'a>>, AllocError>
+    ensures { IfOk result (λ entries. map entry_value entries.items ≡ view.entry) }
+{
+    let mut entries = Vec::with_capacity(alloc, room)?;
     'view: while let Some(entry) = view.next() {
         entries.push(entry)?;
     }

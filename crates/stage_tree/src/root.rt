@@ -1,14 +1,45 @@
 // The root of a stage.
-ghost use Rattle.std.specs.Prelude.{◌≡◌, ◌+◌, [], OnErr, OnOk};
+ghost use Rattle.std.specs.Prelude.{◌≡◌, ◌+◌, [], IfOk, OnErr, OnOk};
 ghost use Rattle.stage_tree.specs.Forests.{size};
 ghost use Rattle.stage_tree.specs.Ways.{kids_of};
-ghost use Rattle.stage_tree.specs.Stages.{IsOpened, IsRooted, IsStage, IsUnopened, items_of};
+ghost use Rattle.stage_tree.specs.Stages.{IsOfRoot, IsOpened, IsRooted, IsStage, IsUnopened, items_of};
 
 use crate::nodes::{Content, Link, Node, Nodes};
+use git_objects::{Mode, Name};
 use object_store::Store;
+use path_trees::Found;
 use std::alloc::{AllocError, Global};
 
+// Room for the nodes of a few directories.
+const NODES: usize = 64;
+
+// Room for the bytes of their components.
+const NAMES: usize = 1024;
+
 impl Nodes {
+    // A root of that name, which no path has gone through.
+    pub fn of_root(alloc: Global, name: Name) -> Result<Nodes, AllocError>
+        ensures { IfOk result (λ s. IsOfRoot s name) }
+    {
+        let mut cells = Vec::with_capacity(alloc, NODES)?;
+        let found = Found {
+            mode: Mode::Dir,
+            name,
+        };
+        cells.push(Node {
+            at: 0,
+            len: 0,
+            content: Content::Held(found),
+            first: None,
+            next: None,
+        })?;
+        Ok(Nodes {
+            cells,
+            names: Vec::with_capacity(alloc, NAMES)?,
+            free: None,
+        })
+    }
+
     // Makes nodes of the root's entries, where they aren't yet.
     pub fn open_root(&mut self, alloc: Global, store: &Store) -> Result<(), AllocError>
         requires stage { IsStage self.old }

@@ -1,5 +1,5 @@
 // A leaf put at a path.
-ghost use Rattle.std.specs.Prelude.{◌≡◌, ◌⊎◌, ◌+◌, ◌≤◌, ◌<◌, true, List, IfOk, IfErr, OnErr};
+ghost use Rattle.std.specs.Prelude.{◌≡◌, ◌⊎◌, ◌+◌, ◌≤◌, ◌<◌, true, ℕ, List, None, IfOk, IfErr, IfSome, OnErr, OnOk};
 ghost use Rattle.std.specs.List.{list_all};
 ghost use Rattle.git_objects.specs.declared.limits.TheConstants.{TREE_FILES};
 ghost use Rattle.git_objects.specs.Paths.{is_component};
@@ -9,10 +9,11 @@ ghost use Rattle.stage_tree.specs.declared.fault.StageFault.TheVariants.{OutOfMe
 ghost use Rattle.stage_tree.specs.Counts.{IsRoom, files, files_but};
 ghost use Rattle.stage_tree.specs.Expanding.{IsWaste};
 ghost use Rattle.stage_tree.specs.Leaves.{is_held};
-ghost use Rattle.stage_tree.specs.Sets.{IsPutAt, is_leaf_at};
+ghost use Rattle.stage_tree.specs.Sets.{IsChildOf, IsPutAt, is_leaf_at};
 ghost use Rattle.stage_tree.specs.Ways.{HasPlace, IsOpen, IsWay, kids_of};
 
 use crate::fault::StageFault;
+use crate::last::Last;
 use crate::nodes::{Content, Node, Nodes};
 use crate::ways::Way;
 use git_objects::Component;
@@ -59,7 +60,7 @@ impl Nodes {
     }
 
     // Puts a leaf or a stored directory at the end of a way. The number of the node that stands there then.
-    pub fn put_on(
+    fn put_on(
         &mut self,
         way: Way,
         components: &[Component],
@@ -86,5 +87,32 @@ impl Nodes {
         let number = self.branch(components, way.level, found)?;
         self.replace(way.spot.link, way.spot.child, number);
         Ok(number)
+    }
+    // Puts a leaf or a stored directory at the end of a way, and remembers its node where its directory was there.
+    pub fn put_last(
+        &mut self,
+        last: &mut Last,
+        alloc: Global,
+        way: Way,
+        components: &[Component],
+        found: Found,
+    ) -> Result<(), AllocError>
+        requires way { (S : List Object)
+            × IsWay S self.old self.old components.now way.level way.spot.link way.spot.child
+            × (is_held S (Content.Held found) ≡ true) }
+        requires components { list_all is_component components.now ≡ true }
+        requires forgotten { last.old.child ≡ None }
+        ensures ok { OnOk result ((S : List Object)
+            (w : IsWay S self.old self.old components.now way.level way.spot.link way.spot.child)
+            → is_held S (Content.Held found) ≡ true
+            → (k : ℕ) × IsPutAt S self.old self.new components.now way.level way.spot.link way.spot.child found k w) }
+        ensures err { OnErr result (IsWaste self.old self.new) }
+        ensures child { IfSome last.new.child (IsChildOf self.new last.new.directory.items) }
+    {
+        let number = self.put_on(way, components, found)?;
+        if way.level + 1 == components.len() {
+            last.remember(alloc, &components[..way.level], number);
+        }
+        Ok(())
     }
 }

@@ -12,8 +12,8 @@ ghost use Rattle.stage_tree.specs.Stages.{Shows};
 
 use crate::StageFault;
 use crate::last::Last;
-use crate::nodes::{Content, Node, Nodes};
-use git_objects::{Mode, Name};
+use crate::nodes::{Content, Nodes};
+use git_objects::Name;
 use object_store::Store;
 use path_names::Path;
 use path_trees::{Found, Leaf, TreeFault};
@@ -55,26 +55,9 @@ impl Stage {
         };
         // Every answer rests on what the store keeps.
         let _ = store.get(&root);
-        let mut cells = Vec::new(alloc);
-        let found = Found {
-            mode: Mode::Dir,
-            name: root,
-        };
-        cells.push(Node {
-            at: 0,
-            len: 0,
-            content: Content::Held(found),
-            first: None,
-            next: None,
-        })?;
-        let nodes = Nodes {
-            cells,
-            names: Vec::new(alloc),
-            free: None,
-        };
         Ok(Stage {
             alloc,
-            nodes,
+            nodes: Nodes::of_root(alloc, root)?,
             most,
             last: Last {
                 directory: Vec::new(alloc),
@@ -87,24 +70,8 @@ impl Stage {
     pub fn empty(alloc: Global) -> Result<Stage, AllocError>
         ensures { IfOk result (λ s. (S : List Object) → IsStore S → Shows S s []) }
     {
-        let mut cells = Vec::new(alloc);
         // The root is a name until it is cleared.
-        let found = Found {
-            mode: Mode::Dir,
-            name: Name([0; 20]),
-        };
-        cells.push(Node {
-            at: 0,
-            len: 0,
-            content: Content::Held(found),
-            first: None,
-            next: None,
-        })?;
-        let nodes = Nodes {
-            cells,
-            names: Vec::new(alloc),
-            free: None,
-        };
+        let nodes = Nodes::of_root(alloc, Name([0; 20]))?;
         let mut stage = Stage {
             alloc,
             nodes,
@@ -133,18 +100,16 @@ impl Stage {
             name: leaf.name,
         };
         let components = path.components();
-        let beside = self.last.taken(components);
-        let way = self.nodes.way_to(self.alloc, store, beside, components)?;
+        let way = self
+            .nodes
+            .arrive(&mut self.last, self.alloc, store, components)?;
         let child = way.spot.child;
         let most = self
             .nodes
             .most_with_leaf(self.alloc, store, child, self.most)?;
-        let number = self.nodes.put_on(way, components, found)?;
+        self.nodes
+            .put_last(&mut self.last, self.alloc, way, components, found)?;
         self.most = most;
-        if way.level + 1 == components.len() {
-            self.last
-                .remember(self.alloc, &components[..way.level], number);
-        }
         Ok(())
     }
 
@@ -161,14 +126,12 @@ impl Stage {
         // The name is looked at so that the proof has that it has 20 bytes.
         let _ = found.name.bytes();
         let components = path.components();
-        let beside = self.last.taken(components);
-        let way = self.nodes.way_to(self.alloc, store, beside, components)?;
-        let number = self.nodes.put_on(way, components, found)?;
+        let way = self
+            .nodes
+            .arrive(&mut self.last, self.alloc, store, components)?;
+        self.nodes
+            .put_last(&mut self.last, self.alloc, way, components, found)?;
         self.most = u32::MAX;
-        if way.level + 1 == components.len() {
-            self.last
-                .remember(self.alloc, &components[..way.level], number);
-        }
         Ok(())
     }
 

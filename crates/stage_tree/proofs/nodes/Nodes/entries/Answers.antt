@@ -8,7 +8,7 @@ use Rattle.stage_tree.proofs.ChildEntries.{IsGathering, gathering_first, child_p
 use Rattle.stage_tree.proofs.nodes.Nodes.entries.Goals as goal
 
 pub children-init : goal.children-init
-children-init c = subst (λ (x : List Entry). IsGathering c.args.self.now c.args.directory x (First c.args.directory)) (sym (ap (map entry_value) c.new-entries.ensures.items)) (gathering_first c.args.self.now c.args.directory c.requires)
+children-init c = subst (λ (x : List Entry). IsGathering c.args.self.now c.args.directory x (First c.args.directory)) (sym (ap (map entry_value) c.in_ok-entries.ensures.items)) (gathering_first c.args.self.now c.args.directory c.requires)
 
 pub index-node-requires : goal.index-node-requires
 index-node-requires c =
