@@ -26,17 +26,16 @@ use Rattle.stage_tree.specs.Pools.{hanging}
 use Rattle.stage_tree.specs.Leaves.{leaf_in, is_held}
 use Rattle.stage_tree.specs.Branches.{Stands, after_named}
 use Rattle.stage_tree.specs.Copies.{IsCopyTo, node_files}
-use Rattle.stage_tree.specs.Counts.{content_files, files, files_but}
+use Rattle.stage_tree.specs.Counts.{IsRoom, content_files, files, files_but}
 use Rattle.stage_tree.specs.Edits.{copied, few_files, within_paths}
-use Rattle.stage_tree.specs.Renames.{IsStop, trunk, trunk_content}
-use Rattle.stage_tree.specs.Standings.{Holds}
+use Rattle.stage_tree.specs.Renames.{IsStop, IsWalkable, trunk, trunk_content}
+use Rattle.stage_tree.specs.Standings.{Holds, IsNodeAt}
 use Rattle.stage_tree.specs.Ways.{HasPlace, IsOpen, kids_of}
 use Rattle.path_trees.specs.Standing.{node}
 use Rattle.path_trees.specs.declared.found.Found.{Found}
 use Rattle.stage_tree.proofs.Opening.{read_node}
 use Rattle.stage_tree.proofs.CountLeaves.{length_files, files_plug}
 use Rattle.stage_tree.proofs.MoveFlats.{standing_rests}
-use Rattle.stage_tree.proofs.Moving.{IsNodeAt}
 use Rattle.stage_tree.proofs.Places.{sound_plug}
 use Rattle.stage_tree.proofs.PutFits.{children_hang, holds_leaf, v}
 use Rattle.stage_tree.proofs.PutLeaves.{put_there}
@@ -124,16 +123,9 @@ many_is : (n : ℕ) → TREE_FILES < n → nat_le n TREE_FILES ≡ false
 many_is n l = grind (arith, nat_tests)
 
 module _ (t : Flat) (s p : Path) where
-  pub no_copy_source : standing t s ≡ None → copied t s p ≡ Err NoSource
-  no_copy_source e = ap (λ (o : Option FlatNode). or_refuse NoSource o >>= λ x. within_paths p x >>= λ _. few_files (put t p x)) e
-
   module _ (n : FlatNode) (e : standing t s ≡ Some n) where
     by_limits : copied t s p ≡ (within_paths p n >>= λ _. few_files (put t p n))
     by_limits = ap (λ (o : Option FlatNode). or_refuse NoSource o >>= λ x. within_paths p x >>= λ _. few_files (put t p x)) e
-
-    pub copy_judged : (f x : StageFault) → x ≡ f → (f ≡ OutOfMemory) ⊎ (within_paths p n ≡ Err f) → (x ≡ OutOfMemory) ⊎ (copied t s p ≡ Err x)
-    copy_judged f x h (inl g) = inl (h ∙ g)
-    copy_judged f x h (inr g) = inr (by_limits ∙ ap (λ r. r >>= λ _. few_files (put t p n)) g ∙ ap Err (sym h))
 
     module _ (ok : within_paths p n ≡ Ok tt) where
       counted : copied t s p ≡ few_files (put t p n)
@@ -168,10 +160,23 @@ module _ (S : List Object) (s : Nodes) (k : ℕ) (h : HasPlace S s (Some k)) (x 
 pub files_held : (S : List Object) → IsStore S → (s : Nodes) → IsOpen S s → (t : Flat) → IsTree t → Stands S s t → (m : ℕ) → held_number (length t) ≤ m → held_number (files S (kids_of s)) ≤ m
 files_held S st s o t tree stands m low = omega (arith, low, length_files S st (kids_of s) o.sound t tree stands)
 
-pub room_refused : (t : Flat) (s p : Path) (n : FlatNode) (e : standing t s ≡ Some n) → within_paths p n ≡ Ok tt → (f x : StageFault) → x ≡ f → (left more number : ℕ) → length (put t p n) ≡ left + number → more ≡ held_number number →
-    (f ≡ OutOfMemory) ⊎ ((f ≡ TooMany) × ((k : ℕ) → more ≡ held_number k → TREE_FILES < left + k)) → (x ≡ OutOfMemory) ⊎ (copied t s p ≡ Err x)
-room_refused t s p n e ok f x h left more number count is (inl g) = inl (h ∙ g)
-room_refused t s p n e ok f x h left more number count is (inr g) = inr (copy_many t s p n e ok (omega (arith, count, g.1 number is)) ∙ ap Err (sym (h ∙ g.0)))
+pub room_refused : (t : Flat) (s p : Path) (n : FlatNode) (e : standing t s ≡ Some n) → within_paths p n ≡ Ok tt → (f x : StageFault) → x ≡ f →
+    (f ≡ OutOfMemory) ⊎ ((f ≡ TooMany) × (TREE_FILES < length (put t p n))) → (x ≡ OutOfMemory) ⊎ (copied t s p ≡ Err x)
+room_refused t s p n e ok f x h (inl g) = inl (h ∙ g)
+room_refused t s p n e ok f x h (inr g) = inr (copy_many t s p n e ok g.1 ∙ ap Err (sym (h ∙ g.0)))
+
+-- room for so many more files is room for the tree that is left
+pub roomy : (total left number m : ℕ) → total ≡ left + number → IsRoom (left + number) m → IsRoom total m
+roomy total left number m count r = record { few = omega (arith, count, r.few); most = omega (arith, count, r.most) }
+
+abbrev pub walkable : (S : List Object) (s : Nodes) → IsOpen S s → IsWalkable s
+walkable S s o = record { objects = S; directory = o.directory; sound = o.sound }
+
+-- a refusal of so many more files is one of the tree that is left
+pub too_many : (f : StageFault) (left more number total : ℕ) → total ≡ left + number → more ≡ held_number number →
+    (f ≡ OutOfMemory) ⊎ ((f ≡ TooMany) × ((k : ℕ) → more ≡ held_number k → TREE_FILES < left + k)) → (f ≡ OutOfMemory) ⊎ ((f ≡ TooMany) × (TREE_FILES < total))
+too_many f left more number total count is (inl g) = inl g
+too_many f left more number total count is (inr g) = inr (g.0, omega (arith, count, g.1 number is))
 
 pub stands_copied : (S : List Object) (s : Nodes) (p : Path) (k : ℕ) (at_ : IsNodeAt S s p k) (u : Nodes) (to : Path) (t : Flat) → IsTree t → Stands S s t → (n : FlatNode) → standing t p ≡ Some n →
     ((t : Flat) → Stands S s t → (n : FlatNode) → ((r : Path) → at (rests n) r ≡ at t (at_.place.path ++ at_.place.component ∷ r)) → Stands S u (put t to n)) → Stands S u (put t to n)

@@ -12,10 +12,10 @@ use Rattle.stage_tree.specs.declared.fault.StageFault.TheVariants.{NoSource, Out
 use Rattle.stage_tree.specs.declared.nodes.Nodes.{Nodes}
 use Rattle.stage_tree.specs.declared.ways.Way.{Way}
 use Rattle.stage_tree.specs.Branches.{IsRemoved, Stands, reached}
-use Rattle.stage_tree.specs.Edits.{renamed, within_paths}
-use Rattle.stage_tree.specs.Standings.{Holds}
-use Rattle.stage_tree.specs.Ways.{HasPlace, IsOpen, IsPlaceOf, IsStill, IsWay, kids_of}
-use Rattle.stage_tree.specs.Renames.{CanMove, CanPrune, IsCleared, IsEditedTo, IsMoved, IsStop, IsWalkable, is_clear, stand_in}
+use Rattle.stage_tree.specs.Edits.{copied, few_files, renamed, within_paths}
+use Rattle.stage_tree.specs.Standings.{Holds, IsNodeAt}
+use Rattle.stage_tree.specs.Ways.{IsOpen, IsPlaceOf, IsStill, IsWay, kids_of}
+use Rattle.stage_tree.specs.Renames.{CanMove, CanPrune, IsCleared, IsEditedTo, IsMoved, IsSource, IsStop, IsWalkable, is_clear, sourced, stand_in}
 use Rattle.stage_tree.proofs.OnWay.{still_on, still_same}
 use Rattle.stage_tree.proofs.MoveFlats.{moved_apart, moved_over, standing_none, standing_rests, standing_some}
 use Rattle.stage_tree.proofs.PutFits.{place_leaf, v}
@@ -32,11 +32,6 @@ cond_some false o x h = absurd cc
 no_more : (b : Path) → length b ≡ 0 → b ≡ []
 no_more [] h = refl
 no_more (c ∷ b) h = absurd (omega arith)
-
--- the place of the node at a path
-pub record IsNodeAt (S : List Object) (s : Nodes) (p : Path) (k : ℕ) : Type 0 where
-  pub place : HasPlace S s (Some k)
-  pub path : place.path ++ place.component ∷ [] ≡ p
 
 pub node_at : (S : List Object) (s : Nodes) (p : Path) (w : Way) → IsStop S s p w.level w.spot.link w.spot.child → (k : ℕ) → Some k ≡ reached (length p) w → IsNodeAt S s p k
 node_at S s p w h k e = record {
@@ -136,19 +131,42 @@ pub done_so : (S : List Object) (s0 s' : Nodes) (a : Result Flat StageFault) (t 
 done_so S s0 s' a t e o st = record { done = subst (λ x. IsOkAnd x (λ u. IsOpen S s' × Stands S s' u)) (sym e) (o, st); refused = tt }
 
 module _ (t : Flat) (s p : Path) where
-  pub no_source : standing t s ≡ None → renamed t s p ≡ Err NoSource
-  no_source e = ap (λ (o : Option FlatNode). or_refuse NoSource o >>= λ x. within_paths p x >>= λ _. Ok (put (remove t s) p x)) e
+  pub nothing_sourced : standing t s ≡ None → sourced t s p ≡ Err NoSource
+  nothing_sourced e = ap (λ (o : Option FlatNode). or_refuse NoSource o >>= λ x. within_paths p x >>= λ _. Ok x) e
+
+  -- what is refused as a source is refused by an edit that goes on with one
+  goes_on : (f : FlatNode → Result Flat StageFault) → (or_refuse NoSource (standing t s) >>= λ x. within_paths p x >>= λ _. f x) ≡ (sourced t s p >>= f)
+  goes_on f = by (standing t s)
+    where
+      more : (n : FlatNode) (r : Result (Unit {0}) StageFault) → (r >>= λ _. f n) ≡ ((r >>= λ _. Ok n) >>= f)
+      more n (Ok u) = refl
+      more n (Err e) = refl
+
+      by : (o : Option FlatNode) → (or_refuse NoSource o >>= λ x. within_paths p x >>= λ _. f x) ≡ ((or_refuse NoSource o >>= λ x. within_paths p x >>= λ _. Ok x) >>= f)
+      by None = refl
+      by (Some n) = more n (within_paths p n)
+
+  pub not_renamed : (e : StageFault) → (e ≡ OutOfMemory) ⊎ (sourced t s p ≡ Err e) → (e ≡ OutOfMemory) ⊎ (renamed t s p ≡ Err e)
+  not_renamed e (inl g) = inl g
+  not_renamed e (inr g) = inr (goes_on (λ x. Ok (put (remove t s) p x)) ∙ ap (λ r. r >>= λ x. Ok (put (remove t s) p x)) g)
+
+  pub not_copied : (e : StageFault) → (e ≡ OutOfMemory) ⊎ (sourced t s p ≡ Err e) → (e ≡ OutOfMemory) ⊎ (copied t s p ≡ Err e)
+  not_copied e (inl g) = inl g
+  not_copied e (inr g) = inr (goes_on (λ x. few_files (put t p x)) ∙ ap (λ r. r >>= λ x. few_files (put t p x)) g)
 
   module _ (n : FlatNode) (e : standing t s ≡ Some n) where
-    by_limits : renamed t s p ≡ (within_paths p n >>= λ _. Ok (put (remove t s) p n))
-    by_limits = ap (λ (o : Option FlatNode). or_refuse NoSource o >>= λ x. within_paths p x >>= λ _. Ok (put (remove t s) p x)) e
-
-    pub refused_so : (f : StageFault) → within_paths p n ≡ Err f → renamed t s p ≡ Err f
-    refused_so f h = by_limits ∙ ap (λ r. r >>= λ _. Ok (put (remove t s) p n)) h
-
-    pub judged_so : (e f : StageFault) → e ≡ f → (f ≡ OutOfMemory) ⊎ (within_paths p n ≡ Err f) → (e ≡ OutOfMemory) ⊎ (renamed t s p ≡ Err e)
-    judged_so e f h (inl g) = inl (h ∙ g)
-    judged_so e f h (inr g) = inr (refused_so f g ∙ ap Err (sym h))
+    pub judged_so : (e f : StageFault) → e ≡ f → (f ≡ OutOfMemory) ⊎ (within_paths p n ≡ Err f) → (e ≡ OutOfMemory) ⊎ (sourced t s p ≡ Err e)
+    judged_so x f h (inl g) = inl (h ∙ g)
+    judged_so x f h (inr g) = inr (ap (λ (o : Option FlatNode). or_refuse NoSource o >>= λ y. within_paths p y >>= λ _. Ok y) e ∙ ap (λ r. r >>= λ _. Ok n) g ∙ ap Err (sym h))
 
     pub left_so : within_paths p n ≡ Ok tt → renamed t s p ≡ Ok (put (remove t s) p n)
-    left_so h = by_limits ∙ ap (λ r. r >>= λ _. Ok (put (remove t s) p n)) h
+    left_so h = ap (λ (o : Option FlatNode). or_refuse NoSource o >>= λ x. within_paths p x >>= λ _. Ok (put (remove t s) p x)) e ∙ ap (λ r. r >>= λ _. Ok (put (remove t s) p n)) h
+
+-- ---- a source that was found
+
+module _ (S : List Object) (s s' : Nodes) (p q : Path) (k : ℕ) (h : IsSource S s s' p q k) where
+  pub source_stands : (t : Flat) → Stands S s t → Stands S s' t
+  source_stands t st y = h.still.leaves y ∙ st y
+
+  abbrev pub source_moves : CanMove s' k q
+  source_moves = record { objects = S; opened = h.still.opened; path = h.at.place.path; component = h.at.place.component; link = h.at.place.link; place = h.at.place.place; clear = h.target_clear }

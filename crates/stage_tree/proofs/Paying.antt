@@ -246,3 +246,10 @@ module _ (S : List Object) (s0 s1 : Nodes) (p q : Path) (n0 n1 : ℕ) (first_pai
 
 pub paid_root : (S : List Object) → IsStore S → (s : Nodes) → IsOpen S s → (t : Flat) → Stands S s t → breadth (kids_of s) ≤ length (tops (under t []))
 paid_root S store s o t st = breadth_tops S store (kids_of s) o.sound (under t []) (λ q p. st (q ∷ p) ∙ sym (at-under t [] q p))
+
+-- the steps of a move between paths that are the same
+pub paid_there : (t : Flat) (p q p' q' : Path) → p ≡ p' → q ≡ q' → (n0 n1 n2 : ℕ) → n1 + length (tops (under t [])) ≤ n0 + entries_of t (above_both p q) → n2 ≤ n1 + length q → n2 + length (tops (under t [])) ≤ n0 + entries_of t (above_both p' q') + length q'
+paid_there t p q p' q' a b n0 n1 n2 g h =
+    let same : entries_of t (above_both p q) ≡ entries_of t (above_both p' q') = λ i. entries_of t (above_both (a i) (b i)) in
+    let long : length q ≡ length q' = ap length b in
+    omega (arith, g, h, same, long)

@@ -1,16 +1,17 @@
 -- Nodes moved from one path to another.
-use Rattle.std.specs.Prelude.{◌≡◌, ℕ, zero, suc, nat_lt, filter, take, ◌&&◌, ◌+◌, ◌≤◌, ◌⊎◌, Bool, true, false, not, cond, List, [], ◌∷◌, ◌++◌, length, slice_get, Option, Some, None, replicate, OnOk, IfErr, IsOkAnd, Result, Err}
+use Rattle.std.specs.Prelude.{◌≡◌, ℕ, zero, suc, nat_lt, filter, take, ◌&&◌, ◌+◌, ◌≤◌, ◌⊎◌, Bool, true, false, not, cond, List, [], ◌∷◌, ◌++◌, length, slice_get, Option, Some, None, replicate, OnOk, IfErr, IsOkAnd, Result, Ok, Err}
 use Rattle.std.specs.Option.{option_and_then}
 use Rattle.git_objects.specs.Paths.{Bytes, Path, comparable, is_prefix, same_bytes}
-use Rattle.git_objects.specs.Trees.{Flat, Node as FlatNode, at, put, rests, under}
+use Rattle.git_objects.specs.Trees.{Flat, IsTree, Node as FlatNode, at, put, rests, standing, under}
 use Rattle.git_objects.specs.Names.{tops}
+use Rattle.git_objects.specs.Results.{◌>>=◌, or_refuse}
 use Rattle.git_objects.specs.Entries.{is_dir}
 use Rattle.git_objects.specs.declared.mode.Mode.TheVariants.{Module}
 use Rattle.object_store.specs.Objects.{Object}
 use Rattle.path_trees.specs.Standing.{node}
 use Rattle.path_trees.specs.declared.found.Found.{Found}
 use Rattle.stage_tree.specs.declared.fault.StageFault.{StageFault}
-use Rattle.stage_tree.specs.declared.fault.StageFault.TheVariants.{OutOfMemory}
+use Rattle.stage_tree.specs.declared.fault.StageFault.TheVariants.{NoSource, OutOfMemory}
 use Rattle.stage_tree.specs.declared.nodes.Node.{Node}
 use Rattle.stage_tree.specs.declared.nodes.Nodes.{Nodes}
 use Rattle.stage_tree.specs.declared.nodes.Content.{Content}
@@ -21,6 +22,8 @@ use Rattle.stage_tree.specs.Pools.{IsKept, IsPool, StayBut, inside, spare}
 use Rattle.stage_tree.specs.Directories.{IsDirectory}
 use Rattle.stage_tree.specs.Leaves.{is_held}
 use Rattle.stage_tree.specs.Branches.{Stands}
+use Rattle.stage_tree.specs.Edits.{within_paths}
+use Rattle.stage_tree.specs.Standings.{Holds, IsNodeAt}
 use Rattle.stage_tree.specs.Ways.{IsBlocked, IsOpen, IsPlaceOf, IsStill, kids_of}
 
 -- ---- ways without a stored directory
@@ -143,6 +146,26 @@ pub record IsMoved (s s' : Nodes) (k : ℕ) (p : Path) (h : CanMove s k p) : Typ
   pub opened : IsOpen h.objects s'
   pub puts : (t : Flat) → Stands h.objects s t → (n : FlatNode) → ((r : Path) → at (rests n) r ≡ at t (h.path ++ h.component ∷ r)) → Stands h.objects s' (put (put t (h.path ++ h.component ∷ []) (node h.objects stand_in)) p n)
   pub clear : (q : Path) → comparable p q ≡ false → is_clear (kids_of s) q ≡ true → is_clear (kids_of s') q ≡ true
+
+-- ---- what is moved or copied
+
+-- what stands at s, if it may be put at p
+abbrev pub sourced : Flat → Path → Path → Result FlatNode StageFault
+sourced t s p = or_refuse NoSource (standing t s) >>= λ x. within_paths p x >>= λ _. Ok x
+
+-- The nodes stand for what they stood for, and the ways to both paths are clear. What stands at the first, at the node
+-- of this number, may be put at the second.
+pub record IsSource (S : List Object) (s s' : Nodes) (p q : Path) (k : ℕ) : Type 0 where
+  pub still : IsStill S s s'
+  pub clear : is_clear (kids_of s') p ≡ true
+  pub target_clear : is_clear (kids_of s') q ≡ true
+  pub at : IsNodeAt S s' p k
+  pub fits : (t : Flat) (n : FlatNode) → Holds S s' at.place t n → within_paths q n ≡ Ok tt
+
+-- the nodes stand for what they stood for, and what stands at the first path may not, or there was no memory
+pub record IsNoSource (S : List Object) (s s' : Nodes) (p q : Path) (e : StageFault) : Type 0 where
+  pub still : IsStill S s s'
+  pub refused : (t : Flat) → IsTree t → Stands S s t → (e ≡ OutOfMemory) ⊎ (sourced t p q ≡ Err e)
 
 -- ---- an edit of the nodes
 

@@ -1,12 +1,17 @@
 // Nodes copied with all below them.
-ghost use Rattle.std.specs.Prelude.{◌≡◌, ◌+◌, ◌<◌, ◌≤◌, true, length, slice_get, Some, IfOk, OnErr, OnOk};
+ghost use Rattle.std.specs.Prelude.{◌≡◌, ◌⊎◌, ◌+◌, ◌<◌, ◌≤◌, true, length, slice_get, Some};
+ghost use Rattle.std.specs.Prelude.{IfErr, IfOk, OnErr, OnOk};
+ghost use Rattle.git_objects.specs.declared.limits.TheConstants.{TREE_FILES};
+ghost use Rattle.stage_tree.specs.declared.fault.StageFault.TheVariants.{OutOfMemory, TooMany};
+ghost use Rattle.stage_tree.specs.Counts.{IsRoom, files};
+ghost use Rattle.stage_tree.specs.Standings.{Holds};
 ghost use Rattle.stage_tree.specs.Copies.{CanCopy, CanCopyOne, IsCopied, IsCopying, IsDropping, IsOneCopied};
 ghost use Rattle.stage_tree.specs.Copies.{is_turn};
 ghost use Rattle.stage_tree.specs.Copies.{turns_of, works_of};
 ghost use Rattle.stage_tree.specs.Expanding.{IsWaste};
 ghost use Rattle.stage_tree.specs.Forests.{Forest};
 ghost use Rattle.git_objects.specs.Paths.{is_path};
-ghost use Rattle.git_objects.specs.Trees.{Flat, IsTree};
+ghost use Rattle.git_objects.specs.Trees.{Flat, IsTree, Node as FlatNode, put};
 ghost use Rattle.object_store.specs.Objects.{IsStore};
 ghost use Rattle.object_store.specs.Sizes.{held_number};
 ghost use Rattle.stage_tree.specs.Branches.{Stands};
@@ -14,8 +19,8 @@ ghost use Rattle.stage_tree.specs.Edits.{IsEdited, copied};
 ghost use Rattle.stage_tree.specs.Stages.{Shows};
 ghost use Rattle.stage_tree.specs.Copies.{IsCopyTo, IsDuplicated, node_files};
 ghost use Rattle.stage_tree.specs.Pools.{IsSame};
-ghost use Rattle.stage_tree.specs.Renames.{CanMove};
-ghost use Rattle.stage_tree.specs.Ways.{HasPlace, IsOpen, IsStill};
+ghost use Rattle.stage_tree.specs.Renames.{CanMove, is_clear};
+ghost use Rattle.stage_tree.specs.Ways.{HasPlace, IsOpen, IsStill, kids_of};
 ghost use Rattle.stage_tree.specs.declared.nodes.Nodes.{Nodes as TheNodes};
 
 use crate::count::found_files;
@@ -207,6 +212,33 @@ impl Nodes {
         }
     }
 
+    // A number of files that isn't passed where a copy of what stands at a node is put at a path whose way is clear, or
+    // a refusal.
+    fn most_with_copy(
+        &self,
+        alloc: Global,
+        store: &Store,
+        number: usize,
+        to: &[Component],
+        most: u32,
+    ) -> Result<u32, StageFault>
+        requires store { IsStore store.now }
+        requires opened { IsOpen store.now self.now }
+        requires place { HasPlace store.now self.now (Some number) }
+        requires path { is_path to.now ≡ true }
+        requires clear { is_clear (kids_of self.now) to.now ≡ true }
+        requires most { held_number (files store.now (kids_of self.now)) ≤ most }
+        ensures ok { IfOk result (λ m. (h : HasPlace store.now self.now (Some number)) (t : Flat) (n : FlatNode)
+            → Holds store.now self.now h t n → IsRoom (length (put t to.now n)) m) }
+        ensures err { IfErr result (λ e. (h : HasPlace store.now self.now (Some number)) (t : Flat) (n : FlatNode)
+            → Holds store.now self.now h t n
+            → (e ≡ OutOfMemory) ⊎ ((e ≡ TooMany) × (TREE_FILES < length (put t to.now n)))) }
+    {
+        let child = self.walk(to).spot.child;
+        let files = self.node_files(alloc, store, number)?;
+        self.most_with(alloc, store, child, most, files)
+    }
+
     // Puts a copy of what stands at a path at another. The number of files that isn't passed then.
     pub fn copy<L: Ledger>(
         &mut self,
@@ -230,16 +262,8 @@ impl Nodes {
         let mut steps = Steps::<L>::new(blank);
         let source = from.components();
         let target = to.components();
-        self.open_way(alloc, store, source, &mut steps)?;
-        self.open_way(alloc, store, target, &mut steps)?;
-        let way = self.walk(source);
-        let Some(number) = self.reached(way, source.len()) else {
-            return Err(StageFault::NoSource);
-        };
-        self.within(alloc, store, number, target)?;
-        let child = self.walk(target).spot.child;
-        let files = self.node_files(alloc, store, number)?;
-        let most = self.most_with(alloc, store, child, most, files)?;
+        let number = self.source(alloc, store, source, target, &mut steps)?;
+        let most = self.most_with_copy(alloc, store, number, target, most)?;
         self.duplicate(alloc, number, target, &mut steps)?;
         Ok(most)
     }

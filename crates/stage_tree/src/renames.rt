@@ -1,5 +1,5 @@
 // Nodes moved from one path to another.
-ghost use Rattle.std.specs.Prelude.{◌≡◌, ◌+◌, ◌<◌, ◌≤◌, [], true, drop, length, IfOk, OnErr, OnOk};
+ghost use Rattle.std.specs.Prelude.{◌≡◌, ◌+◌, ◌<◌, ◌≤◌, [], true, drop, length, IfErr, IfOk, OnErr, OnOk};
 ghost use Rattle.git_objects.specs.Paths.{comparable, is_path};
 ghost use Rattle.git_objects.specs.Trees.{Flat, IsTree, under};
 ghost use Rattle.git_objects.specs.Names.{tops};
@@ -10,8 +10,8 @@ ghost use Rattle.stage_tree.specs.Expanding.{IsWaste};
 ghost use Rattle.stage_tree.specs.Pools.{IsPool};
 ghost use Rattle.stage_tree.specs.Stages.{Shows};
 ghost use Rattle.stage_tree.specs.Ways.{IsOpen, IsStill};
-ghost use Rattle.stage_tree.specs.Renames.{CanMove, CanPrune, IsEditedTo, IsGraft, IsMoved, above_both};
-ghost use Rattle.stage_tree.specs.Renames.{entries_of, stand_in};
+ghost use Rattle.stage_tree.specs.Renames.{CanMove, CanPrune, IsEditedTo, IsGraft, IsMoved, IsNoSource, IsSource};
+ghost use Rattle.stage_tree.specs.Renames.{above_both, entries_of, stand_in};
 
 use crate::fault::StageFault;
 use crate::nodes::{Content, Link, Node, Nodes};
@@ -140,6 +140,35 @@ impl Nodes {
         }
     }
 
+    // Makes the ways to two paths clear, and gives the number of what stands at the first, if it may be put at the
+    // second.
+    pub fn source<L: Ledger>(
+        &mut self,
+        alloc: Global,
+        store: &Store,
+        from: &[Component],
+        to: &[Component],
+        steps: &mut Steps<L>,
+    ) -> Result<usize, StageFault>
+        requires store { IsStore store.now }
+        requires opened { IsOpen store.now self.old }
+        requires from { is_path from.now ≡ true }
+        requires to { is_path to.now ≡ true }
+        ensures ok { IfOk result (IsSource store.now self.old self.new from.now to.now) }
+        ensures err { IfErr result (IsNoSource store.now self.old self.new from.now to.now) }
+        ensures paid { (t : Flat) → Stands store.now self.old t → steps.new + length (tops (under t []))
+            ≤ steps.old + entries_of t (above_both from.now to.now) }
+    {
+        self.open_way(alloc, store, from, steps)?;
+        self.open_way(alloc, store, to, steps)?;
+        let way = self.walk(from);
+        let Some(number) = self.reached(way, from.len()) else {
+            return Err(StageFault::NoSource);
+        };
+        self.within(alloc, store, number, to)?;
+        Ok(number)
+    }
+
     // Takes out what stands at a path, with the directories that would be left empty, and then puts it at another.
     // Nothing of it is made anew.
     pub fn rename<L: Ledger>(
@@ -160,13 +189,7 @@ impl Nodes {
     {
         let source = from.components();
         let target = to.components();
-        self.open_way(alloc, store, source, steps)?;
-        self.open_way(alloc, store, target, steps)?;
-        let way = self.walk(source);
-        let Some(number) = self.reached(way, source.len()) else {
-            return Err(StageFault::NoSource);
-        };
-        self.within(alloc, store, number, target)?;
+        let number = self.source(alloc, store, source, target, steps)?;
         self.relocate(number, target, steps)?;
         if !comparable(target, source) {
             self.prune(source);
