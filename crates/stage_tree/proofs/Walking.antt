@@ -103,3 +103,6 @@ way_of S s p level link child o h = record { still = still_same S s o; component
 
 pub stop_within : (S : List Object) (s : Nodes) (p : Path) (level : ℕ) (link : Link) (child : Option ℕ) → IsStop S s p level link child → level < length p
 stop_within S s p level link child h = omega (arith, ap length h.path, length-append h.before (h.component ∷ h.behind), h.level_is)
+
+pub way_within : (S : List Object) (s s' : Nodes) (p : Path) (level : ℕ) (link : Link) (child : Option ℕ) → IsWay S s s' p level link child → level < length p
+way_within S s s' p level link child h = omega (arith, ap length h.path, length-append h.before (h.component ∷ h.behind), h.level_is)

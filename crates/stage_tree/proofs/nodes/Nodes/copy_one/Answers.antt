@@ -1,4 +1,5 @@
 use Rattle.std.proofs.Common.{ap}
+use Rattle.std.proofs.lemmas.Result.{err_from_is_err_and}
 use Rattle.stage_tree.specs.Pools.{spare}
 use Rattle.stage_tree.proofs.Copying.{copy_link, one_copied}
 use Rattle.stage_tree.proofs.Opening.{read_node}
@@ -20,3 +21,9 @@ returns-clause-ok c = λ h.
     one_copied s c.place.new.self c.point.new.self c.args.number c.in_ok-number.number c.args.first c.args.next h c.index-node.result.now (read_node s.cells.items c.args.number c.index-node.result.now h.node c.index-node.ensures h.there)
     c.in_ok-number.ensures.number c.in_ok-number.ensures.cells c.in_ok-number.ensures.free (ap (λ v. v.items) c.in_ok-number.ensures.names)
     c.point.ensures.cells (ap (λ v. v.items) c.point.ensures.names) c.point.ensures.free
+
+pub returns-in_err-number-clause-ok : goal.returns-in_err-number-clause-ok
+returns-in_err-number-clause-ok c = let p = err_from_is_err_and c.from_residual.result c.from_residual.ensures.1 in rw (p.1) tt
+
+pub returns-clause-err : goal.returns-clause-err
+returns-clause-err c = tt

@@ -1,4 +1,5 @@
 use Rattle.std.proofs.Common.{◌≡◌, ◌-◌, Some, None, List, get_or, sym, ap, subst, ◌∙◌, arith}
+use Rattle.std.proofs.lemmas.Result.{err_from_is_err_and}
 use Rattle.stage_tree.specs.declared.copies.Work.{Work}
 use Rattle.stage_tree.specs.declared.copies.Work.TheVariants.{Siblings, Children}
 use Rattle.stage_tree.specs.declared.copies.Turn.TheVariants.{Copy, Copied}
@@ -83,3 +84,39 @@ returns-in_ok-copy-in-Children-clause-less c = λ s0 source h.
     let p : IsSplit ws (c.len-last.result - 1) (Children c.in-Children.number c.in-Children.next) (Children (c.in-Children.number) c.in-Copied.copy) = split_last ws (c.len-last.result - 1) (Children c.in-Children.number c.in-Children.next) (Children (c.in-Children.number) c.in-Copied.copy) (omega (arith, works_full ws c.args.turn c.in-Copied.copy turn c.requires.turn)) (sym c.in-Children.is ∙ c.index.ensures ∙ ap (get_or ws (c.len-last.result - 1)) c.in-Children.is) in
     let g = subst (λ (v : List Work). IsCopying s0 s source v (Copied c.in-Copied.copy)) p.whole (subst (IsCopying s0 s source ws) turn h) in
     omega (arith, node_less s0 s source p.front c.in-Children.number c.in-Copied.copy c.in-Children.next g, ap (works_of s0) p.whole, ap (works_of s0) (c.truncate.ensures.items ∙ p.less), ap (turns_of s0) turn)
+
+pub returns-in_default-clause-err : goal.returns-in_default-clause-err
+returns-in_default-clause-err c = tt
+
+pub returns-in_default-clause-works : goal.returns-in_default-clause-works
+returns-in_default-clause-works c = tt
+
+pub returns-in_err-push-in-Copy-clause-ok : goal.returns-in_err-push-in-Copy-clause-ok
+returns-in_err-push-in-Copy-clause-ok c = let p = err_from_is_err_and c.from_residual.result c.from_residual.ensures.1 in rw (p.1) tt
+
+pub returns-in_err-push-in-Copy-clause-less : goal.returns-in_err-push-in-Copy-clause-less
+returns-in_err-push-in-Copy-clause-less c = let p = err_from_is_err_and c.from_residual.result c.from_residual.ensures.1 in rw (p.1) tt
+
+pub returns-in_err-copy-in-Children-clause-ok : goal.returns-in_err-copy-in-Children-clause-ok
+returns-in_err-copy-in-Children-clause-ok c = let p = err_from_is_err_and c.from_residual-in_err-copy-in-Children.result c.from_residual-in_err-copy-in-Children.ensures.1 in rw (p.1) tt
+
+pub returns-in_err-copy-in-Children-clause-less : goal.returns-in_err-copy-in-Children-clause-less
+returns-in_err-copy-in-Children-clause-less c = let p = err_from_is_err_and c.from_residual-in_err-copy-in-Children.result c.from_residual-in_err-copy-in-Children.ensures.1 in rw (p.1) tt
+
+pub returns-in_ok-push-in-Copy-clause-err : goal.returns-in_ok-push-in-Copy-clause-err
+returns-in_ok-push-in-Copy-clause-err c = tt
+
+pub returns-in_ok-push-in-Copy-clause-works : goal.returns-in_ok-push-in-Copy-clause-works
+returns-in_ok-push-in-Copy-clause-works c = tt
+
+pub returns-in-Siblings-clause-err : goal.returns-in-Siblings-clause-err
+returns-in-Siblings-clause-err c = tt
+
+pub returns-in-Siblings-clause-works : goal.returns-in-Siblings-clause-works
+returns-in-Siblings-clause-works c = tt
+
+pub returns-in_ok-copy-in-Children-clause-err : goal.returns-in_ok-copy-in-Children-clause-err
+returns-in_ok-copy-in-Children-clause-err c = tt
+
+pub returns-in_ok-copy-in-Children-clause-works : goal.returns-in_ok-copy-in-Children-clause-works
+returns-in_ok-copy-in-Children-clause-works c = tt

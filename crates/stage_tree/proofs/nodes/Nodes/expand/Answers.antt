@@ -1,4 +1,5 @@
 use Rattle.std.proofs.Common.{◌≡◌, map, sym, ap, subst, ◌∙◌}
+use Rattle.std.proofs.lemmas.Result.{err_from_is_err_and}
 use Rattle.std.specs.Prelude.{slice_set}
 use Rattle.git_objects.specs.Entries.{AreEntries}
 use Rattle.git_objects.specs.Views.{entry_value}
@@ -52,3 +53,21 @@ returns-clause-ok c =
     c.args.store.now c.fill.new.self r.0 r.2 r.3
     (subst (IsFilling c.set.new.self c.fill.new.self c.args.number) (c.in_ok-entries.ensures.entries ∙ r.1)
     (went c.fill.result (IsFilling c.set.new.self c.fill.new.self c.args.number (map entry_value c.in_ok-entries.entries.items)) (cc) c.fill.ensures.ok))
+
+pub returns-in_err-entries-clause-ok : goal.returns-in_err-entries-clause-ok
+returns-in_err-entries-clause-ok c = let p = err_from_is_err_and c.from_residual.result c.from_residual.ensures.1 in rw (p.1) tt
+
+pub returns-in_err-entries-clause-store : goal.returns-in_err-entries-clause-store
+returns-in_err-entries-clause-store c = c.listing.ensures.store
+
+pub returns-then-is_err-clause-ok : goal.returns-then-is_err-clause-ok
+returns-then-is_err-clause-ok c = tt
+
+pub returns-then-is_err-clause-store : goal.returns-then-is_err-clause-store
+returns-then-is_err-clause-store c = c.listing.ensures.store
+
+pub returns-clause-err : goal.returns-clause-err
+returns-clause-err c = tt
+
+pub returns-clause-store : goal.returns-clause-store
+returns-clause-store c = c.listing.ensures.store

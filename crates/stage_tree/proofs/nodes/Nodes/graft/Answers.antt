@@ -47,3 +47,18 @@ returns-clause-ok g c =
     let same : c.depth.depth ≡ c.args.level = omega (arith, c.depth.invariant.low) in
     subst (λ (k : ℕ). IsGraft c.args.self.now c.point.new.self (drop k c.args.components.now) c.args.content c.args.first c.depth.number) same
     (grafted c.args.self.now c.depth.self c.point.new.self (drop c.depth.depth c.args.components.now) c.args.content c.in_ok-end.end c.depth.number c.depth.invariant.trunk c.args.first c.point.ensures.cells (ap (λ v. v.items) c.point.ensures.names) c.point.ensures.free)
+
+pub returns-in-Err-clause-ok : goal.returns-in-Err-clause-ok
+returns-in-Err-clause-ok g c = tt
+
+pub returns-in-Err-clause-made : goal.returns-in-Err-clause-made
+returns-in-Err-clause-made g c = tt
+
+pub returns-clause-err : goal.returns-clause-err
+returns-clause-err g c = tt
+
+pub returns-in_err-end-clause-ok : goal.returns-in_err-end-clause-ok
+returns-in_err-end-clause-ok g c = let p = err_from_is_err_and c.from_residual.result c.from_residual.ensures.1 in rw (p.1) tt
+
+pub returns-in_err-end-clause-made : goal.returns-in_err-end-clause-made
+returns-in_err-end-clause-made g c = let p = err_from_is_err_and c.from_residual.result c.from_residual.ensures.1 in rw (p.1) tt

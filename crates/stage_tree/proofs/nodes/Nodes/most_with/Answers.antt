@@ -1,4 +1,5 @@
 use Rattle.std.proofs.Common.{arith}
+use Rattle.std.proofs.lemmas.Result.{err_from_is_err_and}
 use Rattle.stage_tree.specs.Ways.{kids_of}
 use Rattle.stage_tree.proofs.CountLeaves.{but_few}
 use Rattle.stage_tree.proofs.nodes.Nodes.most_with.Goals as goal
@@ -10,3 +11,15 @@ returns-then-bound-le-TREE_FILES-clause-ok c = λ n e.
       few = omega (arith, e, few, c.requires.most, c.saturating_add-bound.ensures, c.if-bound-le-TREE_FILES.true);
       most = omega (arith, e, few, c.requires.most, c.saturating_add-bound.ensures, c.if-bound-le-TREE_FILES.true);
     }
+
+pub returns-then-bound-le-TREE_FILES-clause-err : goal.returns-then-bound-le-TREE_FILES-clause-err
+returns-then-bound-le-TREE_FILES-clause-err c = tt
+
+pub returns-in_err-left-clause-ok : goal.returns-in_err-left-clause-ok
+returns-in_err-left-clause-ok c = let p = err_from_is_err_and c.from_residual.result c.from_residual.ensures.1 in rw (p.1) tt
+
+pub returns-then-total-gt-TREE_FILES-clause-ok : goal.returns-then-total-gt-TREE_FILES-clause-ok
+returns-then-total-gt-TREE_FILES-clause-ok c = tt
+
+pub returns-clause-err : goal.returns-clause-err
+returns-clause-err c = tt

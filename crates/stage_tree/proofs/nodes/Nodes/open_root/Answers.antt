@@ -25,3 +25,6 @@ returns-in-Held-clause-err c =
     let r = read_node s.cells.items 0 c.index.result.now c.requires.stage.root c.index.ensures c.requires.stage.there in
     of_err c.expand.result (IsWaste s c.expand.new.self) (IsUnopened s c.expand.new.self)
     (root_unopened c.args.store.now s c.requires.stage c.requires.held c.in-Held.found (ap (λ (n : Node). n.content) (sym r) ∙ c.in-Held.is) c.expand.new.self) c.expand.ensures.err
+
+pub returns-in-Open-clause-err : goal.returns-in-Open-clause-err
+returns-in-Open-clause-err c = tt

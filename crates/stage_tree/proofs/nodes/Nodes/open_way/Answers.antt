@@ -1,4 +1,5 @@
 use Rattle.std.proofs.Common.{◌≡◌, ◌+◌, ◌<◌, length, ap, refl, subst, arith, take}
+use Rattle.std.proofs.lemmas.Result.{err_from_is_err_and}
 use Rattle.path_trees.proofs.Lookups.{read_at, path_long}
 use Rattle.git_objects.specs.Paths.{Path}
 use Rattle.stage_tree.specs.Ways.{IsEntered, IsDirOf}
@@ -83,3 +84,12 @@ returns-clause-paid g c = λ t st z clear.
     let long = path_long p c.requires.path in
     let same : c.loop-level.level + 1 ≡ length p = omega arith in
     omega (arith, c.loop-level.invariant.paid t st z clear, ap (λ k. entries_of t (beside z (beginnings p k))) same)
+
+pub returns-in-None-clause-err : goal.returns-in-None-clause-err
+returns-in-None-clause-err g c = tt
+
+pub returns-clause-err : goal.returns-clause-err
+returns-clause-err g c = tt
+
+pub returns-in_err-number-clause-ok : goal.returns-in_err-number-clause-ok
+returns-in_err-number-clause-ok g c = let p = err_from_is_err_and c.from_residual.result c.from_residual.ensures.1 in rw (p.1) tt

@@ -1,4 +1,6 @@
 use Rattle.std.proofs.Common.{ap, arith}
+use Rattle.std.proofs.lemmas.Result.{err_from_is_err_and}
+use Rattle.stage_tree.proofs.Walking.{way_within}
 use Rattle.std.proofs.lemmas.Option.{slice_get_within}
 use Rattle.stage_tree.proofs.Opening.{read_node}
 use Rattle.stage_tree.proofs.Seeking.{inside_link}
@@ -27,3 +29,24 @@ replace-requires c = has_spot c.requires.way.0 c.args.self.now c.args.self.now c
 
 pub returns-clause-ok : goal.returns-clause-ok
 returns-clause-ok c = λ S w held. put_at S c.args.self.now c.branch-self.new.self c.args.components.now c.args.way.level c.args.way.spot.link c.args.way.spot.child c.args.found c.in_ok-number.number c.requires.components held w c.in_ok-number.ensures.ok c.replace.new.self c.replace.ensures
+
+pub reached-requires : goal.reached-requires
+reached-requires c = way_within c.requires.way.0 c.args.self.now c.args.self.now c.args.components.now c.args.way.level c.args.way.spot.link c.args.way.spot.child c.requires.way.1
+
+pub branch-self-requires-clause-level : goal.branch-self-requires-clause-level
+branch-self-requires-clause-level c = way_within c.requires.way.0 c.args.self.now c.args.self.now c.args.components.now c.args.way.level c.args.way.spot.link c.args.way.spot.child c.requires.way.1
+
+pub branch-self-requires-clause-pool : goal.branch-self-requires-clause-pool
+branch-self-requires-clause-pool c = c.requires.way.1.still.opened.directory.pool
+
+pub returns-in-Held-clause-err : goal.returns-in-Held-clause-err
+returns-in-Held-clause-err c = tt
+
+pub returns-in_err-number-clause-ok : goal.returns-in_err-number-clause-ok
+returns-in_err-number-clause-ok c = let p = err_from_is_err_and c.from_residual.result c.from_residual.ensures.1 in rw (p.1) tt
+
+pub returns-in_err-number-clause-err : goal.returns-in_err-number-clause-err
+returns-in_err-number-clause-err c = let p = err_from_is_err_and c.from_residual.result c.from_residual.ensures.1 in rw (p.1) c.in_err-number.ensures.err
+
+pub returns-clause-err : goal.returns-clause-err
+returns-clause-err c = tt

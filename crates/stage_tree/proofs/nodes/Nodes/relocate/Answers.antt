@@ -76,3 +76,9 @@ returns-in-Err-clause-err g c = λ h.
     let cells : c.set.new.self.cells.items ≡ slice_set s.cells.items k (record (n s k p h).node { content = Held stand_in; first = None }) = c.set.ensures.cells ∙ (λ i. slice_set s.cells.items k (record (r i) { content = Held (c.stand_in.ensures i); first = None })) in
     move_failed s k p h c.set.new.self cells (ap (λ v. v.items) c.set.ensures.names) c.set.ensures.free c.graft.new.self c.in-Err.ensures.err c.set-in-Err.new.self
     (c.set-in-Err.ensures.cells ∙ ap (slice_set c.graft.new.self.cells.items k) r) (ap (λ v. v.items) c.set-in-Err.ensures.names) c.set-in-Err.ensures.free
+
+pub returns-in-Ok-clause-err : goal.returns-in-Ok-clause-err
+returns-in-Ok-clause-err g c = tt
+
+pub returns-in-Err-clause-ok : goal.returns-in-Err-clause-ok
+returns-in-Err-clause-ok g c = tt

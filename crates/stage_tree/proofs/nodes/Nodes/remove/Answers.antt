@@ -1,4 +1,5 @@
 use Rattle.std.proofs.Common.{◌≡◌, ℕ, ◌-◌, List, take, refl, ap, subst, ◌∙◌, arith}
+use Rattle.std.proofs.lemmas.Result.{err_from_is_err_and}
 use Rattle.git_objects.specs.Paths.{Path, is_path}
 use Rattle.git_objects.specs.Trees.{Flat, at, remove}
 use Rattle.stage_tree.specs.declared.nodes.Nodes.{Nodes}
@@ -77,3 +78,27 @@ returns-in_default-reached-clause-ok c =
     let one : c.levels.level ≡ 1 = omega (arith, i.low) in
     subst (λ (q : Path). IsRemoved S c.args.self.now c.way-2.new.self q) c.components-components.ensures.components
     (nothing_removed S c.args.self.now c.levels.self c.way-2.new.self p 1 (omega (arith, i.within)) i.still (subst (Same S c.args.self.now p) one i.same) c.in_ok-way-2.way c.in_ok-way-2.ensures.ok c.in_default-reached.ensures)
+
+pub way-requires-clause-opened : goal.way-requires-clause-opened
+way-requires-clause-opened c = c.levels.invariant.still.opened
+
+pub way-requires-2-clause-opened : goal.way-requires-2-clause-opened
+way-requires-2-clause-opened c = c.levels.invariant.still.opened
+
+pub returns-in_err-way-clause-ok : goal.returns-in_err-way-clause-ok
+returns-in_err-way-clause-ok c = let p = err_from_is_err_and c.from_residual.result c.from_residual.ensures.1 in rw (p.1) tt
+
+pub returns-in_err-way-2-clause-ok : goal.returns-in_err-way-2-clause-ok
+returns-in_err-way-2-clause-ok c = let p = err_from_is_err_and c.from_residual-in_err-way-2.result c.from_residual-in_err-way-2.ensures.1 in rw (p.1) tt
+
+pub returns-in_default-clause-err : goal.returns-in_default-clause-err
+returns-in_default-clause-err c = tt
+
+pub returns-then-not-is_alone-clause-err : goal.returns-then-not-is_alone-clause-err
+returns-then-not-is_alone-clause-err c = tt
+
+pub returns-in-Some-reached-clause-err : goal.returns-in-Some-reached-clause-err
+returns-in-Some-reached-clause-err c = tt
+
+pub returns-in_default-reached-clause-err : goal.returns-in_default-reached-clause-err
+returns-in_default-reached-clause-err c = tt

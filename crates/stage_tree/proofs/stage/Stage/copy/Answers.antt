@@ -1,4 +1,5 @@
 use Rattle.std.proofs.Common.{arith}
+use Rattle.stage_tree.proofs.Marked.{rooted_in}
 use Rattle.std.proofs.lemmas.Result.{err_from_is_err_and}
 use Rattle.stage_tree.specs.Edits.{copied}
 use Rattle.stage_tree.proofs.CopyShown.{copy_open, copy_refused, copy_shown}
@@ -26,3 +27,18 @@ invariant_of-self-2 c =
 pub returns : goal.returns
 returns c = λ t h.
     copy_shown c.args.store.now c.self.inside.nodes c.open_root.new.self c.copy.new.self c.self.inside.most c.args.self.now c.self.view_is c.in_ok-open_root.ensures.ok t h c.args.from.now c.args.to.now c.copy.ensures.path c.in_ok-self-inside.field-0 (c.in_ok-self-inside.ensures.edit t h.tree (stands_opened c.args.store.now c.self.inside.nodes c.open_root.new.self c.self.inside.most c.args.self.now t c.self.view_is c.in_ok-open_root.ensures.ok h))
+
+pub open_root-requires-clause-stage : goal.open_root-requires-clause-stage
+open_root-requires-clause-stage c = c.self.invariant.stage
+
+pub open_root-requires-clause-held : goal.open_root-requires-clause-held
+open_root-requires-clause-held c = rooted_in c.args.store.now c.self.inside.nodes c.self.inside.most c.args.self.now c.self.view_is c.requires.0 c.requires.1
+
+pub invariant_of-self : goal.invariant_of-self
+invariant_of-self c = record { stage = c.in_err-open_root.ensures.err.stage; last_there = tt }
+
+pub copy-requires-clause-store : goal.copy-requires-clause-store
+copy-requires-clause-store c = c.requires.1.store
+
+pub copy-requires-clause-opened : goal.copy-requires-clause-opened
+copy-requires-clause-opened c = c.in_ok-open_root.ensures.ok.opened

@@ -1,4 +1,5 @@
 use Rattle.std.proofs.Common.{◌≡◌, ◌-◌, ℕ, length, take, Option, None, IfSome, refl, sym, ap, subst, ◌∙◌}
+use Rattle.std.proofs.lemmas.Result.{err_from_is_err_and}
 use Rattle.git_objects.specs.Paths.{Path}
 use Rattle.git_objects.specs.Trees.{Flat, remove}
 use Rattle.stage_tree.specs.declared.nodes.Nodes.{Nodes}
@@ -71,3 +72,9 @@ invariant_of-self c = record {
   stage = stage_of c.args.store.now c.remove_behind.new.self (c.if-remove_behind.ensures.removed refl c.args.store.now (opened_in c.args.store.now c.self.inside.nodes c.self.inside.most c.args.self.now c.self.view_is c.self.invariant.stage (take (length c.components-components.result.now - 1) c.components-components.result.now) c.in-Some.number (child_in c.self.inside.nodes c.self.inside.last.child c.self.inside.last.directory.items (take (length c.components-components.result.now - 1) c.components-components.result.now) c.in-Some.number c.self.invariant.last_there c.in-Some.ensures.node.0 c.in-Some.ensures.node.1) c.requires.0 c.requires.1).opened).opened;
   last_there = subst (λ (q : Path). IsChildOf c.remove_behind.new.self q c.in-Some.number) (sym c.in-Some.ensures.node.1 ∙ ap (λ d. d.items) (sym c.taken.ensures.directory)) (c.if-remove_behind.ensures.child refl);
 }
+
+pub returns-then-remove_behind-clause-err : goal.returns-then-remove_behind-clause-err
+returns-then-remove_behind-clause-err c = tt
+
+pub returns-in_err-open_root-clause-ok : goal.returns-in_err-open_root-clause-ok
+returns-in_err-open_root-clause-ok c = let p = err_from_is_err_and c.from_residual.result c.from_residual.ensures.1 in rw (p.1) tt
