@@ -34,7 +34,7 @@ use Rattle.git_objects.specs.Results.{◌>>=◌, must}
 use Rattle.stage_tree.specs.declared.fault.StageFault.{StageFault}
 use Rattle.stage_tree.specs.declared.fault.StageFault.TheVariants.{TooDeep, TooLong}
 use Rattle.stage_tree.specs.Edits.{paths_put, within_paths}
-use Rattle.stage_tree.specs.Limits.{content_fits, cost, fits_in, put_fits, room_left, weight}
+use Rattle.stage_tree.specs.Limits.{content_fits, cost, fits_in, put_fits, room_left, weight, limit_of}
 use Rattle.stage_tree.specs.Standings.{Holds}
 use Rattle.stage_tree.specs.Counts.{IsCountable}
 use Rattle.stage_tree.specs.Pools.{Walks, hanging, inside}
@@ -256,3 +256,7 @@ module _ (to : Path) (n : FlatNode) where
 
   pub in_limits : list_all (λ q. nat_le (length q) PATH_COMPONENTS) (paths_put to n) ≡ true → list_all (λ q. nat_le (length (text q)) PATH_BYTES) (paths_put to n) ≡ true → within_paths to n ≡ Ok tt
   in_limits h g = λ i. must {E = StageFault} TooDeep (h i) >>= λ _. must TooLong (g i)
+
+pub limit_low : (m : Measure) → limit_of m ≤ 4097
+limit_low Components = omega arith
+limit_low ByBytes = omega arith

@@ -1,6 +1,7 @@
 -- How long the paths are that come of putting at a path what stands at a node.
 use Rattle.std.specs.Prelude.{◌≡◌, ◌⊎◌, OnOk, IfErr, Result, Ok, Err, ℕ, ◌+◌, ◌-◌, Bool, true, nat_le, cond, ◌&&◌, List, [], ◌∷◌, length, Option, Some, None}
 use Rattle.std.specs.List.{list_all}
+use Rattle.git_objects.specs.declared.limits.TheConstants.{PATH_BYTES, PATH_COMPONENTS}
 use Rattle.git_objects.specs.Paths.{Path}
 use Rattle.git_objects.specs.Trees.{Node, rests}
 use Rattle.object_store.specs.Objects.{Object}
@@ -18,6 +19,11 @@ use Rattle.stage_tree.specs.Forests.{Forest, Nil, Bin}
 abbrev pub weight : Measure → ℕ → ℕ
 weight Components n = 1
 weight Bytes n = n + 1
+
+-- the most of it that a path may have
+abbrev pub limit_of : Measure → ℕ
+limit_of Components = PATH_COMPONENTS
+limit_of Bytes = PATH_BYTES + 1
 
 abbrev pub cost : Measure → Path → ℕ
 cost m [] = 0

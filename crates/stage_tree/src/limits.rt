@@ -5,7 +5,8 @@ ghost use Rattle.git_objects.specs.Trees.{Flat, Node as FlatNode};
 ghost use Rattle.object_store.specs.Objects.{IsStore};
 ghost use Rattle.stage_tree.specs.Counts.{IsCountable};
 ghost use Rattle.stage_tree.specs.Leaves.{is_held};
-ghost use Rattle.stage_tree.specs.Limits.{IsJudged, content_fits, cost, fits_in, put_fits, room_left, weight};
+ghost use Rattle.stage_tree.specs.Limits.{IsJudged, content_fits, cost, fits_in, limit_of, put_fits, room_left};
+ghost use Rattle.stage_tree.specs.Limits.{weight};
 ghost use Rattle.stage_tree.specs.Edits.{within_paths};
 ghost use Rattle.stage_tree.specs.Standings.{Holds};
 ghost use Rattle.stage_tree.specs.Ways.{HasPlace, IsOpen};
@@ -34,6 +35,16 @@ fn weight(measure: Measure, len: usize) -> usize
     match measure {
         Measure::Components => 1,
         Measure::Bytes => len + 1,
+    }
+}
+
+// The most of it that a path may have. A text has one slash less than there are components.
+fn limit(measure: Measure) -> usize
+    ensures { result ≡ limit_of measure }
+{
+    match measure {
+        Measure::Components => PATH_COMPONENTS,
+        Measure::Bytes => PATH_BYTES + 1,
     }
 }
 
@@ -119,7 +130,7 @@ impl Nodes {
         }
     }
 
-    // Whether the paths that come of putting at a path what stands at a node take no more than a limit.
+    // Whether the paths that come of putting at a path what stands at a node take no more than the limit.
     fn put_fits(
         &self,
         alloc: Global,
@@ -127,16 +138,14 @@ impl Nodes {
         measure: Measure,
         number: usize,
         to: &[Component],
-        limit: usize,
     ) -> Result<bool, AllocError>
         requires store { IsStore store.now }
         requires opened { IsOpen store.now self.now }
         requires place { HasPlace store.now self.now (Some number) }
-        requires limit { limit ≤ 4097 }
         ensures { IfOk result (λ fits. (h : HasPlace store.now self.now (Some number)) (t : Flat) (n : FlatNode)
-            → Holds store.now self.now h t n → fits ≡ put_fits measure limit to.now n) }
+            → Holds store.now self.now h t n → fits ≡ put_fits measure (limit_of measure) to.now n) }
     {
-        let Some(room) = room_left(measure, to, limit) else {
+        let Some(room) = room_left(measure, to, limit(measure)) else {
             return Ok(false);
         };
         match self.cells[number].content {
@@ -160,17 +169,10 @@ impl Nodes {
         ensures { (h : HasPlace store.now self.now (Some number)) (t : Flat) (n : FlatNode)
             → Holds store.now self.now h t n → IsJudged (within_paths to.now n) result }
     {
-        if !self.put_fits(
-            alloc,
-            store,
-            Measure::Components,
-            number,
-            to,
-            PATH_COMPONENTS,
-        )? {
+        if !self.put_fits(alloc, store, Measure::Components, number, to)? {
             return Err(StageFault::TooDeep);
         }
-        if !self.put_fits(alloc, store, Measure::Bytes, number, to, PATH_BYTES + 1)? {
+        if !self.put_fits(alloc, store, Measure::Bytes, number, to)? {
             return Err(StageFault::TooLong);
         }
         Ok(())
