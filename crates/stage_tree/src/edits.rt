@@ -103,22 +103,15 @@ impl Nodes {
         ensures err { OnErr result (IsStill store.now self.old self.new) }
     {
         let components = path.components();
-        let mut level = components.len();
-        'levels: while level > 1 {
-            let way = self.way(alloc, store, &components[..level])?;
-            let Some(child) = self.reached(way, level) else {
-                return Ok(());
-            };
-            if !self.is_alone(way.spot.link, child) {
-                self.cut(way.spot.link, child);
-                return Ok(());
-            }
-            level -= 1;
-        }
-        let way = self.way(alloc, store, &components[..1])?;
-        if let Some(child) = self.reached(way, 1) {
+        let way = self.way(alloc, store, components)?;
+        let Some(child) = self.reached(way, components.len()) else {
+            return Ok(());
+        };
+        if !self.is_alone(way.spot.link, child) {
             self.cut(way.spot.link, child);
+            return Ok(());
         }
+        self.prune(components);
         Ok(())
     }
 }

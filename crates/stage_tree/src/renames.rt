@@ -48,7 +48,7 @@ fn comparable(a: &[Component], b: &[Component]) -> bool
 impl Nodes {
     // Removes a path whose way is clear and all below it, and the directories that would be left empty. Needs no
     // memory.
-    fn prune(&mut self, components: &[Component])
+    pub fn prune(&mut self, components: &[Component])
         requires clear { CanPrune self.old components.now }
         requires path { is_path components.now ≡ true }
         ensures { (h : CanPrune self.old components.now) → IsRemoved h.objects self.old self.new components.now }
