@@ -146,7 +146,7 @@ copy_done S s0 s' a t m e o st low = record { done = subst (λ x. IsOkAnd x (λ 
 -- ---- the node that was read
 
 module _ (S : List Object) (s : Nodes) (k : ℕ) (h : HasPlace S s (Some k)) (x : Node) (read : x ≡ get_or s.cells.items k x) where
-  read_is : slice_get s.cells.items k ≡ Some x
+  pub read_is : slice_get s.cells.items k ≡ Some x
   read_is = (v S s k h).there ∙ ap Some (sym (read_node s.cells.items k x (v S s k h).node read (v S s k h).there))
 
   pub held_files : (f : Found) → x.content ≡ Held f → node_files S s k (slice_get s.cells.items k) ≡ length (rests (node S f))

@@ -94,3 +94,27 @@ returns-clause-edit g c = λ t tree st.
     let room = c.in_ok-most.ensures.ok h.at.place t n.0 holds in
     same_copy S s0 c.duplicate.new.self (copied t src tgt) (copied t c.args.from.now c.args.to.now) (Ok c.in_ok-most.most) same
     (copy_done S s0 c.duplicate.new.self (copied t src tgt) (put t tgt n.0) c.in_ok-most.most (copy_left t src tgt n.0 n.1 (h.fits t n.0 holds) room.few) made.opened (stands_copied S s2 src k h.at c.duplicate.new.self tgt t tree here n.0 n.1 (made.puts)) room.most)
+
+pub returns-in_err-number-clause-path : goal.returns-in_err-number-clause-path
+returns-in_err-number-clause-path g c = c.components-target.ensures.path
+
+pub returns-in_err-most-clause-path : goal.returns-in_err-most-clause-path
+returns-in_err-most-clause-path g c = c.components-target.ensures.path
+
+pub returns-in_err-duplicate-clause-path : goal.returns-in_err-duplicate-clause-path
+returns-in_err-duplicate-clause-path g c = c.components-target.ensures.path
+
+pub returns-clause-path : goal.returns-clause-path
+returns-clause-path g c = c.components-target.ensures.path
+
+pub source-requires-clause-store : goal.source-requires-clause-store
+source-requires-clause-store g c = c.requires.store
+
+pub source-requires-clause-opened : goal.source-requires-clause-opened
+source-requires-clause-opened g c = c.requires.opened
+
+pub most_with_copy-requires-clause-store : goal.most_with_copy-requires-clause-store
+most_with_copy-requires-clause-store g c = c.requires.store
+
+pub duplicate-requires-clause-path : goal.duplicate-requires-clause-path
+duplicate-requires-clause-path g c = ap is_path c.components-target.ensures.components ∙ c.components-target.ensures.path

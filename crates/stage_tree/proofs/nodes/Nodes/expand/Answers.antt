@@ -1,4 +1,6 @@
-use Rattle.std.proofs.Common.{◌≡◌, map, sym, ap, subst, ◌∙◌}
+use Rattle.std.proofs.Common.{◌≡◌, map, sym, ap, subst, ◌∙◌, arith}
+use Rattle.stage_tree.proofs.Seeking.{inside_link}
+use Rattle.std.proofs.lemmas.Option.{slice_get_within}
 use Rattle.std.proofs.lemmas.Result.{err_from_is_err_and}
 use Rattle.std.specs.Prelude.{slice_set}
 use Rattle.git_objects.specs.Entries.{AreEntries}
@@ -71,3 +73,9 @@ returns-clause-err c = tt
 
 pub returns-clause-store : goal.returns-clause-store
 returns-clause-store c = c.listing.ensures.store
+
+pub index-closed-requires : goal.index-closed-requires
+index-closed-requires c = omega (arith, slice_get_within c.args.self.now.cells.items c.args.number c.requires.node.node c.requires.node.there)
+
+pub set-requires : goal.set-requires
+set-requires c = inside_link c.args.self.now.names.items c.args.self.now.cells.items c.args.number (slice_get_within c.args.self.now.cells.items c.args.number c.requires.node.node c.requires.node.there)

@@ -32,3 +32,9 @@ returns-then-way-components-clause-child c =
 
 pub returns-else-way-components-clause-child : goal.returns-else-way-components-clause-child
 returns-else-way-components-clause-child c = none_known c.put_on.new.self c.args.last.now.child c.args.last.now.directory.items c.requires.forgotten
+
+pub put_on-requires-clause-way : goal.put_on-requires-clause-way
+put_on-requires-clause-way c = c.requires.way
+
+pub put_on-requires-clause-components : goal.put_on-requires-clause-components
+put_on-requires-clause-components c = c.requires.components

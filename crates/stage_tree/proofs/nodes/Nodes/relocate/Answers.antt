@@ -1,4 +1,4 @@
-use Rattle.std.proofs.Common.{◌≡◌, None, true, not, drop, ap, subst, ◌∙◌}
+use Rattle.std.proofs.Common.{◌≡◌, None, true, not, drop, ap, subst, ◌∙◌, arith}
 use Rattle.std.specs.Prelude.{slice_set}
 use Rattle.std.specs.Cmp.{second_so}
 use Rattle.std.specs.List.{list_all}
@@ -82,3 +82,12 @@ returns-in-Ok-clause-err g c = tt
 
 pub returns-in-Err-clause-ok : goal.returns-in-Err-clause-ok
 returns-in-Err-clause-ok g c = tt
+
+pub returns-in-Ok-clause-few : goal.returns-in-Ok-clause-few
+returns-in-Ok-clause-few g c = omega (arith, c.graft.ensures.few)
+
+pub returns-in-Err-clause-few : goal.returns-in-Err-clause-few
+returns-in-Err-clause-few g c = omega (arith, c.graft.ensures.few)
+
+pub walk-way-requires-clause-path : goal.walk-way-requires-clause-path
+walk-way-requires-clause-path g c = c.requires.path

@@ -91,3 +91,27 @@ returns-then-not-comparable-clause-paid g c = λ t st. paid_there t c.components
 
 pub returns-else-not-comparable-clause-paid : goal.returns-else-not-comparable-clause-paid
 returns-else-not-comparable-clause-paid g c = λ t st. paid_there t c.components-source.result.now c.components-target.result.now c.args.from.now c.args.to.now c.components-source.ensures.components c.components-target.ensures.components c.args.steps.now c.source.new.steps c.relocate.new.steps (c.source.ensures.paid t st) c.relocate.ensures.few
+
+pub returns-in_err-number-clause-path : goal.returns-in_err-number-clause-path
+returns-in_err-number-clause-path g c = c.components-target.ensures.path
+
+pub returns-in_err-relocate-clause-path : goal.returns-in_err-relocate-clause-path
+returns-in_err-relocate-clause-path g c = c.components-target.ensures.path
+
+pub returns-then-not-comparable-clause-path : goal.returns-then-not-comparable-clause-path
+returns-then-not-comparable-clause-path g c = c.components-target.ensures.path
+
+pub returns-else-not-comparable-clause-path : goal.returns-else-not-comparable-clause-path
+returns-else-not-comparable-clause-path g c = c.components-target.ensures.path
+
+pub source-requires-clause-store : goal.source-requires-clause-store
+source-requires-clause-store g c = c.requires.store
+
+pub source-requires-clause-opened : goal.source-requires-clause-opened
+source-requires-clause-opened g c = c.requires.opened
+
+pub relocate-requires-clause-path : goal.relocate-requires-clause-path
+relocate-requires-clause-path g c = ap is_path c.components-target.ensures.components ∙ c.components-target.ensures.path
+
+pub prune-requires-clause-path : goal.prune-requires-clause-path
+prune-requires-clause-path g c = ap is_path c.components-source.ensures.components ∙ c.components-source.ensures.path

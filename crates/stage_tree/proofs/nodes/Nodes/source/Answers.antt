@@ -98,3 +98,39 @@ returns-in_err-within-clause-paid g c = λ t st.
 pub returns-clause-paid : goal.returns-clause-paid
 returns-clause-paid g c = λ t st.
     omega (arith, paid_second c.args.store.now c.args.self.now c.open_way.new.self c.args.from.now c.args.to.now c.args.steps.now c.open_way.new.steps c.open_way.ensures.paid t st c.open_way-2.new.steps c.in_ok-open_way.ensures.ok c.open_way-2.ensures.paid)
+
+pub open_way-requires-clause-opened : goal.open_way-requires-clause-opened
+open_way-requires-clause-opened g c = c.requires.opened
+
+pub open_way-requires-clause-path : goal.open_way-requires-clause-path
+open_way-requires-clause-path g c = c.requires.from
+
+pub open_way-requires-2-clause-opened : goal.open_way-requires-2-clause-opened
+open_way-requires-2-clause-opened g c = c.in_ok-open_way.ensures.ok.still.opened
+
+pub open_way-requires-2-clause-path : goal.open_way-requires-2-clause-path
+open_way-requires-2-clause-path g c = c.requires.to
+
+pub walk-way-requires-clause-path : goal.walk-way-requires-clause-path
+walk-way-requires-clause-path g c = c.requires.from
+
+pub returns-in_err-open_way-clause-ok : goal.returns-in_err-open_way-clause-ok
+returns-in_err-open_way-clause-ok g c = let p = err_from_is_err_and c.from_residual.result c.from_residual.ensures.1 in rw (p.1) tt
+
+pub returns-in_err-open_way-2-clause-ok : goal.returns-in_err-open_way-2-clause-ok
+returns-in_err-open_way-2-clause-ok g c = let p = err_from_is_err_and c.from_residual-in_err-open_way-2.result c.from_residual-in_err-open_way-2.ensures.1 in rw (p.1) tt
+
+pub returns-in_err-within-clause-ok : goal.returns-in_err-within-clause-ok
+returns-in_err-within-clause-ok g c = let p = err_from_is_err_and c.from_residual-in_err-within.result c.from_residual-in_err-within.ensures.1 in rw (p.1) tt
+
+pub returns-in_default-clause-ok : goal.returns-in_default-clause-ok
+returns-in_default-clause-ok g c = tt
+
+pub returns-clause-err : goal.returns-clause-err
+returns-clause-err g c = tt
+
+pub within-requires-clause-path : goal.within-requires-clause-path
+within-requires-clause-path g c = c.requires.to
+
+pub within-requires-clause-store : goal.within-requires-clause-store
+within-requires-clause-store g c = c.requires.store

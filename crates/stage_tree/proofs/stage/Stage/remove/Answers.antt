@@ -1,6 +1,7 @@
-use Rattle.std.proofs.Common.{◌≡◌, ◌-◌, ℕ, length, take, Option, None, IfSome, refl, sym, ap, subst, ◌∙◌}
+use Rattle.std.proofs.Common.{◌≡◌, ◌-◌, ℕ, length, take, Option, None, IfSome, refl, sym, ap, subst, ◌∙◌, arith}
+use Rattle.path_trees.proofs.Lookups.{path_long}
 use Rattle.std.proofs.lemmas.Result.{err_from_is_err_and}
-use Rattle.git_objects.specs.Paths.{Path}
+use Rattle.git_objects.specs.Paths.{Path, is_path}
 use Rattle.git_objects.specs.Trees.{Flat, remove}
 use Rattle.stage_tree.specs.declared.nodes.Nodes.{Nodes}
 use Rattle.stage_tree.specs.Branches.{IsRemoved}
@@ -78,3 +79,12 @@ returns-then-remove_behind-clause-err c = tt
 
 pub returns-in_err-open_root-clause-ok : goal.returns-in_err-open_root-clause-ok
 returns-in_err-open_root-clause-ok c = let p = err_from_is_err_and c.from_residual.result c.from_residual.ensures.1 in rw (p.1) tt
+
+pub taken-requires : goal.taken-requires
+taken-requires c = omega (arith, path_long c.components-components.result.now (ap is_path c.components-components.ensures.components ∙ c.components-components.ensures.path))
+
+pub remove_behind-requires-clause-path : goal.remove_behind-requires-clause-path
+remove_behind-requires-clause-path c = ap is_path c.components-components.ensures.components ∙ c.components-components.ensures.path
+
+pub remove_behind-requires-clause-child : goal.remove_behind-requires-clause-child
+remove_behind-requires-clause-child c = child_in c.self.inside.nodes c.self.inside.last.child c.self.inside.last.directory.items (take (length c.components-components.result.now - 1) c.components-components.result.now) c.in-Some.number c.self.invariant.last_there c.in-Some.ensures.node.0 c.in-Some.ensures.node.1
