@@ -21,3 +21,12 @@ returns-clause-ok c = λ h. is_stored_at c.args.store.now c.args.self.now c.requ
 
 pub returns-clause-storing : goal.returns-clause-storing
 returns-clause-storing c = (is_stored_at c.args.store.now c.args.self.now c.requires.opened c.requires.store c.args.directory c.requires.deepest c.store_tree.new.store c.store_tree.ensures.store c.in_ok-name.ensures.ok.1 c.in_ok-name.name c.in_ok-name.ensures.ok.0 c.close.new.self (c.close.ensures (can_close c.args.store.now c.args.self.now c.requires.opened c.requires.store c.args.directory c.requires.deepest c.store_tree.new.store c.store_tree.ensures.store c.in_ok-name.ensures.ok.1 c.in_ok-name.name c.in_ok-name.ensures.ok.0))).storing
+
+pub returns-in_err-name-clause-ok : goal.returns-in_err-name-clause-ok
+returns-in_err-name-clause-ok c = let p = err_from_is_err_and c.from_residual.result c.from_residual.ensures.1 in rw (p.1) tt
+
+pub returns-clause-err : goal.returns-clause-err
+returns-clause-err c = tt
+
+pub store_tree-requires-clause-store : goal.store_tree-requires-clause-store
+store_tree-requires-clause-store c = c.requires.store

@@ -29,3 +29,9 @@ drop_copies-requires c = (c.args.self.now, c.requires.source, same_copying c.arg
 
 pub returns-in-Err-clause-err : goal.returns-in-Err-clause-err
 returns-in-Err-clause-err c = c.drop_copies.ensures c.args.self.now c.requires.source (same_copying c.args.self.now c.turns.self c.copy_turn.new.self c.requires.source c.turns.works.items c.copy_turn.new.works.items c.turns.turn c.in-Err.ensures.err c.in-Err.ensures.works (c.turns.invariant c.requires))
+
+pub returns-in-Copied-clause-err : goal.returns-in-Copied-clause-err
+returns-in-Copied-clause-err c = tt
+
+pub returns-in-Err-clause-ok : goal.returns-in-Err-clause-ok
+returns-in-Err-clause-ok c = tt

@@ -1,4 +1,5 @@
-use Rattle.std.proofs.Common.{ap}
+use Rattle.std.proofs.Common.{ap, arith}
+use Rattle.std.proofs.lemmas.Option.{slice_get_within}
 use Rattle.std.proofs.lemmas.Result.{err_from_is_err_and}
 use Rattle.stage_tree.specs.Pools.{spare}
 use Rattle.stage_tree.proofs.Copying.{copy_link, one_copied}
@@ -27,3 +28,6 @@ returns-in_err-number-clause-ok c = let p = err_from_is_err_and c.from_residual.
 
 pub returns-clause-err : goal.returns-clause-err
 returns-clause-err c = tt
+
+pub index-node-requires : goal.index-node-requires
+index-node-requires c = omega (arith, slice_get_within c.args.self.now.cells.items c.args.number c.requires.node c.requires.there)

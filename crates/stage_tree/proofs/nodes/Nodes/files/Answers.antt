@@ -1,4 +1,5 @@
 use Rattle.std.proofs.Common.{true, false, sym, ap, subst, ◌∙◌, arith}
+use Rattle.std.proofs.lemmas.Result.{err_from_is_err_and}
 use Rattle.std.specs.Vec.{vec_len}
 use Rattle.stage_tree.specs.declared.nodes.Content.TheVariants.{Held, Open}
 use Rattle.stage_tree.specs.Leaves.{is_held}
@@ -73,3 +74,6 @@ nodes-preserved c = record {
   small = omega (arith, c.nodes.invariant.small);
   sum = omega (arith, c.nodes.invariant.sum, skipped_at c.args.store.now c.args.self.now c.args.but c.nodes.link c.nodes.invariant.here c.in-Some.number c.in-Some.ensures (number_eq c.args.but c.in-Some.number false c.if-ne.ensures));
 }
+
+pub returns-in_err-push-in-Open : goal.returns-in_err-push-in-Open
+returns-in_err-push-in-Open c = let p = err_from_is_err_and c.from_residual.result c.from_residual.ensures.1 in rw (p.1) tt

@@ -1,4 +1,5 @@
 use Rattle.std.proofs.Common.{List, ℕ, sym, subst, arith}
+use Rattle.std.proofs.lemmas.Result.{err_from_is_err_and}
 use Rattle.stage_tree.specs.declared.nodes.Link.TheVariants.{First}
 use Rattle.std.specs.Vec.{vec_len}
 use Rattle.object_store.specs.Objects.{Object}
@@ -43,3 +44,9 @@ directories-preserved c =
       storing = storing_on c.args.store.now c.directories.store c.close_stored.new.store c.args.self.now c.directories.self c.close_stored.new.self c.directories.invariant.storing c.close_stored.ensures.storing;
       turn = turn_closed c.directories.store c.close_stored.new.store c.directories.self c.close_stored.new.self c.pop.new.self.items c.in-Some.directory l (c.in_ok-close_stored.ensures.ok l.deepest);
     }
+
+pub returns-in_default-clause-ok : goal.returns-in_default-clause-ok
+returns-in_default-clause-ok c = tt
+
+pub returns-in_err-close_stored-clause-ok : goal.returns-in_err-close_stored-clause-ok
+returns-in_err-close_stored-clause-ok c = let p = err_from_is_err_and c.from_residual.result c.from_residual.ensures.1 in rw (p.1) tt

@@ -23,3 +23,18 @@ returns-clause-err c =
     let S = c.args.store.now in let s = c.args.self.now in let q = c.args.to.now in let w = c.walk.result in
     let aim = c.walk.ensures (walkable S s c.requires.opened) c.requires.clear in
     on_err c.most_with.result (λ e no h t n holds. too_many e _ c.in_ok-files.files _ _ (copied_files S c.requires.store s c.requires.opened c.args.number h t n holds q c.requires.path w.level w.spot.link w.spot.child aim) c.in_ok-files.ensures no) c.most_with.ensures.err
+
+pub most_with-requires-clause-opened : goal.most_with-requires-clause-opened
+most_with-requires-clause-opened c = c.requires.opened
+
+pub most_with-requires-clause-most : goal.most_with-requires-clause-most
+most_with-requires-clause-most c = c.requires.most
+
+pub node_files-requires-clause-opened : goal.node_files-requires-clause-opened
+node_files-requires-clause-opened c = c.requires.opened
+
+pub node_files-requires-clause-place : goal.node_files-requires-clause-place
+node_files-requires-clause-place c = c.requires.place
+
+pub returns-in_err-files-clause-ok : goal.returns-in_err-files-clause-ok
+returns-in_err-files-clause-ok c = let p = err_from_is_err_and c.from_residual.result c.from_residual.ensures.1 in rw (p.1) tt

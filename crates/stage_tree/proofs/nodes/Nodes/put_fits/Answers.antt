@@ -41,3 +41,9 @@ returns-in-Open c =
     ∙ sym (ap (λ (x : Content). content_fits m S c.in-Some.room x (fits_in m S c.in-Some.room (v S s k h).children)) (read_content S s k h c.index.result.now c.index.ensures Open c.in-Open.is))
     ∙ node_put_fits S c.requires.store s k h t n g m (limit_of c.args.measure) c.in-Some.room c.args.to.now (c.in-Some.ensures ∙ ap (λ l. room_left l (cost c.args.measure c.args.to.now)) c.limit.ensures))
     c.siblings_fit.ensures
+
+pub found_fits-requires-clause-store : goal.found_fits-requires-clause-store
+found_fits-requires-clause-store c = c.requires.store
+
+pub siblings_fit-requires-clause-store : goal.siblings_fit-requires-clause-store
+siblings_fit-requires-clause-store c = c.requires.store

@@ -1,4 +1,5 @@
 use Rattle.std.proofs.Common.{List, ℕ, None, ◌≤◌, ◌+◌, ◌-◌, ◌&&◌, true, sym, ap, subst, ◌∙◌, arith}
+use Rattle.std.proofs.lemmas.Result.{err_from_is_err_and}
 use Rattle.std.specs.Vec.{vec_len}
 use Rattle.stage_tree.specs.declared.nodes.Content.TheVariants.{Held}
 use Rattle.stage_tree.specs.declared.nodes.Link.TheVariants.{First, Next}
@@ -120,3 +121,9 @@ nodes-preserved c =
           ∙ open_light m S s c.nodes.link c.nodes.invariant.here c.in-Some.number c.in-Some.ensures c.index-node.result.now c.index-node.ensures c.nodes.room c.nodes.entered.items (omega (arith, c.weight-weight.ensures)) c.in-Open.is
           ∙ c.nodes.invariant.fits;
     }
+
+pub found_fits-requires-clause-store : goal.found_fits-requires-clause-store
+found_fits-requires-clause-store c = c.requires.store
+
+pub returns-in_err-push-in-Open : goal.returns-in_err-push-in-Open
+returns-in_err-push-in-Open c = let p = err_from_is_err_and c.from_residual.result c.from_residual.ensures.1 in rw (p.1) tt

@@ -21,3 +21,6 @@ taken_in-requires c =
     let K = hanging c.args.self.now (First c.args.directory) in
     ap (λ b. of_body S Tree b None) (c.deref.ensures.value ∙ c.in-Ok.ensures)
     ∙ good_fits S (gathered [] K) (gathered_good S K [] c.requires.tips.tips c.requires.tips.sound (record { entries = tt; held = tt }))
+
+pub returns-in-Err-clause-ok : goal.returns-in-Err-clause-ok
+returns-in-Err-clause-ok c = tt

@@ -1,4 +1,5 @@
 use Rattle.std.proofs.Common.{◌≡◌, ◌<◌, ℕ, ◌-◌, length, refl, subst, arith, take}
+use Rattle.std.proofs.lemmas.Result.{err_from_is_err_and}
 use Rattle.path_trees.proofs.Lookups.{read_at, path_long}
 use Rattle.git_objects.specs.Paths.{Path}
 use Rattle.stage_tree.specs.Ways.{IsEntered, IsDirOf}
@@ -62,3 +63,12 @@ returns-clause-ok c =
     let dir : IsDirOf S c.loop-level.self (take (length p - 1) p) c.loop-level.directory = subst (λ (k : ℕ). IsDirOf S c.loop-level.self (take k p) c.loop-level.directory) same c.loop-level.invariant.dir in
     let own = read_at p p (length p - 1) c.index-components-last.result c.bytes-2.result.now refl c.bytes-2.ensures.bytes c.index-components-last.is in
     way_last S c.args.self.now c.loop-level.self p (length p - 1) c.loop-level.directory dir c.loop-level.invariant.still c.bytes-2.result.now (omega arith) own c.spot-spot-2.result.link c.spot-spot-2.result.child c.spot-spot-2.ensures.link c.spot-spot-2.ensures.child (omega arith)
+
+pub returns-in_err-number-clause-ok : goal.returns-in_err-number-clause-ok
+returns-in_err-number-clause-ok c = let p = err_from_is_err_and c.from_residual.result c.from_residual.ensures.1 in rw (p.1) tt
+
+pub returns-in-None-clause-err : goal.returns-in-None-clause-err
+returns-in-None-clause-err c = tt
+
+pub returns-clause-err : goal.returns-clause-err
+returns-clause-err c = tt

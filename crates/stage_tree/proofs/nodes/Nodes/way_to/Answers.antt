@@ -1,4 +1,5 @@
 use Rattle.std.proofs.Common.{◌≡◌, ◌+◌, ◌-◌, length, take, get_or, ℕ, Option, IfSome, sym, ap, subst, arith, ◌∙◌}
+use Rattle.std.proofs.lemmas.Result.{err_from_is_err_and}
 use Rattle.path_trees.proofs.Lookups.{path_long}
 use Rattle.stage_tree.specs.Sets.{IsChildOf, IsUnmoved}
 use Rattle.stage_tree.specs.Ways.{IsStill}
@@ -26,3 +27,21 @@ returns-clause-ok c = on_ok c.way.result (λ w h. arrived_down c.args.store.now 
 
 pub returns-clause-err : goal.returns-clause-err
 returns-clause-err c = of_err c.way.result (IsStill c.args.store.now c.open_root.new.self c.way.new.self) (IsUnmoved c.args.store.now c.args.self.now c.way.new.self) (λ h. unmoved_still c.args.store.now c.args.self.now c.open_root.new.self c.way.new.self c.in_ok-open_root.ensures.ok h) c.way.ensures.err
+
+pub returns-in-Some-spot_behind-clause-err : goal.returns-in-Some-spot_behind-clause-err
+returns-in-Some-spot_behind-clause-err c = tt
+
+pub open_root-requires-clause-stage : goal.open_root-requires-clause-stage
+open_root-requires-clause-stage c = c.requires.stage
+
+pub open_root-requires-clause-held : goal.open_root-requires-clause-held
+open_root-requires-clause-held c = c.requires.held
+
+pub returns-in_err-open_root-clause-ok : goal.returns-in_err-open_root-clause-ok
+returns-in_err-open_root-clause-ok c = let p = err_from_is_err_and c.from_residual.result c.from_residual.ensures.1 in rw (p.1) tt
+
+pub way-requires-clause-opened : goal.way-requires-clause-opened
+way-requires-clause-opened c = c.in_ok-open_root.ensures.ok.opened
+
+pub way-requires-clause-path : goal.way-requires-clause-path
+way-requires-clause-path c = c.requires.path
