@@ -34,6 +34,13 @@ use std::alloc::{AllocError, Global};
 use std::marker::Brand;
 use std::sync::ledger::{Blank, Ledger};
 
+// From where to where a copy goes.
+#[derive(Clone, Copy)]
+pub struct Aim<'a> {
+    pub from: &'a Path,
+    pub to: &'a Path,
+}
+
 // What a node waits for.
 #[derive(Clone, Copy)]
 pub enum Work {
@@ -244,8 +251,7 @@ impl Nodes {
         &mut self,
         alloc: Global,
         store: &Store,
-        from: &Path,
-        to: &Path,
+        aim: Aim<'_>,
         most: u32,
         blank: Blank,
     ) -> Result<u32, StageFault>
@@ -256,12 +262,12 @@ impl Nodes {
         requires opened { IsOpen store.now self.old }
         requires most { (t : Flat) × IsTree t × Stands store.now self.old t × (held_number (length t) ≤ most) }
         ensures edit { (t : Flat) → IsTree t → Stands store.now self.old t
-            → IsCopyTo store.now self.old self.new (copied t from.now to.now) result }
-        ensures path { is_path to.now ≡ true }
+            → IsCopyTo store.now self.old self.new (copied t aim.entry.from.now aim.entry.to.now) result }
+        ensures path { is_path aim.entry.to.now ≡ true }
     {
         let mut steps = Steps::<L>::new(blank);
-        let source = from.components();
-        let target = to.components();
+        let source = aim.from.components();
+        let target = aim.to.components();
         let number = self.source(alloc, store, source, target, &mut steps)?;
         let most = self.most_with_copy(alloc, store, number, target, most)?;
         self.duplicate(alloc, number, target, &mut steps)?;
@@ -282,7 +288,7 @@ impl Stage {
         let blank = Blank::new(1);
         self.most = self
             .nodes
-            .copy::<Brand>(self.alloc, store, from, to, self.most, blank)?;
+            .copy::<Brand>(self.alloc, store, Aim { from, to }, self.most, blank)?;
         Ok(())
     }
 }

@@ -18,11 +18,11 @@ pub returns-in_err-number-clause-edit : goal.returns-in_err-number-clause-edit
 returns-in_err-number-clause-edit g c = λ t tree st.
     let S = c.args.store.now in let s0 = c.args.self.now in
     let src = c.components-source.result.now in let tgt = c.components-target.result.now in
-    let from_is : src ≡ c.args.from.now = c.components-source.ensures.components in
-    let to_is : tgt ≡ c.args.to.now = c.components-target.ensures.components in
+    let from_is : src ≡ c.args.aim.from.now = c.components-source.ensures.components in
+    let to_is : tgt ≡ c.args.aim.to.now = c.components-target.ensures.components in
     let r = err_from_is_err_and c.from_residual.result c.from_residual.ensures.1 in
     let e = c.in_err-number.ensures.err in
-    rw (r.1, r.2) (same_copy S s0 c.source.new.self (copied t src tgt) (copied t c.args.from.now c.args.to.now) (Err c.in_err-number.field-0.0) (λ i. copied t (from_is i) (to_is i)) (record {
+    rw (r.1, r.2) (same_copy S s0 c.source.new.self (copied t src tgt) (copied t c.args.aim.from.now c.args.aim.to.now) (Err c.in_err-number.field-0.0) (λ i. copied t (from_is i) (to_is i)) (record {
       done = tt;
       refused = (e.still, not_copied t src tgt c.in_err-number.field-0.0 (e.refused t tree st));
     }))
@@ -55,11 +55,11 @@ returns-in_err-most-clause-edit g c = λ t tree st.
     let here = source_stands S s0 s2 src tgt k h t st in
     let n = stands_there S c.requires.store s2 src k h.at t tree here in
     let holds = holds_there S c.requires.store s2 src k h.at t tree here n.0 n.1 in
-    let from_is : src ≡ c.args.from.now = c.components-source.ensures.components in
-    let to_is : tgt ≡ c.args.to.now = c.components-target.ensures.components in
-    let same : copied t src tgt ≡ copied t c.args.from.now c.args.to.now = λ i. copied t (from_is i) (to_is i) in
+    let from_is : src ≡ c.args.aim.from.now = c.components-source.ensures.components in
+    let to_is : tgt ≡ c.args.aim.to.now = c.components-target.ensures.components in
+    let same : copied t src tgt ≡ copied t c.args.aim.from.now c.args.aim.to.now = λ i. copied t (from_is i) (to_is i) in
     let r = err_from_is_err_and c.from_residual-in_err-most.result c.from_residual-in_err-most.ensures.1 in
-    rw (r.1) (same_copy S s0 s2 (copied t src tgt) (copied t c.args.from.now c.args.to.now) (Err r.0) same (record {
+    rw (r.1) (same_copy S s0 s2 (copied t src tgt) (copied t c.args.aim.from.now c.args.aim.to.now) (Err r.0) same (record {
       done = tt;
       refused = (h.still, room_refused t src tgt n.0 n.1 (h.fits t n.0 holds) c.in_err-most.field-0.0 r.0 r.2 (c.in_err-most.ensures.err h.at.place t n.0 holds));
     }))
@@ -87,12 +87,12 @@ returns-clause-edit g c = λ t tree st.
     let here = source_stands S s0 s2 src tgt k h t st in
     let n = stands_there S c.requires.store s2 src k h.at t tree here in
     let holds = holds_there S c.requires.store s2 src k h.at t tree here n.0 n.1 in
-    let from_is : src ≡ c.args.from.now = c.components-source.ensures.components in
-    let to_is : tgt ≡ c.args.to.now = c.components-target.ensures.components in
-    let same : copied t src tgt ≡ copied t c.args.from.now c.args.to.now = λ i. copied t (from_is i) (to_is i) in
+    let from_is : src ≡ c.args.aim.from.now = c.components-source.ensures.components in
+    let to_is : tgt ≡ c.args.aim.to.now = c.components-target.ensures.components in
+    let same : copied t src tgt ≡ copied t c.args.aim.from.now c.args.aim.to.now = λ i. copied t (from_is i) (to_is i) in
     let made = c.in_ok-duplicate.ensures.ok (source_moves S s0 s2 src tgt k h) in
     let room = c.in_ok-most.ensures.ok h.at.place t n.0 holds in
-    same_copy S s0 c.duplicate.new.self (copied t src tgt) (copied t c.args.from.now c.args.to.now) (Ok c.in_ok-most.most) same
+    same_copy S s0 c.duplicate.new.self (copied t src tgt) (copied t c.args.aim.from.now c.args.aim.to.now) (Ok c.in_ok-most.most) same
     (copy_done S s0 c.duplicate.new.self (copied t src tgt) (put t tgt n.0) c.in_ok-most.most (copy_left t src tgt n.0 n.1 (h.fits t n.0 holds) room.few) made.opened (stands_copied S s2 src k h.at c.duplicate.new.self tgt t tree here n.0 n.1 (made.puts)) room.most)
 
 pub returns-in_err-number-clause-path : goal.returns-in_err-number-clause-path

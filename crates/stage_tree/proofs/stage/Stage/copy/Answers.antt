@@ -44,7 +44,7 @@ pub copy-requires-clause-opened : goal.copy-requires-clause-opened
 copy-requires-clause-opened c = c.in_ok-open_root.ensures.ok.opened
 
 pub invariant_of-self-in_err-self-inside : goal.invariant_of-self-in_err-self-inside
-invariant_of-self-in_err-self-inside c = 
+invariant_of-self-in_err-self-inside c =
     let S = c.args.store.now in let t = c.requires.0 in let h = c.requires.1 in
     record {
       stage = stage_of S c.copy.new.self (copy_open S c.open_root.new.self c.copy.new.self (copied t c.args.from.now c.args.to.now) c.copy.result (c.copy.ensures.edit t h.tree (stands_opened c.args.store.now c.self.inside.nodes c.open_root.new.self c.self.inside.most c.args.self.now t c.self.view_is c.in_ok-open_root.ensures.ok h)));
