@@ -1,4 +1,6 @@
-use Rattle.std.proofs.Common.{refl, sym, ◌∙◌}
+use Rattle.std.proofs.Common.{refl, sym, ◌∙◌, Some, subst, arith}
+use Rattle.stage_tree.proofs.PutFits.{node_inside}
+use Rattle.stage_tree.specs.Ways.{HasPlace}
 use Rattle.std.proofs.lemmas.Result.{err_from_is_err_and}
 use Rattle.stage_tree.proofs.OnWay.{still_same, waste_still, open_dir, leaf_blocks, child_closed, child_stored, child_still, child_dir, nothing_blocks}
 use Rattle.stage_tree.proofs.Clearing.{child_clear}
@@ -94,3 +96,6 @@ returns-in_err-expand-in-Held-clause-paid g c = paid_none c.args.store.now c.arg
 
 pub returns-in_err-expand-in-Held-clause-clear : goal.returns-in_err-expand-in-Held-clause-clear
 returns-in_err-expand-in-Held-clause-clear g c = let p = err_from_is_err_and c.from_residual.result c.from_residual.ensures.1 in rw (p.1) tt
+
+pub index-requires : goal.index-requires
+index-requires g c = let h : HasPlace c.args.store.now c.args.self.now (Some c.in-Some.number) = subst (HasPlace c.args.store.now c.args.self.now) c.in-Some.is c.requires.place in omega (arith, node_inside c.args.store.now c.args.self.now c.in-Some.number h)

@@ -1,4 +1,6 @@
-use Rattle.std.proofs.Common.{refl, sym, ◌∙◌}
+use Rattle.std.proofs.Common.{refl, sym, ◌∙◌, Some, subst, arith}
+use Rattle.stage_tree.proofs.PutFits.{node_inside}
+use Rattle.stage_tree.specs.Ways.{HasPlace}
 use Rattle.stage_tree.proofs.OnWay.{still_same, waste_still, open_dir, leaf_blocks, child_closed, child_stored, child_still, child_dir, nothing_blocks}
 use Rattle.std.proofs.lemmas.Result.{err_from_is_err_and}
 use Rattle.stage_tree.proofs.nodes.Nodes.entered.Goals as goal
@@ -54,3 +56,6 @@ returns-in-Open-clause-err c = tt
 
 pub returns-in_ok-expand-in-Held-clause-err : goal.returns-in_ok-expand-in-Held-clause-err
 returns-in_ok-expand-in-Held-clause-err c = tt
+
+pub index-requires : goal.index-requires
+index-requires c = let h : HasPlace c.args.store.now c.args.self.now (Some c.in-Some.number) = subst (HasPlace c.args.store.now c.args.self.now) c.in-Some.is c.requires.place in omega (arith, node_inside c.args.store.now c.args.self.now c.in-Some.number h)

@@ -1,4 +1,4 @@
-use Rattle.std.proofs.Common.{refl}
+use Rattle.std.proofs.Common.{refl, ℕ, ◌<◌, length, Option, IfSome, subst, arith}
 use Rattle.std.proofs.lemmas.Result.{err_from_is_err_and}
 use Rattle.stage_tree.proofs.nodes.Nodes.place.Goals as goal
 
@@ -25,3 +25,6 @@ returns-in_ok-push-in-None-clause-same c = tt
 
 pub returns-in_ok-push-in-None-clause-names : goal.returns-in_ok-push-in-None-clause-names
 returns-in_ok-push-in-None-clause-names c = refl
+
+pub index-requires : goal.index-requires
+index-requires c = let h : c.in-Some.number < length c.args.self.now.cells.items = subst (λ (o : Option ℕ). IfSome o (λ k. k < length c.args.self.now.cells.items)) c.in-Some.is c.requires in omega (arith, h)

@@ -1,4 +1,5 @@
 use Rattle.std.proofs.Common.{arith}
+use Rattle.stage_tree.proofs.Walking.{way_within}
 use Rattle.std.proofs.lemmas.Result.{err_from_is_err_and}
 use Rattle.stage_tree.proofs.Marked.{none_known}
 use Rattle.stage_tree.proofs.Setting.{child_set, remembered}
@@ -38,3 +39,6 @@ put_on-requires-clause-way c = c.requires.way
 
 pub put_on-requires-clause-components : goal.put_on-requires-clause-components
 put_on-requires-clause-components c = c.requires.components
+
+pub overflow_add-way : goal.overflow_add-way
+overflow_add-way c = omega (arith, way_within c.requires.way.0 c.args.self.now c.args.self.now c.args.components.now c.args.way.level c.args.way.spot.link c.args.way.spot.child c.requires.way.1)

@@ -1,4 +1,5 @@
 use Rattle.std.proofs.Common.{◌≡◌, None, true, not, drop, ap, subst, ◌∙◌, arith}
+use Rattle.stage_tree.proofs.PutFits.{node_inside}
 use Rattle.std.specs.Prelude.{slice_set}
 use Rattle.std.specs.Cmp.{second_so}
 use Rattle.std.specs.List.{list_all}
@@ -91,3 +92,6 @@ returns-in-Err-clause-few g c = omega (arith, c.graft.ensures.few)
 
 pub walk-way-requires-clause-path : goal.walk-way-requires-clause-path
 walk-way-requires-clause-path g c = c.requires.path
+
+pub index-source-requires : goal.index-source-requires
+index-source-requires g c = let n = c.requires.node in omega (arith, node_inside n.objects c.args.self.now c.args.number (record { path = n.path; component = n.component; link = n.link; place = n.place }))

@@ -20,3 +20,6 @@ pub returns-in-Open : goal.returns-in-Open
 returns-in-Open c = λ t h.
     let r = read_node c.self.inside.nodes.cells.items 0 c.index.result.now c.self.invariant.stage.root c.index.ensures c.self.invariant.stage.there in
     finished c.args.store.now c.self.inside.nodes c.self.inside.most c.args.self.now c.self.view_is c.self.invariant.stage t h (ap (λ (n : Node). n.content) (sym r) ∙ c.in-Open.is) c.finish.new.store c.finish.new.self c.finish.result c.finish.ensures.storing c.finish.ensures.ok c.finish.ensures.err
+
+pub finish-requires-clause-store : goal.finish-requires-clause-store
+finish-requires-clause-store c = c.requires.1.store
