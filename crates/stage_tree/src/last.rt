@@ -140,6 +140,7 @@ impl Nodes {
         self.open_root(alloc, store)?;
         self.way(alloc, store, components)
     }
+
     // The way to a path, from the node that was set last where that stands before it in its directory. That node is
     // forgotten.
     pub fn arrive(

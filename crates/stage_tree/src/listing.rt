@@ -1,29 +1,16 @@
 // What a stored tree lists.
-ghost use Rattle.std.specs.Prelude.{◌≡◌, ◌++◌, is_some, true, map, IfOk, Some};
-ghost use Rattle.git_objects.specs.Bodies.{tree_entries};
+ghost use Rattle.std.specs.Prelude.{◌≡◌, ◌++◌, map, IfOk, Some};
 ghost use Rattle.git_objects.specs.Views.{entry_value};
-ghost use Rattle.object_store.specs.Errors.{object_value};
 ghost use Rattle.object_store.specs.Objects.{IsStore};
-ghost use Rattle.path_trees.specs.Listed.{entries_of, listed, listed_at};
+ghost use Rattle.path_trees.specs.Listed.{listed_at};
 
-use git_objects::{EntryView, Kind, Name, TreeView};
-use object_store::{ObjectRef, Store};
+use git_objects::{EntryView, Name, TreeView};
+use object_store::Store;
+use path_trees::entries_in;
 use std::alloc::{AllocError, Global};
 
 // No entry of a tree's body has fewer bytes, and none has more beside its component.
 pub const ENTRY_BYTES: usize = 28;
-
-// The entries of an object, unless it is no tree.
-fn entries_in<'a>(object: ObjectRef<'a>) -> Option<TreeView<'a>>
-    requires { object.kind ≡ Kind.Tree → is_some (tree_entries object.body.now) ≡ true }
-    ensures { result ≡ entries_of (object_value object.entry) }
-{
-    if object.kind == Kind::Tree {
-        Some(TreeView::of_canonical(object.body))
-    } else {
-        None
-    }
-}
 
 // The entries of the tree of that name, one beside another; none where no tree has the name.
 pub fn listing<'a>(
