@@ -1,5 +1,5 @@
 -- Worked examples of projections and histories.
-use Rattle.std.specs.Prelude.{◌≡◌, refl, List, [], ◌∷◌, ◌++◌, map, reverse, codes, Option, None}
+use Rattle.std.specs.Prelude.{◌≡◌, refl, get_or, List, [], ◌∷◌, ◌++◌, map, reverse, codes, Option, None}
 use Rattle.std.specs.Fmt.{digits}
 use Rattle.sha1.specs.Sha1.{sha1, first_words, schedule, rounds, compress, hash_after, digest_bytes}
 use Rattle.hex.specs.Hex.{encode_with}
@@ -56,7 +56,7 @@ abbrev view : Filter
 view = sub (a ∷ [])
 
 abbrev ident : Bytes
-ident = codes "A <a@x> 1700000000 +0000"
+ident = codes "A <a@x> 1 +0000"
 
 -- a commit with this tree, upon these commits, with this message
 abbrev commit : Flat → List Snapshot → Bytes → Snapshot
@@ -67,7 +67,7 @@ abbrev messages : Rule → Filter → Graph → List Bytes
 messages k f [] = []
 messages k f (c ∷ older) = map (λ (d : Snapshot). d.letter.message) (reverse (history_graph k (shown f) (c ∷ older) (snapshot_name c)))
 
--- ---- a line
+-- ---- commits of a line
 
 abbrev root : Snapshot
 root = commit (tree one one) [] (codes "root")
@@ -78,31 +78,16 @@ unseen = commit (tree one two) (root ∷ []) (codes "unseen")
 abbrev seen : Snapshot
 seen = commit (tree two two) (unseen ∷ []) (codes "seen")
 
-pub a_commit_that_changes_nothing_shown_is_dropped : messages One view (seen ∷ unseen ∷ root ∷ []) ≡ codes "root" ∷ codes "seen" ∷ []
-unfolding showing naming
-a_commit_that_changes_nothing_shown_is_dropped = refl
-
 abbrev hidden : Snapshot
 hidden = commit ((codes "b" ∷ [], one) ∷ []) [] (codes "hidden")
 
-pub a_root_of_which_nothing_is_shown_is_dropped : messages One view (hidden ∷ []) ≡ []
-unfolding showing naming
-a_root_of_which_nothing_is_shown_is_dropped = refl
-
--- ---- merges
-
-abbrev left : Snapshot
-left = commit (tree one two) (root ∷ []) (codes "left")
+-- ---- merges, and what they are of
 
 abbrev right : Snapshot
 right = commit (tree one one) (root ∷ []) (codes "right")
 
 abbrev equals : Snapshot
-equals = commit (tree one two) (left ∷ right ∷ []) (codes "equals")
-
-pub a_merge_of_equal_projections_is_dropped : messages One view (equals ∷ right ∷ left ∷ root ∷ []) ≡ codes "root" ∷ []
-unfolding showing naming
-a_merge_of_equal_projections_is_dropped = refl
+equals = commit (tree one two) (unseen ∷ right ∷ []) (codes "equals")
 
 abbrev grown : Snapshot
 grown = commit (tree two one) (root ∷ []) (codes "grown")
@@ -110,24 +95,51 @@ grown = commit (tree two one) (root ∷ []) (codes "grown")
 abbrev merge : Snapshot
 merge = commit (tree two one) (root ∷ grown ∷ []) (codes "merge")
 
-pub the_first_rule_keeps_a_merge_into_a_parent : messages One view (merge ∷ grown ∷ root ∷ []) ≡ codes "root" ∷ codes "grown" ∷ codes "merge" ∷ []
-unfolding showing naming
-the_first_rule_keeps_a_merge_into_a_parent = refl
-
-pub the_second_rule_drops_a_merge_into_a_parent : messages Two view (merge ∷ grown ∷ root ∷ []) ≡ codes "root" ∷ codes "grown" ∷ []
-unfolding showing naming
-the_second_rule_drops_a_merge_into_a_parent = refl
-
 abbrev other : Snapshot
 other = commit (tree two one) [] (codes "other")
 
 abbrev joined : Snapshot
 joined = commit (tree two one) (root ∷ other ∷ []) (codes "joined")
 
+-- ---- what becomes of them
+
+-- The messages of six histories. They are found in one theorem, so that the name of a commit that several have is computed once.
+histories :
+    messages One view (seen ∷ unseen ∷ root ∷ [])
+    ∷ messages One view (hidden ∷ [])
+    ∷ messages One view (equals ∷ right ∷ unseen ∷ root ∷ [])
+    ∷ messages One view (merge ∷ grown ∷ root ∷ [])
+    ∷ messages Two view (merge ∷ grown ∷ root ∷ [])
+    ∷ messages Two view (joined ∷ other ∷ root ∷ [])
+    ∷ []
+    ≡ (codes "root" ∷ codes "seen" ∷ [])
+    ∷ []
+    ∷ (codes "root" ∷ [])
+    ∷ (codes "root" ∷ codes "grown" ∷ codes "merge" ∷ [])
+    ∷ (codes "root" ∷ codes "grown" ∷ [])
+    ∷ (codes "root" ∷ codes "other" ∷ codes "joined" ∷ [])
+    ∷ []
+unfolding showing naming
+histories = refl
+
+pub a_commit_that_changes_nothing_shown_is_dropped : messages One view (seen ∷ unseen ∷ root ∷ []) ≡ codes "root" ∷ codes "seen" ∷ []
+a_commit_that_changes_nothing_shown_is_dropped = λ i. get_or (histories i) 0 []
+
+pub a_root_of_which_nothing_is_shown_is_dropped : messages One view (hidden ∷ []) ≡ []
+a_root_of_which_nothing_is_shown_is_dropped = λ i. get_or (histories i) 1 []
+
+pub a_merge_of_equal_projections_is_dropped : messages One view (equals ∷ right ∷ unseen ∷ root ∷ []) ≡ codes "root" ∷ []
+a_merge_of_equal_projections_is_dropped = λ i. get_or (histories i) 2 []
+
+pub the_first_rule_keeps_a_merge_into_a_parent : messages One view (merge ∷ grown ∷ root ∷ []) ≡ codes "root" ∷ codes "grown" ∷ codes "merge" ∷ []
+the_first_rule_keeps_a_merge_into_a_parent = λ i. get_or (histories i) 3 []
+
+pub the_second_rule_drops_a_merge_into_a_parent : messages Two view (merge ∷ grown ∷ root ∷ []) ≡ codes "root" ∷ codes "grown" ∷ []
+the_second_rule_drops_a_merge_into_a_parent = λ i. get_or (histories i) 4 []
+
 -- neither root descends from the other
 pub the_second_rule_keeps_a_merge_of_roots : messages Two view (joined ∷ other ∷ root ∷ []) ≡ codes "root" ∷ codes "other" ∷ codes "joined" ∷ []
-unfolding showing naming
-the_second_rule_keeps_a_merge_of_roots = refl
+the_second_rule_keeps_a_merge_of_roots = λ i. get_or (histories i) 5 []
 
 -- ---- a workspace's file
 
