@@ -70,14 +70,8 @@ fn step(
 {
     match take_turn(alloc, ground, filter, asked, place)? {
         Turn::Below(below) => Ok(Some(below)),
-        Turn::Kept(shown) => {
-            keep(ground, place, shown)?;
-            Ok(None)
-        }
-        Turn::New { shown, body } => {
-            keep_put(ground, place, shown, body)?;
-            Ok(None)
-        }
+        Turn::Kept(shown) => keep(ground, place, shown).and(Ok(None)),
+        Turn::New { shown, body } => keep_put(ground, place, shown, body).and(Ok(None)),
     }
 }
 
