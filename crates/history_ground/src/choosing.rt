@@ -140,7 +140,7 @@ fn is_among(ground: &Ground, places: &[u32], m: &Shown) -> bool
     ensures { result ≡ list_any (λ p. is_shown_as ground.now.map (shown_value m.now)
         (name_at ground.now.graph p)) places.now }
 {
-    places.iter().any(|p| is_shown_as(ground, *p, m))
+    first_shown_as(ground, places, m).is_some()
 }
 
 // Whether each of these is the projection of one of the commits at the places.

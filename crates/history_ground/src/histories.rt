@@ -12,6 +12,7 @@ ghost use Rattle.commit_graph.specs.Graphs.{place_of};
 ghost use Rattle.commit_map.specs.Shown.{kept_at, shown_value};
 ghost use Rattle.filter_text.specs.Shapes.{shape};
 ghost use Rattle.filter_apply.specs.Faults.{IsApplyFault};
+ghost use Rattle.filter_apply.specs.declared.fault.ApplyError.TheVariants.{OutOfMemory};
 ghost use Rattle.workspace.specs.Laws.{IsUsable};
 ghost use Rattle.workspace.specs.Workspaces.{shown};
 ghost use Rattle.history_ground.specs.Asked.{IsAskedFor, IsNone};
@@ -176,6 +177,15 @@ fn take_all(
     Ok(made)
 }
 
+// The names of a set, in their order.
+fn names_of(alloc: Global, made: &IndexSet<Name>) -> Result<Vec<Name>, ApplyError>
+    ensures ok { IfOk result (λ v. v.items ≡ made.now.keys) }
+    ensures err { IfErr result (λ e. e ≡ OutOfMemory) }
+{
+    let names = made.as_slice().to_vec(alloc)?;
+    Ok(names)
+}
+
 // The history of the commit of that name, over a ground that keeps nothing.
 fn taken(
     alloc: Global,
@@ -198,8 +208,7 @@ fn taken(
     let root = ground.graph.tree(place);
     let mut asked = Asked::new(alloc, ground, filter, root)?;
     let made = take_all(alloc, ground, filter, &mut asked, place)?;
-    let names = made.as_slice().to_vec(alloc)?;
-    Ok(names)
+    names_of(alloc, &made)
 }
 
 /// The history by a filter of the commit of that name: what it and its ancestors are projected to from scratch, as

@@ -21,7 +21,7 @@ use std::sync::ledger::{Blank, Ledger};
 use workspace::{file_place, resolve};
 
 // What a walk knows of a filter.
-#[derive(Drop)]
+#[derive(Clone, Copy)]
 pub(crate) struct Asked {
     // The table of the filter for every tree, where that is one.
     pub(crate) table: Option<usize>,
