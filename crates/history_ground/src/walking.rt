@@ -6,6 +6,7 @@ ghost use Rattle.commit_graph.specs.Graphs.{place_of};
 ghost use Rattle.commit_map.specs.Shown.{kept_at, shown_value};
 ghost use Rattle.filter_text.specs.Shapes.{shape};
 ghost use Rattle.filter_apply.specs.Faults.{IsApplyFault};
+ghost use Rattle.filter_apply.specs.declared.fault.ApplyError.TheVariants.{OutOfMemory};
 ghost use Rattle.workspace.specs.Laws.{IsUsable};
 ghost use Rattle.workspace.specs.Workspaces.{shown};
 ghost use Rattle.history_ground.specs.Asked.{IsAskedFor};
@@ -31,7 +32,7 @@ fn settle<L: Ledger>(
     place: u32,
     shown: Option<Shown>,
     steps: &mut Steps<L>,
-) -> Result<(), AllocError>
+) -> Result<(), ApplyError>
     requires place { place < length ground.old.graph }
     requires lacked { kept_at (name_at ground.old.graph place) ground.old.map ≡ None }
     ensures ok { OnOk result (ground.new ≡ record ground.old {
@@ -40,6 +41,7 @@ fn settle<L: Ledger>(
     }) }
     ensures step { OnOk result (steps.new ≡ steps.old + 1) }
     ensures err { OnErr result ((ground.new ≡ ground.old) × (steps.new ≡ steps.old)) }
+    ensures fault { IfErr result (λ e. e ≡ OutOfMemory) }
 {
     ground.map.set(ground.graph.name(place), shown)?;
     steps.tick();
@@ -67,14 +69,8 @@ fn step<L: Ledger>(
 {
     match take_turn(alloc, ground, filter, asked, place)? {
         Turn::Below(below) => Ok(Some(below)),
-        Turn::Kept(shown) => {
-            settle(ground, place, shown, steps)?;
-            Ok(None)
-        }
-        Turn::New { shown, .. } => {
-            settle(ground, place, Some(shown), steps)?;
-            Ok(None)
-        }
+        Turn::Kept(shown) => settle(ground, place, shown, steps).and(Ok(None)),
+        Turn::New { shown, .. } => settle(ground, place, Some(shown), steps).and(Ok(None)),
     }
 }
 
