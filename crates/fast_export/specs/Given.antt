@@ -63,13 +63,6 @@ pub record AreGivenIn (S : List Object) (g : Given) : Type 0 where
   pub held : AreHeldBlobs S g
   pub trees : Each (λ n. HasMarks (marks_in S g).blobs (flat S n.0)) g.trees
 
-abbrev pub is_module : Mode → Bool
-is_module File = false
-is_module Exec = false
-is_module Link = false
-is_module Module = true
-is_module Dir = false
-
 -- the tree of one leaf, wherever it stands
 abbrev pub one_leaf : List Object → FoundLeaf → Flat
 one_leaf S leaf = ([], leaf_of (body_of Blob S) leaf.mode leaf.name.0) ∷ []

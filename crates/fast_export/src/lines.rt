@@ -2,7 +2,8 @@
 ghost use Rattle.std.specs.Prelude.{◌≡◌, ◌++◌, ◌∷◌, [], codes, decimal, length, IfOk, OnOk};
 ghost use Rattle.git_objects.specs.Names.{mode_text};
 ghost use Rattle.fast_export.specs.ExportTexts.{line, mark_line};
-ghost use Rattle.fast_export.specs.Given.{data_ref, is_module, leaf_text};
+ghost use Rattle.stream_reader.specs.Changes.{is_module};
+ghost use Rattle.fast_export.specs.Given.{data_ref, leaf_text};
 
 use crate::given::GivenMarks;
 use git_objects::Mode;

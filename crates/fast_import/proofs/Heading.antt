@@ -62,7 +62,7 @@ below-tied : {X : Type 0} (x y : Bytes) (es : List (Bytes × X)) → bytes_cmp x
 below-tied x y [] p h = tt
 below-tied x y (e ∷ es) p h = both _ _ (is_less _ (nat_list_cmp_total.congr x y e.0 p ∙ less _ (first _ _ h))) (below-tied x y es p (second _ _ h))
 
-below-heads : (n : Bytes) (bs : Branches) → T (below_all bytes_cmp n bs) → T (below_all bytes_cmp n (heads bs))
+pub below-heads : (n : Bytes) (bs : Branches) → T (below_all bytes_cmp n bs) → T (below_all bytes_cmp n (heads bs))
 below-heads n [] h = tt
 below-heads n ((k, None) ∷ bs) h = below-heads n bs (second _ _ h)
 below-heads n ((k, Some c) ∷ bs) h = both _ _ (first _ _ h) (below-heads n bs (second _ _ h))

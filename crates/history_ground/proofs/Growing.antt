@@ -14,8 +14,8 @@ use Rattle.git_objects.specs.Trees.{Flat}
 use Rattle.object_store.specs.Unfolding.{flat, StandsFor}
 use Rattle.object_store.specs.Growth.{IsGrownBy}
 use Rattle.object_store.specs.StoredSnapshots.{commit_named, snapshot_of}
-use Rattle.object_store.proofs.Held.{not_named, has-above}
 use Rattle.object_store.proofs.Growth.{grown_self, grown_then, grown_as, has-grown, flat-grown, stands-grown}
+use Rattle.path_trees.proofs.Grown.{body-above}
 use Rattle.commit_map.specs.Shown.{Entries}
 use Rattle.commit_map.specs.declared.rule.Rule.{Rule}
 use Rattle.commit_graph.specs.Graphs.{Row}
@@ -38,12 +38,6 @@ use Rattle.history_ground.proofs.HistoryLemmas.{each-map}
 use Rattle.history_ground.proofs.StoredGraphs.{at-row, older-suc, older-all, row-at}
 
 -- ---- the store
-
-body-above : (newer S : List Object) (k : Kind) (n : Bytes) → IsStore (newer ++ S) → has k S n ≡ true → body_of k (newer ++ S) n ≡ body_of k S n
-unfolding body_of
-body-above [] S k n s h = refl
-body-above (o ∷ newer) S k n s h =
-    ap (λ b. cond b o.body (body_of k (newer ++ S) n)) (not_named k o (newer ++ S) n s.1 (has-above newer S k n h)) ∙ body-above newer S k n s.2 h
 
 module _ {made : Object → Type 0} (S T : List Object) (g : IsGrownBy made S T) where
   pub commit-grown : (n : Bytes) → has CommitKind S n ≡ true → commit_named T n ≡ commit_named S n

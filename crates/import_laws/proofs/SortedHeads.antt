@@ -10,18 +10,13 @@ use Rattle.git_objects.specs.Results.{◌>>=◌, or_refuse}
 use Rattle.git_objects.specs.Snapshots.{snapshot_name}
 use Rattle.git_objects.proofs.Basics.{both, first, second}
 use Rattle.fast_import.specs.Replays.{Base, BlobMark, CommitMark, Marked, Replay, begun, commit_of, committed, command_step, edited, first_parent, gone_on, heads_of, inline_blob, nothing_yet, ran_by, said, step, with_branch, with_mark, with_merges}
-use Rattle.fast_import.proofs.Heading.{Branches, heads}
+use Rattle.fast_import.proofs.Heading.{Branches, below-heads, heads}
 use Rattle.stream_reader.specs.declared.command.Command.{Command}
 use Rattle.stream_reader.specs.declared.command.Command.TheVariants as commands
 use Rattle.stream_reader.specs.declared.command.Placed.{Placed}
 use Rattle.stream_reader.specs.declared.fault.StreamFault.{StreamFault}
 use Rattle.stream_reader.specs.declared.fault.StreamFault.TheVariants.{Syntax}
 use Rattle.state_items.proofs.ReadObjects.{ok-same, value-of}
-
-below-heads : (n : Bytes) (bs : Branches) → T (below_all bytes_cmp n bs) → T (below_all bytes_cmp n (heads bs))
-below-heads n [] h = tt
-below-heads n ((k, None) ∷ bs) h = below-heads n bs (second _ _ h)
-below-heads n ((k, Some c) ∷ bs) h = both _ _ (first _ _ h) (below-heads n bs (second _ _ h))
 
 heads-sorted : (bs : Branches) → T (is_sorted bytes_cmp bs) → T (is_sorted bytes_cmp (heads bs))
 heads-sorted [] h = tt

@@ -7,7 +7,8 @@ use Rattle.git_objects.specs.declared.mode.Mode.{Mode}
 use Rattle.object_store.specs.Objects.{Object, IsStore, body_of, find_named, has_child}
 use Rattle.object_store.proofs.Parts.{find-has}
 use Rattle.fast_export.specs.ExportTexts.{Marks, blob_text}
-use Rattle.fast_export.specs.Given.{Given, is_module, marks_in, one_leaf}
+use Rattle.stream_reader.specs.Changes.{is_module}
+use Rattle.fast_export.specs.Given.{Given, marks_in, one_leaf}
 use Rattle.fast_export.proofs.Marked.{given_more}
 use Rattle.fast_export.proofs.NewBlobs.{blob_given, blob_held, known_blob, leaf_blob, new_blob, with_nothing}
 use Rattle.fast_export.proofs.Sent.{put_as, put_err, put_idle, put_short}
