@@ -15,7 +15,8 @@ use Rattle.object_store.specs.Objects.{Object}
 use Rattle.object_store.specs.Unfolding.{below, entry_flat, flat}
 use Rattle.path_names.specs.Quoting.{quote}
 use Rattle.path_trees.proofs.Walks.{dir_rests}
-use Rattle.fast_export.specs.ExportTexts.{Marks, blob_of, further, is_among, leaf_ref, line, new_blobs}
+use Rattle.object_store.specs.TreeObjects.{blob_of}
+use Rattle.fast_export.specs.ExportTexts.{Marks, further, is_among, leaf_ref, line, new_blobs}
 use Rattle.fast_export.specs.Given.{Given, AreGivenIn, AreHeldBlobs, HasMark, HasMarks, is_named, marks_in, with_blobs}
 use Rattle.fast_export.specs.Known.{AreKnown, IsKnown, lines_behind}
 use Rattle.fast_export.specs.declared.known.Lines.{Lines}

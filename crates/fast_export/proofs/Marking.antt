@@ -11,7 +11,8 @@ use Rattle.git_objects.specs.Lists.{Each}
 use Rattle.git_objects.proofs.Basics.{same_bytes-self, same_bytes-back}
 use Rattle.git_objects.specs.Snapshots.{Snapshot, snapshot_name}
 use Rattle.fast_import.specs.Replays.{Marked, marked, value_at, named_tree}
-use Rattle.fast_export.specs.ExportTexts.{mark_of, is_among, blob_of, further}
+use Rattle.object_store.specs.TreeObjects.{blob_of}
+use Rattle.fast_export.specs.ExportTexts.{mark_of, is_among, further}
 use Rattle.fast_export.proofs.Changing.{or_none}
 
 abbrev pub contents : List (ℕ × Bytes) → List Bytes

@@ -19,7 +19,8 @@ use Rattle.git_objects.specs.declared.mode.Mode.TheVariants.{File, Exec, Link, M
 use Rattle.git_objects.specs.declared.name.Name.{Name}
 use Rattle.object_store.specs.Objects.{Object, body_of, has, has_child}
 use Rattle.path_trees.specs.Walked.{leaf_of}
-use Rattle.fast_export.specs.ExportTexts.{Marks, is_among, blob_of, further, new_blobs, blob_text}
+use Rattle.object_store.specs.TreeObjects.{blob_of}
+use Rattle.fast_export.specs.ExportTexts.{Marks, is_among, further, new_blobs, blob_text}
 use Rattle.stream_reader.specs.Changes.{is_module}
 use Rattle.fast_export.specs.Given.{Given, is_named, next_of, blob_mark, marks_in, AreHeldBlobs, with_blobs}
 use Rattle.fast_export.proofs.Lookups.{second_of, blob_among}

@@ -9,7 +9,8 @@ use Rattle.git_objects.specs.Trees.{Leaf, FileLeaf, ExecLeaf, LinkLeaf, ModuleLe
 use Rattle.git_objects.specs.Names.{leaf_mode, mode_text}
 use Rattle.path_names.specs.Quoting.{quote}
 use Rattle.git_objects.specs.Snapshots.{Snapshot}
-use Rattle.fast_export.specs.ExportTexts.{Marks, mark_of, blob_of, new_blobs, line, mark_line, blob_text, leaf_ref, leaf_line, parent_lines, marks_after, commit_text, one_text, commits_text}
+use Rattle.object_store.specs.TreeObjects.{blob_of}
+use Rattle.fast_export.specs.ExportTexts.{Marks, mark_of, new_blobs, line, mark_line, blob_text, leaf_ref, leaf_line, parent_lines, marks_after, commit_text, one_text, commits_text}
 use Rattle.fast_export.proofs.ReadLines.{data_text}
 use Rattle.fast_export.proofs.Heads.{word_text, colon, blob_lines, people_lines, merge_lines, from_lines, all_text, commit_lines}
 use Rattle.fast_export.proofs.Changing.{ref_text, leaf_text}

@@ -16,7 +16,8 @@ use Rattle.object_store.specs.Unfolding.{flat}
 use Rattle.path_names.specs.Quoting.{quote}
 use Rattle.path_trees.specs.Walked.{leaf_of}
 use Rattle.path_trees.specs.declared.found.Leaf.{Leaf as FoundLeaf}
-use Rattle.fast_export.specs.ExportTexts.{Marks, blob_of, is_among, line, mark_line, mark_of, new_blobs}
+use Rattle.object_store.specs.TreeObjects.{blob_of}
+use Rattle.fast_export.specs.ExportTexts.{Marks, is_among, line, mark_line, mark_of, new_blobs}
 
 -- with trees of which each blob has one
 pub record Given : Type 0 where

@@ -15,9 +15,10 @@ use Rattle.object_store.specs.StoredSnapshots.{snapshot_object}
 use Rattle.object_store.specs.Unfolding.{StandsFor}
 use Rattle.object_store.proofs.Growth.{grown_as, grown_then, stands-grown}
 use Rattle.object_store.proofs.Unfolding.{unfolding_law}
-use Rattle.path_trees.specs.Made.{AreMade, IsGrown, IsTreeFault}
+use Rattle.path_trees.specs.Made.{IsGrown, IsTreeFault}
 use Rattle.path_trees.specs.declared.found.TreeFault.{TreeFault}
 use Rattle.path_trees.specs.declared.found.TreeFault.TheVariants as trees
+use Rattle.path_trees.proofs.MadeObjects.{clash-by, grown-by}
 use Rattle.stage_tree.specs.Finished.{HasDirectory}
 use Rattle.fast_import.specs.Made.{IsDirectoryOf, IsMadeOf, IsPutFault}
 use Rattle.fast_import.specs.Replays.{Draft, commit_of}
@@ -31,37 +32,14 @@ use Rattle.stream_reader.specs.declared.fault.StreamFault.{StreamFault}
 
 -- ---- trees
 
-all_made : (made : Bytes → Type 0) (os : List Object) (o : Object) → AreMade made os → Contains os o → (o.kind ≡ Tree) × made o.body
-all_made made [] o h m = absurd (omega (arith, m.1))
-all_made made (x ∷ os) o h (zero, l, e) = subst (λ (y : Object). (y.kind ≡ Tree) × made y.body) e (h.0, h.1)
-all_made made (x ∷ os) o h (suc i, l, e) = all_made made os o h.2 (i, omega (arith, l), e)
-
-collides_at : (b n : Bytes) (o : Option Object) → collision Tree b o ≡ Some (Collides n) → name Tree b ≡ n
-collides_at b n None e = cc
-collides_at b n (Some x) e =
-    elim (same_object Tree b x) as (λ t. cond t None (Some (Collides (name Tree b))) ≡ Some (Collides n) → name Tree b ≡ n) [ true ↦ λ g. cc | false ↦ λ g. cc ] e
-
-clash_name : (R : List Object) (n b : Bytes) → collision Tree b (find_named R (name Tree b)) ≡ Some (Collides n) → collision Tree b (find_named R n) ≡ Some (Collides n)
-clash_name R n b e = subst (λ (m : Bytes). collision Tree b (find_named R m) ≡ Some (Collides n)) (collides_at b n (find_named R (name Tree b)) e) e
+directory_of : (t : Flat) (o : Object) → o.kind ≡ Tree → HasDirectory t o.body → IsDirectoryOf t o
+directory_of t o k h = (h.path, λ i. record { kind = k i; body = sym h.body i })
 
 pub directories_grown : (S T : List Object) (t : Flat) → IsGrown (HasDirectory t) S T → IsGrownBy (IsDirectoryOf t) S T
-directories_grown S T t g = record {
-  store = g.store;
-  newer = g.newer;
-  above = g.above;
-  all = λ o m. let h = all_made (HasDirectory t) g.newer o g.trees m in (h.1.path, λ i. record { kind = h.0 i; body = sym h.1.body i });
-}
+directories_grown S T t g = grown-by (HasDirectory t) (IsDirectoryOf t) (directory_of t) S T g
 
 pub directories_fault : (T : List Object) (t : Flat) (f : TreeFault) → IsTreeFault (HasDirectory t) T f → IsPutFault (IsDirectoryOf t) T (tree_fault f)
-directories_fault T t (trees.Collision n) h = inr (
-  n,
-  refl,
-  record {
-    object = record { kind = Tree; body = h.body };
-    is_made = (h.is_made.path, λ i. record { kind = Tree; body = sym h.is_made.body i });
-    held = clash_name T n.0 h.body h.held;
-  },
-)
+directories_fault T t (trees.Collision n) h = inr (n, refl, clash-by (HasDirectory t) (IsDirectoryOf t) (directory_of t) T n.0 h)
 directories_fault T t trees.OutOfMemory h = inl refl
 
 -- ---- the commit

@@ -1,7 +1,4 @@
 // Trees that are laid below a place.
-ghost use Rattle.std.specs.Prelude.{◌≡◌};
-ghost use Rattle.object_store.specs.Objects.{has};
-
 use case_lines::{Fault, Texts, Word, digits_of, path_of, printed};
 use filter_unapply::{LayFault, laid_below};
 use git_objects::{Kind, Mode, Name};
@@ -9,16 +6,6 @@ use object_store::Store;
 use path_names::Path;
 use path_trees::{Found, put_at};
 use std::alloc::{AllocError, Global};
-
-// Whether an object of that kind has the name.
-fn is_held(store: &Store, kind: Kind, name: &Name) -> bool
-    ensures { result ≡ has kind store.now name.now.0 }
-{
-    match store.get(name) {
-        None => false,
-        Some(object) => object.kind == kind,
-    }
-}
 
 // Puts a file into a tree.
 fn with_file(
@@ -28,7 +15,7 @@ fn with_file(
     path: &Path,
     name: Name,
 ) -> Result<Name, Fault> {
-    if !is_held(store, Kind::Tree, &root) || !is_held(store, Kind::Blob, &name) {
+    if !store.has(Kind::Tree, &root) || !store.has(Kind::Blob, &name) {
         return Err(Fault::BadLine);
     }
     let found = Found {
@@ -88,7 +75,7 @@ fn laid_trees(
     base: Name,
     pushed: Name,
 ) -> Result<Result<Name, LayFault>, Fault> {
-    if !is_held(store, Kind::Tree, &base) || !is_held(store, Kind::Tree, &pushed) {
+    if !store.has(Kind::Tree, &base) || !store.has(Kind::Tree, &pushed) {
         return Err(Fault::BadLine);
     }
     Ok(laid_below(alloc, store, place, base, pushed))

@@ -10,7 +10,7 @@ use Rattle.object_store.specs.Unfolding.{StandsFor}
 use Rattle.path_trees.specs.Levels.{IsTaken}
 use Rattle.path_trees.proofs.Taken.{IsIn, taken}
 use Rattle.path_trees.proofs.Trees.{AreGood, good_fits}
-use Rattle.filter_unapply.proofs.MadeTrees.{grown-trees}
+use Rattle.path_trees.proofs.MadeObjects.{grown-trees}
 
 nothing-good : (S : List Object) → AreGood S []
 nothing-good S = record { entries = tt; held = tt }

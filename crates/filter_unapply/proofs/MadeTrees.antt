@@ -12,7 +12,8 @@ use Rattle.object_store.specs.Objects.{Object, IsStore, find_named}
 use Rattle.object_store.specs.Puts.{Collides, collision, same_object}
 use Rattle.object_store.specs.Growth.{IsGrownBy, IsClash}
 use Rattle.object_store.proofs.Growth.{clash_as}
-use Rattle.path_trees.specs.Made.{AreMade, IsGrown, IsOnWay, IsCollision, IsTreeFault}
+use Rattle.path_trees.specs.Made.{IsOnWay, IsTreeFault}
+use Rattle.path_trees.proofs.MadeObjects.{clash-by}
 use Rattle.path_trees.specs.declared.found.TreeFault.{TreeFault}
 use Rattle.path_trees.specs.declared.found.TreeFault.TheVariants.{Collision as TreeCollision, OutOfMemory as TreeOutOfMemory}
 use Rattle.filter_unapply.specs.Hands.{IsFaultBy, IsFaultOf, IsMadeOf}
@@ -22,41 +23,9 @@ use Rattle.filter_unapply.specs.declared.fault.LayFault.TheVariants.{NotHeld, Bl
 
 -- ---- trees of some bodies
 
-all_made : (made : Bytes → Type 0) (os : List Object) (o : Object) → AreMade made os → Contains os o → (o.kind ≡ Tree) × made o.body
-all_made made [] o h m = absurd (omega (arith, m.1))
-all_made made (x ∷ os) o h (zero, l, e) = subst (λ (y : Object). (y.kind ≡ Tree) × made y.body) e (h.0, h.1)
-all_made made (x ∷ os) o h (suc i, l, e) = all_made made os o h.2 (i, omega (arith, l), e)
-
--- a collision is told by the object's own name
-collides_at : (b n : Bytes) (o : Option Object) → collision Tree b o ≡ Some (Collides n) → name Tree b ≡ n
-collides_at b n None e = cc
-collides_at b n (Some x) e =
-    elim (same_object Tree b x) as (λ t. cond t None (Some (Collides (name Tree b))) ≡ Some (Collides n) → name Tree b ≡ n) [ true ↦ λ g. cc | false ↦ λ g. cc ] e
-
-clash_name : (R : List Object) (n b : Bytes) → collision Tree b (find_named R (name Tree b)) ≡ Some (Collides n) → collision Tree b (find_named R n) ≡ Some (Collides n)
-clash_name R n b e = subst (λ (m : Bytes). collision Tree b (find_named R m) ≡ Some (Collides n)) (collides_at b n (find_named R (name Tree b)) e) e
-
 module _ (made : Bytes → Type 0) (more : Object → Type 0) (f : (o : Object) → o.kind ≡ Tree → made o.body → more o) where
-  pub grown-by : (S T : List Object) → IsGrown made S T → IsGrownBy more S T
-  grown-by S T g = record {
-    store = g.store;
-    newer = g.newer;
-    above = g.above;
-    all = λ o m. let h = all_made made g.newer o g.trees m in f o h.0 h.1;
-  }
-
-  pub grown-trees : (S T : List Object) → IsStore T → (newer : List Object) → newer ++ S ≡ T → AreMade made newer → IsGrownBy more S T
-  grown-trees S T s newer e g = record { store = s; newer = newer; above = e; all = λ o m. let h = all_made made newer o g m in f o h.0 h.1 }
-
-  pub clash-by : (S : List Object) (n : Bytes) → IsCollision made S n → IsClash more S n
-  clash-by S n h = record {
-    object = record { kind = Tree; body = h.body };
-    is_made = f (record { kind = Tree; body = h.body }) refl h.is_made;
-    held = clash_name S n h.body h.held;
-  }
-
   pub fault-by : (S : List Object) (e : TreeFault) → IsTreeFault made S e → IsFaultOf more S (fault_of e)
-  fault-by S (TreeCollision n) h = clash-by S n.0 h
+  fault-by S (TreeCollision n) h = clash-by made more f S n.0 h
   fault-by S TreeOutOfMemory h = tt
 
   pub err-by : {A : Type 0} (S : List Object) (r : Result A LayFault) (e : TreeFault) → IsErrAnd r (λ x. x ≡ fault_of e) → IsTreeFault made S e → IfErr r (IsFaultOf more S)

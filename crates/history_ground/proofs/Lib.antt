@@ -19,7 +19,6 @@ mod Steps
 mod Waiting
 mod WalkLemmas
 pub mod ProjectLemmas
-pub mod Putting
 mod Rising
 mod OwnCommits
 mod MadeHistories

@@ -37,7 +37,7 @@ use Rattle.history_ground.proofs.Filling.{kept-append, kept-front}
 use Rattle.history_ground.proofs.Growing.{extends-as, extends-map, extends-then, front-self, graph-grown, held-grown, maps-grown, memo-grown}
 use Rattle.history_ground.proofs.HistoryLemmas.{each-distinct, member-of, new-parents}
 use Rattle.history_ground.proofs.MadeHistories.{IsIn, found-in, made-grown, made-more}
-use Rattle.history_ground.proofs.Putting.{commit_fits}
+use Rattle.object_store.proofs.PutObjects.{commit_fits}
 use Rattle.history_ground.proofs.Steps.{Turns, kept-projected}
 use Rattle.history_ground.proofs.TurnLemmas.{some-placed}
 

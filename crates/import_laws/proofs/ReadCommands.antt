@@ -59,28 +59,10 @@ use Rattle.stream_reader.specs.declared.progress.Event.TheVariants.{Gives, Skips
 use Rattle.stream_reader.specs.declared.progress.Phase.{Phase}
 use Rattle.stream_reader.specs.declared.progress.Phase.TheVariants.{Between, InCommit, Finished}
 use Rattle.stream_reader.specs.declared.progress.Progress.{Progress}
+use Rattle.stream_reader.proofs.Replayable.{NotDir, OnValue, any_value, mode_fits, value_bind, value_if}
 use Rattle.state_items.proofs.ByteLists.{AreBytes, drop-bytes, take-bytes}
 use Rattle.import_laws.specs.SoundCommands.{IsSoundBlob, IsSoundChange}
 use Rattle.import_laws.specs.SmallCommands.{IsRead, IsShortPath, IsSmallBlob, IsSmallChange, ReaderLaw}
-
--- ---- a fact of what is judged
-
-abbrev OnValue : {A E : Type 0} → (A → Type 0) → Result A E → Type 0
-OnValue P (Ok x) = P x
-OnValue P (Err e) = Unit {0}
-
-any_value : {A E : Type 0} (r : Result A E) → OnValue (λ _. Unit {0}) r
-any_value (Ok x) = tt
-any_value (Err e) = tt
-
-value_bind : {A B E : Type 0} (Q : A → Type 0) (P : B → Type 0) (r : Result A E) (f : A → Result B E) → OnValue Q r → ((x : A) → Q x → OnValue P (f x)) → OnValue P (r >>= f)
-value_bind Q P (Ok x) f h g = g x h
-value_bind Q P (Err e) f h g = tt
-
--- a test that comes before
-value_if : {A E : Type 0} (P : A → Type 0) (b : Bool) (x y : Result A E) → (b ≡ true → OnValue P x) → (b ≡ false → OnValue P y) → OnValue P (cond b x y)
-value_if P true x y h g = h refl
-value_if P false x y h g = g refl
 
 -- ---- bytes
 
@@ -341,22 +323,6 @@ two-paths at t =
 
 -- ---- the line of a change
 
-abbrev NotDir : Mode → Type 0
-NotDir File = Unit {0}
-NotDir Exec = Unit {0}
-NotDir Link = Unit {0}
-NotDir Module = Unit {0}
-NotDir Dir = ⊥
-
-mode-read : (at : ℕ) (w : Bytes) → OnValue NotDir (mode at w)
-unfolding mode
-mode-read at w =
-    value_if NotDir (same_bytes w (codes "100644") || same_bytes w (codes "644")) (Ok File) _ (λ _. tt)
-    (λ _. value_if NotDir (same_bytes w (codes "100755") || same_bytes w (codes "755")) (Ok Exec) _ (λ _. tt)
-    (λ _. value_if NotDir (same_bytes w (codes "120000")) (Ok Link) _ (λ _. tt)
-    (λ _. value_if NotDir (same_bytes w (codes "160000")) (Ok Module) _ (λ _. tt)
-    (λ _. value_if NotDir (same_bytes w (codes "040000") || same_bytes w (codes "40000")) (fault (Unsupported at features.DirectoryMode)) (fault (Syntax at)) (λ _. tt) (λ _. tt)))))
-
 -- digits are a name
 abbrev IsData : DataRef → Type 0
 IsData (datas.Mark n) = Unit {0}
@@ -418,7 +384,7 @@ modify-line : (at : ℕ) (t : Bytes) → OnValue IsModifyLine (modify_line at t)
 unfolding modify_line
 modify-line at t =
     let w = first_word t in
-    value_bind NotDir IsModifyLine (mode at w.0) (λ m. or_fault (Syntax at) w.1 >>= λ u. data_part at m (first_word u)) (mode-read at w.0)
+    value_bind NotDir IsModifyLine (mode at w.0) (λ m. or_fault (Syntax at) w.1 >>= λ u. data_part at m (first_word u)) (mode_fits at w.0)
     (λ m h. value_bind (λ _. Unit {0}) IsModifyLine (or_fault (Syntax at) w.1) (λ u. data_part at m (first_word u)) (any_value (or_fault (Syntax at) w.1)) (λ u _. part-read at m (first_word u) h))
 
 -- ---- changes

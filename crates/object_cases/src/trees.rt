@@ -1,5 +1,5 @@
 // Stored trees: edits, lookups and joins. A tree has a name of its own in the texts, which stands for its name's bytes.
-use crate::held::{is_held, is_there};
+use crate::held::is_there;
 use crate::values::{mode_digits, mode_of, text, word_and_digits};
 use crate::walks::{leaves, sizes};
 use case_lines::{Fault, Texts, Word, digits_of, name_of, path_of, printed};
@@ -85,7 +85,7 @@ fn edited(answer: Result<Name, TreeFault>) -> Result<Name, Fault> {
 
 // What stands at a path of a stored tree.
 fn at(store: &Store, root: Name, path: &Path) -> Result<Option<Found>, Fault> {
-    if !is_held(store, Kind::Tree, &root) {
+    if !store.has(Kind::Tree, &root) {
         return Err(Fault::BadLine);
     }
     Ok(entry_at(store, root, path))
@@ -99,7 +99,7 @@ fn with(
     path: &Path,
     found: Found,
 ) -> Result<Name, Fault> {
-    if !is_held(store, Kind::Tree, &root) || !is_there(store, &found) {
+    if !store.has(Kind::Tree, &root) || !is_there(store, &found) {
         return Err(Fault::BadLine);
     }
     edited(put_at(alloc, store, root, path, found))
@@ -107,7 +107,7 @@ fn with(
 
 // The stored tree without a path.
 fn without(alloc: Global, store: &mut Store, root: Name, path: &Path) -> Result<Name, Fault> {
-    if !is_held(store, Kind::Tree, &root) {
+    if !store.has(Kind::Tree, &root) {
         return Err(Fault::BadLine);
     }
     edited(remove_at(alloc, store, root, path))
@@ -257,7 +257,7 @@ fn standing(
 
 // Joins two stored trees.
 fn join(alloc: Global, store: &mut Store, a: Name, b: Name) -> Result<Name, JoinFault> {
-    if !is_held(store, Kind::Tree, &a) || !is_held(store, Kind::Tree, &b) {
+    if !store.has(Kind::Tree, &a) || !store.has(Kind::Tree, &b) {
         return Err(JoinFault::OutOfMemory);
     }
     join_disjoint(alloc, store, a, b)

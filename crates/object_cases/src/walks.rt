@@ -1,7 +1,6 @@
 // Walks over the leaves of stored trees.
 ghost use Rattle.std.specs.Prelude.{◌≡◌, ◌<◌, true, is_some, length, IfOk};
 
-use crate::held::is_held;
 use crate::values::mode_digits;
 use case_lines::{Fault, digits_of, printed};
 use git_objects::{Kind, Name};
@@ -44,7 +43,7 @@ fn add_line(lines: &mut String, path: &[u8], leaf: Leaf) -> Result<(), Fault> {
 /// The leaves of a tree in the order of a walk, a line each: mode, name and path.
 pub fn leaves(alloc: Global, store: &Store, root: Name) -> Result<String, Fault> {
     let mut lines = String::new(alloc);
-    if !is_held(store, Kind::Tree, &root) {
+    if !store.has(Kind::Tree, &root) {
         return Err(Fault::BadLine);
     }
     let mut walk = Walk::new(alloc, store, root)?;
@@ -67,7 +66,7 @@ fn next_size(alloc: Global, walk: &mut Walk<'_>) -> Result<Option<usize>, AllocE
 
 /// How many leaves a walk over a tree comes to, and how many bytes their paths have together.
 pub fn sizes(alloc: Global, store: &Store, root: Name) -> Result<String, Fault> {
-    if !is_held(store, Kind::Tree, &root) {
+    if !store.has(Kind::Tree, &root) {
         return Err(Fault::BadLine);
     }
     let mut walk = Walk::new(alloc, store, root)?;

@@ -13,3 +13,4 @@ pub mod FlatParts
 pub mod StoredCommits
 pub mod Growth
 pub mod Pieces
+pub mod PutObjects

@@ -1,12 +1,20 @@
 -- The objects of a tree: its blobs and trees, each after those that it names, and these in the order of its body.
 use Rattle.std.specs.Prelude.{ℕ, zero, suc, List, [], ◌∷◌, ◌++◌, Option, Some, None}
 use Rattle.std.specs.List.{flat_map}
+use Rattle.git_objects.specs.Paths.{Bytes}
 use Rattle.git_objects.specs.Trees.{Leaf, FileLeaf, ExecLeaf, LinkLeaf, ModuleLeaf, Flat, at, under}
 use Rattle.git_objects.specs.Names.{body, depth, tops}
 use Rattle.git_objects.specs.declared.kind.Kind.TheVariants.{Blob, Tree}
 use Rattle.object_store.specs.Objects.{Object}
 
--- a leaf's blob; a module's commit is no object of this repository
+-- the bytes of a file, an executable or a link; a module's commit is no object of this repository
+abbrev pub blob_of : Leaf → Option Bytes
+blob_of (FileLeaf b) = Some b
+blob_of (ExecLeaf b) = Some b
+blob_of (LinkLeaf b) = Some b
+blob_of (ModuleLeaf n) = None
+
+-- a leaf's blob
 abbrev pub leaf_objects : Leaf → List Object
 leaf_objects (FileLeaf b) = record { kind = Blob; body = b } ∷ []
 leaf_objects (ExecLeaf b) = record { kind = Blob; body = b } ∷ []

@@ -118,8 +118,8 @@ impl<'a> Shelf<'a> {
         }
     }
 
-    // Whether an object of that kind has that name.
-    fn has(&self, kind: Kind, name: &Name) -> bool
+    /// Whether an object of that kind has that name. Needs no memory.
+    pub(crate) fn has(&self, kind: Kind, name: &Name) -> bool
         ensures { result ≡ has kind self.now name.now.0 }
     {
         match self.get(name) {

@@ -3,7 +3,7 @@ ghost use Rattle.std.specs.Prelude.{◌≡◌, ◌⊎◌, ◌∷◌, [], length,
 ghost use Rattle.std.specs.Prelude.{true};
 ghost use Rattle.std.specs.Option.{option_map};
 ghost use Rattle.git_objects.specs.Names.{name};
-ghost use Rattle.object_store.specs.Objects.{find_named, is_body};
+ghost use Rattle.object_store.specs.Objects.{find_named, has, is_body};
 ghost use Rattle.object_store.specs.Objects.{IsStore};
 ghost use Rattle.object_store.specs.Puts.{of_body, refusal, with_object};
 ghost use Rattle.object_store.specs.Errors.{object_value, refusal_told};
@@ -82,6 +82,13 @@ impl Store {
         ensures store { IsStore self.now }
     {
         self.shelf().get(name)
+    }
+
+    /// Whether an object of that kind has that name. Needs no memory.
+    pub fn has(&self, kind: Kind, name: &Name) -> bool
+        ensures { result ≡ has kind self.now name.now.0 }
+    {
+        self.shelf().has(kind, name)
     }
 
     /// How many objects are held.

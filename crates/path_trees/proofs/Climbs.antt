@@ -50,7 +50,7 @@ pub record IsClimb (S0 : List Object) (p : Path) (u : Flat) (k : ℕ) (S : List 
 
 -- ---- the first turn
 
-full_node : (n : Node) → IsFullNode n → IsNode n
+pub full_node : (n : Node) → IsFullNode n → IsNode n
 full_node (LeafNode x) h = h
 full_node (TreeNode []) h = absurd h
 full_node (TreeNode (e ∷ t)) h = h

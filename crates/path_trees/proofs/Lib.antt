@@ -16,3 +16,5 @@ pub mod Placed
 pub mod ClashSteps
 pub mod FirstPaths
 pub mod Rises
+pub mod MadeObjects
+pub mod Gathering

@@ -4,6 +4,7 @@
 mod clash;
 mod directory;
 mod edits;
+mod entries;
 mod found;
 mod join;
 mod laws;
@@ -13,8 +14,9 @@ mod rebuild;
 mod walk;
 
 pub use clash::first_clash;
-pub use directory::entries_in;
+pub use directory::{entries_in, listing};
 pub use edits::{put_at, remove_at, taken_in};
+pub use entries::{encode, insert};
 pub use found::{Found, Leaf, TreeFault};
 pub use join::{JoinFault, join_apart, join_disjoint};
 pub use laws::together_law;

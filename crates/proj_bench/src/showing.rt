@@ -5,7 +5,7 @@ ghost use Rattle.git_objects.specs.declared.kind.Kind.TheVariants.{Tree};
 ghost use Rattle.object_store.specs.Objects.{has};
 
 use crate::routes::read;
-use crate::trees::{is_held, level, put_one};
+use crate::trees::{level, put_one};
 use filter_apply::shown;
 use filter_cache::Memo;
 use filter_routes::Table;
@@ -116,19 +116,19 @@ fn shown_thrice<L: Ledger>(
     let (root, changed) = roots;
     let mut memo = Memo::new(alloc, 1000)?;
     let mut steps = Steps::<L>::new(blank);
-    if !is_held(store, Kind::Tree, &root) {
+    if !store.has(Kind::Tree, &root) {
         return Ok(None);
     }
     let Some((name, first)) = timed(rt, alloc, store, table, root, &mut memo, &mut steps)? else {
         return Ok(None);
     };
-    if !is_held(store, Kind::Tree, &root) {
+    if !store.has(Kind::Tree, &root) {
         return Ok(None);
     }
     let Some((_, again)) = timed(rt, alloc, store, table, root, &mut memo, &mut steps)? else {
         return Ok(None);
     };
-    if !is_held(store, Kind::Tree, &changed) {
+    if !store.has(Kind::Tree, &changed) {
         return Ok(None);
     }
     let Some((_, after)) = timed(rt, alloc, store, table, changed, &mut memo, &mut steps)? else {
@@ -147,7 +147,7 @@ fn laid_once(
     root: Name,
     pushed: Name,
 ) -> io::Result<Option<u128>> {
-    if !is_held(store, Kind::Tree, &root) || !is_held(store, Kind::Tree, &pushed) {
+    if !store.has(Kind::Tree, &root) || !store.has(Kind::Tree, &pushed) {
         return Ok(None);
     }
     let start = Instant::now(rt)?;

@@ -1,23 +1,11 @@
 // A tree of three levels, each of so many entries: files put at its paths, or a walk over its leaves.
-ghost use Rattle.std.specs.Prelude.{◌≡◌, ◌<◌, true, is_some, length, IfOk};
-ghost use Rattle.git_objects.specs.declared.kind.Kind.{Kind};
-ghost use Rattle.object_store.specs.Objects.{has};
+ghost use Rattle.std.specs.Prelude.{◌≡◌, ◌<◌, true, length, IfOk};
 
 use git_objects::{Kind, Mode, Name, add_entry};
 use object_store::Store;
 use path_names::Path;
 use path_trees::{Found, Walk, put_at};
 use std::alloc::{AllocError, Global};
-
-/// Whether an object of that kind has the name.
-pub fn is_held(store: &Store, kind: Kind, name: &Name) -> bool
-    ensures { result ≡ has kind store.now name.now.0 }
-{
-    match store.get(name) {
-        None => false,
-        Some(object) => object.kind == kind,
-    }
-}
 
 // The body of a directory whose entries are all the same.
 fn body(alloc: Global, mode: Mode, name: &Name, width: u32) -> Result<Vec<u8>, AllocError> {
@@ -66,7 +54,7 @@ pub fn put_one(
     path: &Path,
     name: Name,
 ) -> Option<Name> {
-    if !is_held(store, Kind::Tree, &root) || !is_held(store, Kind::Blob, &name) {
+    if !store.has(Kind::Tree, &root) || !store.has(Kind::Blob, &name) {
         return None;
     }
     let found = Found {
@@ -95,7 +83,7 @@ fn step(walk: &mut Walk<'_>) -> Result<bool, AllocError>
 
 fn walk_all(alloc: Global, store: &Store, root: Name) -> Result<u64, AllocError> {
     let mut leaves = 0u64;
-    if !is_held(store, Kind::Tree, &root) {
+    if !store.has(Kind::Tree, &root) {
         return Ok(leaves);
     }
     let mut walk = Walk::new(alloc, store, root)?;

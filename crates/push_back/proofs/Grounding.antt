@@ -28,7 +28,8 @@ use Rattle.stream_reader.specs.declared.command.Placed.{Placed}
 use Rattle.fast_import.proofs.Growing.{base-grown, is_base-grown}
 use Rattle.fast_import.proofs.WalkedLeaves.{IsPassed, all_passed, leaf_here, none_passed, stepped}
 use Rattle.push_back.specs.Grounds.{Ground, AreBlobsOf, IsGroundIn, blob_names, blobs_of, commits_of, from_of, ground_in, push_base_in, refs_of}
-use Rattle.push_laws.specs.PushReplays.{blob_of, push_base, push_step}
+use Rattle.object_store.specs.TreeObjects.{blob_of}
+use Rattle.push_laws.specs.PushReplays.{push_base, push_step}
 use Rattle.push_back.specs.Replaying.{step_in}
 
 -- ---- the blobs of a tree

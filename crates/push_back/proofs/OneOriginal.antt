@@ -28,7 +28,7 @@ use Rattle.history_ground.specs.Grounds.{IsGround}
 use Rattle.history_ground.specs.Made.{IsOwnBody}
 use Rattle.history_ground.specs.declared.ground.Ground.{Ground}
 use Rattle.history_ground.proofs.HeldCommits.{held}
-use Rattle.history_ground.proofs.Putting.{commit_fits}
+use Rattle.object_store.proofs.PutObjects.{commit_fits}
 use Rattle.fast_import.specs.Standing.{IsCommitIn}
 use Rattle.fast_import.specs.declared.replayed.Made.{Made}
 use Rattle.push_laws.specs.PushVerdicts.{Refusal, original_of, original_tree}

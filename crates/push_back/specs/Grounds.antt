@@ -14,7 +14,8 @@ use Rattle.object_store.specs.Objects.{Object, body_of, has}
 use Rattle.object_store.specs.Unfolding.{flat}
 use Rattle.fast_import.specs.Bases.{IsBaseIn, base_in}
 use Rattle.fast_import.specs.Replays.{Base}
-use Rattle.push_laws.specs.PushReplays.{blob_of, push_base}
+use Rattle.object_store.specs.TreeObjects.{blob_of}
+use Rattle.push_laws.specs.PushReplays.{push_base}
 
 -- the ref; the projected commit, where there is one; the tree that is shown; and the names of its blobs in path order
 pub record Ground : Type 0 where

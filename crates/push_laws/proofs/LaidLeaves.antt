@@ -19,7 +19,7 @@ use Rattle.state_items.proofs.Bringing.{T-from, any-back}
 use Rattle.state_items.proofs.Imports.{any-cases, any-front}
 use Rattle.import_laws.proofs.EditLeaves.{is_in, leaf_in}
 use Rattle.push_laws.specs.Given.{blobs_in}
-use Rattle.push_laws.specs.PushReplays.{blob_of}
+use Rattle.object_store.specs.TreeObjects.{blob_of}
 
 -- ---- trees of leaves that are moved
 

@@ -14,7 +14,8 @@ use Rattle.workspace.specs.Workspaces.{shown}
 use Rattle.fast_import.specs.Replays.{Replay}
 use Rattle.state_items.specs.Imported.{AreWhole, has_leaves}
 use Rattle.push_laws.specs.PushLaws.{AreTrees, originals}
-use Rattle.push_laws.specs.PushReplays.{blob_of, push_replay}
+use Rattle.object_store.specs.TreeObjects.{blob_of}
+use Rattle.push_laws.specs.PushReplays.{push_replay}
 use Rattle.push_laws.specs.PushVerdicts.{Pair, verdict}
 
 -- the blobs of a tree in path order

@@ -3,9 +3,10 @@ use Rattle.std.specs.Prelude.{ℕ, ◌+◌, Bool, true, false, if◌then◌else�
 use Rattle.std.specs.Option.{option_map, option_or, option_to_list}
 use Rattle.std.specs.List.{last_or}
 use Rattle.git_objects.specs.Paths.{Bytes, is_nil, same_bytes}
-use Rattle.git_objects.specs.Trees.{Leaf, FileLeaf, ExecLeaf, LinkLeaf, ModuleLeaf, Flat}
+use Rattle.git_objects.specs.Trees.{Flat}
 use Rattle.git_objects.specs.Results.{◌>>=◌, must, or_refuse, refused_by}
 use Rattle.git_objects.specs.Snapshots.{snapshot_name}
+use Rattle.object_store.specs.TreeObjects.{blob_of}
 use Rattle.stream_reader.specs.declared.command.Command.{Command}
 use Rattle.stream_reader.specs.declared.command.Command.TheVariants as commands
 use Rattle.stream_reader.specs.declared.command.CommitHead.{CommitHead}
@@ -26,13 +27,6 @@ pub data StreamRefusal : Type 0 where
   MergePushed : ℕ → StreamRefusal
   -- a fault of any stream
   Faulty : StreamFault → StreamRefusal
-
--- the bytes of a file, an executable or a link; a module's commit isn't here
-abbrev pub blob_of : Leaf → Option Bytes
-blob_of (FileLeaf b) = Some b
-blob_of (ExecLeaf b) = Some b
-blob_of (LinkLeaf b) = Some b
-blob_of (ModuleLeaf n) = None
 
 -- what is there: the projection, if there is one, with the tree that is shown; the ref at it; and this tree's blobs
 abbrev pub push_base : Bytes → Option Bytes → Flat → Base

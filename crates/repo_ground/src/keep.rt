@@ -26,9 +26,8 @@ use crate::State;
 use commit_map::{CommitMap, Shown};
 use filter_text::{Filter, print};
 use git_objects::Name;
-use git_objects::limits::ITEM_BYTES;
 use proj_io::{KeepError, Keeper};
-use state_items::{first_passed, is_canonical, kept_item};
+use state_items::{add_size, first_passed, is_canonical, kept_item};
 use std::alloc::AllocError;
 
 impl State {
@@ -175,18 +174,6 @@ impl State {
     {
         let commits = self.ground.graph.len() as usize;
         first_passed(commits, self.held.len(), size, self.number, self.size).is_some()
-    }
-}
-
-// `size + more`, or None above the limit of an item.
-fn add_size(size: usize, more: usize) -> Option<usize>
-    requires { size ≤ 2 ^ 29 }
-    ensures { result ≡ sized (size + more) }
-{
-    if more <= ITEM_BYTES - size {
-        Some(size + more)
-    } else {
-        None
     }
 }
 

@@ -5,7 +5,7 @@ ghost use Rattle.git_objects.specs.declared.kind.Kind.TheVariants.{Blob, Tree};
 ghost use Rattle.object_store.specs.Objects.{has};
 ghost use Rattle.stage_tree.specs.Stages.{Shows};
 
-use crate::edits::{edit, is_held};
+use crate::edits::edit;
 use crate::words::edit_of;
 use case_lines::{Fault, Word};
 use git_objects::{Kind, Name};
@@ -78,7 +78,7 @@ fn upon(
     root: Name,
     words: &[Word],
 ) -> Result<String, Fault> {
-    if !is_held(store, Kind::Tree, &root) || !is_held(store, Kind::Blob, &blob) {
+    if !store.has(Kind::Tree, &root) || !store.has(Kind::Blob, &blob) {
         return Err(Fault::BadLine);
     }
     let mut lines = String::new(alloc);
@@ -107,7 +107,7 @@ fn answered(alloc: Global, front: &[Word], behind: &[Word]) -> Result<String, Fa
         .put_slice(Kind::Blob, b"x")
         .ok()
         .ok_or(Fault::OutOfMemory)?;
-    if !is_held(&store, Kind::Blob, &blob) {
+    if !store.has(Kind::Blob, &blob) {
         return Err(Fault::BadLine);
     }
     let root = base(alloc, &mut store, blob, front)?;

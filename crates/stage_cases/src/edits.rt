@@ -14,16 +14,6 @@ use stage_tree::{Stage, StageFault};
 use std::marker::Brand;
 use std::sync::ledger::{Blank, Ledger};
 
-/// Whether an object of that kind and name is held.
-pub fn is_held(store: &Store, kind: Kind, name: &Name) -> bool
-    ensures { result ≡ has kind store.now name.now.0 }
-{
-    match store.get(name) {
-        None => false,
-        Some(object) => object.kind == kind,
-    }
-}
-
 fn set(stage: &mut Stage, store: &Store, path: &Path, blob: Name) -> Result<(), StageFault>
     requires blob { has Blob store.now blob.0 ≡ true }
     requires shows { (t : Flat) × Shows store.now stage.old t }

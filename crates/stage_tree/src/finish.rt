@@ -17,11 +17,10 @@ ghost use Rattle.stage_tree.specs.Leaves.{is_held};
 ghost use Rattle.stage_tree.specs.Pools.{hanging};
 ghost use Rattle.stage_tree.specs.Ways.{IsOpen};
 
-use crate::gather::{encode, insert};
 use crate::nodes::{Content, Link, Node, Nodes};
 use git_objects::{EntryView, Name};
 use object_store::Store;
-use path_trees::{TreeFault, taken_in};
+use path_trees::{TreeFault, encode, insert, taken_in};
 use std::alloc::{AllocError, Global};
 
 // Many directories have no more entries than these.

@@ -16,10 +16,9 @@ ghost use Rattle.stage_tree.specs.Frames.{pointed};
 ghost use Rattle.stage_tree.specs.Pools.{CanFree, IsAdded, IsFreed, IsFreeing, IsPool, IsPutBefore, IsSame};
 ghost use Rattle.stage_tree.specs.Pools.{free_after, hanging, place_number, placed};
 
-use crate::listing::listing;
 use git_objects::{EntryView, Mode, Name};
 use object_store::Store;
-use path_trees::Found;
+use path_trees::{Found, listing};
 use std::alloc::{AllocError, Global};
 use std::cmp::Ordering;
 

@@ -22,8 +22,8 @@ use object_store::Store;
 use path_names::RefName;
 use std::alloc::{AllocError, Global};
 
-// `size + more`, or None above the limit of an item.
-fn add_size(size: usize, more: usize) -> Option<usize>
+/// `size + more`, in bytes, or None above the limit of an item.
+pub fn add_size(size: usize, more: usize) -> Option<usize>
     requires { size ≤ 2 ^ 29 }
     ensures { result ≡ sized (size + more) }
 {

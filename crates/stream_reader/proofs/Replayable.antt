@@ -13,7 +13,7 @@ use Rattle.stream_reader.specs.Commands.{gives, CommandLine, EmptyLine, BlobLine
 use Rattle.stream_reader.specs.Heads.{blob, head, head_of, mark_lines, parents, people, ref_line, reset}
 use Rattle.stream_reader.specs.Names.{refname}
 use Rattle.stream_reader.specs.PathWords.{last_path, two_paths}
-use Rattle.stream_reader.specs.Reading.{Judged, Read, Reader, lifted, or_fault}
+use Rattle.stream_reader.specs.Reading.{Judged, Read, Reader, fault, lifted, or_fault}
 use Rattle.stream_reader.specs.Readers.{Reading, TellsNext}
 use Rattle.stream_reader.specs.Replayable.{IfTold, is_fit, is_replayable}
 use Rattle.stream_reader.specs.Words.{first_word}
@@ -23,8 +23,9 @@ use Rattle.stream_reader.specs.declared.command.Change.TheVariants as changes
 use Rattle.stream_reader.specs.declared.command.Command.{Command}
 use Rattle.stream_reader.specs.declared.command.Command.TheVariants as commands
 use Rattle.stream_reader.specs.declared.command.Placed.{Placed}
+use Rattle.stream_reader.specs.declared.fault.Feature.TheVariants as features
 use Rattle.stream_reader.specs.declared.fault.StreamFault.{StreamFault}
-use Rattle.stream_reader.specs.declared.fault.StreamFault.TheVariants.{Syntax}
+use Rattle.stream_reader.specs.declared.fault.StreamFault.TheVariants.{Syntax, Unsupported}
 use Rattle.stream_reader.specs.declared.modify.DataRef.{DataRef}
 use Rattle.stream_reader.specs.declared.modify.DataRef.TheVariants as datas
 use Rattle.stream_reader.specs.declared.modify.ModifyLine.{ModifyLine}
@@ -38,21 +39,26 @@ use Rattle.stream_reader.specs.declared.reader.Next.TheVariants as nexts
 
 -- ---- a fact of what is judged or read
 
-abbrev OnValue : {A E : Type 0} → (A → Type 0) → Result A E → Type 0
+abbrev pub OnValue : {A E : Type 0} → (A → Type 0) → Result A E → Type 0
 OnValue P (Ok x) = P x
 OnValue P (Err e) = Unit {0}
 
-any_value : {A E : Type 0} (r : Result A E) → OnValue (λ _. Unit {0}) r
+pub any_value : {A E : Type 0} (r : Result A E) → OnValue (λ _. Unit {0}) r
 any_value (Ok x) = tt
 any_value (Err e) = tt
 
-value_bind : {A B E : Type 0} (Q : A → Type 0) (P : B → Type 0) (r : Result A E) (f : A → Result B E) → OnValue Q r → ((x : A) → Q x → OnValue P (f x)) → OnValue P (r >>= f)
+pub value_bind : {A B E : Type 0} (Q : A → Type 0) (P : B → Type 0) (r : Result A E) (f : A → Result B E) → OnValue Q r → ((x : A) → Q x → OnValue P (f x)) → OnValue P (r >>= f)
 value_bind Q P (Ok x) f h g = g x h
 value_bind Q P (Err e) f h g = tt
 
+-- a test that comes before
+pub value_if : {A E : Type 0} (P : A → Type 0) (b : Bool) (x y : Result A E) → (b ≡ true → OnValue P x) → (b ≡ false → OnValue P y) → OnValue P (cond b x y)
+value_if P true x y h g = h refl
+value_if P false x y h g = g refl
+
 -- ---- the line of a change
 
-abbrev NotDir : Mode → Type 0
+abbrev pub NotDir : Mode → Type 0
 NotDir File = Unit {0}
 NotDir Exec = Unit {0}
 NotDir Link = Unit {0}
@@ -67,22 +73,14 @@ DataFits m datas.Inline = (b : Bytes) → is_fit m (blobs.Inline b) ≡ true
 abbrev LineFits : ModifyLine → Type 0
 LineFits l = DataFits l.mode l.blob
 
-mode_fits : (at : ℕ) (w : Bytes) → OnValue NotDir (mode at w)
+pub mode_fits : (at : ℕ) (w : Bytes) → OnValue NotDir (mode at w)
 unfolding mode
 mode_fits at w =
-    elim (same_bytes w (codes "100644") || same_bytes w (codes "644")) as (λ b. OnValue NotDir (cond b (Ok File) (cond (same_bytes w (codes "100755") || same_bytes w (codes "755")) (Ok Exec) (cond (same_bytes w (codes "120000")) (Ok Link) (cond (same_bytes w (codes "160000")) (Ok Module) (cond (same_bytes w (codes "040000") || same_bytes w (codes "40000")) (Rattle.stream_reader.specs.Reading.fault (Rattle.stream_reader.specs.declared.fault.StreamFault.TheVariants.Unsupported at Rattle.stream_reader.specs.declared.fault.Feature.TheVariants.DirectoryMode)) (Rattle.stream_reader.specs.Reading.fault (Syntax at)))))))) [
-      | true ↦ tt
-      | false ↦ elim (same_bytes w (codes "100755") || same_bytes w (codes "755")) as (λ b. OnValue NotDir (cond b (Ok Exec) (cond (same_bytes w (codes "120000")) (Ok Link) (cond (same_bytes w (codes "160000")) (Ok Module) (cond (same_bytes w (codes "040000") || same_bytes w (codes "40000")) (Rattle.stream_reader.specs.Reading.fault (Rattle.stream_reader.specs.declared.fault.StreamFault.TheVariants.Unsupported at Rattle.stream_reader.specs.declared.fault.Feature.TheVariants.DirectoryMode)) (Rattle.stream_reader.specs.Reading.fault (Syntax at))))))) [
-        | true ↦ tt
-        | false ↦ elim (same_bytes w (codes "120000")) as (λ b. OnValue NotDir (cond b (Ok Link) (cond (same_bytes w (codes "160000")) (Ok Module) (cond (same_bytes w (codes "040000") || same_bytes w (codes "40000")) (Rattle.stream_reader.specs.Reading.fault (Rattle.stream_reader.specs.declared.fault.StreamFault.TheVariants.Unsupported at Rattle.stream_reader.specs.declared.fault.Feature.TheVariants.DirectoryMode)) (Rattle.stream_reader.specs.Reading.fault (Syntax at)))))) [
-          | true ↦ tt
-          | false ↦ elim (same_bytes w (codes "160000")) as (λ b. OnValue NotDir (cond b (Ok Module) (cond (same_bytes w (codes "040000") || same_bytes w (codes "40000")) (Rattle.stream_reader.specs.Reading.fault (Rattle.stream_reader.specs.declared.fault.StreamFault.TheVariants.Unsupported at Rattle.stream_reader.specs.declared.fault.Feature.TheVariants.DirectoryMode)) (Rattle.stream_reader.specs.Reading.fault (Syntax at))))) [
-            | true ↦ tt
-            | false ↦ elim (same_bytes w (codes "040000") || same_bytes w (codes "40000")) as (λ b. OnValue NotDir (cond b (Rattle.stream_reader.specs.Reading.fault {A = Mode} (Rattle.stream_reader.specs.declared.fault.StreamFault.TheVariants.Unsupported at Rattle.stream_reader.specs.declared.fault.Feature.TheVariants.DirectoryMode)) (Rattle.stream_reader.specs.Reading.fault {A = Mode} (Syntax at)))) [ true ↦ tt | false ↦ tt ]
-          ]
-        ]
-      ]
-    ]
+    value_if NotDir (same_bytes w (codes "100644") || same_bytes w (codes "644")) (Ok File) _ (λ _. tt)
+    (λ _. value_if NotDir (same_bytes w (codes "100755") || same_bytes w (codes "755")) (Ok Exec) _ (λ _. tt)
+    (λ _. value_if NotDir (same_bytes w (codes "120000")) (Ok Link) _ (λ _. tt)
+    (λ _. value_if NotDir (same_bytes w (codes "160000")) (Ok Module) _ (λ _. tt)
+    (λ _. value_if NotDir (same_bytes w (codes "040000") || same_bytes w (codes "40000")) (fault (Unsupported at features.DirectoryMode)) (fault (Syntax at)) (λ _. tt) (λ _. tt)))))
 
 data_fits : (at : ℕ) (m : Mode) (d : DataRef) → NotDir m → OnValue (DataFits m) (fitting at m d)
 data_fits at File (datas.Mark n) h = refl

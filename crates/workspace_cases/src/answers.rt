@@ -7,7 +7,7 @@ ghost use Rattle.object_store.specs.Objects.{has};
 ghost use Rattle.workspace.specs.Laws.{IsUsable};
 ghost use Rattle.workspace.specs.Views.{IsHeldLeaf};
 
-use crate::trees::{is_held, tree};
+use crate::trees::tree;
 use case_lines::{Fault, Texts, Word, printed};
 use filter_routes::{Table, Tables, is_sound};
 use filter_text::{Filter, parse, print};
@@ -83,7 +83,7 @@ fn told(
 ) -> Result<String, Fault>
     requires usable { IsUsable (shape filter.now) }
 {
-    if !is_held(store, Kind::Tree, &root) {
+    if !store.has(Kind::Tree, &root) {
         return Err(Fault::BadLine);
     }
     let place = file_place(alloc, filter)?;

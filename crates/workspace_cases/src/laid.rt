@@ -6,7 +6,7 @@ ghost use Rattle.object_store.specs.Objects.{has};
 use crate::answers::filter_of;
 use crate::listing::listed;
 use crate::shown::number_for;
-use crate::trees::{is_held, tree};
+use crate::trees::tree;
 use case_lines::{Fault, Texts, Word, printed};
 use filter_routes::{Table, Tables};
 use filter_unapply::{LayFault, laid, unseen};
@@ -40,7 +40,7 @@ fn are_held(store: &Store, base: Name, pushed: Name) -> bool
     ensures base { result ≡ true → has Tree store.now base.0 ≡ true }
     ensures pushed { result ≡ true → has Tree store.now pushed.0 ≡ true }
 {
-    is_held(store, Kind::Tree, &base) && is_held(store, Kind::Tree, &pushed)
+    store.has(Kind::Tree, &base) && store.has(Kind::Tree, &pushed)
 }
 
 /// What becomes of the tree of the leaves before the word `pushed` when the tree of those behind it is laid into it
@@ -85,7 +85,7 @@ fn laid_by(
 }
 
 fn held_listing(alloc: Global, store: &Store, name: Name) -> Result<String, Fault> {
-    if !is_held(store, Kind::Tree, &name) {
+    if !store.has(Kind::Tree, &name) {
         return Err(Fault::BadLine);
     }
     listed(alloc, store, name)

@@ -7,7 +7,7 @@ ghost use Rattle.filter_text.specs.Shapes.{shape};
 
 use crate::answers::filter_of;
 use crate::listing::listed;
-use crate::trees::{is_held, tree};
+use crate::trees::tree;
 use case_lines::{Fault, Texts, Word};
 use filter_apply::{ApplyError, shown};
 use filter_cache::Memo;
@@ -38,18 +38,18 @@ pub fn shown_tree<L: Ledger>(
     };
     let filter = filter_of(alloc, &texts.word(filter)?)?;
     let root = tree(alloc, texts, store, leaves)?;
-    if !is_held(store, Kind::Tree, &root) {
+    if !store.has(Kind::Tree, &root) {
         return Err(Fault::BadLine);
     }
     let number = number_for(alloc, store, tables, &filter, root)?;
     let table = tables.get(number).ok_or(Fault::BadLine)?;
     let mut steps = Steps::<L>::new(blank);
     let name = shown_twice(alloc, store, table, number, root, 1, &mut steps)?;
-    if !is_held(store, Kind::Tree, &root) {
+    if !store.has(Kind::Tree, &root) {
         return Err(Fault::BadLine);
     }
     let again = shown_twice(alloc, store, table, number, root, 1000, &mut steps)?;
-    if again != name || !is_held(store, Kind::Tree, &name) {
+    if again != name || !store.has(Kind::Tree, &name) {
         return Err(Fault::BadLine);
     }
     listed(alloc, store, name)
@@ -94,7 +94,7 @@ fn shown_twice<L: Ledger>(
         Ok(name) => name,
         Err(error) => return Err(fault_of(error)),
     };
-    if !is_held(store, Kind::Tree, &root) {
+    if !store.has(Kind::Tree, &root) {
         return Err(Fault::BadLine);
     }
     match shown(alloc, store, table, number, root, &mut memo, steps) {

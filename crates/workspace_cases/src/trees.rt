@@ -1,23 +1,10 @@
 // Trees of leaves that a line names.
-ghost use Rattle.std.specs.Prelude.{◌≡◌};
-ghost use Rattle.object_store.specs.Objects.{has};
-
 use case_lines::{Fault, Texts, Word, path_of};
 use git_objects::{Kind, Mode, Name};
 use object_store::Store;
 use path_names::Path;
 use path_trees::{Found, put_at};
 use std::alloc::Global;
-
-/// Whether an object of that kind has the name.
-pub fn is_held(store: &Store, kind: Kind, name: &Name) -> bool
-    ensures { result ≡ has kind store.now name.now.0 }
-{
-    match store.get(name) {
-        None => false,
-        Some(object) => object.kind == kind,
-    }
-}
 
 fn put(store: &mut Store, kind: Kind, body: &[u8]) -> Result<Name, Fault> {
     store.put_slice(kind, body).ok().ok_or(Fault::BadLine)
@@ -40,7 +27,7 @@ fn with_leaf(
     path: &Path,
     found: Found,
 ) -> Result<Name, Fault> {
-    if !is_held(store, Kind::Tree, &root) || !is_held(store, Kind::Blob, &found.name) {
+    if !store.has(Kind::Tree, &root) || !store.has(Kind::Blob, &found.name) {
         return Err(Fault::BadLine);
     }
     if found.mode.is_dir() {

@@ -1,7 +1,7 @@
 use Rattle.std.proofs.Common.{◌∙◌, ap}
 use Rattle.git_objects.specs.CommitBodies.{commit_from}
 use Rattle.git_objects.specs.Parts.{commit_of}
-use Rattle.fast_import.proofs.Putting.{commit_fits}
+use Rattle.object_store.proofs.PutObjects.{commit_fits}
 use Rattle.fast_import.proofs.puts.put_commit.Goals as goal
 
 pub put_object-requires : goal.put_object-requires

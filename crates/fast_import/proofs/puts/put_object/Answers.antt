@@ -1,6 +1,6 @@
 use Rattle.std.proofs.Common.{◌∙◌, ap}
 use Rattle.object_store.specs.Objects.{find_named}
-use Rattle.fast_import.proofs.Putting.{put_is}
+use Rattle.object_store.proofs.PutObjects.{put_is}
 use Rattle.fast_import.proofs.puts.put_object.Goals as goal
 
 pub returns-in-Ok-clause-ok : goal.returns-in-Ok-clause-ok

@@ -7,7 +7,8 @@ use Rattle.path_trees.specs.Standing.{node}
 use Rattle.filter_unapply.specs.Hands.{IsMadeOf}
 use Rattle.filter_unapply.specs.Moved.{IsHeldAt, moved}
 use Rattle.filter_unapply.proofs.Fittings.{leaves-of}
-use Rattle.filter_unapply.proofs.MadeTrees.{err-by, grown-by}
+use Rattle.path_trees.proofs.MadeObjects.{grown-by}
+use Rattle.filter_unapply.proofs.MadeTrees.{err-by}
 use Rattle.filter_unapply.proofs.Moves.{full-name, names-differ, put-leaves, put-made}
 use Rattle.filter_unapply.proofs.moving.moved.Goals as goal
 

@@ -3,7 +3,7 @@ use Rattle.object_store.specs.Unfolding.{flat}
 use Rattle.path_trees.specs.Clashes.{IsShared}
 use Rattle.path_trees.specs.Made.{IsTreeFault}
 use Rattle.filter_unapply.specs.Hands.{IsIn, IsMadeOf}
-use Rattle.filter_unapply.proofs.MadeTrees.{clash-by, grown-by}
+use Rattle.path_trees.proofs.MadeObjects.{clash-by, grown-by}
 use Rattle.filter_unapply.proofs.PartLists.{none-clash, pair-leaves, shared-made}
 use Rattle.filter_unapply.proofs.Told.{is_tree}
 use Rattle.filter_unapply.proofs.parts.pair.Goals as goal

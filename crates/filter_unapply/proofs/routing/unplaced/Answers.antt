@@ -12,7 +12,8 @@ use Rattle.filter_unapply.specs.Hands.{IsIn, IsMadeOf}
 use Rattle.filter_unapply.specs.Routed.{unplaced}
 use Rattle.filter_unapply.specs.Sifted.{IsWithin}
 use Rattle.filter_unapply.proofs.Cellwise.{cells-front, unplaced-in, unplaced-more, unplaced-none}
-use Rattle.filter_unapply.proofs.MadeTrees.{err-again, err-by, grown-by, same-known}
+use Rattle.path_trees.proofs.MadeObjects.{grown-by}
+use Rattle.filter_unapply.proofs.MadeTrees.{err-again, err-by, same-known}
 use Rattle.filter_unapply.proofs.Stages.{directories-made}
 use Rattle.filter_unapply.proofs.routing.unplaced.Goals as goal
 

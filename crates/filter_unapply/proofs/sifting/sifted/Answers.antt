@@ -3,7 +3,8 @@ use Rattle.stage_tree.specs.Finished.{HasDirectory}
 use Rattle.filter_unapply.specs.Hands.{IsIn, IsMadeOf}
 use Rattle.filter_unapply.specs.Sifted.{sifted}
 use Rattle.filter_unapply.proofs.Fittings.{sifted-within}
-use Rattle.filter_unapply.proofs.MadeTrees.{err-by, grown-by}
+use Rattle.path_trees.proofs.MadeObjects.{grown-by}
+use Rattle.filter_unapply.proofs.MadeTrees.{err-by}
 use Rattle.filter_unapply.proofs.Stages.{directories-made}
 use Rattle.filter_unapply.proofs.sifting.sifted.Goals as goal
 

@@ -8,7 +8,8 @@ use Rattle.stage_tree.specs.Finished.{HasDirectory}
 use Rattle.stage_tree.specs.Stages.{Shows}
 use Rattle.filter_unapply.specs.Hands.{IsIn, IsMadeOf}
 use Rattle.filter_unapply.specs.Sifted.{sifted}
-use Rattle.filter_unapply.proofs.MadeTrees.{err-again, err-by, grown-by, known-as}
+use Rattle.path_trees.proofs.MadeObjects.{grown-by}
+use Rattle.filter_unapply.proofs.MadeTrees.{err-again, err-by, known-as}
 use Rattle.filter_unapply.proofs.Moves.{no-component}
 use Rattle.filter_unapply.proofs.Stages.{directories-made, shown-all, shown-one}
 use Rattle.filter_unapply.proofs.sifting.without.Goals as goal

@@ -5,7 +5,7 @@ use Rattle.git_objects.specs.Paths.{Bytes}
 use Rattle.stage_tree.specs.declared.nodes.Node.{Node}
 use Rattle.stage_tree.specs.Forests.{bytes_cmp, node_component}
 use Rattle.stage_tree.proofs.Opening.{read_node}
-use Rattle.stage_tree.proofs.Order.{is_less}
+use Rattle.path_trees.proofs.Gathering.{is_less}
 use Rattle.stage_tree.proofs.FromLast.{child_node, child_there, child_within, child_component, behind_link, behind_walk, place_behind}
 use Rattle.stage_tree.proofs.nodes.Nodes.spot_behind.Goals as goal
 

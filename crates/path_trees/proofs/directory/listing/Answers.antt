@@ -1,7 +1,7 @@
 use Rattle.std.proofs.Common.{sym}
 use Rattle.object_store.specs.Errors.{object_value}
 use Rattle.path_trees.proofs.Trees.{found_listed}
-use Rattle.stage_tree.proofs.listing.listing.Goals as goal
+use Rattle.path_trees.proofs.directory.listing.Goals as goal
 
 pub entries_in-requires : goal.entries_in-requires
 entries_in-requires c = found_listed c.args.store.now c.args.name.now.0 (object_value c.in-Some.object) c.in-Some.ensures.store (sym c.in-Some.ensures.object)

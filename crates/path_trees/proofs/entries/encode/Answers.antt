@@ -3,7 +3,7 @@ use Rattle.git_objects.specs.declared.tree_view.EntryView.{EntryView}
 use Rattle.git_objects.specs.Views.{entry_value}
 use Rattle.git_objects.specs.Entries.{body_text, entry_line}
 use Rattle.std.proofs.lemmas.Result.{err_from_is_err_and}
-use Rattle.stage_tree.proofs.gather.encode.Goals as goal
+use Rattle.path_trees.proofs.entries.encode.Goals as goal
 
 pub returns-in_err-body : goal.returns-in_err-body
 returns-in_err-body c = let p = err_from_is_err_and c.from_residual.result c.from_residual.ensures.1 in rw (p.1) tt
