@@ -42,6 +42,13 @@ enum ItemKind {
     NewRule,
 }
 
+// The kind of an item, and the place behind it.
+#[derive(Clone, Copy)]
+struct Start {
+    kind: ItemKind,
+    at: usize,
+}
+
 /// What was read of items: all that they hold.
 #[derive(Drop)]
 pub struct Loaded {
@@ -122,16 +129,18 @@ fn item_kind_field(cursor: &mut Cursor<'_>) -> Result<ItemKind, ItemFault>
     }
 }
 
-// The kind of an item, and the place behind it.
-fn kind_of_item(item: &[u8]) -> Result<(ItemKind, usize), ItemFault>
+fn start_of_item(item: &[u8]) -> Result<Start, ItemFault>
     ensures kind { MatchResult result
-        (λ k. item_kind_field (start item.now) ≡ Ok (kind_value k.0, spot_at k.1 item.now))
+        (λ s. item_kind_field (start item.now) ≡ Ok (kind_value s.kind, spot_at s.at item.now))
         (λ stop. IsStop stop (item_kind_field (start item.now))) }
-    ensures within { IfOk result (λ k. k.1 ≤ length item.now) }
+    ensures within { IfOk result (λ s. s.at ≤ length item.now) }
 {
     let mut cursor = Cursor::new(item, 0);
     let kind = item_kind_field(&mut cursor)?;
-    Ok((kind, cursor.at()))
+    Ok(Start {
+        kind,
+        at: cursor.at(),
+    })
 }
 
 // A number of four bytes at a place of an item, and the place behind it.
@@ -238,30 +247,30 @@ fn read_rule(item: &[u8], at: usize) -> Result<Rule, ItemFault>
     Ok(rule)
 }
 
-// Reads an item of that kind from a place on.
+// Reads an item behind its start.
 fn read_part(
     alloc: Global,
-    kind: ItemKind,
-    at: usize,
+    from: Start,
     objects: &mut Objects,
     refs: &mut Refs,
     kept: &mut KeptMaps,
     rule: &mut Rule,
 ) -> Result<(), ItemFault>
-    requires within { at ≤ length objects.old.incoming.piece }
+    requires within { from.at ≤ length objects.old.incoming.piece }
     requires held { HoldsObjects objects.old }
     requires heads { are_heads objects.old.incoming.objects (with_refs [] refs.old) ≡ true }
     requires distinct { AreDistinct refs.old }
     ensures part { let p = parts_of objects.old.incoming.objects refs.old kept.old (rule_number rule.old) in
         MatchResult result
-        (λ _. part_step p (kind_value kind) (spot_at at objects.old.incoming.piece)
+        (λ _. part_step p (kind_value from.kind) (spot_at from.at objects.old.incoming.piece)
         ≡ Ok (parts_of objects.new.incoming.objects refs.new kept.new (rule_number rule.new)))
-        (λ stop. IsStop stop (part_step p (kind_value kind) (spot_at at objects.old.incoming.piece))) }
+        (λ stop. IsStop stop (part_step p (kind_value from.kind) (spot_at from.at objects.old.incoming.piece))) }
     ensures held { OnOk result (HoldsObjects objects.new) }
     ensures heads { OnOk result (are_heads objects.new.incoming.objects (with_refs [] refs.new) ≡ true) }
     ensures distinct { OnOk result (AreDistinct refs.new) }
 {
-    match kind {
+    let at = from.at;
+    match from.kind {
         ItemKind::Change => read_change(alloc, objects, refs, at),
         ItemKind::OldKept => read_kept_at(alloc, &objects.incoming, at, Rule::One, kept),
         ItemKind::Kept => read_kept_by_rule(alloc, &objects.incoming, at, kept),
@@ -293,8 +302,8 @@ fn read_parts(
     ensures heads { OnOk result (are_heads objects.new.incoming.objects (with_refs [] refs.new) ≡ true) }
     ensures distinct { OnOk result (AreDistinct refs.new) }
 {
-    let (kind, at) = kind_of_item(objects.incoming.piece())?;
-    read_part(alloc, kind, at, objects, refs, kept, rule)
+    let from = start_of_item(objects.incoming.piece())?;
+    read_part(alloc, from, objects, refs, kept, rule)
 }
 
 impl Reading {
