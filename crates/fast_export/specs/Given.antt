@@ -1,5 +1,5 @@
 -- The marks that the code has given, by the names of blobs and commits.
-use Rattle.std.specs.Prelude.{◌≡◌, ℕ, ◌+◌, Bool, true, false, if◌then◌else◌, ◌==◌, decimal, List, [], ◌∷◌, ◌++◌, length, map, codes, Some}
+use Rattle.std.specs.Prelude.{◌≡◌, ℕ, ◌+◌, Bool, true, if◌then◌else◌, ◌==◌, decimal, List, [], ◌∷◌, ◌++◌, length, map, codes, Some}
 use Rattle.std.specs.Map.{lookup}
 use Rattle.std.specs.Option.{unwrap_or}
 use Rattle.git_objects.specs.Lists.{Each}

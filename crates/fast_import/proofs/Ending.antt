@@ -1,5 +1,5 @@
 -- A commit with its tree put into a store.
-use Rattle.std.proofs.Common.{◌≡◌, inl, inr, zero, suc, true, false, cond, List, [], ◌∷◌, map, Option, Some, None, Contains, refl, sym, ap, subst, ◌∙◌, arith}
+use Rattle.std.proofs.Common.{◌≡◌, inl, inr, true, List, map, Some, refl, sym, ap, subst, ◌∙◌}
 use Rattle.git_objects.specs.Commits.{commit_body, commit_name}
 use Rattle.git_objects.specs.Names.{name, tree_name}
 use Rattle.git_objects.specs.Parts.{name_bytes}
@@ -10,7 +10,6 @@ use Rattle.git_objects.specs.declared.kind.Kind.TheVariants.{Tree, Commit as Com
 use Rattle.git_objects.specs.declared.name.Name.{Name}
 use Rattle.object_store.specs.Growth.{IsGrownBy, IsOnly}
 use Rattle.object_store.specs.Objects.{Object, IsStore, find_named, has}
-use Rattle.object_store.specs.Puts.{Collides, collision, same_object}
 use Rattle.object_store.specs.StoredSnapshots.{snapshot_object}
 use Rattle.object_store.specs.Unfolding.{StandsFor}
 use Rattle.object_store.proofs.Growth.{grown_as, grown_then, stands-grown}

@@ -22,7 +22,7 @@ use Rattle.stage_tree.specs.Stages.{Shows, Staged}
 use Rattle.stage_tree.proofs.Shown.{grown_store}
 use Rattle.fast_import.specs.Bases.{IsBaseIn, base_in}
 use Rattle.fast_import.specs.Made.{blob_object}
-use Rattle.fast_import.specs.Replays.{Base, Draft, Marked, BlobMark, CommitMark, Replay}
+use Rattle.fast_import.specs.Replays.{Draft, Marked, BlobMark, CommitMark, Replay}
 use Rattle.fast_import.specs.Replaying.{Replaying}
 use Rattle.fast_import.specs.Standing.{AreBlobsIn, AreCommitsIn, IsDraftIn, IsDraftOf, IsMarkIn, IsReplayOf}
 use Rattle.fast_import.specs.declared.draft.Draft.{Draft as DraftNames}

@@ -1,5 +1,5 @@
 -- A fault of putting, of one hand and of a wider one.
-use Rattle.std.proofs.Common.{◌⊎◌, inl, inr, List}
+use Rattle.std.proofs.Common.{inl, inr, List}
 use Rattle.object_store.specs.Objects.{Object}
 use Rattle.object_store.proofs.Growth.{clash_as}
 use Rattle.fast_import.specs.Made.{IsPutFault}

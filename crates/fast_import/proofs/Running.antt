@@ -22,7 +22,7 @@ use Rattle.stream_reader.proofs.Following.{later_told}
 use Rattle.fast_import.specs.Replays.{Base, Ran, Replay, also_tried, gone_on, nothing_yet, ran_by, step}
 use Rattle.fast_import.specs.Replaying.{Replaying}
 use Rattle.fast_import.specs.Standing.{IsReplayOf, IsStepped}
-use Rattle.stream_reader.specs.Verdicts.{Verdict, start, stopped, verdict, weight, with_command}
+use Rattle.stream_reader.specs.Verdicts.{Verdict, start, verdict, with_command}
 use Rattle.fast_import.specs.Waited.{waited, waited_from, waited_on, waited_told}
 use Rattle.fast_import.specs.Whole.{IsFed}
 use Rattle.fast_import.proofs.Growing.{base-grown, is_base-grown}

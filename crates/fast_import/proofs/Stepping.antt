@@ -22,7 +22,7 @@ use Rattle.object_store.specs.Growth.{IsGrownBy, IsOnly}
 use Rattle.object_store.specs.Objects.{Object, IsStore, has}
 use Rattle.object_store.proofs.Growth.{grown_self}
 use Rattle.fast_import.specs.Made.{IsMadeAt, IsPutFault}
-use Rattle.fast_import.specs.Replays.{Base, Marked, BlobMark, CommitMark, Replay, command_step, said, step, with_branch, with_mark}
+use Rattle.fast_import.specs.Replays.{Base, Marked, BlobMark, Replay, command_step, said, step, with_branch, with_mark}
 use Rattle.fast_import.specs.Replaying.{Replaying, with_head, without_ref}
 use Rattle.fast_import.specs.Standing.{AreBlobsIn, AreCommitsIn, IsBlobIn, IsCommitIn, IsGivenMark, IsMarkIn, IsReplayOf, IsStepped, IsTried}
 use Rattle.stream_reader.specs.declared.command.Command.TheVariants as commands

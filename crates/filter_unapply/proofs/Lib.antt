@@ -21,6 +21,7 @@ mod PathOrders
 mod BlockSteps
 mod HandTrees
 mod Lays
+mod Layings
 mod Nears
 pub mod LayingLemmas
 mod Hidings

@@ -1,16 +1,14 @@
 -- Trees that calls make, as objects of a hand.
-use Rattle.std.proofs.Common.{◌≡◌, zero, suc, arith, true, false, cond, List, [], ◌∷◌, ◌++◌, Option, Some, None, Contains, Result, Ok, Err, refl, sym, ap, subst, ◌∙◌}
+use Rattle.std.proofs.Common.{◌≡◌, true, List, Some, Result, Ok, Err, sym, ap, subst, ◌∙◌}
 use Rattle.std.specs.Prelude.{IfErr}
 use Rattle.std.specs.Result.{IsErrAnd}
 use Rattle.git_objects.specs.Paths.{Bytes, Path, is_path}
 use Rattle.git_objects.proofs.Pointwise.{all_at, from-T}
 use Rattle.filter_unapply.specs.Laying.{Laid}
 use Rattle.git_objects.specs.Trees.{Leaf, Flat, IsTree, at, under}
-use Rattle.git_objects.specs.Names.{name, body}
+use Rattle.git_objects.specs.Names.{body}
 use Rattle.git_objects.specs.declared.kind.Kind.TheVariants.{Tree}
-use Rattle.object_store.specs.Objects.{Object, IsStore, find_named}
-use Rattle.object_store.specs.Puts.{Collides, collision, same_object}
-use Rattle.object_store.specs.Growth.{IsGrownBy, IsClash}
+use Rattle.object_store.specs.Objects.{Object}
 use Rattle.object_store.proofs.Growth.{clash_as}
 use Rattle.path_trees.specs.Made.{IsOnWay, IsTreeFault}
 use Rattle.path_trees.proofs.MadeObjects.{clash-by}

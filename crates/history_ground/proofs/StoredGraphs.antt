@@ -12,7 +12,7 @@ use Rattle.git_objects.specs.Commits.{Commit}
 use Rattle.git_objects.specs.CommitBodies.{IsCommitBody}
 use Rattle.git_objects.specs.Snapshots.{Snapshot, Graph, snapshot_name, has_name, has, is_graph}
 use Rattle.git_objects.specs.declared.kind.Kind.TheVariants.{Tree, Commit as CommitKind}
-use Rattle.object_store.specs.Objects.{Object, IsStore, body_of}
+use Rattle.object_store.specs.Objects.{Object, body_of}
 use Rattle.object_store.specs.Objects as objects
 use Rattle.object_store.specs.Unfolding.{flat}
 use Rattle.object_store.specs.StoredSnapshots.{commit_named, snapshot_of}

@@ -26,7 +26,7 @@ use Rattle.filter_apply.specs.declared.fault.ApplyError.{ApplyError}
 use Rattle.filter_apply.specs.declared.fault.ApplyError.TheVariants.{Collision, OutOfMemory}
 use Rattle.object_store.proofs.Growth.{clash_as}
 use Rattle.workspace.specs.Workspaces.{resolve, shown}
-use Rattle.history_ground.specs.Projections.{Choice, New, choice_of, chosen, leads, members, own, shown_of}
+use Rattle.history_ground.specs.Projections.{Choice, New, choice_of, chosen, leads, members, own}
 use Rattle.history_ground.specs.StoredGraphs.{name_at, graph_of, snapshot_named}
 use Rattle.history_ground.specs.Made.{own_commit_of}
 use Rattle.history_ground.specs.Choosing.{parents_at, names_at, commits_before, Agree, AreKept, IsBelow, IsChoice, leads_at}

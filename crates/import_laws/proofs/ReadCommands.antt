@@ -1,5 +1,5 @@
 -- What a reader gives is sound and within the limits.
-use Rattle.std.proofs.Common.{◌≡◌, ℕ, zero, suc, ◌+◌, Bool, true, false, cond, ◌||◌, List, [], ◌∷◌, ◌++◌, All, length, take, drop, Option, Some, None, Result, Ok, Err, refl, ap, subst, ◌∙◌}
+use Rattle.std.proofs.Common.{◌≡◌, ℕ, zero, suc, ◌+◌, Bool, true, false, cond, List, [], ◌∷◌, ◌++◌, All, length, take, drop, Option, Some, None, Result, Ok, Err, refl, ap, subst, ◌∙◌}
 use borrow.Author.Tests.{leb-true}
 use Rattle.std.specs.Prelude.{codes, leb, nat_eq, nat_le, nat_lt, ◌==◌}
 use Rattle.std.specs.Cmp.{first_so, second_so}

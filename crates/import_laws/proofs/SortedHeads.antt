@@ -2,7 +2,7 @@
 use Rattle.std.proofs.Common.{◌≡◌, ℕ, T, List, [], ◌∷◌, ◌++◌, Option, Some, None, Ok, Err, refl, subst}
 use Rattle.std.specs.Cmp.Lexicographic.{nat_list_cmp_total}
 use Rattle.std.specs.FinMap.{is_sorted}
-use Rattle.std.specs.FinMap.Entries.{below_all, is_sorted-put}
+use Rattle.std.specs.FinMap.Entries.{is_sorted-put}
 use Rattle.std.specs.Option.{option_to_list}
 use Rattle.git_objects.specs.Paths.{Bytes}
 use Rattle.git_objects.specs.Refs.{bytes_cmp}

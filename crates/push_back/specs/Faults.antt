@@ -7,9 +7,8 @@ use Rattle.object_store.specs.Objects.{Object}
 use Rattle.filter_apply.specs.declared.fault.ApplyError.{ApplyError}
 use Rattle.filter_apply.specs.declared.fault.ApplyError.TheVariants as apply
 use Rattle.fast_import.specs.Made.{IsPutFault}
-use Rattle.push_laws.specs.PushReplays.{StreamRefusal, Faulty}
+use Rattle.push_laws.specs.PushReplays.{Faulty}
 use Rattle.push_laws.specs.PushReplays as replays
-use Rattle.push_laws.specs.PushVerdicts.{Refusal}
 use Rattle.push_laws.specs.PushVerdicts as verdicts
 use Rattle.push_laws.specs.Pushes.{PushRefusal, StreamRefused, CommitRefused}
 use Rattle.push_back.specs.declared.error.PushError.{PushError}

@@ -1,7 +1,7 @@
 -- What a push brings over a ground.
 use Rattle.std.specs.Prelude.{◌≡◌, ◌⊎◌, List, map, None, Result, IfErr, IfOk}
 use Rattle.git_objects.specs.Paths.{Bytes}
-use Rattle.git_objects.specs.Snapshots.{Snapshot, snapshot_name, tree_at}
+use Rattle.git_objects.specs.Snapshots.{snapshot_name, tree_at}
 use Rattle.object_store.specs.Objects.{Object}
 use Rattle.filter_text.specs.Filters.{Filter}
 use Rattle.workspace.specs.Workspaces.{shown}

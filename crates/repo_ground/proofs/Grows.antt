@@ -6,10 +6,8 @@ use Rattle.std.proofs.lemmas.List.{reverse-append, map-append, append_assoc}
 use Rattle.git_objects.specs.Paths.{Bytes, same_bytes}
 use Rattle.git_objects.specs.Parts.{name_bytes}
 use Rattle.git_objects.specs.declared.name.Name.{Name}
-use Rattle.git_objects.specs.Lists.{Each}
 use Rattle.object_store.specs.Objects.{Object, object_name, find_named, has_name, IsStore}
 use Rattle.indexmap.specs.IndexSet.{insert_key}
-use Rattle.state_items.specs.Changes.{fresh}
 use Rattle.state_items.specs.Arrivals.{AreNamed}
 use Rattle.state_items.specs.Growing.{with_one, grown}
 use Rattle.state_items.proofs.Growing.{AreKnown, grown-append}

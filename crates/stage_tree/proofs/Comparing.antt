@@ -1,6 +1,6 @@
 -- Two paths compared component by component.
 use Rattle.std.proofs.Common.{◌≡◌, ℕ, ◌+◌, ◌<◌, ◌≤◌, Bool, true, false, ◌||◌, ◌&&◌, [], ◌∷◌, length, min, drop, get_or, refl, sym, ap, ◌∙◌, arith, not, true≢false}
-use Rattle.std.proofs.lemmas.List.{drop_all, drop_more}
+use Rattle.std.proofs.lemmas.List.{drop_more}
 use Rattle.git_objects.specs.Paths.{Bytes, Path, comparable, is_prefix, same_bytes}
 use Rattle.git_objects.proofs.Basics.{same_bytes-back}
 

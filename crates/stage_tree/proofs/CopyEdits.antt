@@ -1,5 +1,5 @@
 -- A copy and the files that are left.
-use Rattle.std.proofs.Common.{◌≡◌, ℕ, suc, ◌+◌, ◌<◌, ◌≤◌, ◌⊎◌, inl, inr, Bool, true, false, cond, not, List, [], ◌∷◌, ◌++◌, length, get_or, Result, IsOkAnd, Ok, Err, Option, Some, None, refl, sym, ap, subst, ◌∙◌, arith, append_assoc}
+use Rattle.std.proofs.Common.{◌≡◌, ℕ, suc, ◌+◌, ◌<◌, ◌≤◌, ◌⊎◌, inl, inr, true, false, not, List, [], ◌∷◌, ◌++◌, length, get_or, Result, IsOkAnd, Ok, Err, Option, Some, refl, sym, ap, subst, ◌∙◌, arith, append_assoc}
 use Rattle.std.specs.Prelude.{nat_le, slice_get, if◌then◌else◌}
 use Rattle.std.specs.List.{list_all}
 use Rattle.std.specs.Cmp.{second_so}
@@ -20,7 +20,7 @@ use Rattle.stage_tree.specs.declared.nodes.Content.{Content}
 use Rattle.stage_tree.specs.declared.nodes.Content.TheVariants.{Held, Open}
 use Rattle.stage_tree.specs.declared.nodes.Link.{Link}
 use Rattle.stage_tree.specs.declared.nodes.Link.TheVariants.{First}
-use Rattle.stage_tree.specs.Forests.{Forest, Nil, Bin, Sound}
+use Rattle.stage_tree.specs.Forests.{Forest, Bin, Sound}
 use Rattle.stage_tree.specs.Frames.{plug, path_of}
 use Rattle.stage_tree.specs.Pools.{hanging}
 use Rattle.stage_tree.specs.Leaves.{leaf_in, is_held}

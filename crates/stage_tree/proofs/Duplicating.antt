@@ -16,7 +16,7 @@ use Rattle.stage_tree.specs.declared.nodes.Link.{Link}
 use Rattle.stage_tree.specs.Copies.{CanCopy, IsAlike, IsCopied, IsDuplicated}
 use Rattle.std.specs.declared.cmp.Ordering.TheVariants.{Less}
 use Rattle.stage_tree.proofs.Branching.{kept_on}
-use Rattle.stage_tree.specs.Forests.{Forest, Nil, Bin, Beyond, IsFilled, bytes_cmp, one, count, IsCell, Reads, forest, is_link, Sound}
+use Rattle.stage_tree.specs.Forests.{Forest, Nil, Bin, Beyond, IsFilled, bytes_cmp, one, count, Reads, forest, Sound}
 use Rattle.stage_tree.specs.Frames.{Frame, count_up}
 use Rattle.stage_tree.specs.Pools.{CanFree, IsFreed, IsKept, IsPool, inside, spare}
 use Rattle.stage_tree.specs.Directories.{IsDirectory}

@@ -32,7 +32,7 @@ use Rattle.stage_tree.proofs.OnWay.{here_now, one_longer}
 use Rattle.stage_tree.specs.Renames.{IsCleared, IsPaid, IsWayPaid, StaysClear, above, above_both, beginnings, beside, breadth, clear_below, cost_at, entries_of, is_above, is_clear}
 use Rattle.stage_tree.proofs.Order.{less_apart}
 use Rattle.stage_tree.proofs.Expanding.{children_hang}
-use Rattle.stage_tree.proofs.OnWay.{IsNamed, content_is, named_of}
+use Rattle.stage_tree.proofs.OnWay.{IsNamed}
 use Rattle.stage_tree.proofs.PutFits.{place_leaf, read_content, v}
 use Rattle.stage_tree.proofs.SomeLeaf.{some_leaf}
 use Rattle.stage_tree.proofs.Walking.{clear_at}

@@ -1,6 +1,6 @@
 use Rattle.std.proofs.Common.{◌≡◌, length, arith, List, [], ◌∷◌, ◌++◌, Some, None, refl, sym, ap, ◌∙◌}
 use Rattle.std.specs.Cmp.{first_so, second_so}
-use Rattle.git_objects.specs.Paths.{Bytes, Path}
+use Rattle.git_objects.specs.Paths.{Bytes}
 use Rattle.git_objects.specs.Entries.{is_dir}
 use Rattle.git_objects.specs.Views.{entry_value}
 use Rattle.path_trees.specs.Listed.{found_at}
