@@ -15,9 +15,8 @@ ghost use Rattle.proj_cli.specs.Forms.{IsBeforeDevices, IsExport, IsForm, IsForm
 ghost use Rattle.proj_cli.specs.Stopped.{ForInput};
 
 use crate::exporting::export;
-use crate::filters::sound_filter;
 use crate::importing::import;
-use crate::loading::{load, open, ref_name};
+use crate::loading::{load, open, read_subject};
 use crate::naming::name;
 use crate::projecting::project;
 use crate::pushing::push;
@@ -155,13 +154,9 @@ pub(crate) fn name_form<S: Source>(
     ensures told { S.tells input.new ↔ S.tells input.old }
     ensures read { Counts (S.faults input.old) (S.faults input.new) (result ≡ Err Outcome.ReadFault) }
 {
-    let filter = match sound_filter(alloc, filter) {
-        Err(outcome) => return Err(outcome),
-        Ok(filter) => filter,
-    };
-    match ref_name(alloc, refname) {
+    match read_subject(alloc, refname, filter) {
         Err(outcome) => Err(outcome),
-        Ok(refname) => name(alloc, &filter, &refname, input),
+        Ok(subject) => name(alloc, &subject.filter, &subject.refname, input),
     }
 }
 

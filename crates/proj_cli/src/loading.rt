@@ -1,12 +1,15 @@
 // Loading what a command works with.
 ghost use Rattle.std.specs.Prelude.{◌≡◌, ◌⊎◌, ◌↔◌, List, Err, Ok, Some, IfErr, IfOk, true};
+ghost use Rattle.filter_text.specs.Shapes.{shape};
 ghost use Rattle.git_objects.specs.Paths.{Bytes};
 ghost use Rattle.path_names.specs.RefNames.{is_ref_name};
 ghost use Rattle.proj_io.specs.Counts.{Counts};
 ghost use Rattle.proj_io.specs.Items.{Stays};
 ghost use Rattle.proj_io.specs.Stops.{OnlyAdds, Nothing};
 ghost use Rattle.repo_ground.specs.Loads.{IsLoaded};
+ghost use Rattle.workspace.specs.Laws.{IsUsable};
 ghost use Rattle.proj_cli.specs.Cases.{loaded};
+ghost use Rattle.proj_cli.specs.Filters.{sound};
 ghost use Rattle.proj_cli.specs.Forms.{IsBeforeDevices, IsEarly, IsOpened, load_outcome, opening};
 
 use crate::filters::sound_filter;
@@ -16,6 +19,13 @@ use proj_io::Keeper;
 use proj_words::Outcome;
 use repo_ground::{LoadError, State};
 use std::alloc::Global;
+
+/// What a command is about: a sound filter, and a ref name.
+#[derive(Drop)]
+pub(crate) struct Subject {
+    pub(crate) filter: Filter,
+    pub(crate) refname: RefName,
+}
 
 /// A sound filter, a ref name, and what the items of a store hold.
 #[derive(Drop)]
@@ -70,6 +80,19 @@ pub(crate) fn ref_name(alloc: Global, text: &[u8]) -> Result<RefName, Outcome>
     }
 }
 
+/// The subject that two texts spell, or why the filter's text is of none.
+pub(crate) fn read_subject(alloc: Global, refname: &[u8], filter: &[u8]) -> Result<Subject, Outcome>
+    requires { is_ref_name refname.now ≡ true }
+    ensures refname { IfOk result (λ s. s.refname ≡ refname.now) }
+    ensures sound { IfOk result (λ s. sound filter.now ≡ Ok (shape s.filter)) }
+    ensures usable { IfOk result (λ s. IsUsable (shape s.filter)) }
+    ensures err { IfErr result (λ e. (e ≡ Outcome.OutOfMemory) ⊎ (sound filter.now ≡ Err e)) }
+{
+    let filter = sound_filter(alloc, filter)?;
+    let refname = ref_name(alloc, refname)?;
+    Ok(Subject { filter, refname })
+}
+
 /// Judges a filter, and then loads what the items of a store hold.
 pub(crate) fn open<K: Keeper>(
     alloc: Global,
@@ -91,19 +114,15 @@ pub(crate) fn open<K: Keeper>(
         Nothing }
     ensures cause { Counts (K.faults store.old) (K.faults store.new) (result ≡ Err Outcome.StoreFault) }
 {
-    let filter = match sound_filter(alloc, filter) {
+    let subject = match read_subject(alloc, refname, filter) {
         Err(outcome) => return Err(outcome),
-        Ok(filter) => filter,
-    };
-    let refname = match ref_name(alloc, refname) {
-        Err(outcome) => return Err(outcome),
-        Ok(refname) => refname,
+        Ok(subject) => subject,
     };
     match load(alloc, store) {
         Err(outcome) => Err(outcome),
         Ok(state) => Ok(Opened {
-            filter,
-            refname,
+            filter: subject.filter,
+            refname: subject.refname,
             state,
         }),
     }

@@ -18,7 +18,7 @@ ghost use Rattle.proj_cli.specs.Trying.{IsFrom, IsLeft, IsLine, IsToldOf, IsTrie
 
 use crate::filters::sound_filter;
 use crate::importing::import;
-use crate::loading::ref_name;
+use crate::loading::{read_subject, ref_name};
 use crate::pushing::push;
 use crate::refusals::apply_outcome;
 use filter_text::{Filter, print};
@@ -77,12 +77,18 @@ fn try_push(
         IsLeft (hands ++ push_hands p seconds items) (push_left p seconds items) state.new result }
     ensures number { OnOk result (state.new.number ≡ store.new) }
 {
-    let filter = sound_filter(alloc, pushed.filter)?;
-    let refname = ref_name(alloc, MAIN)?;
-    let from = head_projection(alloc, state, &filter, &refname)?;
+    let subject = read_subject(alloc, MAIN, pushed.filter)?;
+    let from = head_projection(alloc, state, &subject.filter, &subject.refname)?;
     let stream = push_stream(alloc, seconds, pushed, from)?;
     let mut input = SliceSource::new(&stream);
-    push(alloc, state, &mut input, store, &filter, &refname)?;
+    push(
+        alloc,
+        state,
+        &mut input,
+        store,
+        &subject.filter,
+        &subject.refname,
+    )?;
     Ok(())
 }
 

@@ -16,10 +16,9 @@ ghost use Rattle.proj_cli.specs.Makes.{IsMadeOf, IsState, IsStateOf};
 ghost use Rattle.proj_cli.specs.Running.{IsCommandMade};
 
 use crate::exporting::export;
-use crate::filters::sound_filter;
 use crate::forms::name_form;
 use crate::importing::import;
-use crate::loading::ref_name;
+use crate::loading::read_subject;
 use crate::projecting::project;
 use crate::pushing::push;
 use crate::rule::set_rule;
@@ -55,10 +54,9 @@ fn project_upon<K: Keeper>(
     ensures told { K.tells store.new ↔ K.tells store.old }
     ensures cause { Counts (K.faults store.old) (K.faults store.new) (result ≡ Err Outcome.StoreFault) }
 {
-    let filter = sound_filter(alloc, filter)?;
-    let refname = ref_name(alloc, refname)?;
+    let subject = read_subject(alloc, refname, filter)?;
     state.put_away()?;
-    project(alloc, state, store, &filter, &refname)
+    project(alloc, state, store, &subject.filter, &subject.refname)
 }
 
 // `push` upon a state.
@@ -84,15 +82,14 @@ fn push_upon<K: Keeper>(
     ensures told { K.tells store.new ↔ K.tells store.old }
     ensures cause { Counts (K.faults store.old) (K.faults store.new) (result ≡ Err Outcome.StoreFault) }
 {
-    let filter = sound_filter(alloc, filter)?;
-    let refname = ref_name(alloc, refname)?;
+    let subject = read_subject(alloc, refname, filter)?;
     push(
         alloc,
         state,
         &mut SliceSource::new(input),
         store,
-        &filter,
-        &refname,
+        &subject.filter,
+        &subject.refname,
     )
 }
 
@@ -132,9 +129,8 @@ fn export_upon(
     ensures early { (result ≢ Err Outcome.WriteFault) × (result ≢ Err Outcome.ReadFault) ×
         (result ≢ Err Outcome.StoreFault) }
 {
-    let filter = sound_filter(alloc, filter)?;
-    let refname = ref_name(alloc, refname)?;
-    exported(alloc, state, &filter, &refname)
+    let subject = read_subject(alloc, refname, filter)?;
+    exported(alloc, state, &subject.filter, &subject.refname)
 }
 
 // `rule` upon a state.

@@ -1,5 +1,5 @@
 -- Proves what src/forms.rt needs of `name_form`.
-use Rattle.std.proofs.Common.{List, Err, inl}
+use Rattle.std.proofs.Common.{List, Err}
 use Rattle.filter_text.specs.Shapes.{shape}
 use Rattle.git_objects.specs.Paths.{Bytes}
 use Rattle.proj_io.specs.Views.{KeeperView}
@@ -25,18 +25,11 @@ returns-in-Err-clause-early g c = own-early c.in-Err.outcome (unsound-own c.args
 pub returns-in-Err-clause-read : goal.returns-in-Err-clause-read
 returns-in-Err-clause-read g c = own-read _ c.in-Err.outcome (unsound-own c.args.filter.now c.in-Err.outcome c.in-Err.ensures.err)
 
-pub returns-in-Err-ref_name-clause-made : goal.returns-in-Err-ref_name-clause-made
-returns-in-Err-ref_name-clause-made g c = λ (items : List Bytes) (k : KeeperView).
-    let r = c.args.refname.now in
-    let t = c.args.filter.now in
-    for-any (g.S.Source.left c.args.input.now) (λ all. IsFormMade (case (Name r t) (loaded items) all) items k k NoPlan (Err c.in-Err-ref_name.outcome))
-    (λ all. name-refused r t all c.in-Err-ref_name.outcome (inl c.in-Err-ref_name.ensures.err) items k)
-
-pub returns-clause-made : goal.returns-clause-made
-returns-clause-made g c = λ (items : List Bytes) (k : KeeperView).
+pub returns-in-Ok-clause-made : goal.returns-in-Ok-clause-made
+returns-in-Ok-clause-made g c = λ (items : List Bytes) (k : KeeperView).
     let made = c.name.ensures.made in
     record {
       all = made.0;
       told = made.1;
-      says = name-formed-at c.args.refname.now c.args.filter.now (shape c.in-Ok.filter) c.in-Ok-ref_name.refname c.in-Ok-ref_name.ensures.ok made.0 c.name.result c.in-Ok.ensures.sound made.2 items k;
+      says = name-formed-at c.args.refname.now c.args.filter.now (shape c.in-Ok.subject.filter) c.in-Ok.subject.refname c.in-Ok.ensures.refname made.0 c.name.result c.in-Ok.ensures.sound made.2 items k;
     }

@@ -1,42 +1,34 @@
 -- Proves what src/trying.rt needs of `try_push`.
-use Rattle.std.proofs.Common.{◌++◌, ◌∙◌, [], sym, subst}
+use Rattle.std.proofs.Common.{◌++◌, ◌∙◌, [], sym}
 use Rattle.std.specs.Option.{option_map}
 use Rattle.std.proofs.lemmas.Option.{same_Some}
 use Rattle.git_objects.specs.Parts.{name_bytes}
 use Rattle.filter_text.specs.Shapes.{shape}
 use Rattle.proj_words.specs.Views.{push_value}
-use Rattle.proj_words.specs.declared.outcome.Outcome.{Outcome}
 use Rattle.proj_words.specs.declared.outcome.Outcome.TheVariants.{OutOfMemory, ReadFault, StoreFault}
 use Rattle.proj_cli.specs.Trials.{push_hands, push_left}
-use Rattle.proj_cli.specs.Trying.{IsEnded, IsLeft}
+use Rattle.proj_cli.specs.Trying.{IsLeft}
 use Rattle.proj_cli.proofs.NamesGiven.{passed-whole}
 use Rattle.proj_cli.proofs.TrialSteps.{never-fault}
 use Rattle.proj_cli.proofs.TrialPushes.{from-ended, main-named, push-counted, push-done, push-ended, unsound-left}
 use Rattle.proj_cli.proofs.trying.try_push.Goals as goal
 
-pub returns-in_err-filter-clause-left : goal.returns-in_err-filter-clause-left
-returns-in_err-filter-clause-left c = λ items h hands w.
+pub returns-in_err-subject-clause-left : goal.returns-in_err-subject-clause-left
+returns-in_err-subject-clause-left c = λ items h hands w.
     let p = push_value c.args.pushed.now in
     let ks = hands ++ push_hands p c.args.seconds items in
-    passed-whole (Unit {0}) c.from_residual.result c.in_err-filter.field-0.0 c.from_residual.ensures.1 (IsLeft ks (push_left p c.args.seconds items) c.args.state.now)
-    (unsound-left ks p c.args.seconds items c.in_err-filter.field-0.0 c.in_err-filter.ensures.err)
+    passed-whole (Unit {0}) c.from_residual.result c.in_err-subject.field-0.0 c.from_residual.ensures.1 (IsLeft ks (push_left p c.args.seconds items) c.args.state.now)
+    (unsound-left ks p c.args.seconds items c.in_err-subject.field-0.0 c.in_err-subject.ensures.err)
 
-pub ref_name-requires : goal.ref_name-requires
-ref_name-requires c = main-named
-
-pub returns-in_err-refname-clause-left : goal.returns-in_err-refname-clause-left
-returns-in_err-refname-clause-left c = λ items h hands w.
-    let p = push_value c.args.pushed.now in
-    let ks = hands ++ push_hands p c.args.seconds items in
-    passed-whole (Unit {0}) c.from_residual-in_err-refname.result c.in_err-refname.field-0.0 c.from_residual-in_err-refname.ensures.1 (IsLeft ks (push_left p c.args.seconds items) c.args.state.now)
-    (subst (λ (e : Outcome). IsEnded ks (push_left p c.args.seconds items) e) (sym c.in_err-refname.ensures.err) tt)
+pub read_subject-requires : goal.read_subject-requires
+read_subject-requires c = main-named
 
 pub returns-in_err-from-clause-left : goal.returns-in_err-from-clause-left
 returns-in_err-from-clause-left c = λ items h hands w.
     let p = push_value c.args.pushed.now in
     let ks = hands ++ push_hands p c.args.seconds items in
     passed-whole (Unit {0}) c.from_residual-in_err-from.result c.in_err-from.field-0.0 c.from_residual-in_err-from.ensures.1 (IsLeft ks (push_left p c.args.seconds items) c.head_projection.new.state)
-    (from-ended p c.args.seconds items h hands (shape c.in_ok-filter.filter) w.state.current.read c.in_ok-filter.ensures.sound c.in_ok-refname.refname c.in_err-from.field-0.0 c.in_ok-refname.ensures.ok
+    (from-ended p c.args.seconds items h hands (shape c.in_ok-subject.subject.filter) w.state.current.read c.in_ok-subject.ensures.sound c.in_ok-subject.subject.refname c.in_err-from.field-0.0 c.in_ok-subject.ensures.refname
     (λ all. c.in_err-from.ensures items h hands all w))
 
 pub returns-in_err-stream-clause-left : goal.returns-in_err-stream-clause-left
@@ -65,7 +57,7 @@ returns-in_err-push-clause-left c = λ items h hands w.
     let e = c.in_err-push.field-0.0 in
     let ks = hands ++ push_hands p c.args.seconds items in
     passed-whole (Unit {0}) c.from_residual-in_err-push.result e c.from_residual-in_err-push.ensures.1 (IsLeft ks (push_left p c.args.seconds items) c.push.new.state)
-    (push-ended p c.args.seconds items h hands (shape c.in_ok-filter.filter) w.state.current.read c.in_ok-filter.ensures.sound c.in_ok-refname.refname c.in_ok-refname.ensures.ok
+    (push-ended p c.args.seconds items h hands (shape c.in_ok-subject.subject.filter) w.state.current.read c.in_ok-subject.ensures.sound c.in_ok-subject.subject.refname c.in_ok-subject.ensures.refname
     (option_map name_bytes c.in_ok-from.from) t.0 c.head_projection.new.state c.push.new.state (λ all. (c.in_ok-from.ensures items h hands all w).1) m.0
     (m.1 ∙ same_Some _ _ c.new-input.ensures.told ∙ c.deref.ensures.value ∙ c.in_ok-stream.ensures) _ _ m.2 e (never-fault e ReadFault c.in_err-push.ensures.read) (never-fault e StoreFault c.in_err-push.ensures.cause) m.3)
 
@@ -74,7 +66,7 @@ returns-clause-left c = λ items h hands w.
     let p = push_value c.args.pushed.now in
     let t = c.in_ok-from.ensures items h hands [] w in
     let m = c.in_ok-push.ensures.made items h t.1.state in
-    push-done p c.args.seconds items h hands (shape c.in_ok-filter.filter) w.state.current.read c.in_ok-filter.ensures.sound c.in_ok-refname.refname c.in_ok-refname.ensures.ok
+    push-done p c.args.seconds items h hands (shape c.in_ok-subject.subject.filter) w.state.current.read c.in_ok-subject.ensures.sound c.in_ok-subject.subject.refname c.in_ok-subject.ensures.refname
     (option_map name_bytes c.in_ok-from.from) t.0 c.head_projection.new.state c.push.new.state (λ all. (c.in_ok-from.ensures items h hands all w).1) m.0
     (m.1 ∙ same_Some _ _ c.new-input.ensures.told ∙ c.deref.ensures.value ∙ c.in_ok-stream.ensures) _ _ m.2 _ tt m.3
 
@@ -88,7 +80,7 @@ returns-clause-number c =
     let p = push_value c.args.pushed.now in
     let t = c.in_ok-from.ensures items h hands [] w in
     let m = c.in_ok-push.ensures.made items h t.1.state in
-    push-counted p c.args.seconds items h hands (shape c.in_ok-filter.filter) w.state.current.read c.in_ok-filter.ensures.sound c.in_ok-refname.refname c.in_ok-refname.ensures.ok
+    push-counted p c.args.seconds items h hands (shape c.in_ok-subject.subject.filter) w.state.current.read c.in_ok-subject.ensures.sound c.in_ok-subject.subject.refname c.in_ok-subject.ensures.refname
     (option_map name_bytes c.in_ok-from.from) t.0 c.head_projection.new.state c.push.new.state (λ all. (c.in_ok-from.ensures items h hands all w).1) m.0
     (m.1 ∙ same_Some _ _ c.new-input.ensures.told ∙ c.deref.ensures.value ∙ c.in_ok-stream.ensures) _ _ m.2 _
     (t.1.state.current.number ∙ sym w.state.current.number ∙ c.requires.number) m.3

@@ -1,5 +1,5 @@
 -- Proves what src/turns.rt needs of `project_upon`.
-use Rattle.std.proofs.Common.{List, inl, refl, ap, ◌∙◌}
+use Rattle.std.proofs.Common.{List, refl, ap, ◌∙◌}
 use Rattle.git_objects.specs.Paths.{Bytes}
 use Rattle.filter_text.specs.Shapes.{shape}
 use Rattle.proj_io.specs.Views.{keeper_view}
@@ -12,47 +12,26 @@ use Rattle.proj_cli.proofs.Opening.{projecting}
 use Rattle.proj_cli.proofs.Refusing.{memory-own, unsound-own}
 use Rattle.proj_cli.proofs.turns.project_upon.Goals as goal
 
-pub returns-in_err-filter-clause-made : goal.returns-in_err-filter-clause-made
-returns-in_err-filter-clause-made g c = λ (items : List Bytes) (h : Held) (all : Bytes) w.
+pub returns-in_err-subject-clause-made : goal.returns-in_err-subject-clause-made
+returns-in_err-subject-clause-made g c = λ (items : List Bytes) (h : Held) (all : Bytes) w.
     let seen = keeper_view g.K.Keeper.items g.K.Keeper.number g.K.Keeper.faults in
     let at = g.K.Keeper.moment in
     let since = g.K.Keeper.left_since in
     let before = c.args.store.now in
     let r = c.args.refname.now in
     let t = c.args.filter.now in
-    command-refused items h c.args.state.now w (Project r t) all t (λ f. projecting r f h) refl refl c.from_residual.result c.in_err-filter.field-0.0 c.from_residual.ensures.1 c.in_err-filter.ensures.err
+    command-refused items h c.args.state.now w (Project r t) all t (λ f. projecting r f h) refl refl c.from_residual.result c.in_err-subject.field-0.0 c.from_residual.ensures.1 c.in_err-subject.ensures.err
     (seen before) (at before) (since before)
 
-pub returns-in_err-filter-clause-early : goal.returns-in_err-filter-clause-early
-returns-in_err-filter-clause-early g c =
-    let e = c.in_err-filter.field-0.0 in
-    own-first c.from_residual.result e c.from_residual.ensures.1 (unsound-own c.args.filter.now e c.in_err-filter.ensures.err)
+pub returns-in_err-subject-clause-early : goal.returns-in_err-subject-clause-early
+returns-in_err-subject-clause-early g c =
+    let e = c.in_err-subject.field-0.0 in
+    own-first c.from_residual.result e c.from_residual.ensures.1 (unsound-own c.args.filter.now e c.in_err-subject.ensures.err)
 
-pub returns-in_err-filter-clause-cause : goal.returns-in_err-filter-clause-cause
-returns-in_err-filter-clause-cause g c =
-    let e = c.in_err-filter.field-0.0 in
-    own-count _ c.from_residual.result e c.from_residual.ensures.1 (unsound-own c.args.filter.now e c.in_err-filter.ensures.err)
-
-pub returns-in_err-refname-clause-made : goal.returns-in_err-refname-clause-made
-returns-in_err-refname-clause-made g c = λ (items : List Bytes) (h : Held) (all : Bytes) w.
-    let seen = keeper_view g.K.Keeper.items g.K.Keeper.number g.K.Keeper.faults in
-    let at = g.K.Keeper.moment in
-    let since = g.K.Keeper.left_since in
-    let before = c.args.store.now in
-    let r = c.args.refname.now in
-    let t = c.args.filter.now in
-    command-refused items h c.args.state.now w (Project r t) all t (λ f. projecting r f h) refl refl c.from_residual-in_err-refname.result c.in_err-refname.field-0.0 c.from_residual-in_err-refname.ensures.1
-    (inl c.in_err-refname.ensures.err) (seen before) (at before) (since before)
-
-pub returns-in_err-refname-clause-early : goal.returns-in_err-refname-clause-early
-returns-in_err-refname-clause-early g c =
-    let e = c.in_err-refname.field-0.0 in
-    own-first c.from_residual-in_err-refname.result e c.from_residual-in_err-refname.ensures.1 (unsound-own c.args.filter.now e (inl c.in_err-refname.ensures.err))
-
-pub returns-in_err-refname-clause-cause : goal.returns-in_err-refname-clause-cause
-returns-in_err-refname-clause-cause g c =
-    let e = c.in_err-refname.field-0.0 in
-    own-count _ c.from_residual-in_err-refname.result e c.from_residual-in_err-refname.ensures.1 (unsound-own c.args.filter.now e (inl c.in_err-refname.ensures.err))
+pub returns-in_err-subject-clause-cause : goal.returns-in_err-subject-clause-cause
+returns-in_err-subject-clause-cause g c =
+    let e = c.in_err-subject.field-0.0 in
+    own-count _ c.from_residual.result e c.from_residual.ensures.1 (unsound-own c.args.filter.now e c.in_err-subject.ensures.err)
 
 pub returns-in_err-put_away-clause-made : goal.returns-in_err-put_away-clause-made
 returns-in_err-put_away-clause-made g c = λ (items : List Bytes) (h : Held) (all : Bytes) w.
@@ -73,7 +52,7 @@ pub project-requires-clause-number : goal.project-requires-clause-number
 project-requires-clause-number g c = ap (λ (s : Contents). s.number) c.in_ok-put_away.ensures.away.same ∙ c.requires.number
 
 pub project-requires-clause-sound : goal.project-requires-clause-sound
-project-requires-clause-sound g c = (c.args.filter.now, c.in_ok-filter.ensures.sound)
+project-requires-clause-sound g c = (c.args.filter.now, c.in_ok-subject.ensures.sound)
 
 pub project-requires-clause-state : goal.project-requires-clause-state
 project-requires-clause-state g c =
@@ -96,10 +75,10 @@ returns-clause-made g c = λ (items : List Bytes) (h : Held) (all : Bytes) w.
     let away = c.in_ok-put_away.ensures.away in
     let r = c.args.refname.now in
     let t = c.args.filter.now in
-    let x = c.in_ok-refname.refname in
-    let f = shape c.in_ok-filter.filter in
+    let x = c.in_ok-subject.subject.refname in
+    let f = shape c.in_ok-subject.subject.filter in
     let m = c.project.ensures.made items h (away-state s s1 away items h w) in
     case-made (Project r t) all items h s s2 (seen before) (seen now) (at before) (at now) (since before) (since now) c.project.result refl (projecting x f h)
-    (cased projecting r t x f h c.in_ok-refname.ensures.ok c.in_ok-filter.ensures.sound) m.0
+    (cased projecting r t x f h c.in_ok-subject.ensures.refname c.in_ok-subject.ensures.sound) m.0
     (away-made s s1 away (projecting x f h) items h s2 (seen before) (seen now) m.0 c.project.result m.1)
     (away-stops s s1 away h m.0 (g.K.Keeper.items before) (at before) (at now) (since before) (since now) m.2)
