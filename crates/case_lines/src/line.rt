@@ -1,6 +1,7 @@
 // Lines of cases.
 use crate::printing::transcript;
-use crate::{Fault, Texts, Word, words_of};
+use crate::word::words_of;
+use crate::{Fault, Texts, Word};
 use std::alloc::Global;
 
 /// What a line is.

@@ -1,4 +1,6 @@
 // How answers are printed.
+use crate::Fault;
+use path_names::Path;
 use std::alloc::{AllocError, Global};
 
 // Whether a byte is printed as it is.
@@ -38,6 +40,16 @@ fn add_byte(out: &mut String, byte: u8) -> Result<(), AllocError> {
         }
     }
     Ok(())
+}
+
+/// A path as it is printed.
+pub fn path_text(alloc: Global, path: &Path) -> Result<String, AllocError> {
+    printed(alloc, &path.text(alloc)?)
+}
+
+/// A text as an answer.
+pub fn text_of(alloc: Global, text: &str) -> Result<String, Fault> {
+    String::from_str(alloc, text).map_err(Fault::from)
 }
 
 /// A line that asks, and below it the lines of its answer, each behind two spaces.

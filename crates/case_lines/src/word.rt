@@ -39,6 +39,12 @@ pub fn number_of(digits: &[u8]) -> Result<u64, Fault> {
     text.parse::<u64>().ok().ok_or(Fault::BadLine)
 }
 
+/// The count that a word's decimal digits write.
+pub fn count_of(word: &Word) -> Result<usize, Fault> {
+    let count = number_of(&word.bytes)?;
+    usize::try_from(count).ok().ok_or(Fault::BadLine)
+}
+
 // What follows the first bytes.
 fn behind(text: &[u8], count: usize) -> &[u8] {
     text.get(count..).unwrap_or(&[])

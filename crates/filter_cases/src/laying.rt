@@ -1,5 +1,5 @@
 // Trees that are laid below a place.
-use case_lines::{Fault, Texts, Word, digits_of, path_of, printed};
+use case_lines::{Fault, Texts, Word, digits_of, path_of, path_text, put_object};
 use filter_unapply::{LayFault, laid_below};
 use git_objects::{Kind, Mode, Name};
 use object_store::Store;
@@ -28,7 +28,7 @@ fn with_file(
 
 // Puts the file with this path, which is its text too, into a tree.
 fn grown(alloc: Global, store: &mut Store, root: Name, file: &[u8]) -> Result<Name, Fault> {
-    let name = put(store, Kind::Blob, file)?;
+    let name = put_object(store, Kind::Blob, file)?;
     match &Path::parse(alloc, file) {
         Ok(path) => with_file(alloc, store, root, path, name),
         Err(_) => Err(Fault::BadLine),
@@ -37,17 +37,13 @@ fn grown(alloc: Global, store: &mut Store, root: Name, file: &[u8]) -> Result<Na
 
 // The tree of the files with these paths, which spaces part. Each has its own path as its text.
 fn tree(alloc: Global, store: &mut Store, files: &[u8]) -> Result<Name, Fault> {
-    let mut root = put(store, Kind::Tree, b"")?;
+    let mut root = put_object(store, Kind::Tree, b"")?;
     for file in files.split(|byte| *byte == b' ') {
         if !file.is_empty() {
             root = grown(alloc, store, root, file)?;
         }
     }
     Ok(root)
-}
-
-fn put(store: &mut Store, kind: Kind, body: &[u8]) -> Result<Name, Fault> {
-    store.put_slice(kind, body).ok().ok_or(Fault::BadLine)
 }
 
 /// The name of the tree that has the files of one tree and, below a place, the files that are laid into it; or the
@@ -93,8 +89,4 @@ fn blocked_text(alloc: Global, path: &Path, by: &Path) -> Result<String, AllocEr
     let path = path_text(alloc, path)?;
     let by = path_text(alloc, by)?;
     format!(in alloc; "{path} by {by}")
-}
-
-fn path_text(alloc: Global, path: &Path) -> Result<String, AllocError> {
-    printed(alloc, &path.text(alloc)?)
 }

@@ -4,7 +4,7 @@ ghost use Rattle.git_objects.specs.declared.limits.TheConstants.{FILTER_PIECES};
 ghost use Rattle.filter_text.specs.Filters.{pieces};
 ghost use Rattle.filter_text.specs.Shapes.{shape};
 
-use case_lines::{Fault, Texts, Word, number_of, path_of, printed};
+use case_lines::{Fault, Texts, Word, count_of, path_of, printed, text_of};
 use filter_routes::{RouteFault, Table, Tables, check, is_sound, list_within};
 use filter_text::{Filter, parse, print};
 use git_objects::Component;
@@ -92,18 +92,9 @@ fn listed(alloc: Global, texts: &Texts, words: &[Word]) -> Result<String, Fault>
     let most = count_of(most)?;
     let filter = filter_of(alloc, &texts.spelled(pieces)?)?;
     match &list_within(alloc, most, &filter) {
-        Err(_) => none(alloc),
+        Err(_) => text_of(alloc, "none"),
         Ok(list) => Ok(format!(in alloc; "{} entries", list.len())?),
     }
-}
-
-fn none(alloc: Global) -> Result<String, Fault> {
-    String::from_str(alloc, "none").map_err(Fault::from)
-}
-
-fn count_of(word: &Word) -> Result<usize, Fault> {
-    let count = number_of(&word.bytes)?;
-    usize::try_from(count).ok().ok_or(Fault::BadLine)
 }
 
 // The table of a sound filter.
@@ -138,7 +129,7 @@ fn table_and_path(alloc: Global, texts: &Texts, words: &[Word]) -> Result<(Table
 fn image(alloc: Global, texts: &Texts, words: &[Word]) -> Result<String, Fault> {
     let (table, path) = table_and_path(alloc, texts, words)?;
     match table.image(&path) {
-        None => none(alloc),
+        None => text_of(alloc, "none"),
         Some(hit) => {
             let rest = &path.components()[hit.cut..];
             Ok(joined(alloc, table.target(hit.route), rest)?)
@@ -150,7 +141,7 @@ fn image(alloc: Global, texts: &Texts, words: &[Word]) -> Result<String, Fault> 
 fn origin(alloc: Global, texts: &Texts, words: &[Word]) -> Result<String, Fault> {
     let (table, image) = table_and_path(alloc, texts, words)?;
     match table.origin(&image) {
-        None => none(alloc),
+        None => text_of(alloc, "none"),
         Some(hit) => {
             let rest = &image.components()[hit.cut..];
             Ok(joined(alloc, table.source(hit.route), rest)?)
@@ -178,7 +169,7 @@ pub fn tables(
 
 fn counted(alloc: Global, tables: &Tables) -> Result<String, Fault> {
     if tables.is_empty() {
-        return none(alloc);
+        return text_of(alloc, "none");
     }
     Ok(format!(in alloc; "{}", tables.len())?)
 }
@@ -186,7 +177,7 @@ fn counted(alloc: Global, tables: &Tables) -> Result<String, Fault> {
 // The filter of the table with that number.
 fn shown(alloc: Global, tables: &Tables, number: usize) -> Result<String, Fault> {
     match tables.get(number) {
-        None => none(alloc),
+        None => text_of(alloc, "none"),
         Some(table) => Ok(printed(alloc, &print(alloc, table.filter())?)?),
     }
 }

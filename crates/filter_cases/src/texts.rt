@@ -1,5 +1,5 @@
 // Texts of filters and of workspace files.
-use case_lines::{Fault, printed};
+use case_lines::{Fault, path_text, printed};
 use filter_text::{Filter, FilterFault, Item, ItemsFault, copy, parse, parse_items, print, same};
 use std::alloc::{AllocError, Global};
 
@@ -76,7 +76,7 @@ fn items_text(alloc: Global, items: &[Item]) -> Result<String, AllocError> {
 }
 
 fn add_item(alloc: Global, lines: &mut String, item: &Item) -> Result<(), AllocError> {
-    let place = printed(alloc, &item.place.text(alloc)?)?;
+    let place = path_text(alloc, &item.place)?;
     let filter = printed(alloc, &print(alloc, &item.filter)?)?;
     lines.push_str(format!(in alloc; "{place} {filter}\n")?.as_str())
 }

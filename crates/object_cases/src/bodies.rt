@@ -5,8 +5,8 @@ ghost use Rattle.git_objects.specs.Bodies.{is_name};
 ghost use Rattle.git_objects.specs.Entries.{AreEntries, body_text};
 ghost use Rattle.git_objects.specs.Paths.{is_component};
 
-use crate::values::{mode_digits, mode_of, text};
-use case_lines::{Fault, Texts, Word, digits_of, name_of as name_in, printed};
+use crate::values::{mode_digits, mode_of};
+use case_lines::{Fault, Texts, Word, digits_of, name_of as name_in, printed, text_of};
 use git_objects::{
     Bytes, CommitParts, CommitView, Component, Entry, EntryView, Ident, Kind, Name, TreeView,
     add_entry, encode_commit, encode_tree, is_component, name_of,
@@ -25,9 +25,9 @@ pub fn answer(alloc: Global, texts: &Texts, form: &str, words: &[Word]) -> Resul
 
 fn commit_text(alloc: Global, body: &[u8]) -> Result<String, Fault> {
     if CommitView::of(body).is_some() {
-        return text(alloc, "a commit");
+        return text_of(alloc, "a commit");
     }
-    text(alloc, "no commit")
+    text_of(alloc, "no commit")
 }
 
 // What is said of entries.
@@ -43,7 +43,7 @@ fn entries_text(alloc: Global, form: &str, entries: &[Entry]) -> Result<String, 
 // The body of a tree of these entries, or its name.
 fn tree_text(alloc: Global, entries: &[Entry], is_named: bool) -> Result<String, Fault> {
     match encoded(alloc, entries)? {
-        None => text(alloc, "no tree"),
+        None => text_of(alloc, "no tree"),
         Some(body) => body_text(alloc, &body, is_named),
     }
 }
@@ -145,7 +145,7 @@ fn is_entry(seen: Option<EntryView<'_>>, entry: &Entry) -> bool {
 // The entries of a body, a line each.
 fn listing(alloc: Global, body: &[u8]) -> Result<String, Fault> {
     let Some(mut view) = TreeView::of(body) else {
-        return text(alloc, "no tree");
+        return text_of(alloc, "no tree");
     };
     let mut lines = String::new(alloc);
     for _ in 0..body.len() {
@@ -214,7 +214,7 @@ fn ident_of(alloc: Global, texts: &Texts, word: &Word) -> Result<Ident, Fault> {
 // The name of a commit of these parts, if they are read back, and the size of its body.
 fn encoded_commit(alloc: Global, parts: &CommitParts) -> Result<String, Fault> {
     if parts.parents.len() > 16 {
-        return text(alloc, "too many parents");
+        return text_of(alloc, "too many parents");
     }
     let body = encode_commit(alloc, parts)?;
     if !is_commit_of(&body, parts) {

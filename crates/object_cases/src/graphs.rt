@@ -1,6 +1,5 @@
 // Graphs of commits.
-use crate::values::text;
-use case_lines::{Fault, Texts, Word, digits_of, name_of, number_of};
+use case_lines::{Fault, Texts, Word, digits_of, name_of, number_of, text_of};
 use commit_graph::Graph;
 use git_objects::Name;
 use std::alloc::{AllocError, Global};
@@ -65,7 +64,7 @@ fn place(alloc: Global, texts: &Texts, graph: &Graph, words: &[Word]) -> Result<
 fn place_text(alloc: Global, graph: &Graph, name: Name) -> Result<String, Fault> {
     match graph.index_of(&name) {
         Some(place) => Ok(format!(in alloc; "{place}")?),
-        None => text(alloc, "none"),
+        None => text_of(alloc, "none"),
     }
 }
 

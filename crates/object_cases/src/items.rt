@@ -1,8 +1,10 @@
 // Items of a keeper, loaded.
 use crate::keepers::Misjudging;
 use crate::stores::{count, held};
-use crate::values::{digits_or_none, text, word_and_digits};
-use case_lines::{Fault, Texts, Word, add_item, failing_of, number_of, ref_name_of, reopened};
+use crate::values::{digits_or_none, word_and_digits};
+use case_lines::{
+    Fault, Texts, Word, add_item, failing_of, number_of, ref_name_of, reopened, text_of,
+};
 use proj_io::{Keeper, MemKeeper};
 use repo_ground::{LoadError, State};
 use std::alloc::{AllocError, Global};
@@ -88,7 +90,7 @@ fn head(alloc: Global, state: &State, words: &[Word]) -> Result<String, Fault> {
 // Why items are not loaded.
 fn fault_text(alloc: Global, error: LoadError) -> Result<String, Fault> {
     match error {
-        LoadError::StoreFault => text(alloc, "store fault"),
+        LoadError::StoreFault => text_of(alloc, "store fault"),
         LoadError::Damaged { item, at } => Ok(format!(in alloc; "damaged: item {item} at {at}")?),
         LoadError::Collision { name } => word_and_digits(alloc, "collision", &name),
         LoadError::OutOfMemory => Err(Fault::OutOfMemory),

@@ -1,7 +1,7 @@
 // Names, digits, idents, and copies.
 use crate::steps::zeros_of;
-use crate::values::{kind_of, text};
-use case_lines::{Fault, Texts, Word, digits_of, printed};
+use crate::values::kind_of;
+use case_lines::{Fault, Texts, Word, digits_of, printed, text_of};
 use git_objects::{Bytes, Component, Ident, IdentFault, Name, is_component, name_of};
 use std::alloc::{AllocError, Global};
 
@@ -46,7 +46,7 @@ fn named(alloc: Global, texts: &Texts, words: &[Word]) -> Result<String, Fault> 
 // The name that digits write.
 fn read_digits(alloc: Global, digits: &[u8]) -> Result<String, Fault> {
     let Some(name) = Name::from_hex(digits) else {
-        return text(alloc, "none");
+        return text_of(alloc, "none");
     };
     let mut said = digits_of(alloc, &name)?;
     if name.is_zero() {
@@ -59,7 +59,7 @@ fn read_digits(alloc: Global, digits: &[u8]) -> Result<String, Fault> {
 fn read_ident(alloc: Global, bytes: &[u8]) -> Result<String, Fault> {
     match Ident::parse(alloc, bytes) {
         Ok(ident) => Ok(printed(alloc, ident.copy(alloc)?.bytes())?),
-        Err(IdentFault::Bad) => text(alloc, "no ident"),
+        Err(IdentFault::Bad) => text_of(alloc, "no ident"),
         Err(IdentFault::OutOfMemory) => Err(Fault::OutOfMemory),
     }
 }
@@ -67,7 +67,7 @@ fn read_ident(alloc: Global, bytes: &[u8]) -> Result<String, Fault> {
 // The copy of a component.
 fn read_component(alloc: Global, bytes: Vec<u8>) -> Result<String, Fault> {
     if !is_component(&bytes) {
-        return text(alloc, "no component");
+        return text_of(alloc, "no component");
     }
     let copy = Component::of(bytes).copy(alloc)?;
     Ok(printed(alloc, copy.bytes())?)

@@ -1,6 +1,6 @@
 // Refs.
-use crate::values::{digits_or_none, text};
-use case_lines::{Fault, Texts, Word, digits_of, name_of, printed, ref_name_of};
+use crate::values::digits_or_none;
+use case_lines::{Fault, Texts, Word, digits_of, name_of, printed, ref_name_of, text_of};
 use commit_graph::Graph;
 use git_objects::Name;
 use path_names::RefName;
@@ -75,7 +75,7 @@ fn got(alloc: Global, refs: &Refs, refname: &Word) -> Result<String, Fault> {
 // The refs in order of arrival, a line each. Each is also asked for by its name.
 fn listed(alloc: Global, refs: &Refs) -> Result<String, Fault> {
     if refs.is_empty() {
-        return text(alloc, "no refs");
+        return text_of(alloc, "no refs");
     }
     let mut lines = String::new(alloc);
     for i in 0..refs.len() {
@@ -119,7 +119,7 @@ fn is_forward(alloc: Global, graph: &Graph, old: Name, new: Name) -> Result<Stri
         return Err(Fault::BadLine);
     }
     if forward(alloc, graph, &old, &new)? {
-        return text(alloc, "forward");
+        return text_of(alloc, "forward");
     }
-    text(alloc, "not forward")
+    text_of(alloc, "not forward")
 }

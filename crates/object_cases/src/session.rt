@@ -2,7 +2,7 @@
 use crate::items::Kept;
 use crate::refs::TwoRefs;
 use crate::{bodies, graphs, items, names, refs, stores, trees};
-use case_lines::{Fault, Line, Texts, Word, number_of, read_line, said};
+use case_lines::{Answers, Fault, Texts, Word, number_of};
 use commit_graph::Graph;
 use object_store::Store;
 use std::alloc::Global;
@@ -10,9 +10,6 @@ use std::alloc::Global;
 /// What earlier lines made.
 #[derive(Drop)]
 pub struct Session {
-    alloc: Global,
-    // Named texts, among them the names of trees that `tree` lines made.
-    texts: Texts,
     store: Store,
     graph: Graph,
     refs: TwoRefs,
@@ -23,8 +20,6 @@ impl Session {
     pub fn new(alloc: Global) -> Result<Session, Fault> {
         let kept = Kept::new(alloc)?;
         Ok(Session {
-            alloc,
-            texts: Texts::new(alloc),
             store: Store::new(alloc),
             graph: Graph::new(alloc),
             refs: TwoRefs::new(alloc),
@@ -32,56 +27,36 @@ impl Session {
         })
     }
 
-    /// What is printed for a line.
-    pub fn take(&mut self, line: &str) -> Result<String, Fault> {
-        let alloc = self.alloc;
-        match read_line(alloc, &mut self.texts, line) {
-            Ok(Line::Comment) => Ok(format!(in alloc; "{line}\n")?),
-            Ok(Line::Text) => Ok(String::new(alloc)),
-            Ok(Line::Asked(words)) => {
-                let answer = self.answered(&words);
-                said(alloc, line, answer)
-            }
-            Err(fault) => said(alloc, line, Err(fault)),
-        }
-    }
-
-    fn answered(&mut self, words: &[Word]) -> Result<Option<String>, Fault> {
-        match words {
-            [first, count, inner @ ..] if first.text() == "repeat" => {
-                self.repeated(number_of(&count.bytes)?, inner)
-            }
-            _ => self.asked(words),
-        }
-    }
-
     // Asks so many times, and answers what came last.
-    fn repeated(&mut self, count: u64, words: &[Word]) -> Result<Option<String>, Fault> {
+    fn repeated(
+        &mut self,
+        alloc: Global,
+        texts: &mut Texts,
+        count: u64,
+        words: &[Word],
+    ) -> Result<Option<String>, Fault> {
         if words.is_empty() {
             return Err(Fault::BadLine);
         }
         let mut answer = None;
         for _ in 0..count {
-            answer = self.asked(words)?;
+            answer = self.asked(alloc, texts, words)?;
         }
         Ok(answer)
     }
 
-    fn asked(&mut self, words: &[Word]) -> Result<Option<String>, Fault> {
-        match words {
-            [subject, form, inner @ ..] => self.answer(subject.text(), form.text(), inner),
-            _ => Err(Fault::BadLine),
-        }
-    }
-
-    fn answer(
+    // The texts get the names of trees that `tree` lines make.
+    fn asked(
         &mut self,
-        subject: &str,
-        form: &str,
+        alloc: Global,
+        texts: &mut Texts,
         words: &[Word],
     ) -> Result<Option<String>, Fault> {
-        let (alloc, texts) = (self.alloc, &mut self.texts);
-        match subject {
+        let [subject, form, words @ ..] = words else {
+            return Err(Fault::BadLine);
+        };
+        let form = form.text();
+        match subject.text() {
             "object" => names::answer(alloc, texts, form, words).map(Some),
             "body" => bodies::answer(alloc, texts, form, words).map(Some),
             "store" => stores::answer(alloc, texts, &mut self.store, form, words),
@@ -90,6 +65,22 @@ impl Session {
             "refs" => refs::answer(alloc, texts, &self.graph, &mut self.refs, form, words),
             "items" => items::answer(alloc, texts, &mut self.kept, form, words),
             _ => Err(Fault::BadLine),
+        }
+    }
+}
+
+impl Answers for Session {
+    fn answer(
+        &mut self,
+        alloc: Global,
+        texts: &mut Texts,
+        words: &[Word],
+    ) -> Result<Option<String>, Fault> {
+        match words {
+            [first, count, inner @ ..] if first.text() == "repeat" => {
+                self.repeated(alloc, texts, number_of(&count.bytes)?, inner)
+            }
+            _ => self.asked(alloc, texts, words),
         }
     }
 }

@@ -1,6 +1,6 @@
 // Stores of objects.
-use crate::values::{kind_of, text, word_and_digits};
-use case_lines::{Fault, Texts, Word, name_of, printed};
+use crate::values::{kind_of, word_and_digits};
+use case_lines::{Fault, Texts, Word, name_of, printed, text_of};
 use git_objects::{Kind, Name};
 use object_store::{PutError, Store};
 use std::alloc::{AllocError, Global};
@@ -86,7 +86,7 @@ fn taken(store: &mut Store, kind: Kind, body: Vec<u8>, is_lent: bool) -> Result<
 fn told(alloc: Global, answer: Result<Name, PutError>) -> Result<String, Fault> {
     match answer {
         Ok(name) => word_and_digits(alloc, "taken", &name),
-        Err(PutError::NotCanonical) => text(alloc, "no body"),
+        Err(PutError::NotCanonical) => text_of(alloc, "no body"),
         Err(PutError::MissingChild { name }) => word_and_digits(alloc, "missing", &name),
         Err(PutError::Collision { name }) => word_and_digits(alloc, "collision", &name),
         Err(PutError::OutOfMemory) => Err(Fault::OutOfMemory),
@@ -96,7 +96,7 @@ fn told(alloc: Global, answer: Result<Name, PutError>) -> Result<String, Fault> 
 /// The kind and the body of the object whose name is the only word.
 pub fn held(alloc: Global, texts: &Texts, store: &Store, words: &[Word]) -> Result<String, Fault> {
     match store.get(&object_name(texts, words)?) {
-        None => text(alloc, "none"),
+        None => text_of(alloc, "none"),
         Some(object) => object_text(alloc, object.kind, object.body),
     }
 }
@@ -118,7 +118,7 @@ pub fn count(alloc: Global, store: &Store) -> Result<String, Fault> {
 
 fn stats(alloc: Global, store: &Store, name: Name) -> Result<String, Fault> {
     match store.stats(&name) {
-        None => text(alloc, "no tree"),
+        None => text_of(alloc, "no tree"),
         Some(sizes) => Ok(format!(in alloc;
             "files {} depth {} longest {}",
             sizes.files, sizes.depth, sizes.longest

@@ -1,8 +1,8 @@
 // Stored trees: edits, lookups and joins. A tree has a name of its own in the texts, which stands for its name's bytes.
 use crate::held::is_there;
-use crate::values::{mode_digits, mode_of, text, word_and_digits};
+use crate::values::{mode_digits, mode_of, word_and_digits};
 use crate::walks::{leaves, sizes};
-use case_lines::{Fault, Texts, Word, digits_of, name_of, path_of, printed};
+use case_lines::{Fault, Texts, Word, digits_of, name_of, path_of, path_text, put_object, text_of};
 use git_objects::{Kind, Mode, Name};
 use object_store::Store;
 use path_names::Path;
@@ -66,13 +66,9 @@ fn leaf(texts: &Texts, store: &mut Store, mode: &Word, text: &Word) -> Result<Fo
     let name = if mode == Mode::Module {
         name_of(texts, text)?
     } else {
-        blob(store, &texts.word(text)?)?
+        put_object(store, Kind::Blob, &texts.word(text)?)?
     };
     Ok(Found { mode, name })
-}
-
-fn blob(store: &mut Store, text: &[u8]) -> Result<Name, Fault> {
-    store.put_slice(Kind::Blob, text).ok().ok_or(Fault::BadLine)
 }
 
 fn edited(answer: Result<Name, TreeFault>) -> Result<Name, Fault> {
@@ -123,7 +119,7 @@ fn planted(
     let [tree, leaves @ ..] = words else {
         return Err(Fault::BadLine);
     };
-    let mut root = store.put_slice(Kind::Tree, b"").ok().ok_or(Fault::BadLine)?;
+    let mut root = put_object(store, Kind::Tree, b"")?;
     for triple in leaves.chunks(3) {
         root = grown(alloc, texts, store, root, triple)?;
     }
@@ -250,7 +246,7 @@ fn standing(
 ) -> Result<String, Fault> {
     let path = path_of(alloc, texts, path)?;
     match at(store, root, &path)? {
-        None => text(alloc, "none"),
+        None => text_of(alloc, "none"),
         Some(found) => word_and_digits(alloc, mode_digits(found.mode), &found.name),
     }
 }
@@ -296,8 +292,4 @@ fn clash_text(alloc: Global, path: &Path, by: &Path) -> Result<String, Fault> {
     let path = path_text(alloc, path)?;
     let by = path_text(alloc, by)?;
     Ok(format!(in alloc; "clash {path} by {by}")?)
-}
-
-fn path_text(alloc: Global, path: &Path) -> Result<String, Fault> {
-    Ok(printed(alloc, &path.text(alloc)?)?)
 }

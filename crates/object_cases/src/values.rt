@@ -1,5 +1,5 @@
 // Values that words stand for.
-use case_lines::{Fault, Word, digits_of};
+use case_lines::{Fault, Word, digits_of, text_of};
 use git_objects::{Kind, Mode, Name};
 use std::alloc::Global;
 
@@ -37,14 +37,9 @@ pub fn mode_digits(mode: Mode) -> &'static str {
 /// The digits of a name, or `none`.
 pub fn digits_or_none(alloc: Global, name: Option<Name>) -> Result<String, Fault> {
     match name {
-        None => text(alloc, "none"),
+        None => text_of(alloc, "none"),
         Some(name) => digits_of(alloc, &name),
     }
-}
-
-/// A text as an answer.
-pub fn text(alloc: Global, text: &str) -> Result<String, Fault> {
-    String::from_str(alloc, text).map_err(Fault::from)
 }
 
 /// A word and the digits of a name.

@@ -10,11 +10,15 @@ use std::mem;
 
 /// Calls the program with the words in front of `<`, and what is spelled behind it as the input, and says how the call
 /// ended, what it wrote, and the items then.
-pub fn run_words(session: &mut Session, words: &[Word]) -> Result<String, Fault> {
-    let alloc = session.alloc;
+pub fn run_words(
+    alloc: Global,
+    texts: &Texts,
+    session: &mut Session,
+    words: &[Word],
+) -> Result<String, Fault> {
     let (front, pieces) = parted(words);
-    let words = strings(alloc, &session.texts, front)?;
-    let input = session.texts.spelled(pieces)?;
+    let words = strings(alloc, texts, front)?;
+    let input = texts.spelled(pieces)?;
     let failing = mem::replace(&mut session.failing, FailingCalls::new(alloc));
     let mut keeper = reopened(alloc, &mut session.keeper);
     let said = called(
@@ -26,17 +30,18 @@ pub fn run_words(session: &mut Session, words: &[Word]) -> Result<String, Fault>
         &mut keeper,
     );
     session.keeper = keeper;
-    with_items(alloc, session, said)
+    with_items(alloc, texts, &session.keeper, said)
 }
 
 // Adds the items of the store.
 fn with_items(
     alloc: Global,
-    session: &Session,
+    texts: &Texts,
+    keeper: &MemKeeper,
     said: Result<String, Fault>,
 ) -> Result<String, Fault> {
     let mut text = said?;
-    let items = items_said(alloc, &session.texts, &session.keeper)?;
+    let items = items_said(alloc, texts, keeper)?;
     text.push_str(items.as_str())?;
     Ok(text)
 }

@@ -7,7 +7,7 @@ ghost use Rattle.stage_tree.specs.Stages.{Shows};
 
 use crate::edits::edit;
 use crate::words::edit_of;
-use case_lines::{Fault, Word};
+use case_lines::{Answers, Fault, Texts, Word};
 use git_objects::{Kind, Name};
 use object_store::Store;
 use stage_tree::{Stage, StageFault};
@@ -114,19 +114,30 @@ fn answered(alloc: Global, front: &[Word], behind: &[Word]) -> Result<String, Fa
     upon(alloc, &mut store, blob, root, behind)
 }
 
-/// `stage EDIT .. begin EDIT ..`: the tree of the first edits is stored, and a stage of it edited by the others.
-pub fn answer(alloc: Global, words: &[Word]) -> Result<Option<String>, Fault> {
-    let [first, inner @ ..] = words else {
-        return Err(Fault::BadLine);
-    };
-    let Some(at) = inner.iter().position(|word| word.text() == "begin") else {
-        return Err(Fault::BadLine);
-    };
-    let Some((front, behind)) = inner.split_at_checked(at) else {
-        return Err(Fault::BadLine);
-    };
-    if first.text() != "stage" {
-        return Err(Fault::BadLine);
+/// What answers lines on stages. It keeps nothing from line to line.
+#[derive(Drop)]
+pub struct Stages;
+
+impl Answers for Stages {
+    /// `stage EDIT .. begin EDIT ..`: the tree of the first edits is stored, and a stage of it edited by the others.
+    fn answer(
+        &mut self,
+        alloc: Global,
+        _texts: &mut Texts,
+        words: &[Word],
+    ) -> Result<Option<String>, Fault> {
+        let [first, inner @ ..] = words else {
+            return Err(Fault::BadLine);
+        };
+        let Some(at) = inner.iter().position(|word| word.text() == "begin") else {
+            return Err(Fault::BadLine);
+        };
+        let Some((front, behind)) = inner.split_at_checked(at) else {
+            return Err(Fault::BadLine);
+        };
+        if first.text() != "stage" {
+            return Err(Fault::BadLine);
+        }
+        Ok(Some(answered(alloc, front, behind.get(1..).unwrap_or(&[]))?))
     }
-    Ok(Some(answered(alloc, front, behind.get(1..).unwrap_or(&[]))?))
 }

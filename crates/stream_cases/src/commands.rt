@@ -1,5 +1,6 @@
 // How the commands of a stream are printed.
-use case_lines::{Fault, digits_of, printed};
+use crate::names::bracketed;
+use case_lines::{Fault, digits_of, path_text, printed, text_of};
 use fast_import::{BlobRef, Change, Command, CommitHead, CommitRef, Placed, Target};
 use git_objects::Mode;
 use path_names::Path;
@@ -20,10 +21,6 @@ fn command_text(alloc: Global, command: &Command) -> Result<String, Fault> {
         Command::Reset { refname, from } => reset_text(alloc, refname.text(), from),
         Command::Done => text_of(alloc, "done"),
     }
-}
-
-fn text_of(alloc: Global, text: &str) -> Result<String, Fault> {
-    String::from_str(alloc, text).map_err(Fault::from)
 }
 
 fn mark_and_content(alloc: Global, mark: Option<u64>, content: &[u8]) -> Result<String, Fault> {
@@ -102,10 +99,6 @@ fn add_word(text: &mut String, word: &str) -> Result<(), AllocError> {
     text.push_str(word)
 }
 
-fn path_text(alloc: Global, path: &Path) -> Result<String, Fault> {
-    Ok(printed(alloc, &path.text(alloc)?)?)
-}
-
 fn mode_text(mode: Mode) -> &'static str {
     match mode {
         Mode::File => "File",
@@ -120,13 +113,8 @@ fn blob_text(alloc: Global, blob: &BlobRef) -> Result<String, Fault> {
     match blob {
         BlobRef::Mark(mark) => Ok(format!(in alloc; "{mark}")?),
         BlobRef::Digits(name) => digits_of(alloc, name),
-        BlobRef::Inline(bytes) => Ok(inline_text(alloc, bytes.bytes())?),
+        BlobRef::Inline(bytes) => Ok(bracketed(alloc, bytes.bytes())?),
     }
-}
-
-fn inline_text(alloc: Global, bytes: &[u8]) -> Result<String, AllocError> {
-    let bytes = printed(alloc, bytes)?;
-    format!(in alloc; "[{bytes}]")
 }
 
 fn change_text(alloc: Global, change: &Change) -> Result<String, Fault> {

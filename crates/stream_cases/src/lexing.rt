@@ -1,7 +1,7 @@
 // Lines and blocks of a text.
 ghost use Rattle.std.specs.Prelude.{◌≡◌, ◌<◌, ◌∷◌, [], false};
 
-use case_lines::{Fault, Texts, Word, number_of, printed};
+use case_lines::{Fault, Texts, Word, count_of, printed};
 use std::alloc::{AllocError, Global};
 use stream_lex::{
     BlockAnswer, LexFault, Lexer, LimitFault, LineAnswer, LineView, Stop, any_line, block,
@@ -216,13 +216,8 @@ fn lent_one(alloc: Global, lexer: &mut Lexer, ask: &Word) -> Result<String, Faul
         }
         "any" => Ok(lent_any(alloc, lexer)?),
         "line" => Ok(lent_line(alloc, lexer)?),
-        _ => Ok(lent_block(alloc, lexer, size_of(ask)?)?),
+        _ => Ok(lent_block(alloc, lexer, count_of(ask)?)?),
     }
-}
-
-fn size_of(word: &Word) -> Result<usize, Fault> {
-    let size = number_of(&word.bytes)?;
-    usize::try_from(size).ok().ok_or(Fault::BadLine)
 }
 
 /// The answers to asks of a text that was fed whole, read without copies: `any` for the next line, a comment or not,

@@ -1,5 +1,5 @@
 // Paths, ref names, texts between quotes, words and numbers.
-use case_lines::{Fault, Texts, Word, printed};
+use case_lines::{Fault, Texts, Word, printed, text_of};
 use git_objects::Component;
 use path_names::{
     Path, PathFault, QuoteFault, RefFault, RefName, Unquoted, before, comparable, is_ref_name,
@@ -29,11 +29,8 @@ fn read(alloc: Global, form: &str, text: &[u8]) -> Result<String, Fault> {
     }
 }
 
-fn text_of(alloc: Global, text: &str) -> Result<String, Fault> {
-    String::from_str(alloc, text).map_err(Fault::from)
-}
-
-fn bracketed(alloc: Global, bytes: &[u8]) -> Result<String, AllocError> {
+/// Bytes as they are printed, between brackets.
+pub fn bracketed(alloc: Global, bytes: &[u8]) -> Result<String, AllocError> {
     let bytes = printed(alloc, bytes)?;
     format!(in alloc; "[{bytes}]")
 }

@@ -8,7 +8,7 @@ ghost use Rattle.workspace.specs.Laws.{IsUsable};
 ghost use Rattle.workspace.specs.Views.{IsHeldLeaf};
 
 use crate::trees::tree;
-use case_lines::{Fault, Texts, Word, printed};
+use case_lines::{Fault, Texts, Word, path_text, printed, text_of};
 use filter_routes::{Table, Tables, is_sound};
 use filter_text::{Filter, parse, print};
 use git_objects::{Kind, Name};
@@ -105,7 +105,7 @@ fn head(
     number: usize,
 ) -> Result<String, Fault> {
     if by_leaf.table != number {
-        return Ok(String::from_str(alloc, "two filters\n")?);
+        return text_of(alloc, "two filters\n");
     }
     let said = if by_leaf.readable {
         "readable"
@@ -115,7 +115,7 @@ fn head(
     match place {
         None => Ok(format!(in alloc; "no place, {said}\n")?),
         Some(path) => {
-            let path = printed(alloc, &path.text(alloc)?)?;
+            let path = path_text(alloc, path)?;
             Ok(format!(in alloc; "{path} {said}\n")?)
         }
     }
@@ -152,8 +152,8 @@ fn add_image(
     match image_of(alloc, table, path)? {
         None => Ok(()),
         Some(image) => {
-            let path = printed(alloc, &path.text(alloc)?)?;
-            let image = printed(alloc, &image.text(alloc)?)?;
+            let path = path_text(alloc, path)?;
+            let image = path_text(alloc, &image)?;
             lines.push_str(format!(in alloc; "{path} as {image}\n")?.as_str())
         }
     }

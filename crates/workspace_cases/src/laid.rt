@@ -7,7 +7,7 @@ use crate::answers::filter_of;
 use crate::listing::listed;
 use crate::shown::number_for;
 use crate::trees::tree;
-use case_lines::{Fault, Texts, Word, printed};
+use case_lines::{Fault, Texts, Word, path_text};
 use filter_routes::{Table, Tables};
 use filter_unapply::{LayFault, laid, unseen};
 use git_objects::{Kind, Name};
@@ -89,10 +89,6 @@ fn held_listing(alloc: Global, store: &Store, name: Name) -> Result<String, Faul
         return Err(Fault::BadLine);
     }
     listed(alloc, store, name)
-}
-
-fn path_text(alloc: Global, path: &Path) -> Result<String, AllocError> {
-    printed(alloc, &path.text(alloc)?)
 }
 
 fn not_held(alloc: Global, path: &Path) -> Result<String, AllocError> {

@@ -3,7 +3,7 @@ ghost use Rattle.std.specs.Prelude.{◌≡◌, ◌<◌, true, length, IfOk};
 ghost use Rattle.git_objects.specs.declared.kind.Kind.TheVariants.{Tree};
 ghost use Rattle.object_store.specs.Objects.{has};
 
-use case_lines::{Fault, digits_of, printed};
+use case_lines::{Fault, digits_of, path_text};
 use git_objects::{Mode, Name};
 use object_store::Store;
 use path_trees::Walk;
@@ -26,7 +26,7 @@ fn add_next(alloc: Global, lines: &mut String, walk: &mut Walk<'_>) -> Result<bo
     if !walk.next()? {
         return Ok(false);
     }
-    let path = printed(alloc, &walk.path().text(alloc)?)?;
+    let path = path_text(alloc, walk.path())?;
     let mode = mode_word(walk.leaf().mode);
     lines.push_str(format!(in alloc; "{mode} {path}\n")?.as_str())?;
     Ok(true)

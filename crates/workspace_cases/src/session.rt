@@ -2,7 +2,7 @@
 use crate::answers::resolved;
 use crate::laid::{laid_tree, unseen_path};
 use crate::shown::shown_tree;
-use case_lines::{Fault, Line, Texts, Word, read_line, said};
+use case_lines::{Answers, Fault, Texts, Word};
 use filter_routes::Tables;
 use object_store::Store;
 use std::alloc::Global;
@@ -12,8 +12,6 @@ use std::sync::ledger::Blank;
 /// What earlier lines made.
 #[derive(Drop)]
 pub struct Session {
-    alloc: Global,
-    texts: Texts,
     tables: Tables,
     store: Store,
 }
@@ -21,29 +19,12 @@ pub struct Session {
 impl Session {
     pub fn new(alloc: Global) -> Session {
         Session {
-            alloc,
-            texts: Texts::new(alloc),
             tables: Tables::new(alloc),
             store: Store::new(alloc),
         }
     }
 
-    /// What is printed for a line.
-    pub fn take(&mut self, line: &str) -> Result<String, Fault> {
-        let alloc = self.alloc;
-        match read_line(alloc, &mut self.texts, line) {
-            Ok(Line::Comment) => Ok(format!(in alloc; "{line}\n")?),
-            Ok(Line::Text) => Ok(String::new(alloc)),
-            Ok(Line::Asked(words)) => {
-                let answer = self.answered(&words);
-                said(alloc, line, answer.map(Some))
-            }
-            Err(fault) => said(alloc, line, Err(fault)),
-        }
-    }
-
-    fn answered(&mut self, words: &[Word]) -> Result<String, Fault> {
-        let (alloc, texts) = (self.alloc, &self.texts);
+    fn answered(&mut self, alloc: Global, texts: &Texts, words: &[Word]) -> Result<String, Fault> {
         match words {
             [form, inner @ ..] if form.text() == "resolve" => {
                 resolved(alloc, texts, &mut self.store, &mut self.tables, inner)
@@ -64,5 +45,16 @@ impl Session {
             }
             _ => Err(Fault::BadLine),
         }
+    }
+}
+
+impl Answers for Session {
+    fn answer(
+        &mut self,
+        alloc: Global,
+        texts: &mut Texts,
+        words: &[Word],
+    ) -> Result<Option<String>, Fault> {
+        self.answered(alloc, texts, words).map(Some)
     }
 }

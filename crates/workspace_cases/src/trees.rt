@@ -1,14 +1,10 @@
 // Trees of leaves that a line names.
-use case_lines::{Fault, Texts, Word, path_of};
+use case_lines::{Fault, Texts, Word, path_of, put_object};
 use git_objects::{Kind, Mode, Name};
 use object_store::Store;
 use path_names::Path;
 use path_trees::{Found, put_at};
 use std::alloc::Global;
-
-fn put(store: &mut Store, kind: Kind, body: &[u8]) -> Result<Name, Fault> {
-    store.put_slice(kind, body).ok().ok_or(Fault::BadLine)
-}
 
 fn mode_of(word: &Word) -> Result<Mode, Fault> {
     match word.text() {
@@ -50,7 +46,7 @@ fn grown(
     };
     let found = Found {
         mode: mode_of(mode)?,
-        name: put(store, Kind::Blob, &texts.word(text)?)?,
+        name: put_object(store, Kind::Blob, &texts.word(text)?)?,
     };
     let path = path_of(alloc, texts, path)?;
     with_leaf(alloc, store, root, &path, found)
@@ -63,7 +59,7 @@ pub fn tree(
     store: &mut Store,
     words: &[Word],
 ) -> Result<Name, Fault> {
-    let mut root = put(store, Kind::Tree, b"")?;
+    let mut root = put_object(store, Kind::Tree, b"")?;
     for leaf in words.chunks(3) {
         root = grown(alloc, texts, store, root, leaf)?;
     }
