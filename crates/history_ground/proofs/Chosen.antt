@@ -12,8 +12,8 @@ use Rattle.commit_map.specs.Shown as shown
 use Rattle.commit_map.specs.declared.commit_map.Shown.{Shown}
 use Rattle.commit_map.specs.declared.rule.Rule.{Rule}
 use Rattle.commit_map.specs.declared.rule.Rule.TheVariants.{Two}
-use Rattle.history_ground.specs.Projections as projections
-use Rattle.history_ground.specs.Projections.{chosen, has_tree, member_or, own}
+use Rattle.projection_laws.specs.Projections as projections
+use Rattle.projection_laws.specs.Projections.{chosen, has_tree, member_or, own}
 use Rattle.history_ground.specs.Choosing.{Agree, commits_before, IsChoice, IsTest}
 use Rattle.history_ground.specs.declared.choosing.Choice.{Choice}
 use Rattle.history_ground.specs.declared.choosing.Choice.TheVariants.{Below, Nothing, Member, New}

@@ -9,11 +9,11 @@ use Rattle.git_objects.specs.Snapshots.{Snapshot, Graph, snapshot_name, has_name
 use Rattle.git_objects.proofs.Basics.{same_bytes-self}
 use Rattle.commit_map.specs.Shown.{Shown, Entries, kept_at}
 use Rattle.commit_map.specs.declared.rule.Rule.{Rule}
-use Rattle.history_ground.specs.Projections.{choice_of, known_at, projected, projection_by, projections}
+use Rattle.projection_laws.specs.Projections.{choice_of, known_at, projected, projection_by, projections}
 use Rattle.history_ground.specs.Choosing.{Agree}
-use Rattle.history_ground.specs.Filled.{IsFilled, weighing}
-use Rattle.history_ground.proofs.GraphLemmas.{IsGrown, grown, has-newer, has-self, other}
-use Rattle.history_ground.proofs.HistoryLemmas.{each-append}
+use Rattle.projection_laws.specs.Filled.{IsFilled, weighing}
+use Rattle.projection_laws.proofs.GraphLemmas.{IsGrown, grown, has-newer, has-self, other}
+use Rattle.projection_laws.proofs.HistoryLemmas.{each-append}
 
 -- ---- look-ups in a map and one behind it
 

@@ -6,7 +6,7 @@ use Rattle.git_objects.specs.Paths.{Bytes, same_bytes}
 use Rattle.commit_map.specs.Shown as shown
 use Rattle.commit_map.specs.Shown.{shown_value}
 use Rattle.commit_map.specs.declared.commit_map.Shown.{Shown}
-use Rattle.history_ground.specs.Projections.{add_shown, distinct_from, is_same}
+use Rattle.projection_laws.specs.Projections.{add_shown, distinct_from, is_same}
 use Rattle.history_ground.specs.Choosing.{with_known}
 
 -- whether one of these has the name of a projection

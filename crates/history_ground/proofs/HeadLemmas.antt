@@ -38,18 +38,18 @@ use Rattle.history_ground.specs.Asked.{IsNone, IsShownBy}
 use Rattle.history_ground.specs.Grounds.{IsGround, Extends, IsShownOf, commits_of}
 use Rattle.history_ground.specs.Heads.{IsSeen, IsSeenObject}
 use Rattle.history_ground.specs.TrueMaps.{IsTrueMap}
-use Rattle.history_ground.specs.ProjectionLaws.{IsOf}
-use Rattle.history_ground.specs.Projections.{history_graph, own_commits, projection}
+use Rattle.projection_laws.specs.ProjectionLaws.{IsOf}
+use Rattle.projection_laws.specs.Projections.{history_graph, own_commits, projection}
 use Rattle.history_ground.specs.declared.ground.Ground.{Ground}
 use Rattle.history_ground.proofs.Asking.{shown-behind, shown-is}
-use Rattle.history_ground.proofs.GraphLemmas.{found}
+use Rattle.projection_laws.proofs.GraphLemmas.{found}
 use Rattle.history_ground.proofs.Growing.{commits-same, extends-as, extends-then, true-map-grown}
-use Rattle.history_ground.proofs.HeldCommits.{held, never-none}
+use Rattle.projection_laws.proofs.HeldCommits.{held, never-none}
 use Rattle.history_ground.proofs.OwnProjections.{IsAmong, own-has}
 use Rattle.history_ground.proofs.ProjectLemmas.{head-there, place-named, place-within}
-use Rattle.history_ground.proofs.ProjectionLemmas.{projection-of}
-use Rattle.history_ground.proofs.Reached.{commit-older}
-use Rattle.history_ground.proofs.StoredGraphs.{at-row, name-is, older-all, row-at}
+use Rattle.projection_laws.proofs.ProjectionLemmas.{projection-of}
+use Rattle.projection_laws.proofs.Reached.{commit-older}
+use Rattle.projection_laws.proofs.StoredGraphs.{at-row, name-is, older-all, row-at}
 use Rattle.history_ground.proofs.TakenTurns.{fault-as}
 use Rattle.history_ground.proofs.TurnLemmas.{seen-fault, seen-same, tree-held}
 

@@ -6,7 +6,7 @@ use Rattle.std.proofs.lemmas.List.Elements.{All-contains}
 use Rattle.std.proofs.lemmas.Option.{none-some, same_Some, slice_get-get_or}
 use Rattle.commit_graph.specs.Graphs.{Row, Reaches, Itself, Through}
 use Rattle.commit_map.specs.Shown.{kept_at}
-use Rattle.history_ground.specs.StoredGraphs.{name_at}
+use Rattle.projection_laws.specs.StoredGraphs.{name_at}
 use Rattle.history_ground.specs.Choosing.{AreKept, IsBelow, parents_at}
 use Rattle.history_ground.specs.declared.ground.Ground.{Ground}
 

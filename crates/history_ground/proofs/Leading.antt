@@ -12,13 +12,13 @@ use Rattle.commit_graph.proofs.Reaching.{reaches-down}
 use Rattle.commit_map.specs.Shown.{Shown, Entries, kept_at}
 use Rattle.commit_map.specs.Shown as shown
 use Rattle.commit_map.specs.declared.commit_map.Shown as code
-use Rattle.history_ground.specs.Projections.{distinct, is_same, is_shown_as, is_reached, known_at, leads, members}
-use Rattle.history_ground.specs.StoredGraphs.{name_at}
+use Rattle.projection_laws.specs.Projections.{distinct, is_same, is_shown_as, is_reached, known_at, leads, members}
+use Rattle.projection_laws.specs.StoredGraphs.{name_at}
 use Rattle.history_ground.specs.Choosing.{parents_at, names_at, commits_before, Agree, AreKept, IsBelow}
 use Rattle.history_ground.specs.Grounds.{IsGround}
 use Rattle.history_ground.specs.declared.ground.Ground.{Ground}
-use Rattle.history_ground.proofs.StoredGraphs.{row-at, name-is, older-has}
-use Rattle.history_ground.proofs.Reached.{same-reached}
+use Rattle.projection_laws.proofs.StoredGraphs.{row-at, name-is, older-has}
+use Rattle.projection_laws.proofs.Reached.{same-reached}
 use Rattle.history_ground.proofs.Lacks.{find-some}
 
 -- ---- what agrees

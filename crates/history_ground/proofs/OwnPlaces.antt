@@ -8,10 +8,10 @@ use Rattle.git_objects.specs.Paths.{Bytes}
 use Rattle.git_objects.specs.Snapshots.{Snapshot, Graph, snapshot_name, has_name, has, is_graph, is_wanted, wanted_below, reached}
 use Rattle.git_objects.specs.Trees.{Flat}
 use Rattle.commit_map.specs.declared.rule.Rule.{Rule}
-use Rattle.history_ground.specs.Projections.{Choice, New, choice_of, own_commit, own_commits, projections}
-use Rattle.history_ground.proofs.GraphLemmas.{grown, has-self, other}
-use Rattle.history_ground.proofs.HistoryLemmas.{any-append, reached-in}
-use Rattle.history_ground.proofs.Reached.{has-each}
+use Rattle.projection_laws.specs.Projections.{Choice, New, choice_of, own_commit, own_commits, projections}
+use Rattle.projection_laws.proofs.GraphLemmas.{grown, has-self, other}
+use Rattle.projection_laws.proofs.HistoryLemmas.{any-append, reached-in}
+use Rattle.projection_laws.proofs.Reached.{has-each}
 use Rattle.history_ground.proofs.TurnLemmas.{contains-here}
 
 pub has-behind : (newer older : Graph) (n : Bytes) → has older n ≡ true → has (newer ++ older) n ≡ true

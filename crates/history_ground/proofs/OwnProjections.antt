@@ -12,9 +12,9 @@ use Rattle.git_objects.specs.Snapshots.{Snapshot, Graph, snapshot_name, has_name
 use Rattle.git_objects.specs.Trees.{Flat}
 use Rattle.commit_map.specs.Shown.{Shown}
 use Rattle.commit_map.specs.declared.rule.Rule.{Rule}
-use Rattle.history_ground.specs.Projections.{Choice, Nothing, Member, New, choice_of, leads, members, own_commit, own_commits, projected, projection, projections, shown_of}
-use Rattle.history_ground.proofs.HistoryLemmas.{each-distinct, member-of, self-wanted, wanted-still}
-use Rattle.history_ground.proofs.ProjectionLemmas.{projection-newest}
+use Rattle.projection_laws.specs.Projections.{Choice, Nothing, Member, New, choice_of, leads, members, own_commit, own_commits, projected, projection, projections, shown_of}
+use Rattle.projection_laws.proofs.HistoryLemmas.{each-distinct, member-of, self-wanted, wanted-still}
+use Rattle.projection_laws.proofs.ProjectionLemmas.{projection-newest}
 use Rattle.history_ground.proofs.TurnLemmas.{contains-here}
 
 -- one of the commits has this projection's names

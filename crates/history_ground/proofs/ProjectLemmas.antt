@@ -12,11 +12,11 @@ use Rattle.filter_text.specs.Filters.{Filter}
 use Rattle.filter_apply.specs.Faults.{IsApplyFault}
 use Rattle.filter_apply.specs.declared.fault.ApplyError.{ApplyError}
 use Rattle.workspace.specs.Workspaces.{shown}
-use Rattle.history_ground.specs.Projections.{projection_by}
-use Rattle.history_ground.specs.Filled.{IsFilled, lacking}
+use Rattle.projection_laws.specs.Projections.{projection_by}
+use Rattle.projection_laws.specs.Filled.{IsFilled, lacking}
 use Rattle.history_ground.specs.Grounds.{IsGround, commits_of, Extends, IsShownOf}
 use Rattle.history_ground.specs.Asked.{IsNone}
-use Rattle.history_ground.specs.StoredGraphs.{name_at}
+use Rattle.projection_laws.specs.StoredGraphs.{name_at}
 use Rattle.history_ground.specs.Walks.{IsWalked}
 use Rattle.history_ground.specs.declared.ground.Ground.{Ground}
 use Rattle.history_ground.proofs.Growing.{commits-same, extends-as, extends-then}

@@ -16,8 +16,8 @@ use Rattle.workspace.specs.Workspaces.{shown}
 use Rattle.history_ground.specs.Asked.{IsNone}
 use Rattle.history_ground.specs.Grounds.{IsGround, Extends, commits_of}
 use Rattle.history_ground.specs.Heads.{IsSeenObject}
-use Rattle.history_ground.specs.Projections.{projection}
-use Rattle.history_ground.specs.StoredGraphs.{name_at}
+use Rattle.projection_laws.specs.Projections.{projection}
+use Rattle.projection_laws.specs.StoredGraphs.{name_at}
 use Rattle.history_ground.specs.TrueMaps.{IsPutBehind, IsTakenOut, IsTrueMap}
 use Rattle.history_ground.specs.TrueWalks.{IsMade, IsTrueWalk}
 use Rattle.history_ground.specs.declared.ground.Ground.{Ground}

@@ -20,8 +20,8 @@ use Rattle.history_ground.specs.Choosing.{Agree, commits_before, IsBelow}
 use Rattle.history_ground.specs.Grounds.{IsGround, Extends, IsShownOf, commits_of}
 use Rattle.history_ground.specs.Heads.{IsSeenObject}
 use Rattle.history_ground.specs.Making.{IsBecome, IsEntered, IsTurnObject}
-use Rattle.history_ground.specs.Projections.{Choice, New, choice_of, own_commits, projected, projection, projection_by, projections, known_at}
-use Rattle.history_ground.specs.StoredGraphs.{name_at, snapshot_named}
+use Rattle.projection_laws.specs.Projections.{Choice, New, choice_of, own_commits, projected, projection, projection_by, projections, known_at}
+use Rattle.projection_laws.specs.StoredGraphs.{name_at, snapshot_named}
 use Rattle.history_ground.specs.TrueMaps.{AreHeld, IsTrueMap}
 use Rattle.history_ground.specs.TrueWalks.{IsTrueStep, IsTrueWalk}
 use Rattle.history_ground.specs.Turns.{IsNew}
@@ -30,7 +30,7 @@ use Rattle.history_ground.specs.declared.seeing.Asked.{Asked}
 use Rattle.history_ground.proofs.Filling.{newer-known, projection-at}
 use Rattle.history_ground.proofs.Growing.{commits-same, extends-as, extends-self, extends-then, true-map-grown}
 use Rattle.history_ground.proofs.OwnPlaces.{has-behind, own-in}
-use Rattle.history_ground.proofs.StoredGraphs.{name-is, split-at, whole-graph}
+use Rattle.projection_laws.proofs.StoredGraphs.{name-is, split-at, whole-graph}
 use Rattle.history_ground.proofs.TakenTurns.{become, entered-new, fault-as, new-one}
 use Rattle.history_ground.proofs.TrueEntries.{entry-more}
 use Rattle.history_ground.proofs.TurnLemmas.{IsPlaced, before-same, placed, some-placed}

@@ -5,9 +5,9 @@ use Rattle.git_objects.specs.Paths.{Bytes}
 use Rattle.git_objects.specs.Snapshots.{Snapshot, Graph, has}
 use Rattle.commit_graph.specs.Graphs.{Row, Reaches}
 use Rattle.commit_map.specs.Shown.{Shown, Entries, kept_at, shown_value}
-use Rattle.history_ground.specs.Projections.{add_shown, known_at, leads}
-use Rattle.history_ground.specs.Projections as projections
-use Rattle.history_ground.specs.StoredGraphs.{name_at, graph_of}
+use Rattle.projection_laws.specs.Projections.{add_shown, known_at, leads}
+use Rattle.projection_laws.specs.Projections as projections
+use Rattle.projection_laws.specs.StoredGraphs.{name_at, graph_of}
 use Rattle.history_ground.specs.declared.choosing.Choice.{Choice}
 use Rattle.history_ground.specs.declared.choosing.Choice.TheVariants.{Below, Nothing, Member, New}
 use Rattle.history_ground.specs.declared.choosing.Test.{Test}

@@ -8,7 +8,7 @@ use Rattle.filter_routes.specs.TableValues.{Table}
 use Rattle.filter_apply.specs.Hands.{IsShownObject}
 use Rattle.filter_apply.specs.Truth.{AreTrueFor}
 use Rattle.workspace.specs.Workspaces.{resolve}
-use Rattle.history_ground.specs.StoredGraphs.{IsGraphIn, graph_of}
+use Rattle.projection_laws.specs.StoredGraphs.{IsGraphIn, graph_of}
 use Rattle.history_ground.specs.TrueMaps.{AreTrueMaps}
 use Rattle.history_ground.specs.declared.ground.Ground.{Ground}
 

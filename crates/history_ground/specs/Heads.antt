@@ -11,7 +11,7 @@ use Rattle.filter_text.specs.Filters.{Filter}
 use Rattle.workspace.specs.Workspaces.{shown}
 use Rattle.history_ground.specs.Grounds.{commits_of}
 use Rattle.history_ground.specs.Histories.{IsOfHistory}
-use Rattle.history_ground.specs.Projections.{own_commits, projection}
+use Rattle.projection_laws.specs.Projections.{own_commits, projection}
 use Rattle.history_ground.specs.declared.ground.Ground.{Ground}
 use Rattle.history_ground.specs.declared.heads.Seen.{Seen}
 

@@ -1,16 +1,10 @@
-pub mod Projections
-pub mod ProjectionLaws
-pub mod StoredGraphs
 pub mod TrueMaps
 pub mod Grounds
-pub mod Filled
 pub mod Asked
 pub mod Choosing
-pub mod Made
 pub mod Turns
 pub mod Walks
 pub mod Histories
 pub mod Making
 pub mod Heads
 pub mod TrueWalks
-pub mod Examples

@@ -10,7 +10,7 @@ use Rattle.commit_map.specs.declared.rule.Rule.{Rule}
 use Rattle.filter_text.specs.Filters.{Filter}
 use Rattle.filter_text.specs.Shapes.{shape}
 use Rattle.workspace.specs.Workspaces.{shown}
-use Rattle.history_ground.specs.ProjectionLaws.{AreOf, AreTrue}
+use Rattle.projection_laws.specs.ProjectionLaws.{AreOf, AreTrue}
 use Rattle.history_ground.specs.declared.true_maps.TrueMap.{TrueMap}
 
 -- the commits that are kept as projections are in the store

@@ -11,8 +11,8 @@ use Rattle.filter_text.specs.Filters.{Filter}
 use Rattle.workspace.specs.Workspaces.{shown}
 use Rattle.commit_map.specs.Shown.{Shown, Entries, shown_value}
 use Rattle.commit_map.specs.declared.commit_map.Shown as code
-use Rattle.history_ground.specs.Made.{IsOwnBody}
-use Rattle.history_ground.specs.Projections.{Choice, Nothing, Member, New, choice_of, chosen, own, shown_of}
+use Rattle.projection_laws.specs.Made.{IsOwnBody}
+use Rattle.projection_laws.specs.Projections.{Choice, Nothing, Member, New, choice_of, chosen, own, shown_of}
 use Rattle.history_ground.specs.Choosing.{Agree, commits_before, IsBelow, leads_at}
 use Rattle.history_ground.specs.declared.ground.Ground.{Ground}
 use Rattle.history_ground.specs.declared.turning.Turn.{Turn}

@@ -33,8 +33,7 @@ pub struct Seen {
 
 /// What is shown by a filter of the commit of that name, which is in the graph: its projection, from scratch, and the
 /// tree. Both are put into the store, the projection with its history; the kept projections are neither asked nor
-/// changed. What is found out on the way is remembered in the ground's true maps, so that asking again of this commit
-/// or of one upon it costs only what is new.
+/// changed. The ground's true maps remember what is found out on the way, for the next question (no clause says so).
 pub fn seen_head(
     alloc: Global,
     ground: &mut Ground,

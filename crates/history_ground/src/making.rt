@@ -15,8 +15,8 @@ ghost use Rattle.history_ground.specs.Asked.{IsAskedFor};
 ghost use Rattle.history_ground.specs.Grounds.{Extends, IsGround, commits_of};
 ghost use Rattle.history_ground.specs.Heads.{IsSeenObject};
 ghost use Rattle.history_ground.specs.Making.{IsFit, IsTurnObject};
-ghost use Rattle.history_ground.specs.Projections.{projection};
-ghost use Rattle.history_ground.specs.StoredGraphs.{name_at};
+ghost use Rattle.projection_laws.specs.Projections.{projection};
+ghost use Rattle.projection_laws.specs.StoredGraphs.{name_at};
 ghost use Rattle.history_ground.specs.TrueMaps.{AreHeld, IsTrueMap};
 ghost use Rattle.history_ground.specs.TrueWalks.{IsMade, IsTrueStep, IsTrueWalk};
 

@@ -11,19 +11,19 @@ ghost use Rattle.filter_apply.specs.Faults.{IsApplyFault};
 ghost use Rattle.workspace.specs.Laws.{IsUsable};
 ghost use Rattle.history_ground.specs.Asked.{IsAskedFor};
 ghost use Rattle.history_ground.specs.Choosing.{AreKept, names_at, parents_at};
-ghost use Rattle.history_ground.specs.Projections.{members};
+ghost use Rattle.projection_laws.specs.Projections.{members};
 ghost use Rattle.history_ground.specs.Grounds.{Extends, IsGround, IsShownOf, commits_of};
-ghost use Rattle.history_ground.specs.StoredGraphs.{name_at, snapshot_named};
+ghost use Rattle.projection_laws.specs.StoredGraphs.{name_at, snapshot_named};
 ghost use Rattle.history_ground.specs.Turns.{IsOwnTurn, IsTurn, IsTurnUpon};
 
 use crate::Ground;
 use crate::choosing::{Choice, chosen, lacking_parent, members};
-use crate::made::own_body;
 use crate::seeing::{Asked, seen};
 use commit_map::Shown;
 use filter_apply::ApplyError;
 use filter_text::Filter;
 use git_objects::{Kind, Name, name_of};
+use projection_laws::own_body;
 use std::alloc::{AllocError, Global};
 
 // What a turn of a walk gives.

@@ -10,10 +10,10 @@ ghost use Rattle.filter_apply.specs.declared.fault.ApplyError.TheVariants.{OutOf
 ghost use Rattle.workspace.specs.Laws.{IsUsable};
 ghost use Rattle.workspace.specs.Workspaces.{shown};
 ghost use Rattle.history_ground.specs.Asked.{IsAskedFor};
-ghost use Rattle.history_ground.specs.Filled.{IsFilled, lacking};
+ghost use Rattle.projection_laws.specs.Filled.{IsFilled, lacking};
 ghost use Rattle.history_ground.specs.Grounds.{Extends, IsGround, IsShownOf, commits_of};
-ghost use Rattle.history_ground.specs.Projections.{projection_by};
-ghost use Rattle.history_ground.specs.StoredGraphs.{name_at};
+ghost use Rattle.projection_laws.specs.Projections.{projection_by};
+ghost use Rattle.projection_laws.specs.StoredGraphs.{name_at};
 ghost use Rattle.history_ground.specs.Walks.{IsStep, IsWalked};
 
 use crate::Ground;

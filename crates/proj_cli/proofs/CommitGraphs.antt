@@ -21,7 +21,7 @@ use Rattle.object_store.specs.Objects.{Object, IsStore, has, has_name, object_na
 use Rattle.object_store.specs.StoredSnapshots.{snapshot_in, snapshot_of, snapshots_in}
 use Rattle.object_store.proofs.Held.{has_name-from}
 use Rattle.object_store.proofs.StoredCommits.{IsHeldCommit, commit-held}
-use Rattle.history_ground.proofs.GraphLemmas.{graph-from, has-newer}
+use Rattle.projection_laws.proofs.GraphLemmas.{graph-from, has-newer}
 use Rattle.state_items.specs.Arrivals.{commit_row, rows_of, with_commit, with_row}
 use Rattle.state_items.proofs.Bringing as bringing
 

@@ -30,7 +30,7 @@ use Rattle.filter_apply.specs.declared.fault.ApplyError.{ApplyError}
 use Rattle.workspace.specs.Workspaces.{shown}
 use Rattle.fast_import.specs.declared.whole.ReplayError.{ReplayError}
 use Rattle.history_ground.specs.Grounds.{IsShownOf, commits_of}
-use Rattle.history_ground.specs.Projections.{projection_by}
+use Rattle.projection_laws.specs.Projections.{projection_by}
 use Rattle.state_items.specs.Changes.{fresh, objects_of}
 use Rattle.repo_ground.specs.Taking.{IsNotTaken, IsTaken}
 use Rattle.repo_ground.specs.declared.commit.CommitError.{CommitError}

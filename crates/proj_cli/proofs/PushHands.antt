@@ -18,7 +18,7 @@ use Rattle.filter_apply.proofs.Members.{in-flat_map}
 use Rattle.filter_apply.proofs.Overs.{made_as}
 use Rattle.filter_unapply.specs.Hands.{IsComponentOfTwo, IsLaidMade, IsLeafOfTwo, IsNamedIn, IsNamedInAny}
 use Rattle.workspace.specs.Workspaces.{next, resolve, shown}
-use Rattle.history_ground.specs.Projections.{history_graph, projection}
+use Rattle.projection_laws.specs.Projections.{history_graph, projection}
 use Rattle.stream_reader.specs.declared.command.Command.{Command}
 use Rattle.stream_reader.specs.declared.command.Command.TheVariants as commands
 use Rattle.stream_reader.specs.declared.command.Placed.{Placed}

@@ -19,10 +19,10 @@ use Rattle.workspace.specs.Laws.{IsUsable}
 use Rattle.workspace.specs.Workspaces.{shown}
 use Rattle.commit_graph.specs.Graphs.{Row}
 use Rattle.commit_map.specs.declared.rule.Rule.{Rule}
-use Rattle.history_ground.specs.Projections.{projection, shown_of}
-use Rattle.history_ground.specs.StoredGraphs.{IsGraphIn, graph_of, snapshot_named}
-use Rattle.history_ground.proofs.GraphLemmas.{has-newer, has-self}
-use Rattle.history_ground.proofs.StoredGraphs.{at-row, older, older-all, older-suc, row-at}
+use Rattle.projection_laws.specs.Projections.{projection, shown_of}
+use Rattle.projection_laws.specs.StoredGraphs.{IsGraphIn, graph_of, snapshot_named}
+use Rattle.projection_laws.proofs.GraphLemmas.{has-newer, has-self}
+use Rattle.projection_laws.proofs.StoredGraphs.{at-row, older, older-all, older-suc, row-at}
 use Rattle.push_laws.specs.PushLaws.{Agrees, AreFound, AreTrees, EachStep, IsChain, IsPush, IsStep, commit_of, last_of, originals}
 use Rattle.push_laws.specs.PushReplays.{StreamRefusal}
 use Rattle.push_laws.specs.PushVerdicts.{Pair, Refusal, Verdict, original_of, original_tree, upon, verdict, verdict_from, with_pair}

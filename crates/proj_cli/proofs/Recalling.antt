@@ -12,8 +12,8 @@ use Rattle.filter_text.specs.Filters.{Filter}
 use Rattle.filter_text.specs.Printing.{printed}
 use Rattle.commit_map.specs.Shown.{Entries, Shown, kept_at}
 use Rattle.workspace.specs.Workspaces.{shown}
-use Rattle.history_ground.specs.ProjectionLaws.{ProjectionLaw}
-use Rattle.history_ground.specs.Projections.{known_at}
+use Rattle.projection_laws.specs.ProjectionLaws.{ProjectionLaw}
+use Rattle.projection_laws.specs.Projections.{known_at}
 use Rattle.state_items.specs.Items.{Kept}
 use Rattle.state_items.specs.KeptMaps.{entries_for, is_for}
 use Rattle.state_items.specs.Repos.{repo}

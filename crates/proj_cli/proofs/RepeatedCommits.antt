@@ -12,9 +12,9 @@ use Rattle.git_objects.specs.Snapshots.{Graph, Snapshot, add, add_all, has, has_
 use Rattle.git_objects.specs.Trees.{Flat}
 use Rattle.commit_map.specs.Shown.{Entries, Shown}
 use Rattle.commit_map.specs.declared.rule.Rule.TheVariants.{One}
-use Rattle.history_ground.specs.Projections.{choice_of, chosen, distinct, known_at, leads, members, projected, projection, projections}
-use Rattle.history_ground.proofs.GraphLemmas.{has-newer, has-self}
-use Rattle.history_ground.proofs.ProjectionLemmas.{projection-newest}
+use Rattle.projection_laws.specs.Projections.{choice_of, chosen, distinct, known_at, leads, members, projected, projection, projections}
+use Rattle.projection_laws.proofs.GraphLemmas.{has-newer, has-self}
+use Rattle.projection_laws.proofs.ProjectionLemmas.{projection-newest}
 
 -- ---- one commit, by the first rule
 

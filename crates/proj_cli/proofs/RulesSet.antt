@@ -11,7 +11,7 @@ use Rattle.commit_map.specs.declared.rule.Rule.{Rule}
 use Rattle.commit_map.specs.declared.rule.Rule.TheVariants.{One, Two}
 use Rattle.filter_apply.specs.Truth.{AreTrueFor}
 use Rattle.history_ground.specs.Grounds.{IsGround}
-use Rattle.history_ground.specs.StoredGraphs.{IsGraphIn, graph_of}
+use Rattle.projection_laws.specs.StoredGraphs.{IsGraphIn, graph_of}
 use Rattle.history_ground.specs.TrueMaps.{AreTrueMaps}
 use Rattle.state_items.specs.Arrivals.{rows_of}
 use Rattle.state_items.specs.Appending.{IsAddition}

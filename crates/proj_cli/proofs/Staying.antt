@@ -5,7 +5,7 @@ use Rattle.git_objects.specs.Snapshots.{Snapshot, snapshot_name, add, add_all, h
 use Rattle.git_objects.proofs.Basics.{same_bytes-back}
 use Rattle.filter_text.specs.Filters.{Filter}
 use Rattle.workspace.specs.Workspaces.{shown}
-use Rattle.history_ground.proofs.ProjectionLemmas.{projection-added}
+use Rattle.projection_laws.proofs.ProjectionLemmas.{projection-added}
 use Rattle.state_items.specs.Imported.{is_among, with_commits}
 use Rattle.state_items.specs.KeptLaws.{StayLaw}
 use Rattle.proj_words.specs.declared.outcome.Outcome.{Outcome}

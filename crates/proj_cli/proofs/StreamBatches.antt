@@ -26,7 +26,7 @@ use Rattle.fast_import.specs.Replays.{Replay, given_by, ran}
 use Rattle.fast_import.specs.Standing.{AreBlobsIn, AreCommitsIn, IsCommitIn, IsReplayedOf}
 use Rattle.fast_import.specs.declared.replayed.Made.{Made}
 use Rattle.fast_import.specs.declared.replayed.Replayed.{Replayed as ReplayedNames}
-use Rattle.history_ground.specs.StoredGraphs.{snapshot_named}
+use Rattle.projection_laws.specs.StoredGraphs.{snapshot_named}
 use Rattle.state_items.specs.Imported.{AreRefsTo, AreSmall, AreWhole, IsBrought, IsWhole, with_commits}
 use Rattle.state_items.specs.Items.{Held}
 use Rattle.state_items.specs.Repos.{repo}

@@ -12,7 +12,7 @@ use Rattle.object_store.specs.StoredSnapshots.{snapshot_object}
 use Rattle.filter_text.specs.Filters.{Filter}
 use Rattle.filter_apply.specs.Hands.{parts_in}
 use Rattle.workspace.specs.Workspaces.{next, resolve, shown}
-use Rattle.history_ground.specs.Projections.{own_commits}
+use Rattle.projection_laws.specs.Projections.{own_commits}
 use Rattle.push_laws.specs.PushVerdicts.{Refusal, original_tree}
 use Rattle.stream_reader.specs.declared.command.Command.{Command}
 use Rattle.stream_reader.specs.declared.command.Command.TheVariants as commands

@@ -10,7 +10,7 @@ use Rattle.git_objects.specs.Trees.{Flat}
 use Rattle.git_objects.specs.Snapshots.{Snapshot, snapshot_name, tree_at}
 use Rattle.filter_text.specs.Filters.{Filter}
 use Rattle.workspace.specs.Laws.{IsUsable}
-use Rattle.history_ground.specs.Projections.{shown_of}
+use Rattle.projection_laws.specs.Projections.{shown_of}
 use Rattle.push_laws.specs.PushLaws.{Agrees, IsStep}
 use Rattle.push_laws.specs.Pushes.{Pushing}
 use Rattle.state_items.specs.Items.{Held}

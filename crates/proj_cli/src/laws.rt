@@ -3,7 +3,7 @@ ghost use Rattle.state_items.specs.KeptLaws.{StayLaw};
 ghost use Rattle.proj_cli.specs.Filters.{project_by};
 ghost use Rattle.proj_cli.specs.Plans.{RecallLaw};
 
-use history_ground::projection_law;
+use projection_laws::projection_law;
 
 /// A commit's projection stays when commits are added.
 pub fn stay_law()

@@ -13,7 +13,7 @@ ghost use Rattle.filter_apply.specs.Faults.{IsApplyFault};
 ghost use Rattle.filter_text.specs.Filters.{Filter as FilterValue};
 ghost use Rattle.filter_text.specs.Shapes.{shape};
 ghost use Rattle.history_ground.specs.Grounds.{Extends, IsGround, IsShownOf, commits_of};
-ghost use Rattle.history_ground.specs.Projections.{projection_by};
+ghost use Rattle.projection_laws.specs.Projections.{projection_by};
 ghost use Rattle.proj_io.specs.Counts.{Counts};
 ghost use Rattle.repo_ground.specs.Loads.{IsEmpty};
 ghost use Rattle.workspace.specs.Laws.{IsUsable};

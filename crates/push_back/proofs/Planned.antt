@@ -23,7 +23,7 @@ use Rattle.filter_apply.specs.declared.fault.ApplyError.TheVariants as apply
 use Rattle.workspace.specs.Workspaces.{shown}
 use Rattle.history_ground.specs.Grounds.{IsGround, Extends, commits_of}
 use Rattle.history_ground.specs.Heads.{IsSeen, IsSeenObject}
-use Rattle.history_ground.specs.Projections.{projection}
+use Rattle.projection_laws.specs.Projections.{projection}
 use Rattle.history_ground.specs.declared.ground.Ground.{Ground}
 use Rattle.history_ground.specs.declared.heads.Seen.{Seen}
 use Rattle.history_ground.proofs.Growing.{commits-same, extends-as, extends-then}

@@ -18,7 +18,8 @@ use commit_map::Shown;
 use fast_import::Made;
 use filter_text::Filter;
 use git_objects::{Kind, Name, name_of};
-use history_ground::{Ground, own_body, put_commit};
+use history_ground::{Ground, put_commit};
+use projection_laws::own_body;
 use std::alloc::{AllocError, Global};
 
 // Works out the original of a pushed commit upon the original commit before it, where the commit before the pushed one

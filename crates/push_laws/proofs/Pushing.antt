@@ -17,15 +17,15 @@ use Rattle.filter_routes.specs.Origins.{lens_of, origin}
 use Rattle.git_objects.specs.Snapshots.{Snapshot, Graph, snapshot_name, has_name, has, commit_at, tree_at, is_graph, add, add_all}
 use Rattle.workspace.specs.Workspaces.{place, with_leaf, resolve, shown, next}
 use Rattle.filter_unapply.specs.Laying.{pre, first_lost, first_blocked, laid, laid_from, laid_through, LaidTree, unseen}
-use Rattle.history_ground.specs.Projections.{shown_of, own, projection}
+use Rattle.projection_laws.specs.Projections.{shown_of, own, projection}
 use Rattle.commit_map.specs.Shown.{Shown}
 use Rattle.commit_map.specs.declared.rule.Rule.{Rule}
 use Rattle.push_laws.specs.Pushes.{made_from, made_upon}
 use Rattle.push_laws.specs.PushVerdicts.{Pair, Verdict, Refusal, NoChange, BadWorkspace, original_of, original_tree, with_pair, upon, verdict_from, is_bad_workspace, judged, TreeLimit}
 use Rattle.push_laws.specs.PushLaws.{AreTrees, MadeLaw, IsStep, EachStep, StepsLaw, PushedLaw, IsChain, commit_of, originals, AreFound, ProjectedLaw, Returns, BackLaw, last_of, Agrees, ElsewhereLaw, AdmissibleLaw}
-use Rattle.history_ground.specs.ProjectionLaws.{IsOf}
-use Rattle.history_ground.proofs.GraphLemmas.{add-graph, add-has, found, one-parent-in}
-use Rattle.history_ground.proofs.ProjectionLemmas.{projection-added, projection-of, projection-one, upon_one}
+use Rattle.projection_laws.specs.ProjectionLaws.{IsOf}
+use Rattle.projection_laws.proofs.GraphLemmas.{add-graph, add-has, found, one-parent-in}
+use Rattle.projection_laws.proofs.ProjectionLemmas.{projection-added, projection-of, projection-one, upon_one}
 use Rattle.filter_unapply.proofs.LayingLemmas.{the_law as laying}
 use Rattle.workspace.proofs.Usable.{lens}
 use Rattle.filter_routes.proofs.Carried.{same_on_paths}

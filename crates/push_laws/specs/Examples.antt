@@ -17,7 +17,7 @@ use Rattle.filter_text.specs.Reading.{word_at, pieces_at, list_at}
 use Rattle.filter_text.specs.Items.{items, members}
 use Rattle.workspace.specs.Workspaces.{listed, next, resolve, shown, with_leaf}
 use Rattle.commit_map.specs.declared.rule.Rule.TheVariants.{One}
-use Rattle.history_ground.specs.Projections.{projection}
+use Rattle.projection_laws.specs.Projections.{projection}
 use Rattle.push_laws.specs.PushVerdicts.{Refusal, NoChange, BadWorkspace, Unseen, NotHeld, Blocked, Verdict, verdict}
 
 -- what a theorem about texts of files unfolds, so that it computes

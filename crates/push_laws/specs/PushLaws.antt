@@ -12,7 +12,7 @@ use Rattle.filter_routes.specs.Origins.{origin, lens_of}
 use Rattle.git_objects.specs.Snapshots.{Snapshot, Graph, snapshot_name, is_graph, has, commit_at, tree_at, add_all}
 use Rattle.workspace.specs.Workspaces.{place, resolve, shown, next, shown_place}
 use Rattle.filter_unapply.specs.Laying.{pre, laid, unseen, LaidTree}
-use Rattle.history_ground.specs.Projections.{shown_of, projection}
+use Rattle.projection_laws.specs.Projections.{shown_of, projection}
 use Rattle.commit_map.specs.Shown.{Shown}
 use Rattle.commit_map.specs.declared.rule.Rule.{Rule}
 use Rattle.fast_import.specs.Replays.{Ran}

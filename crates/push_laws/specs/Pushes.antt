@@ -7,7 +7,7 @@ use Rattle.git_objects.specs.Snapshots.{Snapshot, Graph, snapshot_name, tree_at}
 use Rattle.filter_text.specs.Filters.{Filter}
 use Rattle.workspace.specs.Workspaces.{shown}
 use Rattle.commit_map.specs.declared.rule.Rule.{Rule}
-use Rattle.history_ground.specs.Projections.{projection}
+use Rattle.projection_laws.specs.Projections.{projection}
 use Rattle.fast_import.specs.Replays.{Base, Ran}
 use Rattle.push_laws.specs.PushVerdicts.{Refusal, Verdict, original_of, original_tree, verdict}
 use Rattle.push_laws.specs.PushReplays.{StreamRefusal, push_base, push_replay}

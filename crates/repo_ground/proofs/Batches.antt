@@ -14,7 +14,7 @@ use Rattle.object_store.specs.Unfolding.{StandsFor}
 use Rattle.object_store.proofs.Parts.{find-name, found-has}
 use Rattle.object_store.proofs.StoredCommits.{stored-commit}
 use Rattle.fast_import.specs.Standing.{AreBlobsIn}
-use Rattle.history_ground.specs.StoredGraphs.{snapshot_named}
+use Rattle.projection_laws.specs.StoredGraphs.{snapshot_named}
 use Rattle.state_items.specs.Appending.{AreNew}
 use Rattle.state_items.specs.Changes.{blob_object, fresh}
 use Rattle.repo_ground.specs.Changes.{AreNamedIn}

@@ -22,7 +22,7 @@ use Rattle.object_store.specs.StoredSnapshots.{commit_named, snapshot_in, snapsh
 use Rattle.object_store.proofs.Parts.{AreIn, find-name, found-has}
 use Rattle.object_store.proofs.StoredCommits.{commit-held, stored-commit}
 use Rattle.commit_graph.specs.Graphs.{Row, place_of}
-use Rattle.history_ground.specs.StoredGraphs.{IsGraphIn, snapshot_named}
+use Rattle.projection_laws.specs.StoredGraphs.{IsGraphIn, snapshot_named}
 use Rattle.state_items.specs.Arrivals.{HasParents, commit_row, rows_of, with_commit, with_row}
 use Rattle.state_items.specs.Imported.{AreWhole, is_among}
 use Rattle.state_items.proofs.RowsHeld.{some-place}

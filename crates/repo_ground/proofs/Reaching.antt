@@ -13,7 +13,7 @@ use Rattle.git_objects.specs.Snapshots.{Snapshot, snapshot_name}
 use Rattle.commit_graph.specs.Graphs.{Row, place_of, Reaches, Itself, Through}
 use Rattle.object_store.specs.Objects.{Object}
 use Rattle.object_store.specs.StoredSnapshots.{commit_named, snapshot_of}
-use Rattle.history_ground.specs.StoredGraphs.{name_at, IsGraphIn}
+use Rattle.projection_laws.specs.StoredGraphs.{name_at, IsGraphIn}
 use Rattle.state_items.specs.Imported.{is_among}
 use Rattle.state_items.proofs.Naming.{any-map}
 use Rattle.state_items.proofs.ParentPlaces.{all-at}

@@ -21,7 +21,7 @@ use Rattle.commit_graph.proofs.Places.{graph-nil, graph-push, slice_get-push}
 use Rattle.state_items.specs.Arrivals.{commit_row, place_in, rows_of, with_commit, with_row}
 use Rattle.state_items.proofs.RowsHeld.{place-below, place-fresh, place-there, some-place}
 use Rattle.state_items.proofs.TreeParts.{each-map, each-member}
-use Rattle.history_ground.specs.StoredGraphs.{name_at, IsRowIn, IsGraphIn}
+use Rattle.projection_laws.specs.StoredGraphs.{name_at, IsRowIn, IsGraphIn}
 
 -- ---- names at places
 

@@ -16,7 +16,7 @@ use Rattle.object_store.specs.TreeObjects.{tree_objects}
 use Rattle.object_store.specs.Unfolding.{flat}
 use Rattle.object_store.proofs.Parts.{found-has}
 use Rattle.fast_import.specs.Standing.{AreBlobsIn}
-use Rattle.history_ground.specs.StoredGraphs.{snapshot_named}
+use Rattle.projection_laws.specs.StoredGraphs.{snapshot_named}
 use Rattle.state_items.specs.Changes.{blob_object, commit_objects}
 use Rattle.repo_ground.specs.Changes.{AreNamedIn}
 use Rattle.repo_ground.specs.StoredObjects.{stored_objects}

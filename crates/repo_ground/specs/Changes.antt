@@ -13,7 +13,7 @@ use Rattle.proj_io.specs.Items.{Stays, Gets}
 use Rattle.proj_io.specs.Views.{KeeperView}
 use Rattle.proj_io.specs.declared.keeper.KeepError.{KeepError}
 use Rattle.proj_io.specs.declared.keeper.KeepError.TheVariants.{Failed, OutOfMemory as NoMemory}
-use Rattle.history_ground.specs.StoredGraphs.{snapshot_named}
+use Rattle.projection_laws.specs.StoredGraphs.{snapshot_named}
 use Rattle.state_items.specs.Items.{Held}
 use Rattle.state_items.specs.Repos.{repo}
 use Rattle.state_items.specs.Changes.{Plan, change_plan, held_after, objects_of, passed, plan_items}

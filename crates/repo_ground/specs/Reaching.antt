@@ -9,7 +9,7 @@ use Rattle.git_objects.specs.declared.name.Name.{Name}
 use Rattle.commit_graph.specs.Graphs.{Row, place_of}
 use Rattle.object_store.specs.Objects.{Object, find_named}
 use Rattle.object_store.specs.StoredSnapshots.{snapshot_object}
-use Rattle.history_ground.specs.StoredGraphs.{IsGraphIn, snapshot_named}
+use Rattle.projection_laws.specs.StoredGraphs.{IsGraphIn, snapshot_named}
 use Rattle.ref_store.specs.Refs.{head_of}
 use Rattle.state_items.specs.Imported.{AreWhole, is_among}
 use Rattle.repo_ground.specs.Changes.{AreNamedIn, settings_of}

@@ -7,7 +7,7 @@ ghost use Rattle.git_objects.specs.Snapshots.{Snapshot};
 ghost use Rattle.object_store.specs.Objects.{Object, find_named, has};
 ghost use Rattle.object_store.specs.StoredSnapshots.{snapshot_object};
 ghost use Rattle.fast_import.specs.Standing.{AreBlobsIn};
-ghost use Rattle.history_ground.specs.StoredGraphs.{snapshot_named};
+ghost use Rattle.projection_laws.specs.StoredGraphs.{snapshot_named};
 ghost use Rattle.state_items.specs.Changes.{blob_object, commit_objects, objects_of};
 ghost use Rattle.repo_ground.specs.Changes.{AreNamedIn};
 ghost use Rattle.repo_ground.specs.Growing.{Extends, IsReady, IsStep};

@@ -4,7 +4,7 @@ use Rattle.object_store.specs.Unfolding.{flat}
 use Rattle.object_store.proofs.Unfolding.{unfolding_law}
 use Rattle.commit_map.specs.Shown.{shown_value}
 use Rattle.commit_map.specs.declared.commit_map.Shown.{Shown}
-use Rattle.history_ground.specs.Projections.{own}
+use Rattle.projection_laws.specs.Projections.{own}
 use Rattle.history_ground.specs.Choosing.{leads_at}
 use Rattle.history_ground.proofs.Chosen.{chosen-many, chosen-other, chosen-same}
 use Rattle.history_ground.proofs.choosing.chosen.Goals as goal

@@ -1,8 +1,8 @@
 use Rattle.std.proofs.Common.{◌≡◌, Bool, true, false, List, [], ◌∷◌, cond, refl, ap, ◌∙◌, ◌||◌, is_some, Some}
 use Rattle.std.specs.List.{find, list_any}
 use Rattle.commit_map.specs.Shown.{shown_value}
-use Rattle.history_ground.specs.Projections.{is_shown_as}
-use Rattle.history_ground.specs.StoredGraphs.{name_at}
+use Rattle.projection_laws.specs.Projections.{is_shown_as}
+use Rattle.projection_laws.specs.StoredGraphs.{name_at}
 use Rattle.history_ground.proofs.choosing.is_among.Goals as goal
 
 -- a test finds something exactly if something passes it

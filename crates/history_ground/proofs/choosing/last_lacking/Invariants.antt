@@ -1,7 +1,7 @@
 use Rattle.std.proofs.Common.{◌≤◌, ◌<◌, ℕ, length, get_or}
 use Rattle.std.specs.Option.{IsSome}
 use Rattle.commit_map.specs.Shown.{kept_at}
-use Rattle.history_ground.specs.StoredGraphs.{name_at}
+use Rattle.projection_laws.specs.StoredGraphs.{name_at}
 use Rattle.history_ground.proofs.choosing.last_lacking.Given as goal
 
 -- something is kept of the commits at the later places

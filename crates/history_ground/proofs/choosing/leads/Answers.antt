@@ -2,8 +2,8 @@ use Rattle.std.proofs.Common.{◌≡◌, ◌<◌, length, ℕ, List, All, Contai
 use Rattle.std.specs.List.{find, list_all, list_any}
 use Rattle.std.proofs.lemmas.List.Elements.{All-contains}
 use Rattle.commit_map.specs.Shown.{shown_value}
-use Rattle.history_ground.specs.Projections.{is_shown_as}
-use Rattle.history_ground.specs.StoredGraphs.{name_at}
+use Rattle.projection_laws.specs.Projections.{is_shown_as}
+use Rattle.projection_laws.specs.StoredGraphs.{name_at}
 use Rattle.history_ground.specs.Choosing.{AreKept, parents_at}
 use Rattle.history_ground.proofs.Lacks.{find-some, parents-are}
 use Rattle.history_ground.proofs.Leading.{leads-none, leads-some, lacks-below, reached-below, reached-within}

@@ -2,8 +2,8 @@ use Rattle.std.proofs.Common.{◌≤◌, length, map, sym, ◌∙◌, ap, arith}
 use Rattle.std.specs.List.{filter_map}
 use Rattle.std.proofs.lemmas.List.{at_drop_all}
 use Rattle.commit_map.specs.Shown.{shown_value}
-use Rattle.history_ground.specs.Projections.{distinct, distinct_from, known_at}
-use Rattle.history_ground.specs.StoredGraphs.{name_at}
+use Rattle.projection_laws.specs.Projections.{distinct, distinct_from, known_at}
+use Rattle.projection_laws.specs.StoredGraphs.{name_at}
 use Rattle.history_ground.proofs.Gathering.{filter-names}
 use Rattle.history_ground.proofs.choosing.members.Goals as goal
 

@@ -1,8 +1,8 @@
 use Rattle.std.proofs.Common.{◌≡◌, ◌≤◌, length, map, drop}
 use Rattle.std.specs.List.{filter_map}
 use Rattle.commit_map.specs.Shown.{shown_value}
-use Rattle.history_ground.specs.Projections.{distinct, distinct_from, known_at}
-use Rattle.history_ground.specs.StoredGraphs.{name_at}
+use Rattle.projection_laws.specs.Projections.{distinct, distinct_from, known_at}
+use Rattle.projection_laws.specs.StoredGraphs.{name_at}
 use Rattle.history_ground.proofs.choosing.members.Given as goal
 
 -- the projections so far, and those of the parents that are left, are all, each once

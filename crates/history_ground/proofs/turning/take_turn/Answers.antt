@@ -6,7 +6,7 @@ use Rattle.filter_text.specs.Shapes.{shape}
 use Rattle.filter_apply.specs.Faults.{IsApplyFault}
 use Rattle.commit_map.specs.Shown.{shown_value}
 use Rattle.commit_map.specs.declared.commit_map.Shown.{Shown}
-use Rattle.history_ground.specs.Projections.{members}
+use Rattle.projection_laws.specs.Projections.{members}
 use Rattle.history_ground.specs.Choosing.{names_at, parents_at}
 use Rattle.history_ground.specs.Grounds.{IsShownOf, commits_of}
 use Rattle.history_ground.specs.Turns.{IsTurnUpon}

@@ -2,7 +2,7 @@ use Rattle.std.proofs.Common.{map}
 use Rattle.git_objects.specs.Commits.{Commit}
 use Rattle.object_store.specs.Unfolding.{flat}
 use Rattle.commit_map.specs.Shown.{shown_value}
-use Rattle.history_ground.specs.Projections.{chosen, own}
+use Rattle.projection_laws.specs.Projections.{chosen, own}
 use Rattle.history_ground.specs.Choosing.{leads_at}
 use Rattle.history_ground.proofs.TurnLemmas.{choice-below, choice-member, choice-new, choice-nothing, made-upon}
 use Rattle.history_ground.proofs.turning.turn_upon.Goals as goal

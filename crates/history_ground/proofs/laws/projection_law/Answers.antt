@@ -1,5 +1,0 @@
-use Rattle.history_ground.proofs.KeptLemmas.{the_law}
-use Rattle.history_ground.proofs.laws.projection_law.Goals as goal
-
-pub returns : goal.returns
-returns c = the_law

@@ -1,0 +1,5 @@
+use Rattle.projection_laws.proofs.HistoryLemmas.{the_law}
+use Rattle.projection_laws.proofs.laws.history_law.Goals as goal
+
+pub returns : goal.returns
+returns c = the_law

@@ -1,0 +1,7 @@
+pub mod Projections
+pub mod ProjectionLaws
+pub mod StoredGraphs
+pub mod Filled
+pub mod Made
+pub mod Histories
+pub mod Examples
