@@ -10,10 +10,10 @@ use Rattle.git_objects.proofs.Basics.{same_bytes-self}
 use Rattle.commit_map.specs.Shown.{Shown, Entries, kept_at}
 use Rattle.commit_map.specs.declared.rule.Rule.{Rule}
 use Rattle.projection_laws.specs.Projections.{choice_of, known_at, projected, projection_by, projections}
-use Rattle.history_ground.specs.Choosing.{Agree}
 use Rattle.projection_laws.specs.Filled.{IsFilled, weighing}
 use Rattle.projection_laws.proofs.GraphLemmas.{IsGrown, grown, has-newer, has-self, other}
 use Rattle.projection_laws.proofs.HistoryLemmas.{each-append}
+use Rattle.history_ground.specs.Choosing.{Agree}
 
 -- ---- look-ups in a map and one behind it
 

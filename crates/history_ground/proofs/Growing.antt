@@ -29,12 +29,12 @@ use Rattle.filter_routes.proofs.Interning.{other-at}
 use Rattle.filter_cache.specs.Memos.{Memo}
 use Rattle.filter_apply.specs.Truth.{IsShownAs, IsTrueFor, Holds, KeepsOthers, AreTrueFor}
 use Rattle.projection_laws.specs.StoredGraphs.{IsRowIn, IsGraphIn, graph_of, snapshot_named}
+use Rattle.projection_laws.proofs.HistoryLemmas.{each-map}
+use Rattle.projection_laws.proofs.StoredGraphs.{at-row, older-suc, older-all, row-at}
 use Rattle.history_ground.specs.Grounds.{IsGround, commits_of, AreInFront, Extends}
 use Rattle.history_ground.specs.TrueMaps.{AreHeld, AreTrueMaps, IsTrueMap}
 use Rattle.history_ground.specs.declared.ground.Ground.{Ground}
 use Rattle.history_ground.specs.declared.true_maps.TrueMap.{TrueMap}
-use Rattle.projection_laws.proofs.HistoryLemmas.{each-map}
-use Rattle.projection_laws.proofs.StoredGraphs.{at-row, older-suc, older-all, row-at}
 
 -- ---- the store
 

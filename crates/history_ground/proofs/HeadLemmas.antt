@@ -34,22 +34,22 @@ use Rattle.filter_text.specs.Filters.{Filter}
 use Rattle.filter_apply.specs.Faults.{IsApplyFault}
 use Rattle.filter_apply.specs.declared.fault.ApplyError.{ApplyError}
 use Rattle.workspace.specs.Workspaces.{resolve, shown}
+use Rattle.projection_laws.specs.ProjectionLaws.{IsOf}
+use Rattle.projection_laws.specs.Projections.{history_graph, own_commits, projection}
+use Rattle.projection_laws.proofs.GraphLemmas.{found}
+use Rattle.projection_laws.proofs.HeldCommits.{held, never-none}
+use Rattle.projection_laws.proofs.ProjectionLemmas.{projection-of}
+use Rattle.projection_laws.proofs.Reached.{commit-older}
+use Rattle.projection_laws.proofs.StoredGraphs.{at-row, name-is, older-all, row-at}
 use Rattle.history_ground.specs.Asked.{IsNone, IsShownBy}
 use Rattle.history_ground.specs.Grounds.{IsGround, Extends, IsShownOf, commits_of}
 use Rattle.history_ground.specs.Heads.{IsSeen, IsSeenObject}
 use Rattle.history_ground.specs.TrueMaps.{IsTrueMap}
-use Rattle.projection_laws.specs.ProjectionLaws.{IsOf}
-use Rattle.projection_laws.specs.Projections.{history_graph, own_commits, projection}
 use Rattle.history_ground.specs.declared.ground.Ground.{Ground}
 use Rattle.history_ground.proofs.Asking.{shown-behind, shown-is}
-use Rattle.projection_laws.proofs.GraphLemmas.{found}
 use Rattle.history_ground.proofs.Growing.{commits-same, extends-as, extends-then, true-map-grown}
-use Rattle.projection_laws.proofs.HeldCommits.{held, never-none}
 use Rattle.history_ground.proofs.OwnProjections.{IsAmong, own-has}
 use Rattle.history_ground.proofs.ProjectLemmas.{head-there, place-named, place-within}
-use Rattle.projection_laws.proofs.ProjectionLemmas.{projection-of}
-use Rattle.projection_laws.proofs.Reached.{commit-older}
-use Rattle.projection_laws.proofs.StoredGraphs.{at-row, name-is, older-all, row-at}
 use Rattle.history_ground.proofs.TakenTurns.{fault-as}
 use Rattle.history_ground.proofs.TurnLemmas.{seen-fault, seen-same, tree-held}
 

@@ -14,11 +14,11 @@ use Rattle.commit_map.specs.Shown as shown
 use Rattle.commit_map.specs.declared.commit_map.Shown as code
 use Rattle.projection_laws.specs.Projections.{distinct, is_same, is_shown_as, is_reached, known_at, leads, members}
 use Rattle.projection_laws.specs.StoredGraphs.{name_at}
+use Rattle.projection_laws.proofs.StoredGraphs.{row-at, name-is, older-has}
+use Rattle.projection_laws.proofs.Reached.{same-reached}
 use Rattle.history_ground.specs.Choosing.{parents_at, names_at, commits_before, Agree, AreKept, IsBelow}
 use Rattle.history_ground.specs.Grounds.{IsGround}
 use Rattle.history_ground.specs.declared.ground.Ground.{Ground}
-use Rattle.projection_laws.proofs.StoredGraphs.{row-at, name-is, older-has}
-use Rattle.projection_laws.proofs.Reached.{same-reached}
 use Rattle.history_ground.proofs.Lacks.{find-some}
 
 -- ---- what agrees

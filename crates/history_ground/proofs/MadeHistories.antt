@@ -22,9 +22,9 @@ use Rattle.object_store.proofs.Parts.{found-has}
 use Rattle.object_store.proofs.StoredCommits.{stored-commit}
 use Rattle.projection_laws.specs.StoredGraphs.{snapshot_named}
 use Rattle.projection_laws.specs.Histories.{AreMade, is_among}
+use Rattle.projection_laws.proofs.HistoryLemmas.{any-reverse, filter-append, map-append, reverse-more, same-image}
 use Rattle.history_ground.specs.Making.{with_name, IsAdded, IsTakenIn}
 use Rattle.history_ground.proofs.Growing.{commit-grown}
-use Rattle.projection_laws.proofs.HistoryLemmas.{any-reverse, filter-append, map-append, reverse-more, same-image}
 
 -- ---- a store that grows
 

@@ -14,9 +14,9 @@ use Rattle.filter_apply.specs.declared.fault.ApplyError.{ApplyError}
 use Rattle.workspace.specs.Workspaces.{shown}
 use Rattle.projection_laws.specs.Projections.{projection_by}
 use Rattle.projection_laws.specs.Filled.{IsFilled, lacking}
+use Rattle.projection_laws.specs.StoredGraphs.{name_at}
 use Rattle.history_ground.specs.Grounds.{IsGround, commits_of, Extends, IsShownOf}
 use Rattle.history_ground.specs.Asked.{IsNone}
-use Rattle.projection_laws.specs.StoredGraphs.{name_at}
 use Rattle.history_ground.specs.Walks.{IsWalked}
 use Rattle.history_ground.specs.declared.ground.Ground.{Ground}
 use Rattle.history_ground.proofs.Growing.{commits-same, extends-as, extends-then}

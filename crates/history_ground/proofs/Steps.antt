@@ -7,9 +7,9 @@ use Rattle.commit_map.specs.Shown.{Shown, shown_value}
 use Rattle.commit_map.specs.declared.commit_map.Shown as code
 use Rattle.filter_text.specs.Filters.{Filter}
 use Rattle.projection_laws.specs.Projections.{projected}
+use Rattle.projection_laws.specs.StoredGraphs.{name_at, snapshot_named}
 use Rattle.history_ground.specs.Choosing.{IsBelow}
 use Rattle.history_ground.specs.Grounds.{IsGround, Extends}
-use Rattle.projection_laws.specs.StoredGraphs.{name_at, snapshot_named}
 use Rattle.history_ground.specs.Turns.{IsNew, IsTurn, kept_choice}
 use Rattle.history_ground.specs.Walks.{IsProjectedTo, IsSettled, IsStep}
 use Rattle.history_ground.specs.declared.ground.Ground.{Ground}

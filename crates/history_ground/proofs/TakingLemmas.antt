@@ -19,10 +19,15 @@ use Rattle.filter_apply.specs.declared.fault.ApplyError.{ApplyError}
 use Rattle.workspace.specs.Workspaces.{shown}
 use Rattle.projection_laws.specs.Projections.{Choice, New, choice_of, history_graph, known_at, own_commit, projected, projection_by, projections}
 use Rattle.projection_laws.specs.StoredGraphs.{name_at, snapshot_named}
+use Rattle.projection_laws.specs.Histories.{AreMade}
+use Rattle.projection_laws.proofs.HistoryLemmas.{any-append, filter-append, fold-append, map-append}
+use Rattle.projection_laws.proofs.OwnCommits.{among, apart, choice-is, choice_at, none-among, one-option, own-history, own_at}
+use Rattle.projection_laws.proofs.Reached.{any-place}
+use Rattle.projection_laws.proofs.Rising.{each-all, rises, Rises, rises-split}
+use Rattle.projection_laws.proofs.StoredGraphs.{at-row, name-is, older, row-at, split-at, whole-graph}
 use Rattle.history_ground.specs.Choosing.{Agree, commits_before}
 use Rattle.history_ground.specs.Grounds.{IsGround, Extends, IsShownOf, commits_of}
 use Rattle.history_ground.specs.Asked.{IsAskedFor}
-use Rattle.projection_laws.specs.Histories.{AreMade}
 use Rattle.history_ground.specs.Histories.{IsOfHistory}
 use Rattle.history_ground.specs.Making.{IsBecome, IsTurnObject, IsReady, IsTaken}
 use Rattle.history_ground.specs.TrueMaps.{AreHeld}
@@ -30,12 +35,7 @@ use Rattle.history_ground.specs.declared.ground.Ground.{Ground}
 use Rattle.history_ground.specs.declared.seeing.Asked.{Asked}
 use Rattle.history_ground.proofs.Filling.{kept-each, newer-known, projection-at}
 use Rattle.history_ground.proofs.Growing.{commits-same, extends-as, extends-self, extends-then}
-use Rattle.projection_laws.proofs.HistoryLemmas.{any-append, filter-append, fold-append, map-append}
 use Rattle.history_ground.proofs.MadeHistories.{among-made, contains-all, nothing-made}
-use Rattle.projection_laws.proofs.OwnCommits.{among, apart, choice-is, choice_at, none-among, one-option, own-history, own_at}
-use Rattle.projection_laws.proofs.Reached.{any-place}
-use Rattle.projection_laws.proofs.Rising.{each-all, rises, Rises, rises-split}
-use Rattle.projection_laws.proofs.StoredGraphs.{at-row, name-is, older, row-at, split-at, whole-graph}
 use Rattle.history_ground.proofs.TakenTurns.{fault-as}
 use Rattle.history_ground.proofs.TurnLemmas.{before-same, contains-here, placed, some-placed}
 use Rattle.history_ground.proofs.WalkLemmas.{snapshot-same}

@@ -18,12 +18,12 @@ use Rattle.filter_text.specs.Filters.{Filter}
 use Rattle.filter_text.specs.Shapes.{shape}
 use Rattle.workspace.specs.Workspaces.{shown}
 use Rattle.projection_laws.specs.StoredGraphs.{IsGraphIn, graph_of, snapshot_named}
+use Rattle.projection_laws.proofs.HistoryLemmas.{each-append, each-map, filter-append}
+use Rattle.projection_laws.proofs.StoredGraphs.{whole-graph}
 use Rattle.history_ground.specs.TrueMaps.{AreTrueMaps, IsMapOf, IsPutBehind, IsTakenOut, IsTrueMap}
 use Rattle.history_ground.specs.declared.true_maps.TrueMap.{TrueMap}
 use Rattle.history_ground.proofs.Filling.{kept-append, kept-front, newer-known}
-use Rattle.projection_laws.proofs.HistoryLemmas.{each-append, each-map, filter-append}
 use Rattle.history_ground.proofs.OwnPlaces.{has-behind}
-use Rattle.projection_laws.proofs.StoredGraphs.{whole-graph}
 
 -- ---- one entry more
 

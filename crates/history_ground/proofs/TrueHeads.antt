@@ -13,11 +13,11 @@ use Rattle.filter_apply.specs.Faults.{IsApplyFault}
 use Rattle.filter_apply.specs.declared.fault.ApplyError.{ApplyError}
 use Rattle.filter_text.specs.Filters.{Filter}
 use Rattle.workspace.specs.Workspaces.{shown}
+use Rattle.projection_laws.specs.Projections.{projection}
+use Rattle.projection_laws.specs.StoredGraphs.{name_at}
 use Rattle.history_ground.specs.Asked.{IsNone}
 use Rattle.history_ground.specs.Grounds.{IsGround, Extends, commits_of}
 use Rattle.history_ground.specs.Heads.{IsSeenObject}
-use Rattle.projection_laws.specs.Projections.{projection}
-use Rattle.projection_laws.specs.StoredGraphs.{name_at}
 use Rattle.history_ground.specs.TrueMaps.{IsPutBehind, IsTakenOut, IsTrueMap}
 use Rattle.history_ground.specs.TrueWalks.{IsMade, IsTrueWalk}
 use Rattle.history_ground.specs.declared.ground.Ground.{Ground}

@@ -15,13 +15,14 @@ use Rattle.filter_apply.specs.Faults.{IsApplyFault}
 use Rattle.filter_apply.specs.declared.fault.ApplyError.{ApplyError}
 use Rattle.filter_text.specs.Filters.{Filter}
 use Rattle.workspace.specs.Workspaces.{shown}
+use Rattle.projection_laws.specs.Projections.{Choice, New, choice_of, own_commits, projected, projection, projection_by, projections, known_at}
+use Rattle.projection_laws.specs.StoredGraphs.{name_at, snapshot_named}
+use Rattle.projection_laws.proofs.StoredGraphs.{name-is, split-at, whole-graph}
 use Rattle.history_ground.specs.Asked.{IsAskedFor}
 use Rattle.history_ground.specs.Choosing.{Agree, commits_before, IsBelow}
 use Rattle.history_ground.specs.Grounds.{IsGround, Extends, IsShownOf, commits_of}
 use Rattle.history_ground.specs.Heads.{IsSeenObject}
 use Rattle.history_ground.specs.Making.{IsBecome, IsEntered, IsTurnObject}
-use Rattle.projection_laws.specs.Projections.{Choice, New, choice_of, own_commits, projected, projection, projection_by, projections, known_at}
-use Rattle.projection_laws.specs.StoredGraphs.{name_at, snapshot_named}
 use Rattle.history_ground.specs.TrueMaps.{AreHeld, IsTrueMap}
 use Rattle.history_ground.specs.TrueWalks.{IsTrueStep, IsTrueWalk}
 use Rattle.history_ground.specs.Turns.{IsNew}
@@ -30,7 +31,6 @@ use Rattle.history_ground.specs.declared.seeing.Asked.{Asked}
 use Rattle.history_ground.proofs.Filling.{newer-known, projection-at}
 use Rattle.history_ground.proofs.Growing.{commits-same, extends-as, extends-self, extends-then, true-map-grown}
 use Rattle.history_ground.proofs.OwnPlaces.{has-behind, own-in}
-use Rattle.projection_laws.proofs.StoredGraphs.{name-is, split-at, whole-graph}
 use Rattle.history_ground.proofs.TakenTurns.{become, entered-new, fault-as, new-one}
 use Rattle.history_ground.proofs.TrueEntries.{entry-more}
 use Rattle.history_ground.proofs.TurnLemmas.{IsPlaced, before-same, placed, some-placed}

@@ -29,17 +29,17 @@ use Rattle.workspace.specs.Workspaces.{resolve, shown}
 use Rattle.projection_laws.specs.Projections.{Choice, New, choice_of, chosen, leads, members, own}
 use Rattle.projection_laws.specs.StoredGraphs.{name_at, graph_of, snapshot_named}
 use Rattle.projection_laws.specs.Made.{own_commit_of}
+use Rattle.projection_laws.specs.Projections as projections
+use Rattle.projection_laws.proofs.StoredGraphs.{IsAt, at-row, name-is, older, row-at, split-at}
 use Rattle.history_ground.specs.Choosing.{parents_at, names_at, commits_before, Agree, AreKept, IsBelow, IsChoice, leads_at}
 use Rattle.history_ground.specs.declared.choosing.Choice as choices
 use Rattle.history_ground.specs.declared.choosing.Choice.TheVariants.{Below, Nothing, Member, New as CodeNew}
-use Rattle.projection_laws.specs.Projections as projections
 use Rattle.history_ground.specs.Grounds.{IsGround, commits_of, Extends, IsShownOf}
 use Rattle.history_ground.specs.Asked.{IsShownBy}
 use Rattle.history_ground.specs.Turns.{Becomes, IsNew, IsOwn, IsOwnTurn, IsTurn, IsTurnUpon}
 use Rattle.history_ground.specs.declared.ground.Ground.{Ground}
 use Rattle.history_ground.specs.declared.turning.Turn.{Turn}
 use Rattle.history_ground.specs.declared.turning.Turn.TheVariants as turns
-use Rattle.projection_laws.proofs.StoredGraphs.{IsAt, at-row, name-is, older, row-at, split-at}
 use Rattle.history_ground.proofs.Growing.{commit-grown, extends-as, older-grown}
 use Rattle.history_ground.proofs.Asking.{shown-is}
 use Rattle.history_ground.proofs.Leading.{members-agree}

@@ -11,15 +11,15 @@ use Rattle.filter_apply.specs.Faults.{IsApplyFault}
 use Rattle.filter_apply.specs.declared.fault.ApplyError.{ApplyError}
 use Rattle.workspace.specs.Workspaces.{shown}
 use Rattle.projection_laws.specs.Projections.{choice_of, projected, projection_by, projections}
-use Rattle.history_ground.specs.Choosing.{Agree, commits_before, IsBelow}
 use Rattle.projection_laws.specs.Filled.{IsFilled, lacking}
-use Rattle.history_ground.specs.Grounds.{IsGround, commits_of, Extends, IsShownOf}
 use Rattle.projection_laws.specs.StoredGraphs.{name_at, snapshot_named}
+use Rattle.projection_laws.proofs.StoredGraphs.{name-is, split-at, whole-graph}
+use Rattle.history_ground.specs.Choosing.{Agree, commits_before, IsBelow}
+use Rattle.history_ground.specs.Grounds.{IsGround, commits_of, Extends, IsShownOf}
 use Rattle.history_ground.specs.Asked.{IsAskedFor}
 use Rattle.history_ground.specs.declared.seeing.Asked.{Asked}
 use Rattle.history_ground.specs.Walks.{IsProjectedTo, IsSettled, IsStep, IsUnsettled, IsWalked}
 use Rattle.history_ground.specs.declared.ground.Ground.{Ground}
-use Rattle.projection_laws.proofs.StoredGraphs.{name-is, split-at, whole-graph}
 use Rattle.history_ground.proofs.Growing.{commits-same, extends-as, extends-self, extends-then, snapshot-grown}
 use Rattle.history_ground.proofs.Filling.{filled-agrees, filled-more, filled-none, projection-at, weigh-set, none-front}
 use Rattle.history_ground.proofs.TurnLemmas.{IsPlaced, before-same, placed, some-placed}

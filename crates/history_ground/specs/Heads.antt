@@ -9,9 +9,9 @@ use Rattle.object_store.specs.StoredSnapshots.{IsTreeOf, snapshot_object}
 use Rattle.object_store.specs.Unfolding.{StandsFor}
 use Rattle.filter_text.specs.Filters.{Filter}
 use Rattle.workspace.specs.Workspaces.{shown}
+use Rattle.projection_laws.specs.Projections.{own_commits, projection}
 use Rattle.history_ground.specs.Grounds.{commits_of}
 use Rattle.history_ground.specs.Histories.{IsOfHistory}
-use Rattle.projection_laws.specs.Projections.{own_commits, projection}
 use Rattle.history_ground.specs.declared.ground.Ground.{Ground}
 use Rattle.history_ground.specs.declared.heads.Seen.{Seen}
 

@@ -6,10 +6,10 @@ use Rattle.filter_text.specs.Filters.{Filter}
 use Rattle.workspace.specs.Workspaces.{shown}
 use Rattle.commit_map.specs.Shown.{Shown, Entries}
 use Rattle.projection_laws.specs.Projections.{choice_of, projected}
-use Rattle.history_ground.specs.Choosing.{Agree, commits_before, IsBelow}
 use Rattle.projection_laws.specs.Filled.{IsFilled, lacking}
-use Rattle.history_ground.specs.Grounds.{commits_of, Extends, IsShownOf}
 use Rattle.projection_laws.specs.StoredGraphs.{name_at, snapshot_named}
+use Rattle.history_ground.specs.Choosing.{Agree, commits_before, IsBelow}
+use Rattle.history_ground.specs.Grounds.{commits_of, Extends, IsShownOf}
 use Rattle.history_ground.specs.declared.ground.Ground.{Ground}
 
 -- what the commit at a place is projected to

@@ -10,11 +10,11 @@ ghost use Rattle.git_objects.specs.declared.kind.Kind.TheVariants.{Tree};
 ghost use Rattle.object_store.specs.Objects.{has};
 ghost use Rattle.object_store.specs.Unfolding.{flat};
 ghost use Rattle.commit_map.specs.Shown.{kept_at, shown_value};
+ghost use Rattle.projection_laws.specs.Projections.{chosen, is_shown_as, known_at, member_or, members, own};
+ghost use Rattle.projection_laws.specs.StoredGraphs.{name_at};
 ghost use Rattle.history_ground.specs.Grounds.{IsGround};
 ghost use Rattle.history_ground.specs.Choosing.{AreKept, IsBelow, IsChoice, IsTest, leads_at};
 ghost use Rattle.history_ground.specs.Choosing.{names_at, parents_at, with_known};
-ghost use Rattle.projection_laws.specs.Projections.{chosen, is_shown_as, known_at, member_or, members, own};
-ghost use Rattle.projection_laws.specs.StoredGraphs.{name_at};
 
 use crate::Ground;
 use commit_map::{Rule, Shown};

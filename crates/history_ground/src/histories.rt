@@ -15,13 +15,13 @@ ghost use Rattle.filter_apply.specs.Faults.{IsApplyFault};
 ghost use Rattle.filter_apply.specs.declared.fault.ApplyError.TheVariants.{OutOfMemory};
 ghost use Rattle.workspace.specs.Laws.{IsUsable};
 ghost use Rattle.workspace.specs.Workspaces.{shown};
-ghost use Rattle.history_ground.specs.Asked.{IsAskedFor, IsNone};
-ghost use Rattle.history_ground.specs.Grounds.{Extends, IsGround, commits_of};
 ghost use Rattle.projection_laws.specs.Histories.{AreMade};
-ghost use Rattle.history_ground.specs.Histories.{IsOfHistory};
-ghost use Rattle.history_ground.specs.Making.{IsAdded, IsFit, IsReady, IsTaken, IsTakenIn, IsTurnObject, with_name};
 ghost use Rattle.projection_laws.specs.Projections.{history_graph};
 ghost use Rattle.projection_laws.specs.StoredGraphs.{name_at};
+ghost use Rattle.history_ground.specs.Asked.{IsAskedFor, IsNone};
+ghost use Rattle.history_ground.specs.Grounds.{Extends, IsGround, commits_of};
+ghost use Rattle.history_ground.specs.Histories.{IsOfHistory};
+ghost use Rattle.history_ground.specs.Making.{IsAdded, IsFit, IsReady, IsTaken, IsTakenIn, IsTurnObject, with_name};
 
 use crate::Ground;
 use crate::seeing::Asked;

@@ -11,12 +11,12 @@ ghost use Rattle.object_store.specs.Growth.{IsOnly};
 ghost use Rattle.object_store.specs.Objects.{has};
 ghost use Rattle.workspace.specs.Laws.{IsUsable};
 ghost use Rattle.workspace.specs.Workspaces.{shown};
+ghost use Rattle.projection_laws.specs.Projections.{projection};
+ghost use Rattle.projection_laws.specs.StoredGraphs.{name_at};
 ghost use Rattle.history_ground.specs.Asked.{IsAskedFor};
 ghost use Rattle.history_ground.specs.Grounds.{Extends, IsGround, commits_of};
 ghost use Rattle.history_ground.specs.Heads.{IsSeenObject};
 ghost use Rattle.history_ground.specs.Making.{IsFit, IsTurnObject};
-ghost use Rattle.projection_laws.specs.Projections.{projection};
-ghost use Rattle.projection_laws.specs.StoredGraphs.{name_at};
 ghost use Rattle.history_ground.specs.TrueMaps.{AreHeld, IsTrueMap};
 ghost use Rattle.history_ground.specs.TrueWalks.{IsMade, IsTrueStep, IsTrueWalk};
 

@@ -9,11 +9,11 @@ ghost use Rattle.commit_map.specs.Shown.{shown_value};
 ghost use Rattle.filter_text.specs.Shapes.{shape};
 ghost use Rattle.filter_apply.specs.Faults.{IsApplyFault};
 ghost use Rattle.workspace.specs.Laws.{IsUsable};
+ghost use Rattle.projection_laws.specs.Projections.{members};
+ghost use Rattle.projection_laws.specs.StoredGraphs.{name_at, snapshot_named};
 ghost use Rattle.history_ground.specs.Asked.{IsAskedFor};
 ghost use Rattle.history_ground.specs.Choosing.{AreKept, names_at, parents_at};
-ghost use Rattle.projection_laws.specs.Projections.{members};
 ghost use Rattle.history_ground.specs.Grounds.{Extends, IsGround, IsShownOf, commits_of};
-ghost use Rattle.projection_laws.specs.StoredGraphs.{name_at, snapshot_named};
 ghost use Rattle.history_ground.specs.Turns.{IsOwnTurn, IsTurn, IsTurnUpon};
 
 use crate::Ground;

@@ -9,11 +9,11 @@ ghost use Rattle.filter_apply.specs.Faults.{IsApplyFault};
 ghost use Rattle.filter_apply.specs.declared.fault.ApplyError.TheVariants.{OutOfMemory};
 ghost use Rattle.workspace.specs.Laws.{IsUsable};
 ghost use Rattle.workspace.specs.Workspaces.{shown};
-ghost use Rattle.history_ground.specs.Asked.{IsAskedFor};
 ghost use Rattle.projection_laws.specs.Filled.{IsFilled, lacking};
-ghost use Rattle.history_ground.specs.Grounds.{Extends, IsGround, IsShownOf, commits_of};
 ghost use Rattle.projection_laws.specs.Projections.{projection_by};
 ghost use Rattle.projection_laws.specs.StoredGraphs.{name_at};
+ghost use Rattle.history_ground.specs.Asked.{IsAskedFor};
+ghost use Rattle.history_ground.specs.Grounds.{Extends, IsGround, IsShownOf, commits_of};
 ghost use Rattle.history_ground.specs.Walks.{IsStep, IsWalked};
 
 use crate::Ground;

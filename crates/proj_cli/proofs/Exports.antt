@@ -15,11 +15,11 @@ use Rattle.filter_text.specs.Filters.{Filter}
 use Rattle.workspace.specs.Workspaces.{shown}
 use Rattle.fast_export.specs.ExportTexts.{export_text}
 use Rattle.fast_export.specs.Histories.{IsHistoryIn, are_distinct, are_ordered, parents_in, snapshots_at}
-use Rattle.history_ground.specs.Grounds.{Extends, commits_of}
 use Rattle.projection_laws.specs.Histories.{AreMade, OrderLaw, is_among, is_distinct, is_ordered}
-use Rattle.history_ground.specs.Histories.{IsOfHistory}
 use Rattle.projection_laws.specs.ProjectionLaws.{HistoryLaw}
 use Rattle.projection_laws.specs.Projections.{history_graph}
+use Rattle.history_ground.specs.Grounds.{Extends, commits_of}
+use Rattle.history_ground.specs.Histories.{IsOfHistory}
 use Rattle.history_ground.specs.declared.ground.Ground.{Ground}
 use Rattle.proj_io.specs.Views.{SinkView}
 use Rattle.state_items.specs.Items.{Held}

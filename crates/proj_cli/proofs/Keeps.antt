@@ -23,8 +23,8 @@ use Rattle.filter_text.specs.Filters.{Filter}
 use Rattle.filter_text.specs.Printing.{printed}
 use Rattle.workspace.specs.Workspaces.{shown}
 use Rattle.projection_laws.specs.Filled.{IsFilled}
-use Rattle.history_ground.specs.Grounds.{Extends, IsGround, IsShownOf, commits_of}
 use Rattle.projection_laws.specs.Projections.{choice_of, known_at, projected, projection_by, projections}
+use Rattle.history_ground.specs.Grounds.{Extends, IsGround, IsShownOf, commits_of}
 use Rattle.history_ground.specs.declared.ground.Ground.{Ground}
 use Rattle.state_items.specs.Changes.{KeepPlan, NoPlan, entry_of, held_after, passed}
 use Rattle.state_items.specs.Items.{Held, is_canonical, is_of, is_rule}

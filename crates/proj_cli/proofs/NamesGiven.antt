@@ -19,8 +19,8 @@ use Rattle.fast_import.specs.Whole.{IsWhole}
 use Rattle.fast_import.specs.declared.replayed.Replayed.{Replayed}
 use Rattle.fast_import.specs.declared.replayed.Setting.{Setting}
 use Rattle.fast_import.specs.declared.whole.ReplayError.{ReplayError}
-use Rattle.history_ground.specs.Grounds.{IsGround, IsShownOf, commits_of}
 use Rattle.projection_laws.specs.Projections.{projection_by}
+use Rattle.history_ground.specs.Grounds.{IsGround, IsShownOf, commits_of}
 use Rattle.proj_io.specs.Counts.{Counts}
 use Rattle.state_items.specs.Changes.{fresh, objects_of}
 use Rattle.state_items.specs.Items.{Held, nothing}

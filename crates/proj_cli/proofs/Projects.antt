@@ -16,8 +16,8 @@ use Rattle.filter_text.specs.Filters.{Filter}
 use Rattle.filter_text.specs.Printing.{printed}
 use Rattle.workspace.specs.Workspaces.{shown}
 use Rattle.projection_laws.specs.Filled.{IsFilled}
-use Rattle.history_ground.specs.Grounds.{Extends, IsGround, IsShownOf, commits_of}
 use Rattle.projection_laws.specs.Projections.{projection_by}
+use Rattle.history_ground.specs.Grounds.{Extends, IsGround, IsShownOf, commits_of}
 use Rattle.history_ground.specs.declared.ground.Ground.{Ground}
 use Rattle.proj_io.specs.Stops.{IsPresent, OnlyAdds, adds_as}
 use Rattle.proj_io.specs.Views.{KeeperView}

@@ -10,8 +10,8 @@ use Rattle.commit_map.specs.Rules.{rule_number}
 use Rattle.commit_map.specs.declared.rule.Rule.{Rule}
 use Rattle.commit_map.specs.declared.rule.Rule.TheVariants.{One, Two}
 use Rattle.filter_apply.specs.Truth.{AreTrueFor}
-use Rattle.history_ground.specs.Grounds.{IsGround}
 use Rattle.projection_laws.specs.StoredGraphs.{IsGraphIn, graph_of}
+use Rattle.history_ground.specs.Grounds.{IsGround}
 use Rattle.history_ground.specs.TrueMaps.{AreTrueMaps}
 use Rattle.state_items.specs.Arrivals.{rows_of}
 use Rattle.state_items.specs.Appending.{IsAddition}

@@ -21,11 +21,11 @@ use Rattle.filter_apply.specs.declared.fault.ApplyError.TheVariants as shows
 use Rattle.filter_text.specs.Filters.{Filter}
 use Rattle.filter_text.specs.Printing.{printed}
 use Rattle.workspace.specs.Workspaces.{shown}
+use Rattle.projection_laws.specs.Histories.{AreMade}
+use Rattle.projection_laws.specs.Projections.{history_graph, projection}
 use Rattle.history_ground.specs.Grounds.{Extends, commits_of}
 use Rattle.history_ground.specs.Heads.{IsSeen, IsSeenObject}
-use Rattle.projection_laws.specs.Histories.{AreMade}
 use Rattle.history_ground.specs.Histories.{IsOfHistory}
-use Rattle.projection_laws.specs.Projections.{history_graph, projection}
 use Rattle.history_ground.specs.declared.ground.Ground.{Ground}
 use Rattle.history_ground.specs.declared.heads.Seen.{Seen}
 use Rattle.push_laws.specs.Pushes.{pushing}

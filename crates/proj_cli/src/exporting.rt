@@ -13,10 +13,10 @@ use fast_export::{ExportError, write_history};
 use filter_apply::ApplyError;
 use filter_text::Filter;
 use history_ground::history;
-use projection_laws::{history_law, order_law};
 use path_names::RefName;
 use proj_io::Sink;
 use proj_words::Outcome;
+use projection_laws::{history_law, order_law};
 use repo_ground::State;
 use std::alloc::Global;
 

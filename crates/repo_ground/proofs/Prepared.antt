@@ -21,8 +21,8 @@ use Rattle.object_store.proofs.Parts.{AreIn, found-has}
 use Rattle.object_store.specs.StoredSnapshots.{snapshot_object}
 use Rattle.git_objects.specs.declared.kind.Kind.TheVariants.{Commit as CommitKind}
 use Rattle.std.specs.List.{list_all}
-use Rattle.history_ground.specs.Grounds.{IsGround}
 use Rattle.projection_laws.specs.StoredGraphs.{IsGraphIn, graph_of}
+use Rattle.history_ground.specs.Grounds.{IsGround}
 use Rattle.history_ground.specs.TrueMaps.{AreTrueMaps}
 use Rattle.history_ground.proofs.TrueEntries.{rows-newer}
 use Rattle.state_items.specs.Arrivals.{AreHeld, AreNamed}

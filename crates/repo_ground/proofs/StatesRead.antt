@@ -11,8 +11,8 @@ use Rattle.commit_graph.specs.Graphs.{Row}
 use Rattle.filter_apply.specs.Truth.{AreTrueFor}
 use Rattle.filter_cache.specs.Memos.{Key, Memo}
 use Rattle.filter_routes.specs.TableValues.{Table}
-use Rattle.history_ground.specs.Grounds.{IsGround, commits_of}
 use Rattle.projection_laws.specs.StoredGraphs.{IsGraphIn}
+use Rattle.history_ground.specs.Grounds.{IsGround, commits_of}
 use Rattle.history_ground.specs.TrueMaps.{AreTrueMaps}
 use Rattle.history_ground.specs.declared.true_maps.TrueMap.{TrueMap}
 use Rattle.state_items.specs.Arrivals.{rows_of}

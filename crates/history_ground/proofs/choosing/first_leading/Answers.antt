@@ -3,9 +3,9 @@ use Rattle.git_objects.specs.Paths.{same_bytes}
 use Rattle.commit_map.specs.Shown.{shown_value}
 use Rattle.commit_map.specs.declared.commit_map.Shown.{Shown}
 use Rattle.projection_laws.specs.Projections.{member_or}
+use Rattle.projection_laws.proofs.Members.{found-here, none-found, passed-by}
 use Rattle.history_ground.specs.Choosing.{leads_at}
 use Rattle.history_ground.proofs.Chosen.{told}
-use Rattle.projection_laws.proofs.Members.{found-here, none-found, passed-by}
 use Rattle.history_ground.proofs.choosing.first_leading.Goals as goal
 
 unnamed : Shown

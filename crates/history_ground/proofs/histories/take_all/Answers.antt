@@ -7,8 +7,8 @@ use Rattle.git_objects.specs.declared.name.Name.{Name}
 use Rattle.filter_text.specs.Shapes.{shape}
 use Rattle.commit_graph.specs.Graphs.{Reaches}
 use Rattle.filter_apply.specs.Faults.{IsApplyFault}
-use Rattle.history_ground.specs.Histories.{IsOfHistory}
 use Rattle.projection_laws.specs.StoredGraphs.{name_at}
+use Rattle.history_ground.specs.Histories.{IsOfHistory}
 use Rattle.history_ground.proofs.TakingLemmas.{IsTaking, ready, split-take, taking-end, taking-fault, taking-more, taking-same, taking-start}
 use Rattle.history_ground.proofs.TurnLemmas.{handed-on}
 use Rattle.history_ground.proofs.histories.take_all.Goals as goal

@@ -9,10 +9,10 @@ use Rattle.filter_apply.specs.Faults.{IsApplyFault}
 use Rattle.filter_apply.specs.declared.fault.ApplyError.{ApplyError}
 use Rattle.filter_apply.specs.declared.fault.ApplyError.TheVariants.{OutOfMemory}
 use Rattle.workspace.specs.Workspaces.{shown}
-use Rattle.history_ground.specs.Grounds.{commits_of}
 use Rattle.projection_laws.specs.Histories.{AreMade}
-use Rattle.history_ground.specs.Histories.{IsOfHistory}
 use Rattle.projection_laws.specs.Projections.{history_graph}
+use Rattle.history_ground.specs.Grounds.{commits_of}
+use Rattle.history_ground.specs.Histories.{IsOfHistory}
 use Rattle.history_ground.proofs.Asking.{extends-none}
 use Rattle.history_ground.proofs.HistoryEnds.{history-fault, history-grown, history-same}
 use Rattle.history_ground.proofs.ProjectLemmas.{named-head, place-within}

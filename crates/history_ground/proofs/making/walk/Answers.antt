@@ -2,8 +2,8 @@ use Rattle.std.proofs.Common.{◌++◌, ◌∷◌, length, List, ℕ, [], sym, s
 use Rattle.std.proofs.lemmas.Result.{err_from_is_err_and}
 use Rattle.filter_text.specs.Shapes.{shape}
 use Rattle.filter_apply.specs.Faults.{IsApplyFault}
-use Rattle.history_ground.specs.Heads.{IsSeenObject}
 use Rattle.projection_laws.specs.StoredGraphs.{name_at}
+use Rattle.history_ground.specs.Heads.{IsSeenObject}
 use Rattle.history_ground.proofs.TrueWalking.{IsMaking, making-below, making-fault, making-more, making-start, smaller-more, smaller-still, true-below, true-entered, walked-still}
 use Rattle.history_ground.proofs.TurnLemmas.{handed-on}
 use Rattle.history_ground.proofs.making.walk.Goals as goal

@@ -8,9 +8,9 @@ use Rattle.filter_apply.specs.declared.fault.ApplyError.{ApplyError}
 use Rattle.filter_apply.specs.declared.fault.ApplyError.TheVariants.{OutOfMemory}
 use Rattle.filter_text.specs.Filters.{Filter}
 use Rattle.filter_text.specs.Shapes.{shape}
+use Rattle.projection_laws.specs.StoredGraphs.{name_at}
 use Rattle.history_ground.specs.Asked.{IsAskedFor}
 use Rattle.history_ground.specs.Grounds.{Extends, IsShownOf, commits_of}
-use Rattle.projection_laws.specs.StoredGraphs.{name_at}
 use Rattle.history_ground.specs.Walks.{IsSettled, IsStep}
 use Rattle.history_ground.specs.declared.ground.Ground.{Ground}
 use Rattle.history_ground.proofs.Asking.{asked-same}

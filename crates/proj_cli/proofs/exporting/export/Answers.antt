@@ -7,10 +7,10 @@ use Rattle.filter_apply.specs.Faults.{IsApplyFault}
 use Rattle.filter_text.specs.Shapes.{shape}
 use Rattle.fast_export.specs.Histories.{IsHistoryIn}
 use Rattle.workspace.specs.Workspaces.{shown}
-use Rattle.history_ground.specs.Grounds.{commits_of}
 use Rattle.projection_laws.specs.Histories.{AreMade}
-use Rattle.history_ground.specs.Histories.{IsOfHistory}
 use Rattle.projection_laws.specs.Projections.{history_graph}
+use Rattle.history_ground.specs.Grounds.{commits_of}
+use Rattle.history_ground.specs.Histories.{IsOfHistory}
 use Rattle.proj_io.specs.Views.{sink_view}
 use Rattle.repo_ground.specs.Contents.{Contents}
 use Rattle.repo_ground.specs.contracts.state.State.{the_view}
