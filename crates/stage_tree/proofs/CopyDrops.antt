@@ -3,20 +3,20 @@ use Rattle.std.proofs.Common.{◌≡◌, ℕ, ◌+◌, ◌<◌, ◌≤◌, ◌==
 use Rattle.std.specs.Prelude.{slice_get, nat_lt}
 use Rattle.std.proofs.lemmas.Bool.Decides.{nat_tests}
 use Rattle.std.proofs.lemmas.Option.{slice_get_within}
-use Rattle.stage_tree.specs.declared.nodes.Node.{Node}
-use Rattle.stage_tree.specs.declared.nodes.Nodes.{Nodes}
+use Rattle.stage_nodes.specs.declared.nodes.Node.{Node}
+use Rattle.stage_nodes.specs.declared.nodes.Nodes.{Nodes}
 use Rattle.stage_tree.specs.declared.copies.Work.{Work}
 use Rattle.stage_tree.specs.declared.copies.Work.TheVariants.{Siblings, Children}
 use Rattle.stage_tree.specs.declared.copies.Turn.{Turn}
 use Rattle.stage_tree.specs.declared.copies.Turn.TheVariants.{Copy, Copied}
-use Rattle.stage_tree.specs.Forests.{Forest, Nil, Bin, one, count, forest, Reads}
-use Rattle.stage_tree.specs.Pools.{CanFree, IsFreed, IsKept, IsSame, inside, spare}
-use Rattle.stage_tree.proofs.Branching.{kept_on}
-use Rattle.stage_tree.proofs.Expanding.{same_inside, same_pool, same_spare}
-use Rattle.stage_tree.specs.Expanding.{IsWaste}
+use Rattle.stage_nodes.specs.Forests.{Forest, Nil, Bin, one, count, forest, Reads}
+use Rattle.stage_nodes.specs.Pools.{CanFree, IsFreed, IsKept, IsSame, inside, spare}
+use Rattle.stage_nodes.proofs.Branching.{kept_on}
+use Rattle.stage_nodes.proofs.Expanding.{same_inside, same_pool, same_spare}
+use Rattle.stage_nodes.specs.Expanding.{IsWaste}
 use Rattle.stage_tree.specs.Copies.{CanCopy, IsAlike, IsCopied, IsCopying, IsDropping, IsGrowing, IsNext, IsStep}
-use Rattle.stage_tree.proofs.Framing.{reads_kept, same_names}
-use Rattle.stage_tree.proofs.Pools.{forest_is, inside_one, one_most, walk_is}
+use Rattle.stage_nodes.proofs.Framing.{reads_kept, same_names}
+use Rattle.stage_nodes.proofs.Pools.{forest_is, inside_one, one_most, walk_is}
 use Rattle.stage_tree.proofs.CopyTurns.{IsLast, pending_last, pending_stays}
 
 -- a forest that nothing reaches is given back

@@ -14,33 +14,35 @@ use Rattle.object_store.specs.Objects.{Object, IsStore}
 use Rattle.object_store.specs.Sizes.{held_number}
 use Rattle.stage_tree.specs.declared.fault.StageFault.{StageFault}
 use Rattle.stage_tree.specs.declared.fault.StageFault.TheVariants.{NoSource, OutOfMemory, TooMany}
-use Rattle.stage_tree.specs.declared.nodes.Node.{Node}
-use Rattle.stage_tree.specs.declared.nodes.Nodes.{Nodes}
-use Rattle.stage_tree.specs.declared.nodes.Content.{Content}
-use Rattle.stage_tree.specs.declared.nodes.Content.TheVariants.{Held, Open}
-use Rattle.stage_tree.specs.declared.nodes.Link.{Link}
-use Rattle.stage_tree.specs.declared.nodes.Link.TheVariants.{First}
-use Rattle.stage_tree.specs.Forests.{Forest, Bin, Sound}
-use Rattle.stage_tree.specs.Frames.{plug, path_of}
-use Rattle.stage_tree.specs.Pools.{hanging}
-use Rattle.stage_tree.specs.Leaves.{leaf_in, is_held}
-use Rattle.stage_tree.specs.Branches.{Stands, after_named}
+use Rattle.stage_nodes.specs.declared.nodes.Node.{Node}
+use Rattle.stage_nodes.specs.declared.nodes.Nodes.{Nodes}
+use Rattle.stage_nodes.specs.declared.nodes.Content.{Content}
+use Rattle.stage_nodes.specs.declared.nodes.Content.TheVariants.{Held, Open}
+use Rattle.stage_nodes.specs.declared.nodes.Link.{Link}
+use Rattle.stage_nodes.specs.declared.nodes.Link.TheVariants.{First}
+use Rattle.stage_nodes.specs.Forests.{Forest, Bin, Sound}
+use Rattle.stage_nodes.specs.Frames.{plug, path_of}
+use Rattle.stage_nodes.specs.Pools.{hanging}
+use Rattle.stage_nodes.specs.Leaves.{leaf_in, is_held}
+use Rattle.stage_nodes.specs.Branches.{Stands, after_named}
 use Rattle.stage_tree.specs.Copies.{IsCopyTo, node_files}
 use Rattle.stage_tree.specs.Counts.{IsRoom, content_files, files, files_but}
 use Rattle.stage_tree.specs.Edits.{copied, few_files, within_paths}
-use Rattle.stage_tree.specs.Renames.{IsStop, IsWalkable, trunk, trunk_content}
+use Rattle.stage_nodes.specs.Walks.{IsStop, IsWalkable}
+use Rattle.stage_tree.specs.Renames.{trunk, trunk_content}
 use Rattle.stage_tree.specs.Standings.{Holds, IsNodeAt}
-use Rattle.stage_tree.specs.Ways.{HasPlace, IsOpen, kids_of}
+use Rattle.stage_nodes.specs.Ways.{HasPlace, IsOpen, kids_of}
 use Rattle.path_trees.specs.Standing.{node}
 use Rattle.path_trees.specs.declared.found.Found.{Found}
-use Rattle.stage_tree.proofs.Opening.{read_node}
+use Rattle.stage_nodes.proofs.Opening.{read_node}
 use Rattle.stage_tree.proofs.CountLeaves.{length_files, files_plug}
 use Rattle.stage_tree.proofs.MoveFlats.{standing_rests}
-use Rattle.stage_tree.proofs.Places.{sound_plug}
-use Rattle.stage_tree.proofs.PutFits.{children_hang, holds_leaf, v}
-use Rattle.stage_tree.proofs.PutLeaves.{put_there}
+use Rattle.stage_nodes.proofs.Places.{sound_plug}
+use Rattle.stage_tree.proofs.PutFits.{children_hang, holds_leaf}
+use Rattle.stage_nodes.proofs.NodePlaces.{v}
+use Rattle.stage_nodes.proofs.PutLeaves.{put_there}
 use Rattle.stage_tree.proofs.Putting.{all_behind}
-use Rattle.stage_tree.proofs.Replacing.{sound_named}
+use Rattle.stage_nodes.proofs.Replacing.{sound_named}
 use Rattle.stage_tree.proofs.Room.{place_files}
 use Rattle.stage_tree.proofs.Staging.{as_test}
 use Rattle.stage_tree.proofs.TrunkLeaves.{sound_trunk, trunk_new}
@@ -92,7 +94,7 @@ module _ (S : List Object) (st : IsStore S) (s : Nodes) (o : IsOpen S s) (k : �
   pub copied_tree : IsTree (put t p n)
   copied_tree = put-tree t p n g.tree (as_test (is_path p) valid) node_tree
 
-  sound_all : Rattle.stage_tree.specs.Forests.IsSound (is_held S) c (trunk_content b x) (trunk (zeros b) b x l) × Sound (is_held S) (trunk (zeros b) b x l)
+  sound_all : Rattle.stage_nodes.specs.Forests.IsSound (is_held S) c (trunk_content b x) (trunk (zeros b) b x l) × Sound (is_held S) (trunk (zeros b) b x l)
   sound_all = sound_trunk S (zeros b) c b x l (zeros_long b) components (v S s k h).sound.0.filled (v S s k h).sound.0.content (v S s k h).sound.2
 
   sound_z : Sound (is_held S) (plug w.place.frames Z)

@@ -10,12 +10,13 @@ use Rattle.git_objects.proofs.Standing.{standing_node}
 use Rattle.object_store.specs.Objects.{Object}
 use Rattle.stage_tree.specs.declared.fault.StageFault.{StageFault}
 use Rattle.stage_tree.specs.declared.fault.StageFault.TheVariants.{NoSource, TooMany}
-use Rattle.stage_tree.specs.declared.nodes.Nodes.{Nodes}
-use Rattle.stage_tree.specs.Branches.{Stands}
+use Rattle.stage_nodes.specs.declared.nodes.Nodes.{Nodes}
+use Rattle.stage_nodes.specs.Branches.{Stands}
 use Rattle.stage_tree.specs.Copies.{IsCopyTo}
 use Rattle.stage_tree.specs.Edits.{IsEdited, copied, few_files, within_paths}
-use Rattle.stage_tree.specs.Stages.{IsOpened, Shows, Staged, staged}
-use Rattle.stage_tree.specs.Ways.{IsOpen}
+use Rattle.stage_nodes.specs.Roots.{IsOpened}
+use Rattle.stage_tree.specs.Stages.{Shows, Staged, staged}
+use Rattle.stage_nodes.specs.Ways.{IsOpen}
 use Rattle.stage_tree.proofs.Staging.{as_test, shows_open, shows_still}
 
 pub copy_open : (S : List Object) (s s' : Nodes) (left : Result Flat StageFault) (r : Result ℕ StageFault) → IsCopyTo S s s' left r → IsOpen S s'

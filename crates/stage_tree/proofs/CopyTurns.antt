@@ -3,22 +3,22 @@ use Rattle.std.proofs.Common.{◌≡◌, ℕ, zero, suc, take, get_or, ◌+◌, 
 use Rattle.std.specs.Prelude.{slice_get, slice_set, nat_lt}
 use Rattle.std.proofs.lemmas.Option.{slice_get_within}
 use Rattle.git_objects.specs.Paths.{Bytes}
-use Rattle.stage_tree.specs.declared.nodes.Node.{Node}
-use Rattle.stage_tree.specs.declared.nodes.Nodes.{Nodes}
-use Rattle.stage_tree.specs.declared.nodes.Content.{Content}
-use Rattle.stage_tree.specs.declared.nodes.Link.TheVariants.{First, Next}
+use Rattle.stage_nodes.specs.declared.nodes.Node.{Node}
+use Rattle.stage_nodes.specs.declared.nodes.Nodes.{Nodes}
+use Rattle.stage_nodes.specs.declared.nodes.Content.{Content}
+use Rattle.stage_nodes.specs.declared.nodes.Link.TheVariants.{First, Next}
 use Rattle.stage_tree.specs.declared.copies.Work.{Work}
 use Rattle.stage_tree.specs.declared.copies.Work.TheVariants.{Siblings, Children}
 use Rattle.stage_tree.specs.declared.copies.Turn.{Turn}
 use Rattle.stage_tree.specs.declared.copies.Turn.TheVariants.{Copy, Copied}
-use Rattle.stage_tree.specs.Forests.{Forest, Nil, Bin, IsCell, count, forest, size, is_link, target, Reads}
-use Rattle.stage_tree.specs.Pools.{IsKept, inside, spare}
+use Rattle.stage_nodes.specs.Forests.{Forest, Nil, Bin, IsCell, count, forest, size, is_link, target, Reads}
+use Rattle.stage_nodes.specs.Pools.{IsKept, inside, spare}
 use Rattle.stage_tree.specs.Copies.{ArePending, CanCopyOne, IsAlike, IsCopying, IsGrowing, IsOneCopied, IsStep, is_turn, works_of}
-use Rattle.stage_tree.proofs.Seeking.{inside_link}
-use Rattle.stage_tree.proofs.Framing.{cell_kept, reads_kept}
-use Rattle.stage_tree.proofs.Freeing.{first_of, next_of}
-use Rattle.stage_tree.proofs.Pools.{forest_is, inside_one, one_most, own_count}
-use Rattle.stage_tree.proofs.Branching.{kept_on}
+use Rattle.stage_nodes.proofs.Seeking.{inside_link}
+use Rattle.stage_nodes.proofs.Framing.{cell_kept, reads_kept}
+use Rattle.stage_nodes.proofs.Freeing.{first_of, next_of}
+use Rattle.stage_nodes.proofs.Pools.{forest_is, inside_one, one_most, own_count}
+use Rattle.stage_nodes.proofs.Branching.{kept_on}
 
 -- ---- nodes that wait
 

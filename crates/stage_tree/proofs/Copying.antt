@@ -3,17 +3,17 @@ use Rattle.std.proofs.Common.{◌≡◌, ℕ, ◌+◌, ◌≤◌, ◌==◌, true
 use Rattle.std.specs.Prelude.{slice_get, nat_lt}
 use Rattle.std.proofs.lemmas.Option.{slice_get_within}
 use Rattle.git_objects.specs.Paths.{Bytes}
-use Rattle.stage_tree.specs.declared.nodes.Node.{Node}
-use Rattle.stage_tree.specs.declared.nodes.Nodes.{Nodes}
-use Rattle.stage_tree.specs.declared.nodes.Link.TheVariants.{Next}
-use Rattle.stage_tree.specs.Forests.{Forest, IsCell, one, count, is_link, Reads}
-use Rattle.stage_tree.specs.Frames.{pointed}
-use Rattle.stage_tree.specs.Pools.{IsAdded, IsKept, StayBut, free_after, inside, place_number, placed, spare}
+use Rattle.stage_nodes.specs.declared.nodes.Node.{Node}
+use Rattle.stage_nodes.specs.declared.nodes.Nodes.{Nodes}
+use Rattle.stage_nodes.specs.declared.nodes.Link.TheVariants.{Next}
+use Rattle.stage_nodes.specs.Forests.{Forest, IsCell, one, count, is_link, Reads}
+use Rattle.stage_nodes.specs.Frames.{pointed}
+use Rattle.stage_nodes.specs.Pools.{IsAdded, IsKept, StayBut, free_after, inside, place_number, placed, spare}
 use Rattle.stage_tree.specs.Copies.{CanCopyOne, IsOneCopied}
-use Rattle.stage_tree.proofs.Seeking.{inside_link}
-use Rattle.stage_tree.proofs.Framing.{reads_kept, same_names}
-use Rattle.stage_tree.proofs.Pointing.{IsBeside, next_before, next_beside, next_stay}
-use Rattle.stage_tree.proofs.Pools.{added, inside_one, one_most, own_count}
+use Rattle.stage_nodes.proofs.Seeking.{inside_link}
+use Rattle.stage_nodes.proofs.Framing.{reads_kept, same_names}
+use Rattle.stage_nodes.proofs.Pointing.{IsBeside, next_before, next_beside, next_stay}
+use Rattle.stage_nodes.proofs.Pools.{added, inside_one, one_most, own_count}
 
 -- ---- one node
 

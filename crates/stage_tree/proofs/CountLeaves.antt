@@ -18,16 +18,16 @@ use Rattle.object_store.specs.Objects.{Object, IsStore, has_child}
 use Rattle.std.specs.Cmp.{first_so, second_so}
 use Rattle.path_trees.specs.Standing.{node}
 use Rattle.path_trees.specs.declared.found.Found.{Found}
-use Rattle.stage_tree.specs.declared.nodes.Content.{Content}
-use Rattle.stage_tree.specs.declared.nodes.Content.TheVariants.{Held, Open}
-use Rattle.stage_tree.specs.Forests.{Forest, Nil, Bin, one, count, Sound}
-use Rattle.stage_tree.specs.Frames.{Frame, Below, Behind, plug, count_up}
-use Rattle.stage_tree.specs.Leaves.{leaf_in, is_held}
-use Rattle.stage_tree.specs.Items.{Items, items, items_at, items_behind, tree_of, AreHeld}
+use Rattle.stage_nodes.specs.declared.nodes.Content.{Content}
+use Rattle.stage_nodes.specs.declared.nodes.Content.TheVariants.{Held, Open}
+use Rattle.stage_nodes.specs.Forests.{Forest, Nil, Bin, one, count, Sound}
+use Rattle.stage_nodes.specs.Frames.{Frame, Below, Behind, plug, count_up}
+use Rattle.stage_nodes.specs.Leaves.{leaf_in, is_held}
+use Rattle.stage_nodes.specs.Items.{Items, items, items_at, items_behind, tree_of, AreHeld}
 use Rattle.stage_tree.specs.Counts.{content_files, files, files_but, is_number}
-use Rattle.stage_tree.proofs.ItemTrees.{tree_cons, tree_leaf, tree_sorted, sound_held}
-use Rattle.stage_tree.proofs.OnWay.{sound_any}
-use Rattle.stage_tree.proofs.PutLeaves.{after_split, beyond_none}
+use Rattle.stage_nodes.proofs.ItemTrees.{tree_cons, tree_leaf, tree_sorted, sound_held}
+use Rattle.stage_nodes.proofs.OnWay.{sound_any}
+use Rattle.stage_nodes.proofs.PutLeaves.{after_split, beyond_none}
 use Rattle.stage_tree.proofs.Staging.{node_is}
 
 -- ---- a block put where nothing is
@@ -74,7 +74,7 @@ module _ (S : List Object) (st : IsStore S) where
   apart_behind c [] ys h g n = g
   apart_behind c (x ∷ xs) ys h g n = (λ q. none_cons c xs ys (x.0 ++ q) (h.0 q) (n (x.0 ++ q)), apart_behind c xs ys h.1 g n)
 
-  none_beyond : (c : Bytes) (r : Forest) → Rattle.stage_tree.specs.Forests.Beyond c r → Sound (is_held S) r → (q : Path) → at (tree_of S (items r)) (c ∷ q) ≡ None
+  none_beyond : (c : Bytes) (r : Forest) → Rattle.stage_nodes.specs.Forests.Beyond c r → Sound (is_held S) r → (q : Path) → at (tree_of S (items r)) (c ∷ q) ≡ None
   none_beyond c r b s q = tree_leaf S r (c ∷ q) (sound_any (is_held S) r s) ∙ beyond_none S c r q b
 
   apart_items : (F : Forest) → Sound (is_held S) F → AreApart (items F)

@@ -6,16 +6,16 @@ use Rattle.std.proofs.lemmas.Option.{get_or_from_slice_get}
 use Rattle.git_objects.specs.Lists.{Each}
 use Rattle.git_objects.specs.Paths.{Bytes}
 use Rattle.object_store.specs.Objects.{Object}
-use Rattle.stage_tree.specs.declared.nodes.Node.{Node}
-use Rattle.stage_tree.specs.declared.nodes.Nodes.{Nodes}
-use Rattle.stage_tree.specs.declared.nodes.Content.{Content}
-use Rattle.stage_tree.specs.declared.nodes.Link.{Link}
-use Rattle.stage_tree.specs.declared.nodes.Link.TheVariants.{First, Next}
-use Rattle.stage_tree.specs.Forests.{Forest, Bin, size, forest, node_component, target, Sound}
-use Rattle.stage_tree.specs.Pools.{hanging}
-use Rattle.stage_tree.specs.Leaves.{is_held}
+use Rattle.stage_nodes.specs.declared.nodes.Node.{Node}
+use Rattle.stage_nodes.specs.declared.nodes.Nodes.{Nodes}
+use Rattle.stage_nodes.specs.declared.nodes.Content.{Content}
+use Rattle.stage_nodes.specs.declared.nodes.Link.{Link}
+use Rattle.stage_nodes.specs.declared.nodes.Link.TheVariants.{First, Next}
+use Rattle.stage_nodes.specs.Forests.{Forest, Bin, size, forest, node_component, target, Sound}
+use Rattle.stage_nodes.specs.Pools.{hanging}
+use Rattle.stage_nodes.specs.Leaves.{is_held}
 use Rattle.stage_tree.specs.Counts.{IsCountable, content_files, files_but, is_number}
-use Rattle.stage_tree.proofs.Seeking.{IsPassed, passed, passed_at, inside_link, ended}
+use Rattle.stage_nodes.proofs.Seeking.{IsPassed, passed, passed_at, inside_link, ended}
 
 module _ (S : List Object) (s : Nodes) (o : Option ℕ) where
   -- the files behind the directories that were entered

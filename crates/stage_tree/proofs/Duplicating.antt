@@ -8,29 +8,30 @@ use Rattle.git_objects.specs.Paths.{Bytes, Path, is_component, same_bytes}
 use Rattle.git_objects.specs.Trees.{Flat, at, put}
 use Rattle.git_objects.proofs.Basics.{same_bytes-self}
 use Rattle.object_store.specs.Objects.{Object}
-use Rattle.stage_tree.specs.declared.nodes.Node.{Node}
-use Rattle.stage_tree.specs.declared.nodes.Nodes.{Nodes}
-use Rattle.stage_tree.specs.declared.nodes.Content.{Content}
-use Rattle.stage_tree.specs.declared.nodes.Content.TheVariants.{Held, Open}
-use Rattle.stage_tree.specs.declared.nodes.Link.{Link}
+use Rattle.stage_nodes.specs.declared.nodes.Node.{Node}
+use Rattle.stage_nodes.specs.declared.nodes.Nodes.{Nodes}
+use Rattle.stage_nodes.specs.declared.nodes.Content.{Content}
+use Rattle.stage_nodes.specs.declared.nodes.Content.TheVariants.{Held, Open}
+use Rattle.stage_nodes.specs.declared.nodes.Link.{Link}
 use Rattle.stage_tree.specs.Copies.{CanCopy, IsAlike, IsCopied, IsDuplicated}
 use Rattle.std.specs.declared.cmp.Ordering.TheVariants.{Less}
-use Rattle.stage_tree.proofs.Branching.{kept_on}
-use Rattle.stage_tree.specs.Forests.{Forest, Nil, Bin, Beyond, IsFilled, bytes_cmp, one, count, Reads, forest, Sound}
-use Rattle.stage_tree.specs.Frames.{Frame, count_up}
-use Rattle.stage_tree.specs.Pools.{CanFree, IsFreed, IsKept, IsPool, inside, spare}
-use Rattle.stage_tree.specs.Directories.{IsDirectory}
-use Rattle.stage_tree.specs.Leaves.{leaf_below, leaf_in, is_held}
-use Rattle.stage_tree.specs.Expanding.{IsWaste}
-use Rattle.stage_tree.specs.Ways.{IsPlaceOf, IsStill, kids_of}
-use Rattle.stage_tree.specs.Branches.{HasSpot, IsReplaced, Stands}
-use Rattle.stage_tree.specs.Renames.{CanMove, IsGraft, IsStop, IsWalkable, trunk, trunk_content}
-use Rattle.stage_tree.proofs.Framing.{count_plug, reads_kept, up_kept}
-use Rattle.stage_tree.proofs.Pools.{forest_is, inside_one, one_most, own_count, walk_is}
-use Rattle.stage_tree.proofs.Freeing.{first_of}
-use Rattle.stage_tree.proofs.Leaves.{leaf_plug}
-use Rattle.stage_tree.proofs.PutLeaves.{put_there}
-use Rattle.stage_tree.proofs.OnWay.{IsNamed, alone_stay, named_of, waste_still}
+use Rattle.stage_nodes.proofs.Branching.{kept_on}
+use Rattle.stage_nodes.specs.Forests.{Forest, Nil, Bin, Beyond, IsFilled, bytes_cmp, one, count, Reads, forest, Sound}
+use Rattle.stage_nodes.specs.Frames.{Frame, count_up}
+use Rattle.stage_nodes.specs.Pools.{CanFree, IsFreed, IsKept, IsPool, inside, spare}
+use Rattle.stage_nodes.specs.Directories.{IsDirectory}
+use Rattle.stage_nodes.specs.Leaves.{leaf_below, leaf_in, is_held}
+use Rattle.stage_nodes.specs.Expanding.{IsWaste}
+use Rattle.stage_nodes.specs.Ways.{IsPlaceOf, IsStill, kids_of}
+use Rattle.stage_nodes.specs.Branches.{HasSpot, IsReplaced, Stands}
+use Rattle.stage_tree.specs.Renames.{CanMove, IsGraft, trunk, trunk_content}
+use Rattle.stage_nodes.specs.Walks.{IsStop, IsWalkable}
+use Rattle.stage_nodes.proofs.Framing.{count_plug, reads_kept, up_kept}
+use Rattle.stage_nodes.proofs.Pools.{forest_is, inside_one, one_most, own_count, walk_is}
+use Rattle.stage_nodes.proofs.Freeing.{first_of}
+use Rattle.stage_nodes.proofs.Leaves.{leaf_plug}
+use Rattle.stage_nodes.proofs.PutLeaves.{put_there}
+use Rattle.stage_nodes.proofs.OnWay.{IsNamed, alone_stay, named_of, waste_still}
 use Rattle.stage_tree.proofs.Putting.{all_behind}
 use Rattle.stage_tree.proofs.Grafting.{count_trunk}
 use Rattle.stage_tree.proofs.TrunkLeaves.{sound_trunk, trunk_new}
@@ -224,7 +225,7 @@ module _ (s : Nodes) (k : ℕ) (p : Path) (h : CanMove s k p) where
         child_is = stop.place.child_is;
       }
 
-      sound_all : Rattle.stage_tree.specs.Forests.IsSound (is_held S) d (trunk_content b n.content) (trunk br.below b n.content cp.copy) × Sound (is_held S) (trunk br.below b n.content cp.copy)
+      sound_all : Rattle.stage_nodes.specs.Forests.IsSound (is_held S) d (trunk_content b n.content) (trunk br.below b n.content cp.copy) × Sound (is_held S) (trunk br.below b n.content cp.copy)
       sound_all = sound_trunk S br.below d b n.content cp.copy long (all_behind stop.before d b (ap (list_all is_component) stop.path ∙ valid)) (alike_filled n.content n.children cp.copy cp.alike n.sound.0.filled) n.sound.0.content (alike_sound (is_held S) n.children cp.copy cp.alike n.sound.2)
 
       pub has_spot : HasSpot u link child top

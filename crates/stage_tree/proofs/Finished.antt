@@ -10,17 +10,18 @@ use Rattle.object_store.proofs.Unfolding.{flat_good}
 use Rattle.path_trees.specs.Standing.{node}
 use Rattle.path_trees.specs.declared.found.Found.{Found}
 use Rattle.path_trees.specs.declared.found.TreeFault.{TreeFault}
-use Rattle.stage_tree.specs.declared.nodes.Nodes.{Nodes}
-use Rattle.stage_tree.specs.declared.nodes.Content.TheVariants.{Held, Open}
-use Rattle.stage_tree.specs.Ways.{IsOpen}
-use Rattle.stage_tree.specs.Branches.{Stands}
-use Rattle.stage_tree.specs.Items.{Items, tree_of}
-use Rattle.stage_tree.specs.Stages.{Staged, IsStage, IsRooted, Shows, items_of, staged}
+use Rattle.stage_nodes.specs.declared.nodes.Nodes.{Nodes}
+use Rattle.stage_nodes.specs.declared.nodes.Content.TheVariants.{Held, Open}
+use Rattle.stage_nodes.specs.Ways.{IsOpen}
+use Rattle.stage_nodes.specs.Branches.{Stands}
+use Rattle.stage_nodes.specs.Items.{Items, tree_of}
+use Rattle.stage_tree.specs.Stages.{Staged, Shows, staged}
+use Rattle.stage_nodes.specs.Roots.{IsStage, IsRooted, items_of}
 use Rattle.stage_tree.specs.Finished.{IsFinished}
-use Rattle.stage_tree.specs.Closing.{IsStoring, IsStoringFault}
-use Rattle.stage_tree.proofs.Rooting.{already_open, items_held, root_is, root_stored}
+use Rattle.stage_nodes.specs.Closing.{IsStoring, IsStoringFault}
+use Rattle.stage_nodes.proofs.Rooting.{already_open, items_held, root_is, root_stored}
 use Rattle.stage_tree.proofs.Staging.{shows_open, stands_opened, most_stays}
-use Rattle.stage_tree.proofs.Finishing.{on_ok, on_err}
+use Rattle.stage_nodes.proofs.Finishing.{on_ok, on_err}
 
 module _ (S : List Object) (s : Nodes) (m : ℕ) (v : Staged) (e : staged s m ≡ v) (stage : IsStage s) (t : Flat) (h : Shows S v t) where
   held : IsRooted S (items_of s)

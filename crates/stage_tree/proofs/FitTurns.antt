@@ -4,20 +4,20 @@ use Rattle.std.specs.Prelude.{nat_le, slice_get}
 use Rattle.std.proofs.lemmas.List.{length-drop}
 use Rattle.std.proofs.lemmas.Option.{slice_get_read}
 use Rattle.object_store.specs.Objects.{Object}
-use Rattle.stage_tree.specs.declared.nodes.Node.{Node}
-use Rattle.stage_tree.specs.declared.nodes.Nodes.{Nodes}
-use Rattle.stage_tree.specs.declared.nodes.Content.{Content}
-use Rattle.stage_tree.specs.declared.nodes.Content.TheVariants.{Held, Open}
+use Rattle.stage_nodes.specs.declared.nodes.Node.{Node}
+use Rattle.stage_nodes.specs.declared.nodes.Nodes.{Nodes}
+use Rattle.stage_nodes.specs.declared.nodes.Content.{Content}
+use Rattle.stage_nodes.specs.declared.nodes.Content.TheVariants.{Held, Open}
 use Rattle.path_trees.specs.declared.found.Found.{Found}
-use Rattle.stage_tree.specs.declared.nodes.Link.{Link}
-use Rattle.stage_tree.specs.declared.nodes.Link.TheVariants.{First, Next}
+use Rattle.stage_nodes.specs.declared.nodes.Link.{Link}
+use Rattle.stage_nodes.specs.declared.nodes.Link.TheVariants.{First, Next}
 use Rattle.stage_tree.specs.declared.limits.Measure.{Measure}
 use Rattle.std.proofs.lemmas.Bool.Decides.{nat_tests}
-use Rattle.stage_tree.specs.Forests.{is_link, node_component, target}
-use Rattle.stage_tree.specs.Pools.{hanging}
+use Rattle.stage_nodes.specs.Forests.{is_link, node_component, target}
+use Rattle.stage_nodes.specs.Pools.{hanging}
 use Rattle.stage_tree.specs.Counts.{IsCountable}
 use Rattle.stage_tree.specs.Limits.{content_fits, fits_in, weight}
-use Rattle.stage_tree.proofs.Seeking.{IsPassed, ended}
+use Rattle.stage_nodes.proofs.Seeking.{IsPassed, ended}
 use Rattle.stage_tree.proofs.CountTurns.{count_passed}
 use Rattle.stage_tree.proofs.Fits.{le_false, le_true}
 

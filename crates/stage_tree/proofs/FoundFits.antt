@@ -19,12 +19,12 @@ use Rattle.object_store.proofs.Unfolding.{IsFull, flat_good}
 use Rattle.path_trees.specs.Standing.{node}
 use Rattle.path_trees.specs.declared.found.Found.{Found}
 use Rattle.path_trees.proofs.Apart.{rests_full}
-use Rattle.stage_tree.specs.declared.nodes.Content.TheVariants.{Held}
+use Rattle.stage_nodes.specs.declared.nodes.Content.TheVariants.{Held}
 use Rattle.stage_tree.specs.declared.limits.Measure.{Measure}
 use Rattle.stage_tree.specs.declared.limits.Measure.TheVariants.{Components, Bytes as ByBytes}
-use Rattle.stage_tree.specs.Leaves.{is_held}
+use Rattle.stage_nodes.specs.Leaves.{is_held}
 use Rattle.stage_tree.specs.Limits.{cost}
-use Rattle.stage_tree.proofs.OnWay.{dir_mode}
+use Rattle.stage_nodes.proofs.OnWay.{dir_mode}
 use Rattle.stage_tree.proofs.Fits.{le_true}
 
 pub cost_length : (p : Path) → cost Components p ≡ length p

@@ -5,29 +5,29 @@ use Rattle.std.specs.declared.cmp.Ordering.TheVariants.{Less}
 use Rattle.git_objects.specs.Paths.{Bytes, Path}
 use Rattle.git_objects.specs.Trees.{Flat, at, remove}
 use Rattle.object_store.specs.Objects.{Object}
-use Rattle.stage_tree.specs.declared.nodes.Node.{Node}
-use Rattle.stage_tree.specs.declared.nodes.Nodes.{Nodes}
-use Rattle.stage_tree.specs.declared.nodes.Content.{Content}
-use Rattle.stage_tree.specs.declared.nodes.Content.TheVariants.{Held, Open}
-use Rattle.stage_tree.specs.declared.nodes.Link.{Link}
-use Rattle.stage_tree.specs.declared.nodes.Link.TheVariants.{Next}
-use Rattle.stage_tree.specs.Forests.{Forest, Nil, Bin, bytes_cmp, is_link, node_component, sought, target}
-use Rattle.stage_tree.specs.Frames.{Frame, Below, Behind, plug, link_of}
-use Rattle.stage_tree.specs.Pools.{Walks, hanging}
-use Rattle.stage_tree.specs.Leaves.{leaf_in, is_held}
-use Rattle.stage_tree.specs.Ways.{IsHere, IsOpen, IsPlaceOf, IsStill, IsWay, kids_of, named_first}
-use Rattle.stage_tree.specs.Items.{Items, tree_of}
-use Rattle.stage_tree.specs.Stages.{IsStage, IsRooted, IsRootOf, IsOpened, IsUnopened, items_of}
-use Rattle.stage_tree.specs.Sets.{AreSiblings, IsArrived, IsChildOf, IsPlaceBehind, IsUnmoved}
-use Rattle.stage_tree.specs.Branches.{CanCut, IsCut, IsRemoved, Stands, after_named, is_alone, reached}
-use Rattle.stage_tree.specs.declared.ways.Way.{Way}
-use Rattle.stage_tree.proofs.Removing.{nothing_removed, can_cut, cut_removed, cut_whole}
-use Rattle.stage_tree.proofs.ItemTrees.{sound_held, tree_leaf}
-use Rattle.stage_tree.proofs.OnWay.{place_found, place_hangs, place_link, place_walk, still_same}
-use Rattle.stage_tree.proofs.Places.{IsFound, found_here}
-use Rattle.stage_tree.proofs.Rooting.{already_open, held_rooted}
+use Rattle.stage_nodes.specs.declared.nodes.Node.{Node}
+use Rattle.stage_nodes.specs.declared.nodes.Nodes.{Nodes}
+use Rattle.stage_nodes.specs.declared.nodes.Content.{Content}
+use Rattle.stage_nodes.specs.declared.nodes.Content.TheVariants.{Held, Open}
+use Rattle.stage_nodes.specs.declared.nodes.Link.{Link}
+use Rattle.stage_nodes.specs.declared.nodes.Link.TheVariants.{Next}
+use Rattle.stage_nodes.specs.Forests.{Forest, Nil, Bin, bytes_cmp, is_link, node_component, sought, target}
+use Rattle.stage_nodes.specs.Frames.{Frame, Below, Behind, plug, link_of, AreSiblings}
+use Rattle.stage_nodes.specs.Pools.{Walks, hanging}
+use Rattle.stage_nodes.specs.Leaves.{leaf_in, is_held}
+use Rattle.stage_nodes.specs.Ways.{IsHere, IsOpen, IsPlaceOf, IsStill, IsWay, kids_of, named_first}
+use Rattle.stage_nodes.specs.Items.{Items, tree_of}
+use Rattle.stage_nodes.specs.Roots.{IsStage, IsRooted, IsRootOf, IsOpened, IsUnopened, items_of}
+use Rattle.stage_tree.specs.Sets.{IsArrived, IsChildOf, IsPlaceBehind, IsUnmoved}
+use Rattle.stage_nodes.specs.Branches.{CanCut, IsCut, IsRemoved, Stands, after_named, is_alone, reached}
+use Rattle.stage_nodes.specs.declared.ways.Way.{Way}
+use Rattle.stage_nodes.proofs.Removing.{nothing_removed, can_cut, cut_removed, cut_whole}
+use Rattle.stage_nodes.proofs.ItemTrees.{sound_held, tree_leaf}
+use Rattle.stage_nodes.proofs.OnWay.{place_found, place_hangs, place_link, place_walk, still_same}
+use Rattle.stage_nodes.proofs.Places.{IsFound, found_here}
+use Rattle.stage_nodes.proofs.Rooting.{already_open, held_rooted}
 use Rattle.stage_tree.proofs.Staging.{items_open, stage_of}
-use Rattle.stage_tree.proofs.Turning.{here_in}
+use Rattle.stage_nodes.proofs.Turning.{here_in}
 
 -- ---- behind a sibling
 

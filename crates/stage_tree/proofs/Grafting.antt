@@ -3,24 +3,24 @@ use Rattle.std.proofs.Common.{◌≡◌, ℕ, ◌+◌, ◌<◌, ◌≤◌, ◌�
 use Rattle.std.specs.Prelude.{slice_get, slice_set, nat_lt}
 use Rattle.std.proofs.lemmas.Option.{slice_get_within}
 use Rattle.git_objects.specs.Paths.{Bytes, Path}
-use Rattle.stage_tree.specs.declared.nodes.Node.{Node}
-use Rattle.stage_tree.specs.declared.nodes.Nodes.{Nodes}
-use Rattle.stage_tree.specs.declared.nodes.Content.{Content}
-use Rattle.stage_tree.specs.declared.nodes.Content.TheVariants.{Open}
-use Rattle.stage_tree.specs.declared.nodes.Link.TheVariants.{First}
-use Rattle.stage_tree.specs.Forests.{Forest, Nil, one, count, Reads, forest, is_link}
-use Rattle.stage_tree.specs.Frames.{pointed}
-use Rattle.stage_tree.specs.Pools.{IsKept, IsPool, IsSame, IsAdded, CanFree, IsFreed, inside, spare}
-use Rattle.stage_tree.specs.Expanding.{IsWaste}
+use Rattle.stage_nodes.specs.declared.nodes.Node.{Node}
+use Rattle.stage_nodes.specs.declared.nodes.Nodes.{Nodes}
+use Rattle.stage_nodes.specs.declared.nodes.Content.{Content}
+use Rattle.stage_nodes.specs.declared.nodes.Content.TheVariants.{Open}
+use Rattle.stage_nodes.specs.declared.nodes.Link.TheVariants.{First}
+use Rattle.stage_nodes.specs.Forests.{Forest, Nil, one, count, Reads, forest, is_link}
+use Rattle.stage_nodes.specs.Frames.{pointed}
+use Rattle.stage_nodes.specs.Pools.{IsKept, IsPool, IsSame, IsAdded, CanFree, IsFreed, inside, spare}
+use Rattle.stage_nodes.specs.Expanding.{IsWaste}
 use Rattle.stage_tree.specs.Renames.{IsGraft, IsTrunk, last_of, trunk}
-use Rattle.stage_tree.proofs.Lists.{got_set, got_other}
-use Rattle.stage_tree.proofs.Seeking.{inside_link}
-use Rattle.stage_tree.proofs.Framing.{reads_kept}
-use Rattle.stage_tree.proofs.Pools.{one_most, inside_one, own_count, forest_is, walk_is}
-use Rattle.stage_tree.proofs.Freeing.{point_first, reads_names}
-use Rattle.stage_tree.proofs.Pointing.{IsBeside, set_beside, set_stay}
-use Rattle.stage_tree.proofs.Expanding.{same_reads, same_inside, same_spare, same_pool}
-use Rattle.stage_tree.proofs.Branching.{kept_on}
+use Rattle.stage_nodes.proofs.Lists.{got_set, got_other}
+use Rattle.stage_nodes.proofs.Seeking.{inside_link}
+use Rattle.stage_nodes.proofs.Framing.{reads_kept}
+use Rattle.stage_nodes.proofs.Pools.{one_most, inside_one, own_count, forest_is, walk_is}
+use Rattle.stage_nodes.proofs.Freeing.{point_first, reads_names}
+use Rattle.stage_nodes.proofs.Pointing.{IsBeside, set_beside, set_stay}
+use Rattle.stage_nodes.proofs.Expanding.{same_reads, same_inside, same_spare, same_pool}
+use Rattle.stage_nodes.proofs.Branching.{kept_on}
 
 -- ---- the end
 
@@ -138,7 +138,7 @@ attach names ns o l k [] c [] x i node n there few below r =
       there = got_set ns k node (record node { first = o }) there;
       cell = record {
         within = omega (arith, r.cell.within, ap (λ (v : Node). v.at + v.len) same);
-        component = ap (λ (v : Node). Rattle.stage_tree.specs.Forests.node_component names v) same ∙ r.cell.component;
+        component = ap (λ (v : Node). Rattle.stage_nodes.specs.Forests.node_component names v) same ∙ r.cell.component;
         content = ap (λ (v : Node). v.content) same ∙ r.cell.content;
       };
       children = below;

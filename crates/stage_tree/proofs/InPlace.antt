@@ -5,22 +5,22 @@ use Rattle.git_objects.specs.Paths.{Bytes, Path}
 use Rattle.git_objects.proofs.Basics.{same_bytes-self}
 use Rattle.object_store.specs.Objects.{Object}
 use Rattle.path_trees.specs.declared.found.Found.{Found}
-use Rattle.stage_tree.specs.declared.nodes.Node.{Node}
-use Rattle.stage_tree.specs.declared.nodes.Nodes.{Nodes}
-use Rattle.stage_tree.specs.declared.nodes.Content.{Content}
-use Rattle.stage_tree.specs.declared.nodes.Content.TheVariants.{Held}
-use Rattle.stage_tree.specs.declared.ways.Way.{Way}
-use Rattle.stage_tree.specs.Forests.{Forest, Nil, Bin, one, count, IsCell, IsFilled, Reads, Sound}
-use Rattle.stage_tree.specs.Frames.{Frame, plug, count_up, ReadsUp}
-use Rattle.stage_tree.specs.Pools.{IsPool, inside, spare}
-use Rattle.stage_tree.specs.Leaves.{is_held}
-use Rattle.stage_tree.specs.Ways.{IsAlone, IsOpen, IsWay, kids_of}
-use Rattle.stage_tree.specs.Branches.{after_named, reached, stem, stem_content}
+use Rattle.stage_nodes.specs.declared.nodes.Node.{Node}
+use Rattle.stage_nodes.specs.declared.nodes.Nodes.{Nodes}
+use Rattle.stage_nodes.specs.declared.nodes.Content.{Content}
+use Rattle.stage_nodes.specs.declared.nodes.Content.TheVariants.{Held}
+use Rattle.stage_nodes.specs.declared.ways.Way.{Way}
+use Rattle.stage_nodes.specs.Forests.{Forest, Nil, Bin, one, count, IsCell, IsFilled, Reads, Sound}
+use Rattle.stage_nodes.specs.Frames.{Frame, plug, count_up, ReadsUp}
+use Rattle.stage_nodes.specs.Pools.{IsPool, inside, spare}
+use Rattle.stage_nodes.specs.Leaves.{is_held}
+use Rattle.stage_nodes.specs.Ways.{IsAlone, IsOpen, IsWay, kids_of}
+use Rattle.stage_nodes.specs.Branches.{after_named, reached, stem, stem_content}
 use Rattle.stage_tree.specs.Sets.{IsPutAt}
-use Rattle.stage_tree.proofs.Framing.{up_kept, same_names, count_plug}
-use Rattle.stage_tree.proofs.Pools.{own_count, one_most}
-use Rattle.stage_tree.proofs.Pointing.{IsBeside, set_there, set_stay, set_beside, set_reads}
-use Rattle.stage_tree.proofs.OnWay.{IsNamed, named_of, alone_stay, stage_whole, stage_open}
+use Rattle.stage_nodes.proofs.Framing.{up_kept, same_names, count_plug}
+use Rattle.stage_nodes.proofs.Pools.{own_count, one_most}
+use Rattle.stage_nodes.proofs.Pointing.{IsBeside, set_there, set_stay, set_beside, set_reads}
+use Rattle.stage_nodes.proofs.OnWay.{IsNamed, named_of, alone_stay, stage_whole, stage_open}
 
 module _ (S : List Object) (s t : Nodes) (o : IsOpen S s) (q : Path) (c : Bytes) (up : List Frame) (k : ℕ) (n : IsNamed S s q c up k) (g : Found) (e : n.content ≡ Held g) (f : Found) (held : is_held S (Held f) ≡ true)
     (cells : t.cells.items ≡ slice_set s.cells.items k (record n.node { content = Held f })) (names : t.names.items ≡ s.names.items) (free : t.free ≡ s.free) where
@@ -97,7 +97,7 @@ module _ (S : List Object) (s t : Nodes) (p : Path) (way : Way) (w : IsWay S s s
   abbrev at_last : (way.level + 1 ≡ length p) × (way.spot.child ≡ Some k)
   at_last = last_level (length p) way k last
 
-  abbrev here : Rattle.stage_tree.specs.Ways.IsPlaceOf S s w.before w.component way.spot.link (Some k)
+  abbrev here : Rattle.stage_nodes.specs.Ways.IsPlaceOf S s w.before w.component way.spot.link (Some k)
   here = record {
     frames = w.place.frames;
     number = w.place.number;

@@ -3,11 +3,12 @@ use Rattle.std.proofs.Common.{◌≡◌, ℕ, List, Option, Some, None, IfSome, 
 use Rattle.git_objects.specs.Paths.{Path}
 use Rattle.git_objects.specs.Trees.{Flat}
 use Rattle.object_store.specs.Objects.{Object}
-use Rattle.stage_tree.specs.declared.nodes.Nodes.{Nodes}
+use Rattle.stage_nodes.specs.declared.nodes.Nodes.{Nodes}
 use Rattle.stage_tree.specs.Sets.{IsChildOf}
-use Rattle.stage_tree.specs.Stages.{Staged, IsOpened, IsRooted, IsStage, Shows, items_of, staged}
+use Rattle.stage_tree.specs.Stages.{Staged, Shows, staged}
+use Rattle.stage_nodes.specs.Roots.{IsOpened, IsRooted, IsStage, items_of}
 use Rattle.stage_tree.proofs.FromLast.{root_is_open}
-use Rattle.stage_tree.proofs.Rooting.{already_open}
+use Rattle.stage_nodes.proofs.Rooting.{already_open}
 
 pub child_in : (s : Nodes) (o : Option ℕ) (q r : Path) (k : ℕ) → IfSome o (IsChildOf s q) → o ≡ Some k → q ≡ r → IsChildOf s r k
 child_in s o q r k h e f = subst (λ (x : Path). IsChildOf s x k) f (subst (λ (x : Option ℕ). IfSome x (IsChildOf s q)) e h)

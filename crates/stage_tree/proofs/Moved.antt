@@ -8,12 +8,13 @@ use Rattle.git_objects.proofs.Standing.{standing_node}
 use Rattle.object_store.specs.Objects.{Object}
 use Rattle.stage_tree.specs.declared.fault.StageFault.{StageFault}
 use Rattle.stage_tree.specs.declared.fault.StageFault.TheVariants.{NoSource}
-use Rattle.stage_tree.specs.declared.nodes.Nodes.{Nodes}
-use Rattle.stage_tree.specs.Branches.{Stands}
+use Rattle.stage_nodes.specs.declared.nodes.Nodes.{Nodes}
+use Rattle.stage_nodes.specs.Branches.{Stands}
 use Rattle.stage_tree.specs.Edits.{IsEdited, renamed, within_paths}
 use Rattle.stage_tree.specs.Renames.{IsEditedTo}
-use Rattle.stage_tree.specs.Stages.{IsOpened, Shows, Staged, staged}
-use Rattle.stage_tree.specs.Ways.{IsOpen}
+use Rattle.stage_nodes.specs.Roots.{IsOpened}
+use Rattle.stage_tree.specs.Stages.{Shows, Staged, staged}
+use Rattle.stage_nodes.specs.Ways.{IsOpen}
 use Rattle.stage_tree.proofs.Fewer.{rename_few}
 use Rattle.stage_tree.proofs.Staging.{as_test, most_stays, shows_open, shows_still}
 

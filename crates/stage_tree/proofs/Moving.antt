@@ -9,19 +9,20 @@ use Rattle.object_store.specs.Objects.{Object, IsStore}
 use Rattle.path_trees.specs.Standing.{node}
 use Rattle.stage_tree.specs.declared.fault.StageFault.{StageFault}
 use Rattle.stage_tree.specs.declared.fault.StageFault.TheVariants.{NoSource, OutOfMemory}
-use Rattle.stage_tree.specs.declared.nodes.Nodes.{Nodes}
-use Rattle.stage_tree.specs.declared.ways.Way.{Way}
-use Rattle.stage_tree.specs.Branches.{IsRemoved, Stands, reached}
+use Rattle.stage_nodes.specs.declared.nodes.Nodes.{Nodes}
+use Rattle.stage_nodes.specs.declared.ways.Way.{Way}
+use Rattle.stage_nodes.specs.Branches.{IsRemoved, Stands, reached}
 use Rattle.stage_tree.specs.Edits.{copied, few_files, renamed, within_paths}
 use Rattle.stage_tree.specs.Standings.{Holds, IsNodeAt}
-use Rattle.stage_tree.specs.Ways.{IsOpen, IsPlaceOf, IsStill, IsWay, kids_of}
-use Rattle.stage_tree.specs.Renames.{CanMove, CanPrune, IsCleared, IsEditedTo, IsMoved, IsSource, IsStop, IsWalkable, is_clear, sourced, stand_in}
-use Rattle.stage_tree.proofs.OnWay.{still_on, still_same}
+use Rattle.stage_nodes.specs.Ways.{IsOpen, IsPlaceOf, IsStill, IsWay, kids_of}
+use Rattle.stage_tree.specs.Renames.{CanMove, IsEditedTo, IsMoved, IsSource, sourced, stand_in}
+use Rattle.stage_nodes.specs.Walks.{CanPrune, IsCleared, IsStop, IsWalkable, is_clear}
+use Rattle.stage_nodes.proofs.OnWay.{still_on, still_same}
 use Rattle.stage_tree.proofs.MoveFlats.{moved_apart, moved_over, standing_none, standing_rests, standing_some}
-use Rattle.stage_tree.proofs.PutFits.{place_leaf, v}
-use Rattle.stage_tree.proofs.Removing.{nothing_below}
-use Rattle.stage_tree.proofs.SomeLeaf.{some_leaf}
-use Rattle.stage_tree.proofs.Walking.{way_of}
+use Rattle.stage_nodes.proofs.NodePlaces.{place_leaf, v}
+use Rattle.stage_nodes.proofs.Removing.{nothing_below}
+use Rattle.stage_nodes.proofs.SomeLeaf.{some_leaf}
+use Rattle.stage_nodes.proofs.Walking.{way_of}
 
 -- ---- the end of a walk
 
@@ -81,7 +82,7 @@ stand_in_leaf = ModuleLeaf (replicate 20 0)
 
 -- a node stands for something
 module _ (S : List Object) (store : IsStore S) (s : Nodes) (p : Path) (k : ℕ) (h : IsNodeAt S s p k) (t : Flat) (tree : IsTree t) (st : Stands S s t) where
-  abbrev one : (q : Path) × (y : Leaf) × (Rattle.stage_tree.specs.Leaves.leaf_below S (v S s k h.place).content (Rattle.stage_tree.specs.Leaves.leaf_in S (v S s k h.place).children) q ≡ Some y)
+  abbrev one : (q : Path) × (y : Leaf) × (Rattle.stage_nodes.specs.Leaves.leaf_below S (v S s k h.place).content (Rattle.stage_nodes.specs.Leaves.leaf_in S (v S s k h.place).children) q ≡ Some y)
   one = some_leaf S store (v S s k h.place).content (v S s k h.place).children (v S s k h.place).sound.0.filled (v S s k h.place).sound.0.content (v S s k h.place).sound.2
 
   abbrev own : Path

@@ -17,19 +17,16 @@ use Rattle.git_objects.proofs.Pointwise.{IsNode, each_at}
 use Rattle.git_objects.proofs.Standing.{standing_node}
 use Rattle.object_store.specs.Objects.{Object, IsStore, has_child}
 use Rattle.path_trees.specs.Standing.{node}
-use Rattle.stage_tree.specs.declared.nodes.Nodes.{Nodes}
-use Rattle.stage_tree.specs.declared.nodes.Content.{Content}
-use Rattle.stage_tree.specs.declared.nodes.Content.TheVariants.{Held, Open}
+use Rattle.stage_nodes.specs.declared.nodes.Nodes.{Nodes}
+use Rattle.stage_nodes.specs.declared.nodes.Content.{Content}
+use Rattle.stage_nodes.specs.declared.nodes.Content.TheVariants.{Held, Open}
 use Rattle.stage_tree.specs.declared.limits.Measure.{Measure}
 use Rattle.stage_tree.specs.declared.limits.Measure.TheVariants.{Components, Bytes as ByBytes}
-use Rattle.stage_tree.specs.declared.nodes.Node.{Node}
-use Rattle.stage_tree.specs.declared.nodes.Link.TheVariants.{First}
+use Rattle.stage_nodes.specs.declared.nodes.Link.TheVariants.{First}
 use Rattle.path_trees.specs.declared.found.Found.{Found}
-use Rattle.std.proofs.lemmas.Option.{slice_get_within}
-use Rattle.stage_tree.specs.Forests.{Forest, Nil, Bin, Sound, count, forest}
-use Rattle.stage_tree.specs.Frames.{Frame}
-use Rattle.stage_tree.specs.Leaves.{leaf_below, leaf_in, is_held}
-use Rattle.stage_tree.specs.Branches.{Stands}
+use Rattle.stage_nodes.specs.Forests.{Forest, Nil, Bin, Sound, count, forest}
+use Rattle.stage_nodes.specs.Frames.{Frame}
+use Rattle.stage_nodes.specs.Leaves.{leaf_below, leaf_in, is_held}
 use Rattle.git_objects.specs.Results.{◌>>=◌, must}
 use Rattle.stage_tree.specs.declared.fault.StageFault.{StageFault}
 use Rattle.stage_tree.specs.declared.fault.StageFault.TheVariants.{TooDeep, TooLong}
@@ -37,21 +34,20 @@ use Rattle.stage_tree.specs.Edits.{paths_put, within_paths}
 use Rattle.stage_tree.specs.Limits.{content_fits, cost, fits_in, put_fits, room_left, weight, limit_of}
 use Rattle.stage_tree.specs.Standings.{Holds}
 use Rattle.stage_tree.specs.Counts.{IsCountable}
-use Rattle.stage_tree.specs.Pools.{Walks, hanging, inside}
-use Rattle.stage_tree.specs.Ways.{HasPlace, IsOpen}
-use Rattle.stage_tree.proofs.Framing.{count_plug}
-use Rattle.stage_tree.proofs.Freeing.{first_of}
-use Rattle.stage_tree.proofs.Opening.{read_node}
-use Rattle.stage_tree.proofs.Pools.{forest_is, walk_is}
-use Rattle.stage_tree.proofs.Seeking.{inside_link}
-use Rattle.stage_tree.proofs.Leaves.{leaf_plug}
-use Rattle.stage_tree.proofs.PutLeaves.{beyond_none}
-use Rattle.stage_tree.proofs.OnWay.{IsNamed, named_of}
+use Rattle.stage_nodes.specs.Pools.{Walks, hanging, inside}
+use Rattle.stage_nodes.specs.Ways.{HasPlace, IsOpen}
+use Rattle.stage_nodes.proofs.Framing.{count_plug}
+use Rattle.stage_nodes.proofs.Freeing.{first_of}
+use Rattle.stage_nodes.proofs.Pools.{forest_is, walk_is}
+use Rattle.stage_nodes.proofs.Seeking.{inside_link}
+use Rattle.stage_nodes.proofs.PutLeaves.{beyond_none}
+use Rattle.stage_nodes.proofs.OnWay.{IsNamed}
 use Rattle.stage_tree.proofs.Staging.{node_is}
 use Rattle.stage_tree.proofs.Fits.{le_false, le_holds, le_more, le_true}
 use Rattle.stage_tree.proofs.FoundFits.{cost_length, cost_text}
 use Rattle.stage_tree.proofs.MoveFlats.{standing_rests}
-use Rattle.stage_tree.proofs.SomeLeaf.{some_leaf}
+use Rattle.stage_nodes.proofs.SomeLeaf.{some_leaf}
+use Rattle.stage_nodes.proofs.NodePlaces.{node_inside, place_leaf, v}
 
 -- ---- a flat tree
 
@@ -170,39 +166,21 @@ no_room limit n = by (nat_le n limit) refl
     by false w g = grind (arith, nat_tests)
 
 module _ (S : List Object) (s : Nodes) (k : ℕ) (h : HasPlace S s (Some k)) where
-  pub v : IsNamed S s h.path h.component h.place.frames k
-  v = (named_of S s h.path h.component h.link k h.place).0
-
-  pub node_inside : k < length s.cells.items
-  node_inside = slice_get_within s.cells.items k v.node v.there
-
-  -- the node that was read
-  pub read_content : (x : Node) → x ≡ get_or s.cells.items k x → (y : Content) → x.content ≡ y → v.content ≡ y
-  read_content x read y e = sym v.cell.content ∙ ap (λ (z : Node). z.content) (sym (read_node s.cells.items k x v.node read v.there)) ∙ e
-
-  pub read_held : (x : Node) → x ≡ get_or s.cells.items k x → (f : Found) → x.content ≡ Held f → is_held S (Held f) ≡ true
-  read_held x read f e = ap (is_held S) (sym (read_content x read (Held f) e)) ∙ v.sound.0.content
-
-  -- what stands at the node
-  pub place_leaf : (t : Flat) → Stands S s t → (r : Path) → leaf_below S v.content (leaf_in S v.children) r ≡ at t (h.path ++ h.component ∷ r)
-  place_leaf t st r =
-      sym (ap (λ b. cond b (leaf_below S v.content (leaf_in S v.children) r) (leaf_in S v.siblings (h.component ∷ r))) (same_bytes-self h.component))
-      ∙ sym (leaf_plug S (is_held S) h.place.frames (Bin k h.component v.content v.children v.siblings) h.component r v.sound_up v.fits)
-      ∙ (λ i. leaf_in S (v.whole i) (v.path i ++ h.component ∷ r))
-      ∙ st (h.path ++ h.component ∷ r)
+  abbrev u : IsNamed S s h.path h.component h.place.frames k
+  u = v S s k h
 
   module _ (o : IsOpen S s) where
-    few : (m : ℕ) → count m v.children ≤ inside s m
-    few m = omega (arith, o.covers m, ap (count m) v.whole, count_plug m h.place.frames (Bin k h.component v.content v.children v.siblings))
+    few : (m : ℕ) → count m u.children ≤ inside s m
+    few m = omega (arith, o.covers m, ap (count m) u.whole, count_plug m h.place.frames (Bin k h.component u.content u.children u.siblings))
 
-    pub children_hang : hanging s (First k) ≡ v.children
-    children_hang = ap (forest s.names.items s.cells.items) (first_of s.cells.items k v.node v.there) ∙ forest_is s.names.items s.cells.items v.node.first v.children v.reads_children few
+    pub children_hang : hanging s (First k) ≡ u.children
+    children_hang = ap (forest s.names.items s.cells.items) (first_of s.cells.items k u.node u.there) ∙ forest_is s.names.items s.cells.items u.node.first u.children u.reads_children few
 
     pub children_countable : IsCountable S s (First k)
     children_countable = record {
-      link_in = inside_link s.names.items s.cells.items k node_inside;
-      walk = subst (λ (j : Option ℕ). Walks s j) (sym (first_of s.cells.items k v.node v.there)) (walk_is s.names.items s.cells.items v.node.first v.children v.reads_children few);
-      sound = subst (Sound (is_held S)) (sym children_hang) v.sound.2;
+      link_in = inside_link s.names.items s.cells.items k (node_inside S s k h);
+      walk = subst (λ (j : Option ℕ). Walks s j) (sym (first_of s.cells.items k u.node u.there)) (walk_is s.names.items s.cells.items u.node.first u.children u.reads_children few);
+      sound = subst (Sound (is_held S)) (sym children_hang) u.sound.2;
     }
 
 module _ (S : List Object) (store : IsStore S) (s : Nodes) (k : ℕ) (h : HasPlace S s (Some k)) (t : Flat) (n : FlatNode) (g : Holds S s h t n) where

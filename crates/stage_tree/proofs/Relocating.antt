@@ -10,32 +10,33 @@ use Rattle.git_objects.specs.Trees.{Flat, at, put}
 use Rattle.git_objects.proofs.Basics.{same_bytes-self}
 use Rattle.object_store.specs.Objects.{Object}
 use Rattle.path_trees.specs.Standing.{node}
-use Rattle.stage_tree.specs.declared.nodes.Node.{Node}
-use Rattle.stage_tree.specs.declared.nodes.Nodes.{Nodes}
-use Rattle.stage_tree.specs.declared.nodes.Content.TheVariants.{Held}
-use Rattle.stage_tree.specs.declared.nodes.Link.{Link}
-use Rattle.stage_tree.specs.declared.nodes.Link.TheVariants.{Next}
-use Rattle.stage_tree.specs.Forests.{Forest, Nil, Bin, one, count, IsCell, Reads, forest, is_link, Sound}
-use Rattle.stage_tree.specs.Frames.{Frame, plug, count_up, ReadsUp}
-use Rattle.stage_tree.specs.Pools.{inside, spare}
-use Rattle.stage_tree.specs.Directories.{IsDirectory}
-use Rattle.stage_tree.specs.Leaves.{leaf_below, leaf_in, is_held}
-use Rattle.stage_tree.specs.Expanding.{IsWaste}
-use Rattle.stage_tree.specs.Ways.{IsAlone, IsPlaceOf, IsStill, NotBefore, kids_of}
-use Rattle.stage_tree.specs.Branches.{HasSpot, IsReplaced, Stands}
-use Rattle.stage_tree.specs.Renames.{CanMove, IsGraft, IsMoved, IsStop, IsWalkable, StaysClear, clear_below, is_clear, stand_in, trunk, trunk_content}
-use Rattle.stage_tree.proofs.Seeking.{inside_link}
-use Rattle.stage_tree.proofs.Framing.{ReadsAll, count_plug, reads_kept, reads_plug, same_names, up_kept}
-use Rattle.stage_tree.proofs.Pools.{forest_is, inside_one, one_most, own_count}
-use Rattle.stage_tree.proofs.Places.{sound_plug}
-use Rattle.stage_tree.proofs.Freeing.{first_of}
-use Rattle.stage_tree.proofs.Pointing.{IsBeside, set_beside, set_reads, set_stay, set_there}
-use Rattle.stage_tree.proofs.Leaves.{leaf_plug}
-use Rattle.stage_tree.proofs.PutLeaves.{put_there}
-use Rattle.stage_tree.proofs.OnWay.{IsNamed, alone_stay, named_of, sound_any, waste_still}
-use Rattle.stage_tree.proofs.Opening.{same_node}
+use Rattle.stage_nodes.specs.declared.nodes.Node.{Node}
+use Rattle.stage_nodes.specs.declared.nodes.Nodes.{Nodes}
+use Rattle.stage_nodes.specs.declared.nodes.Content.TheVariants.{Held}
+use Rattle.stage_nodes.specs.declared.nodes.Link.{Link}
+use Rattle.stage_nodes.specs.declared.nodes.Link.TheVariants.{Next}
+use Rattle.stage_nodes.specs.Forests.{Forest, Nil, Bin, one, count, IsCell, Reads, forest, is_link, Sound}
+use Rattle.stage_nodes.specs.Frames.{Frame, plug, count_up, ReadsUp}
+use Rattle.stage_nodes.specs.Pools.{inside, spare}
+use Rattle.stage_nodes.specs.Directories.{IsDirectory}
+use Rattle.stage_nodes.specs.Leaves.{leaf_below, leaf_in, is_held}
+use Rattle.stage_nodes.specs.Expanding.{IsWaste}
+use Rattle.stage_nodes.specs.Ways.{IsAlone, IsPlaceOf, IsStill, NotBefore, kids_of}
+use Rattle.stage_nodes.specs.Branches.{HasSpot, IsReplaced, Stands}
+use Rattle.stage_tree.specs.Renames.{CanMove, IsGraft, IsMoved, stand_in, trunk, trunk_content}
+use Rattle.stage_nodes.specs.Walks.{IsStop, IsWalkable, StaysClear, clear_below, is_clear}
+use Rattle.stage_nodes.proofs.Seeking.{inside_link}
+use Rattle.stage_nodes.proofs.Framing.{ReadsAll, count_plug, reads_kept, reads_plug, same_names, up_kept}
+use Rattle.stage_nodes.proofs.Pools.{forest_is, inside_one, one_most, own_count}
+use Rattle.stage_nodes.proofs.Places.{sound_plug}
+use Rattle.stage_nodes.proofs.Freeing.{first_of}
+use Rattle.stage_nodes.proofs.Pointing.{IsBeside, set_beside, set_reads, set_stay, set_there}
+use Rattle.stage_nodes.proofs.Leaves.{leaf_plug}
+use Rattle.stage_nodes.proofs.PutLeaves.{put_there}
+use Rattle.stage_nodes.proofs.OnWay.{IsNamed, alone_stay, named_of, sound_any, waste_still}
+use Rattle.stage_nodes.proofs.Opening.{same_node}
 use Rattle.stage_tree.proofs.Putting.{all_behind}
-use Rattle.stage_tree.proofs.Clearing.{clear_more}
+use Rattle.stage_nodes.proofs.Clearing.{clear_more}
 use Rattle.stage_tree.proofs.Grafting.{count_trunk}
 use Rattle.stage_tree.proofs.TrunkLeaves.{put_clear, sound_trunk, trunk_new}
 
@@ -269,7 +270,7 @@ module _ (s : Nodes) (k : ℕ) (p : Path) (h : CanMove s k p) where
         child_is = stop.place.child_is;
       }
 
-      sound_all : Rattle.stage_tree.specs.Forests.IsSound (is_held S) d (trunk_content b n.content) (trunk br.below b n.content n.children) × Sound (is_held S) (trunk br.below b n.content n.children)
+      sound_all : Rattle.stage_nodes.specs.Forests.IsSound (is_held S) d (trunk_content b n.content) (trunk br.below b n.content n.children) × Sound (is_held S) (trunk br.below b n.content n.children)
       sound_all = sound_trunk S br.below d b n.content n.children long (all_behind stop.before d b (ap (list_all is_component) stop.path ∙ valid)) n.sound.0.filled n.sound.0.content n.sound.2
 
       pub has_spot : HasSpot u link child top

@@ -5,20 +5,20 @@ use Rattle.git_objects.specs.Paths.{Bytes, Path, same_bytes}
 use Rattle.git_objects.specs.Entries.{is_dir}
 use Rattle.git_objects.proofs.Basics.{same_bytes-self}
 use Rattle.object_store.specs.Objects.{Object}
-use Rattle.stage_tree.specs.declared.nodes.Nodes.{Nodes}
-use Rattle.stage_tree.specs.declared.nodes.Content.{Content}
-use Rattle.stage_tree.specs.declared.nodes.Content.TheVariants.{Held, Open}
-use Rattle.stage_tree.specs.declared.nodes.Link.{Link}
-use Rattle.stage_tree.specs.Forests.{Forest, Nil, Bin, count}
-use Rattle.stage_tree.specs.Frames.{count_up}
-use Rattle.stage_tree.specs.Ways.{HasPlace, IsOpen, IsPlaceOf, kids_of, named_first}
-use Rattle.stage_tree.specs.Branches.{after_named}
+use Rattle.stage_nodes.specs.declared.nodes.Nodes.{Nodes}
+use Rattle.stage_nodes.specs.declared.nodes.Content.{Content}
+use Rattle.stage_nodes.specs.declared.nodes.Content.TheVariants.{Held, Open}
+use Rattle.stage_nodes.specs.declared.nodes.Link.{Link}
+use Rattle.stage_nodes.specs.Forests.{Forest, Nil, Bin, count}
+use Rattle.stage_nodes.specs.Frames.{count_up}
+use Rattle.stage_nodes.specs.Ways.{HasPlace, IsOpen, IsPlaceOf, kids_of, named_first}
+use Rattle.stage_nodes.specs.Branches.{after_named}
 use Rattle.stage_tree.specs.Counts.{content_files, files, files_but}
 use Rattle.stage_tree.specs.Sets.{is_leaf, is_leaf_at, is_leaf_node}
-use Rattle.stage_tree.proofs.Framing.{count_plug}
-use Rattle.stage_tree.proofs.Pools.{own_count, one_most}
+use Rattle.stage_nodes.proofs.Framing.{count_plug}
+use Rattle.stage_nodes.proofs.Pools.{own_count, one_most}
 use Rattle.stage_tree.proofs.Fewer.{one_leaf}
-use Rattle.stage_tree.proofs.OnWay.{IsNamed, named_of}
+use Rattle.stage_nodes.proofs.OnWay.{IsNamed, named_of}
 use Rattle.stage_tree.proofs.CountLeaves.{files_up, files_plug, but_none, but_plug}
 
 self_test : (k : ℕ) → (k == k) ≡ true

@@ -15,28 +15,28 @@ use Rattle.path_trees.specs.Standing.{node}
 use Rattle.path_trees.specs.declared.found.Found.{Found}
 use Rattle.stage_tree.specs.declared.fault.StageFault.{StageFault}
 use Rattle.stage_tree.specs.declared.fault.StageFault.TheVariants.{TooMany, OutOfMemory}
-use Rattle.stage_tree.specs.declared.nodes.Nodes.{Nodes}
-use Rattle.stage_tree.specs.declared.nodes.Content.TheVariants.{Held}
-use Rattle.stage_tree.specs.declared.nodes.Link.{Link}
-use Rattle.stage_tree.specs.Forests.{Forest, Bin, Sound}
-use Rattle.stage_tree.specs.Frames.{plug, path_of}
-use Rattle.stage_tree.specs.Leaves.{leaf_in, is_held}
-use Rattle.stage_tree.specs.Expanding.{IsWaste}
-use Rattle.stage_tree.specs.Ways.{IsOpen, IsWay, kids_of}
-use Rattle.stage_tree.specs.Branches.{Stands, after_named, stem, stem_content}
+use Rattle.stage_nodes.specs.declared.nodes.Nodes.{Nodes}
+use Rattle.stage_nodes.specs.declared.nodes.Content.TheVariants.{Held}
+use Rattle.stage_nodes.specs.declared.nodes.Link.{Link}
+use Rattle.stage_nodes.specs.Forests.{Forest, Bin, Sound}
+use Rattle.stage_nodes.specs.Frames.{plug, path_of}
+use Rattle.stage_nodes.specs.Leaves.{leaf_in, is_held}
+use Rattle.stage_nodes.specs.Expanding.{IsWaste}
+use Rattle.stage_nodes.specs.Ways.{IsOpen, IsWay, kids_of}
+use Rattle.stage_nodes.specs.Branches.{Stands, after_named, stem, stem_content}
 use Rattle.stage_tree.specs.Counts.{IsRoom, content_files, files, files_but}
 use Rattle.stage_tree.specs.Edits.{IsEdited, set_in}
-use Rattle.stage_tree.specs.Items.{tree_of}
+use Rattle.stage_nodes.specs.Items.{tree_of}
 use Rattle.stage_tree.specs.Sets.{IsArrived, IsChildOf, IsPutAt, IsUnmoved}
 use Rattle.stage_tree.specs.Stages.{Staged, Shows, staged}
 use Rattle.stage_tree.proofs.CountLeaves.{length_files, files_plug}
 use Rattle.stage_tree.proofs.Fewer.{one_leaf}
 use Rattle.stage_tree.proofs.FromLast.{unmoved_open}
-use Rattle.stage_tree.proofs.OnWay.{waste_still}
-use Rattle.stage_tree.proofs.Places.{sound_plug}
-use Rattle.stage_tree.proofs.PutLeaves.{put_there, stem_new}
+use Rattle.stage_nodes.proofs.OnWay.{waste_still}
+use Rattle.stage_nodes.proofs.Places.{sound_plug}
+use Rattle.stage_nodes.proofs.PutLeaves.{put_there, stem_new}
 use Rattle.stage_tree.proofs.Putting.{all_behind, sound_stem}
-use Rattle.stage_tree.proofs.Replacing.{sound_named}
+use Rattle.stage_nodes.proofs.Replacing.{sound_named}
 use Rattle.stage_tree.proofs.Room.{place_files}
 use Rattle.stage_tree.proofs.Staging.{as_test, most_stays, node_is, shows_open}
 
@@ -84,7 +84,7 @@ module _ (S : List Object) (st : IsStore S) (s : Nodes) (p : Path) (level : ℕ)
   abbrev Z : Forest
   Z = Bin 0 c (stem_content b f) (stem (zeros b) b f) (after_named c w.place.rest)
 
-  sound_all : Sound (is_held S) (Bin 0 c (stem_content b f) (stem (zeros b) b f) Rattle.stage_tree.specs.Forests.Nil)
+  sound_all : Sound (is_held S) (Bin 0 c (stem_content b f) (stem (zeros b) b f) Rattle.stage_nodes.specs.Forests.Nil)
   sound_all = sound_stem S (0 ∷ zeros b) (c ∷ b) f (ap suc (zeros_long b)) components held
 
   sound_set : Sound (is_held S) (plug w.place.frames Z)

@@ -13,11 +13,12 @@ use Rattle.object_store.proofs.Unfolding.{growing_law}
 use Rattle.path_trees.specs.Standing.{node}
 use Rattle.path_trees.specs.declared.found.Found.{Found}
 use Rattle.path_trees.proofs.Grown.{node-above}
-use Rattle.stage_tree.specs.declared.nodes.Content.TheVariants.{Held}
-use Rattle.stage_tree.specs.Items.{Items, tree_of, AreHeld}
-use Rattle.stage_tree.specs.Stages.{Staged, IsRooted}
+use Rattle.stage_nodes.specs.declared.nodes.Content.TheVariants.{Held}
+use Rattle.stage_nodes.specs.Items.{Items, tree_of, AreHeld}
+use Rattle.stage_tree.specs.Stages.{Staged}
+use Rattle.stage_nodes.specs.Roots.{IsRooted}
 use Rattle.stage_tree.specs.Laws.{GrownStoreLaw, OneTreeLaw}
-use Rattle.stage_tree.proofs.Closing.{held-above}
+use Rattle.stage_nodes.proofs.Closing.{held-above}
 
 pub one_tree : OneTreeLaw
 one_tree S v t u h g = same_flat t u h.tree.sorted g.tree.sorted (λ p. sym (h.leaves p) ∙ g.leaves p)

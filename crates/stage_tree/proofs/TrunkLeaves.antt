@@ -8,13 +8,14 @@ use Rattle.git_objects.specs.Trees.{Node as FlatNode, at, rests}
 use Rattle.git_objects.proofs.Basics.{same_bytes-back}
 use Rattle.git_objects.proofs.Maps.{after, at_rest}
 use Rattle.object_store.specs.Objects.{Object}
-use Rattle.stage_tree.specs.declared.nodes.Content.{Content}
-use Rattle.stage_tree.specs.Forests.{Forest, Nil, Bin, IsFilled, IsSound, Sound}
-use Rattle.stage_tree.specs.Frames.{Frame, plug, path_of}
-use Rattle.stage_tree.specs.Leaves.{leaf_below, leaf_in, is_held}
-use Rattle.stage_tree.specs.Branches.{after_named}
-use Rattle.stage_tree.specs.Renames.{clear_below, is_clear, trunk, trunk_content}
-use Rattle.stage_tree.proofs.Clearing.{clear_apart}
+use Rattle.stage_nodes.specs.declared.nodes.Content.{Content}
+use Rattle.stage_nodes.specs.Forests.{Forest, Nil, Bin, IsFilled, IsSound, Sound}
+use Rattle.stage_nodes.specs.Frames.{Frame, plug, path_of}
+use Rattle.stage_nodes.specs.Leaves.{leaf_below, leaf_in, is_held}
+use Rattle.stage_nodes.specs.Branches.{after_named}
+use Rattle.stage_nodes.specs.Walks.{clear_below, is_clear}
+use Rattle.stage_tree.specs.Renames.{trunk, trunk_content}
+use Rattle.stage_nodes.proofs.Clearing.{clear_apart}
 
 pub trunk_new : (S : List Object) (ks : List ℕ) (b : Path) (x : Content) (l : Forest) (n : FlatNode) → length ks ≡ length b → ((r : Path) → leaf_below S x (leaf_in S l) r ≡ at (rests n) r) → (r : Path) → leaf_below S (trunk_content b x) (leaf_in S (trunk ks b x l)) r ≡ at_rest (rests n) (after b r)
 trunk_new S ks [] x l n long h r = h r

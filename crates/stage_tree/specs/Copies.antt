@@ -2,23 +2,23 @@
 use Rattle.std.specs.Prelude.{◌≡◌, ℕ, ◌+◌, ◌*◌, ◌≤◌, ◌==◌, Bool, true, false, List, [], ◌∷◌, ◌++◌, slice_get, length, Option, Some, None, ◌⊎◌, IfOk, IfErr, IsOkAnd, Result, Err}
 use Rattle.git_objects.specs.Paths.{Bytes, Path}
 use Rattle.git_objects.specs.Trees.{Flat, Node as FlatNode, at, put, rests}
-use Rattle.stage_tree.specs.Branches.{Stands}
+use Rattle.stage_nodes.specs.Branches.{Stands}
 use Rattle.stage_tree.specs.Renames.{CanMove}
-use Rattle.stage_tree.specs.Ways.{IsOpen, IsStill}
+use Rattle.stage_nodes.specs.Ways.{IsOpen, IsStill}
 use Rattle.object_store.specs.Objects.{Object}
 use Rattle.stage_tree.specs.Counts.{content_files, files}
 use Rattle.stage_tree.specs.declared.fault.StageFault.{StageFault}
 use Rattle.stage_tree.specs.declared.fault.StageFault.TheVariants.{OutOfMemory}
-use Rattle.stage_tree.specs.declared.nodes.Node.{Node}
-use Rattle.stage_tree.specs.declared.nodes.Content.{Content}
-use Rattle.stage_tree.specs.declared.nodes.Link.TheVariants.{First}
-use Rattle.stage_tree.specs.declared.nodes.Nodes.{Nodes}
+use Rattle.stage_nodes.specs.declared.nodes.Node.{Node}
+use Rattle.stage_nodes.specs.declared.nodes.Content.{Content}
+use Rattle.stage_nodes.specs.declared.nodes.Link.TheVariants.{First}
+use Rattle.stage_nodes.specs.declared.nodes.Nodes.{Nodes}
 use Rattle.stage_tree.specs.declared.copies.Work.{Work}
 use Rattle.stage_tree.specs.declared.copies.Work.TheVariants.{Siblings, Children}
 use Rattle.stage_tree.specs.declared.copies.Turn.{Turn}
 use Rattle.stage_tree.specs.declared.copies.Turn.TheVariants.{Copy, Copied}
-use Rattle.stage_tree.specs.Forests.{Forest, Nil, Bin, IsCell, one, count, forest, size, Reads}
-use Rattle.stage_tree.specs.Pools.{IsKept, IsPool, StayBut, hanging, inside, spare}
+use Rattle.stage_nodes.specs.Forests.{Forest, Nil, Bin, IsCell, one, count, forest, size, Reads}
+use Rattle.stage_nodes.specs.Pools.{IsKept, IsPool, StayBut, hanging, inside, spare}
 
 -- the same but for the numbers
 abbrev pub IsAlike : Forest → Forest → Type 0

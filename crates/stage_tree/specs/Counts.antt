@@ -4,13 +4,13 @@ use Rattle.git_objects.specs.declared.limits.TheConstants.{TREE_FILES}
 use Rattle.git_objects.specs.Trees.{rests}
 use Rattle.object_store.specs.Objects.{Object}
 use Rattle.path_trees.specs.Standing.{node}
-use Rattle.stage_tree.specs.declared.nodes.Nodes.{Nodes}
-use Rattle.stage_tree.specs.declared.nodes.Content.{Content}
-use Rattle.stage_tree.specs.declared.nodes.Content.TheVariants.{Held, Open}
-use Rattle.stage_tree.specs.declared.nodes.Link.{Link}
-use Rattle.stage_tree.specs.Forests.{Forest, Nil, Bin, is_link, target, Sound}
-use Rattle.stage_tree.specs.Pools.{Walks, hanging}
-use Rattle.stage_tree.specs.Leaves.{is_held}
+use Rattle.stage_nodes.specs.declared.nodes.Nodes.{Nodes}
+use Rattle.stage_nodes.specs.declared.nodes.Content.{Content}
+use Rattle.stage_nodes.specs.declared.nodes.Content.TheVariants.{Held, Open}
+use Rattle.stage_nodes.specs.declared.nodes.Link.{Link}
+use Rattle.stage_nodes.specs.Forests.{Forest, Nil, Bin, is_link, target, Sound}
+use Rattle.stage_nodes.specs.Pools.{Walks, hanging}
+use Rattle.stage_nodes.specs.Leaves.{is_held}
 
 -- a node's files, by those of its children
 abbrev pub content_files : List Object → Content → ℕ → ℕ

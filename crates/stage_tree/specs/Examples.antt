@@ -3,7 +3,7 @@ use Rattle.std.specs.Prelude.{◌≡◌, refl, ℕ, [], ◌∷◌, codes, replic
 use Rattle.git_objects.specs.Paths.{Bytes, Path}
 use Rattle.git_objects.specs.Trees.{Leaf, FileLeaf, Flat, LeafNode, TreeNode, put, remove}
 use Rattle.stage_tree.specs.declared.fault.StageFault.TheVariants.{NoSource, TooDeep}
-use Rattle.stage_tree.specs.Renames.{above, above_both, entries_of}
+use Rattle.stage_nodes.specs.Walks.{above, above_both, entries_of}
 use Rattle.stage_tree.specs.Edits.{copied, paths_put, renamed, set_in, within_paths}
 
 abbrev a : Bytes

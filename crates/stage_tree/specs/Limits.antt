@@ -6,14 +6,14 @@ use Rattle.git_objects.specs.Paths.{Path}
 use Rattle.git_objects.specs.Trees.{Node, rests}
 use Rattle.object_store.specs.Objects.{Object}
 use Rattle.path_trees.specs.Standing.{node}
-use Rattle.stage_tree.specs.declared.nodes.Content.{Content}
-use Rattle.stage_tree.specs.declared.nodes.Content.TheVariants.{Held, Open}
+use Rattle.stage_nodes.specs.declared.nodes.Content.{Content}
+use Rattle.stage_nodes.specs.declared.nodes.Content.TheVariants.{Held, Open}
 use Rattle.stage_tree.specs.declared.limits.Measure.{Measure}
 use Rattle.stage_tree.specs.declared.limits.Measure.TheVariants.{Components, Bytes}
 use Rattle.stage_tree.specs.declared.fault.StageFault.{StageFault}
 use Rattle.stage_tree.specs.declared.fault.StageFault.TheVariants.{OutOfMemory}
 use Rattle.stage_tree.specs.Edits.{paths_put}
-use Rattle.stage_tree.specs.Forests.{Forest, Nil, Bin}
+use Rattle.stage_nodes.specs.Forests.{Forest, Nil, Bin}
 
 -- what a component of so many bytes takes of a limit, with the slash behind it
 abbrev pub weight : Measure → ℕ → ℕ

@@ -1,23 +1,23 @@
 -- A leaf put at a path, seen node by node.
-use Rattle.std.specs.Prelude.{◌≡◌, ℕ, Bool, false, not, List, [], ◌∷◌, ◌++◌, length, slice_get, Option, Some, None, IfSome}
+use Rattle.std.specs.Prelude.{◌≡◌, ℕ, Bool, false, not, List, ◌∷◌, ◌++◌, length, slice_get, Option, Some, None, IfSome}
 use Rattle.git_objects.specs.Paths.{Bytes, Path}
 use Rattle.git_objects.specs.Trees.{at}
 use Rattle.git_objects.specs.Entries.{is_dir}
 use Rattle.object_store.specs.Objects.{Object}
 use Rattle.path_trees.specs.declared.found.Found.{Found}
-use Rattle.stage_tree.specs.declared.nodes.Node.{Node}
-use Rattle.stage_tree.specs.declared.nodes.Nodes.{Nodes}
-use Rattle.stage_tree.specs.declared.nodes.Content.{Content}
-use Rattle.stage_tree.specs.declared.nodes.Content.TheVariants.{Held, Open}
-use Rattle.stage_tree.specs.declared.nodes.Link.{Link}
+use Rattle.stage_nodes.specs.declared.nodes.Node.{Node}
+use Rattle.stage_nodes.specs.declared.nodes.Nodes.{Nodes}
+use Rattle.stage_nodes.specs.declared.nodes.Content.{Content}
+use Rattle.stage_nodes.specs.declared.nodes.Content.TheVariants.{Held, Open}
+use Rattle.stage_nodes.specs.declared.nodes.Link.{Link}
 use Rattle.stage_tree.specs.declared.last.Last.{Last}
-use Rattle.stage_tree.specs.Forests.{Forest, Bin}
-use Rattle.stage_tree.specs.Frames.{Frame, Below, Behind, plug, path_of}
-use Rattle.stage_tree.specs.Leaves.{leaf_in}
-use Rattle.stage_tree.specs.Ways.{IsOpen, IsPlaceOf, IsWay, kids_of}
-use Rattle.stage_tree.specs.Branches.{stem, stem_content, after_named}
-use Rattle.stage_tree.specs.Items.{tree_of}
-use Rattle.stage_tree.specs.Stages.{IsStage, IsRooted, items_of}
+use Rattle.stage_nodes.specs.Forests.{Forest, Bin}
+use Rattle.stage_nodes.specs.Frames.{Frame, Behind, plug, path_of, AreSiblings}
+use Rattle.stage_nodes.specs.Leaves.{leaf_in}
+use Rattle.stage_nodes.specs.Ways.{IsOpen, IsPlaceOf, IsWay, kids_of}
+use Rattle.stage_nodes.specs.Branches.{stem, stem_content, after_named}
+use Rattle.stage_nodes.specs.Items.{tree_of}
+use Rattle.stage_nodes.specs.Roots.{IsStage, IsRooted, items_of}
 
 abbrev pub is_leaf : Content → Bool
 is_leaf (Held f) = not (is_dir f.mode)
@@ -48,12 +48,6 @@ pub record IsChildOf (s : Nodes) (q : Path) (k : ℕ) : Type 0 where
   pub siblings : Forest
   pub whole : plug frames (Bin k component content children siblings) ≡ kids_of s
   pub path : path_of frames ≡ q
-
--- no directory was entered
-abbrev pub AreSiblings : List Frame → Type 0
-AreSiblings [] = Unit
-AreSiblings (Below k c r ∷ fs) = ⊥
-AreSiblings (Behind k c x l ∷ fs) = AreSiblings fs
 
 -- a place behind a node of its directory
 pub record IsPlaceBehind (S : List Object) (s : Nodes) (q : Path) (c : Bytes) (link : Link) (child : Option ℕ) (k : ℕ) (h : IsChildOf s q k) : Type 0 where

@@ -3,9 +3,9 @@ use Rattle.std.specs.Prelude.{◌≡◌, ℕ, ◌++◌, [], ◌∷◌, List, Som
 use Rattle.git_objects.specs.Paths.{Path}
 use Rattle.git_objects.specs.Trees.{Flat, IsTree, Node, standing}
 use Rattle.object_store.specs.Objects.{Object}
-use Rattle.stage_tree.specs.declared.nodes.Nodes.{Nodes}
-use Rattle.stage_tree.specs.Branches.{Stands}
-use Rattle.stage_tree.specs.Ways.{HasPlace}
+use Rattle.stage_nodes.specs.declared.nodes.Nodes.{Nodes}
+use Rattle.stage_nodes.specs.Branches.{Stands}
+use Rattle.stage_nodes.specs.Ways.{HasPlace}
 
 -- the nodes stand for a tree, and a node with a place for what stands at its path
 pub record Holds (S : List Object) (s : Nodes) {k : ℕ} (h : HasPlace S s (Some k)) (t : Flat) (n : Node) : Type 0 where

@@ -2,17 +2,16 @@
 ghost use Rattle.std.specs.Prelude.{◌≡◌, ◌-◌, ◌<◌, true, false, length, take, List, Some, None, IfOk, IfSome, OnErr};
 ghost use Rattle.git_objects.specs.Paths.{Path, is_path};
 ghost use Rattle.object_store.specs.Objects.{Object};
-ghost use Rattle.stage_tree.specs.Branches.{IsRemoved};
-ghost use Rattle.stage_tree.specs.Forests.{is_link, sought, target};
-ghost use Rattle.stage_tree.specs.Pools.{Walks, hanging};
+ghost use Rattle.stage_nodes.specs.Branches.{IsRemoved};
+ghost use Rattle.stage_nodes.specs.Forests.{is_link, sought, target};
+ghost use Rattle.stage_nodes.specs.Pools.{Walks, hanging};
 ghost use Rattle.stage_tree.specs.Sets.{IsArrived, IsChildOf, IsMarked, IsPlaceBehind, IsUnmoved};
-ghost use Rattle.stage_tree.specs.Stages.{IsRooted, IsStage, items_of};
-ghost use Rattle.stage_tree.specs.Ways.{IsOpen, IsPlaceOf, named_first};
+ghost use Rattle.stage_nodes.specs.Roots.{IsRooted, IsStage, items_of};
+ghost use Rattle.stage_nodes.specs.Ways.{IsOpen, IsPlaceOf, named_first};
 
-use crate::nodes::{Link, Nodes};
-use crate::ways::{Spot, Way};
 use git_objects::Component;
 use object_store::Store;
+use stage_nodes::{Link, Nodes, Spot, Way};
 use std::alloc::{AllocError, Global};
 
 // The node that was set last, if it may still be there, and the path of its directory.
@@ -79,86 +78,84 @@ impl Last {
     }
 }
 
-impl Nodes {
-    // The place of a component in the directory of a node that stands before it. None: the node doesn't.
-    fn spot_behind(&self, number: usize, component: &[u8]) -> Option<Spot>
-        requires opened { (S : List Object) × IsOpen S self.now }
-        requires child { (q : Path) × IsChildOf self.now q number }
-        ensures { IfSome result (λ spot. (S : List Object) (q : Path) → IsOpen S self.now
-            → (h : IsChildOf self.now q number)
-            → IsPlaceBehind S self.now q component.now spot.link spot.child number h) }
-    {
-        if self.is_before(self.cells[number], component) {
-            Some(self.spot_from(Link::Next(number), component))
-        } else {
-            None
-        }
+// The place of a component in the directory of a node that stands before it. None: the node doesn't.
+fn spot_behind(nodes: &Nodes, number: usize, component: &[u8]) -> Option<Spot>
+    requires opened { (S : List Object) × IsOpen S nodes.now }
+    requires child { (q : Path) × IsChildOf nodes.now q number }
+    ensures { IfSome result (λ spot. (S : List Object) (q : Path) → IsOpen S nodes.now
+        → (h : IsChildOf nodes.now q number)
+        → IsPlaceBehind S nodes.now q component.now spot.link spot.child number h) }
+{
+    if nodes.is_before(nodes.cells[number], component) {
+        Some(nodes.spot_from(Link::Next(number), component))
+    } else {
+        None
     }
+}
 
-    // Removes a path and all below it, if it comes behind a node of its directory. Whether it does.
-    pub fn remove_behind(&mut self, number: usize, components: &[Component]) -> bool
-        requires opened { (S : List Object) × IsOpen S self.old }
-        requires path { is_path components.now ≡ true }
-        requires child { IsChildOf self.old (take (length components.now - 1) components.now) number }
-        ensures removed { result ≡ true → (S : List Object) → IsOpen S self.old
-            → IsRemoved S self.old self.new components.now }
-        ensures child { result ≡ true → IsChildOf self.new (take (length components.now - 1) components.now) number }
-        ensures same { result ≡ false → self.new ≡ self.old }
-    {
+// Removes a path and all below it, if it comes behind a node of its directory. Whether it does.
+pub fn remove_behind(nodes: &mut Nodes, number: usize, components: &[Component]) -> bool
+    requires opened { (S : List Object) × IsOpen S nodes.old }
+    requires path { is_path components.now ≡ true }
+    requires child { IsChildOf nodes.old (take (length components.now - 1) components.now) number }
+    ensures removed { result ≡ true → (S : List Object) → IsOpen S nodes.old
+        → IsRemoved S nodes.old nodes.new components.now }
+    ensures child { result ≡ true → IsChildOf nodes.new (take (length components.now - 1) components.now) number }
+    ensures same { result ≡ false → nodes.new ≡ nodes.old }
+{
+    let level = components.len() - 1;
+    let Some(spot) = spot_behind(nodes, number, components[level].bytes()) else {
+        return false;
+    };
+    if let Some(child) = spot.child {
+        nodes.cut(spot.link, child);
+    }
+    true
+}
+
+// The way to a path, from a node of its directory where that stands before it.
+fn way_to(
+    nodes: &mut Nodes,
+    alloc: Global,
+    store: &Store,
+    beside: Option<usize>,
+    components: &[Component],
+) -> Result<Way, AllocError>
+    requires stage { IsStage nodes.old }
+    requires held { IsRooted store.now (items_of nodes.old) }
+    requires path { is_path components.now ≡ true }
+    requires beside { IfSome beside (IsChildOf nodes.old (take (length components.now - 1) components.now)) }
+    ensures ok { IfOk result (λ w. IsArrived store.now nodes.old nodes.new components.now
+        w.level w.spot.link w.spot.child) }
+    ensures err { OnErr result (IsUnmoved store.now nodes.old nodes.new) }
+{
+    if let Some(number) = beside {
         let level = components.len() - 1;
-        let Some(spot) = self.spot_behind(number, components[level].bytes()) else {
-            return false;
-        };
-        if let Some(child) = spot.child {
-            self.cut(spot.link, child);
+        if let Some(spot) = spot_behind(nodes, number, components[level].bytes()) {
+            return Ok(Way { level, spot });
         }
-        true
     }
+    nodes.open_root(alloc, store)?;
+    nodes.way(alloc, store, components)
+}
 
-    // The way to a path, from a node of its directory where that stands before it.
-    fn way_to(
-        &mut self,
-        alloc: Global,
-        store: &Store,
-        beside: Option<usize>,
-        components: &[Component],
-    ) -> Result<Way, AllocError>
-        requires stage { IsStage self.old }
-        requires held { IsRooted store.now (items_of self.old) }
-        requires path { is_path components.now ≡ true }
-        requires beside { IfSome beside (IsChildOf self.old (take (length components.now - 1) components.now)) }
-        ensures ok { IfOk result (λ w. IsArrived store.now self.old self.new components.now
-            w.level w.spot.link w.spot.child) }
-        ensures err { OnErr result (IsUnmoved store.now self.old self.new) }
-    {
-        if let Some(number) = beside {
-            let level = components.len() - 1;
-            if let Some(spot) = self.spot_behind(number, components[level].bytes()) {
-                return Ok(Way { level, spot });
-            }
-        }
-        self.open_root(alloc, store)?;
-        self.way(alloc, store, components)
-    }
-
-    // The way to a path, from the node that was set last where that stands before it in its directory. That node is
-    // forgotten.
-    pub fn arrive(
-        &mut self,
-        last: &mut Last,
-        alloc: Global,
-        store: &Store,
-        components: &[Component],
-    ) -> Result<Way, AllocError>
-        requires marked { IsMarked self.old last.old }
-        requires held { IsRooted store.now (items_of self.old) }
-        requires path { is_path components.now ≡ true }
-        ensures ok { IfOk result (λ w. IsArrived store.now self.old self.new components.now
-            w.level w.spot.link w.spot.child) }
-        ensures err { OnErr result (IsUnmoved store.now self.old self.new) }
-        ensures forgotten { last.new.child ≡ None }
-    {
-        let beside = last.taken(components);
-        self.way_to(alloc, store, beside, components)
-    }
+// The way to a path, from the node that was set last where that stands before it in its directory. That node is
+// forgotten.
+pub fn arrive(
+    nodes: &mut Nodes,
+    last: &mut Last,
+    alloc: Global,
+    store: &Store,
+    components: &[Component],
+) -> Result<Way, AllocError>
+    requires marked { IsMarked nodes.old last.old }
+    requires held { IsRooted store.now (items_of nodes.old) }
+    requires path { is_path components.now ≡ true }
+    ensures ok { IfOk result (λ w. IsArrived store.now nodes.old nodes.new components.now
+        w.level w.spot.link w.spot.child) }
+    ensures err { OnErr result (IsUnmoved store.now nodes.old nodes.new) }
+    ensures forgotten { last.new.child ≡ None }
+{
+    let beside = last.taken(components);
+    way_to(nodes, alloc, store, beside, components)
 }

@@ -3,19 +3,13 @@
 
 mod copies;
 mod count;
-mod edits;
 mod fault;
-mod finish;
 mod last;
 mod laws;
 mod limits;
-mod nodes;
 mod renames;
-mod root;
 mod sets;
 mod stage;
-mod walks;
-mod ways;
 
 pub use fault::StageFault;
 pub use laws::{grown_store_law, one_tree_law};

@@ -4,20 +4,19 @@ ghost use Rattle.git_objects.specs.Paths.{is_path};
 ghost use Rattle.git_objects.specs.Trees.{Flat, Node as FlatNode};
 ghost use Rattle.object_store.specs.Objects.{IsStore};
 ghost use Rattle.stage_tree.specs.Counts.{IsCountable};
-ghost use Rattle.stage_tree.specs.Leaves.{is_held};
-ghost use Rattle.stage_tree.specs.Limits.{IsJudged, content_fits, cost, fits_in, limit_of, put_fits, room_left};
-ghost use Rattle.stage_tree.specs.Limits.{weight};
+ghost use Rattle.stage_nodes.specs.Leaves.{is_held};
+ghost use Rattle.stage_tree.specs.Limits.{IsJudged, content_fits, cost, fits_in, limit_of, put_fits, room_left, weight};
 ghost use Rattle.stage_tree.specs.Edits.{within_paths};
 ghost use Rattle.stage_tree.specs.Standings.{Holds};
-ghost use Rattle.stage_tree.specs.Ways.{HasPlace, IsOpen};
-ghost use Rattle.stage_tree.specs.Pools.{hanging};
+ghost use Rattle.stage_nodes.specs.Ways.{HasPlace, IsOpen};
+ghost use Rattle.stage_nodes.specs.Pools.{hanging};
 
 use crate::fault::StageFault;
-use crate::nodes::{Content, Link, Nodes};
 use git_objects::Component;
 use git_objects::limits::{PATH_BYTES, PATH_COMPONENTS};
 use object_store::Store;
 use path_trees::Found;
+use stage_nodes::{Content, Link, Nodes};
 use std::alloc::{AllocError, Global};
 
 // What of a path is measured: its components, or the bytes of its text with a slash behind each component.
@@ -82,99 +81,97 @@ fn found_fits(store: &Store, measure: Measure, found: Found, room: usize) -> boo
     }
 }
 
-impl Nodes {
-    // Whether the paths through what hangs at a link take no more than that.
-    fn siblings_fit(
-        &self,
-        alloc: Global,
-        store: &Store,
-        measure: Measure,
-        start: Link,
-        room: usize,
-    ) -> Result<bool, AllocError>
-        requires store { IsStore store.now }
-        requires nodes { IsCountable store.now self.now start }
-        requires room { room ≤ 4097 }
-        ensures { IfOk result (λ fits. fits ≡ fits_in measure store.now room (hanging self.now start)) }
-    {
-        let mut room = room;
-        let mut entered = Vec::new(alloc);
-        let mut link = start;
-        'nodes: loop {
-            let Some(number) = self.target(link) else {
-                let Some(directory) = entered.pop() else {
-                    return Ok(true);
-                };
-                room += weight(measure, self.cells[directory].len);
-                link = Link::Next(directory);
-                continue 'nodes;
+// Whether the paths through what hangs at a link take no more than that.
+fn siblings_fit(
+    nodes: &Nodes,
+    alloc: Global,
+    store: &Store,
+    measure: Measure,
+    start: Link,
+    room: usize,
+) -> Result<bool, AllocError>
+    requires store { IsStore store.now }
+    requires nodes { IsCountable store.now nodes.now start }
+    requires room { room ≤ 4097 }
+    ensures { IfOk result (λ fits. fits ≡ fits_in measure store.now room (hanging nodes.now start)) }
+{
+    let mut room = room;
+    let mut entered = Vec::new(alloc);
+    let mut link = start;
+    'nodes: loop {
+        let Some(number) = nodes.target(link) else {
+            let Some(directory) = entered.pop() else {
+                return Ok(true);
             };
-            let node = self.cells[number];
-            let weight = weight(measure, node.len);
-            if weight > room {
-                return Ok(false);
-            }
-            match node.content {
-                Content::Held(found) => {
-                    if !found_fits(store, measure, found, room - weight) {
-                        return Ok(false);
-                    }
-                    link = Link::Next(number);
-                }
-                Content::Open => {
-                    entered.push(number)?;
-                    room -= weight;
-                    link = Link::First(number);
-                }
-            }
-        }
-    }
-
-    // Whether the paths that come of putting at a path what stands at a node take no more than the limit.
-    fn put_fits(
-        &self,
-        alloc: Global,
-        store: &Store,
-        measure: Measure,
-        number: usize,
-        to: &[Component],
-    ) -> Result<bool, AllocError>
-        requires store { IsStore store.now }
-        requires opened { IsOpen store.now self.now }
-        requires place { HasPlace store.now self.now (Some number) }
-        ensures { IfOk result (λ fits. (h : HasPlace store.now self.now (Some number)) (t : Flat) (n : FlatNode)
-            → Holds store.now self.now h t n → fits ≡ put_fits measure (limit_of measure) to.now n) }
-    {
-        let Some(room) = room_left(measure, to, limit(measure)) else {
-            return Ok(false);
+            room += weight(measure, nodes.cells[directory].len);
+            link = Link::Next(directory);
+            continue 'nodes;
         };
-        match self.cells[number].content {
-            Content::Held(found) => Ok(found_fits(store, measure, found, room)),
-            Content::Open => self.siblings_fit(alloc, store, measure, Link::First(number), room),
+        let node = nodes.cells[number];
+        let weight = weight(measure, node.len);
+        if weight > room {
+            return Ok(false);
+        }
+        match node.content {
+            Content::Held(found) => {
+                if !found_fits(store, measure, found, room - weight) {
+                    return Ok(false);
+                }
+                link = Link::Next(number);
+            }
+            Content::Open => {
+                entered.push(number)?;
+                room -= weight;
+                link = Link::First(number);
+            }
         }
     }
+}
 
-    // Refuses to put at a path what stands at a node where a path that comes of it is too deep or too long.
-    pub fn within(
-        &self,
-        alloc: Global,
-        store: &Store,
-        number: usize,
-        to: &[Component],
-    ) -> Result<(), StageFault>
-        requires store { IsStore store.now }
-        requires opened { IsOpen store.now self.now }
-        requires place { HasPlace store.now self.now (Some number) }
-        requires path { is_path to.now ≡ true }
-        ensures { (h : HasPlace store.now self.now (Some number)) (t : Flat) (n : FlatNode)
-            → Holds store.now self.now h t n → IsJudged (within_paths to.now n) result }
-    {
-        if !self.put_fits(alloc, store, Measure::Components, number, to)? {
-            return Err(StageFault::TooDeep);
-        }
-        if !self.put_fits(alloc, store, Measure::Bytes, number, to)? {
-            return Err(StageFault::TooLong);
-        }
-        Ok(())
+// Whether the paths that come of putting at a path what stands at a node take no more than the limit.
+fn put_fits(
+    nodes: &Nodes,
+    alloc: Global,
+    store: &Store,
+    measure: Measure,
+    number: usize,
+    to: &[Component],
+) -> Result<bool, AllocError>
+    requires store { IsStore store.now }
+    requires opened { IsOpen store.now nodes.now }
+    requires place { HasPlace store.now nodes.now (Some number) }
+    ensures { IfOk result (λ fits. (h : HasPlace store.now nodes.now (Some number)) (t : Flat) (n : FlatNode)
+        → Holds store.now nodes.now h t n → fits ≡ put_fits measure (limit_of measure) to.now n) }
+{
+    let Some(room) = room_left(measure, to, limit(measure)) else {
+        return Ok(false);
+    };
+    match nodes.cells[number].content {
+        Content::Held(found) => Ok(found_fits(store, measure, found, room)),
+        Content::Open => siblings_fit(nodes, alloc, store, measure, Link::First(number), room),
     }
+}
+
+// Refuses to put at a path what stands at a node where a path that comes of it is too deep or too long.
+pub fn within(
+    nodes: &Nodes,
+    alloc: Global,
+    store: &Store,
+    number: usize,
+    to: &[Component],
+) -> Result<(), StageFault>
+    requires store { IsStore store.now }
+    requires opened { IsOpen store.now nodes.now }
+    requires place { HasPlace store.now nodes.now (Some number) }
+    requires path { is_path to.now ≡ true }
+    ensures { (h : HasPlace store.now nodes.now (Some number)) (t : Flat) (n : FlatNode)
+        → Holds store.now nodes.now h t n → IsJudged (within_paths to.now n) result }
+{
+    if !put_fits(nodes, alloc, store, Measure::Components, number, to)? {
+        return Err(StageFault::TooDeep);
+    }
+    if !put_fits(nodes, alloc, store, Measure::Bytes, number, to)? {
+        return Err(StageFault::TooLong);
+    }
+    Ok(())
 }

@@ -11,12 +11,13 @@ ghost use Rattle.stage_tree.specs.Finished.{IsFinished};
 ghost use Rattle.stage_tree.specs.Stages.{Shows};
 
 use crate::StageFault;
-use crate::last::Last;
-use crate::nodes::{Content, Nodes};
+use crate::last::{Last, arrive, remove_behind};
+use crate::sets::{most_with_leaf, put_last};
 use git_objects::Name;
 use object_store::Store;
 use path_names::Path;
 use path_trees::{Found, Leaf, TreeFault};
+use stage_nodes::{Content, Nodes};
 use std::alloc::{AllocError, Global};
 use std::marker::Model;
 
@@ -100,15 +101,23 @@ impl Stage {
             name: leaf.name,
         };
         let components = path.components();
-        let way = self
-            .nodes
-            .arrive(&mut self.last, self.alloc, store, components)?;
+        let way = arrive(
+            &mut self.nodes,
+            &mut self.last,
+            self.alloc,
+            store,
+            components,
+        )?;
         let child = way.spot.child;
-        let most = self
-            .nodes
-            .most_with_leaf(self.alloc, store, child, self.most)?;
-        self.nodes
-            .put_last(&mut self.last, self.alloc, way, components, found)?;
+        let most = most_with_leaf(&self.nodes, self.alloc, store, child, self.most)?;
+        put_last(
+            &mut self.nodes,
+            &mut self.last,
+            self.alloc,
+            way,
+            components,
+            found,
+        )?;
         self.most = most;
         Ok(())
     }
@@ -126,11 +135,21 @@ impl Stage {
         // The name is looked at so that the proof has that it has 20 bytes.
         let _ = found.name.bytes();
         let components = path.components();
-        let way = self
-            .nodes
-            .arrive(&mut self.last, self.alloc, store, components)?;
-        self.nodes
-            .put_last(&mut self.last, self.alloc, way, components, found)?;
+        let way = arrive(
+            &mut self.nodes,
+            &mut self.last,
+            self.alloc,
+            store,
+            components,
+        )?;
+        put_last(
+            &mut self.nodes,
+            &mut self.last,
+            self.alloc,
+            way,
+            components,
+            found,
+        )?;
         self.most = u32::MAX;
         Ok(())
     }
@@ -144,7 +163,7 @@ impl Stage {
     {
         let components = path.components();
         if let Some(number) = self.last.taken(components) {
-            if self.nodes.remove_behind(number, components) {
+            if remove_behind(&mut self.nodes, number, components) {
                 self.last.child = Some(number);
                 return Ok(());
             }

@@ -14,19 +14,19 @@ copy-requires-clause-most c =
 pub returns-in_err-self-inside : goal.returns-in_err-self-inside
 returns-in_err-self-inside c = λ t h.
     let p = err_from_is_err_and c.from_residual-in_err-self-inside.result c.from_residual-in_err-self-inside.ensures.1 in
-    rw (p.1) (copy_refused c.args.store.now c.self.inside.nodes c.open_root.new.self c.copy.new.self c.self.inside.most c.args.self.now c.self.view_is c.in_ok-open_root.ensures.ok t h c.args.from.now c.args.to.now c.in_err-self-inside.field-0.0 p.0 p.2 (c.in_err-self-inside.ensures.edit t h.tree (stands_opened c.args.store.now c.self.inside.nodes c.open_root.new.self c.self.inside.most c.args.self.now t c.self.view_is c.in_ok-open_root.ensures.ok h)))
+    rw (p.1) (copy_refused c.args.store.now c.self.inside.nodes c.open_root.new.self c.copy.new.nodes c.self.inside.most c.args.self.now c.self.view_is c.in_ok-open_root.ensures.ok t h c.args.from.now c.args.to.now c.in_err-self-inside.field-0.0 p.0 p.2 (c.in_err-self-inside.ensures.edit t h.tree (stands_opened c.args.store.now c.self.inside.nodes c.open_root.new.self c.self.inside.most c.args.self.now t c.self.view_is c.in_ok-open_root.ensures.ok h)))
 
 pub invariant_of-self-2 : goal.invariant_of-self-2
 invariant_of-self-2 c =
     let S = c.args.store.now in let t = c.requires.0 in let h = c.requires.1 in
     record {
-      stage = stage_of S c.copy.new.self (copy_open S c.open_root.new.self c.copy.new.self (copied t c.args.from.now c.args.to.now) c.copy.result (c.copy.ensures.edit t h.tree (stands_opened c.args.store.now c.self.inside.nodes c.open_root.new.self c.self.inside.most c.args.self.now t c.self.view_is c.in_ok-open_root.ensures.ok h)));
+      stage = stage_of S c.copy.new.nodes (copy_open S c.open_root.new.self c.copy.new.nodes (copied t c.args.from.now c.args.to.now) c.copy.result (c.copy.ensures.edit t h.tree (stands_opened c.args.store.now c.self.inside.nodes c.open_root.new.self c.self.inside.most c.args.self.now t c.self.view_is c.in_ok-open_root.ensures.ok h)));
       last_there = tt;
     }
 
 pub returns : goal.returns
 returns c = λ t h.
-    copy_shown c.args.store.now c.self.inside.nodes c.open_root.new.self c.copy.new.self c.self.inside.most c.args.self.now c.self.view_is c.in_ok-open_root.ensures.ok t h c.args.from.now c.args.to.now c.copy.ensures.path c.in_ok-self-inside.field-0 (c.in_ok-self-inside.ensures.edit t h.tree (stands_opened c.args.store.now c.self.inside.nodes c.open_root.new.self c.self.inside.most c.args.self.now t c.self.view_is c.in_ok-open_root.ensures.ok h))
+    copy_shown c.args.store.now c.self.inside.nodes c.open_root.new.self c.copy.new.nodes c.self.inside.most c.args.self.now c.self.view_is c.in_ok-open_root.ensures.ok t h c.args.from.now c.args.to.now c.copy.ensures.path c.in_ok-self-inside.field-0 (c.in_ok-self-inside.ensures.edit t h.tree (stands_opened c.args.store.now c.self.inside.nodes c.open_root.new.self c.self.inside.most c.args.self.now t c.self.view_is c.in_ok-open_root.ensures.ok h))
 
 pub open_root-requires-clause-stage : goal.open_root-requires-clause-stage
 open_root-requires-clause-stage c = c.self.invariant.stage
@@ -47,6 +47,6 @@ pub invariant_of-self-in_err-self-inside : goal.invariant_of-self-in_err-self-in
 invariant_of-self-in_err-self-inside c =
     let S = c.args.store.now in let t = c.requires.0 in let h = c.requires.1 in
     record {
-      stage = stage_of S c.copy.new.self (copy_open S c.open_root.new.self c.copy.new.self (copied t c.args.from.now c.args.to.now) c.copy.result (c.copy.ensures.edit t h.tree (stands_opened c.args.store.now c.self.inside.nodes c.open_root.new.self c.self.inside.most c.args.self.now t c.self.view_is c.in_ok-open_root.ensures.ok h)));
+      stage = stage_of S c.copy.new.nodes (copy_open S c.open_root.new.self c.copy.new.nodes (copied t c.args.from.now c.args.to.now) c.copy.result (c.copy.ensures.edit t h.tree (stands_opened c.args.store.now c.self.inside.nodes c.open_root.new.self c.self.inside.most c.args.self.now t c.self.view_is c.in_ok-open_root.ensures.ok h)));
       last_there = tt;
     }

@@ -1,8 +1,8 @@
 use Rattle.std.proofs.Common.{Ok, sym, ap, subst, ◌∙◌}
 use Rattle.stage_tree.specs.Stages.{Staged}
 use Rattle.stage_tree.specs.Finished.{IsFinished}
-use Rattle.stage_tree.specs.declared.nodes.Node.{Node}
-use Rattle.stage_tree.proofs.Opening.{read_node}
+use Rattle.stage_nodes.specs.declared.nodes.Node.{Node}
+use Rattle.stage_nodes.proofs.Opening.{read_node}
 use Rattle.stage_tree.proofs.Finished.{finished, finished_unopened, open_root_is}
 use Rattle.stage_tree.proofs.stage.Stage.finish.Goals as goal
 

@@ -3,14 +3,15 @@ use Rattle.path_trees.proofs.Lookups.{path_long}
 use Rattle.std.proofs.lemmas.Result.{err_from_is_err_and}
 use Rattle.git_objects.specs.Paths.{Path, is_path}
 use Rattle.git_objects.specs.Trees.{Flat, remove}
-use Rattle.stage_tree.specs.declared.nodes.Nodes.{Nodes}
-use Rattle.stage_tree.specs.Branches.{IsRemoved}
+use Rattle.stage_nodes.specs.declared.nodes.Nodes.{Nodes}
+use Rattle.stage_nodes.specs.Branches.{IsRemoved}
 use Rattle.stage_tree.specs.Sets.{IsChildOf}
-use Rattle.stage_tree.specs.Stages.{IsOpened, Shows, staged}
-use Rattle.stage_tree.specs.Ways.{IsStill}
-use Rattle.stage_tree.proofs.Rooting.{of_ok, of_err}
+use Rattle.stage_nodes.specs.Roots.{IsOpened}
+use Rattle.stage_tree.specs.Stages.{Shows, staged}
+use Rattle.stage_nodes.specs.Ways.{IsStill}
+use Rattle.stage_nodes.proofs.Rooting.{of_ok, of_err}
 use Rattle.stage_tree.proofs.Staging.{shows_removed, shows_still, stage_of}
-use Rattle.stage_tree.proofs.Finishing.{either}
+use Rattle.stage_nodes.proofs.Finishing.{either}
 use Rattle.stage_tree.proofs.Marked.{child_in, opened_in}
 use Rattle.stage_tree.proofs.stage.Stage.remove.Goals as goal
 use Rattle.stage_tree.proofs.stage.Stage.remove.Goals.{in-Some+else-remove_behind, in_default}
@@ -65,13 +66,13 @@ remove_behind-requires-clause-opened c = (c.args.store.now, (opened_in c.args.st
 pub returns-then-remove_behind-clause-ok : goal.returns-then-remove_behind-clause-ok
 returns-then-remove_behind-clause-ok c = λ t h.
     let o = (opened_in c.args.store.now c.self.inside.nodes c.self.inside.most c.args.self.now c.self.view_is c.self.invariant.stage (take (length c.components-components.result.now - 1) c.components-components.result.now) c.in-Some.number (child_in c.self.inside.nodes c.self.inside.last.child c.self.inside.last.directory.items (take (length c.components-components.result.now - 1) c.components-components.result.now) c.in-Some.number c.self.invariant.last_there c.in-Some.ensures.node.0 c.in-Some.ensures.node.1) t h) in
-    shows_removed c.args.store.now c.self.inside.nodes c.self.inside.nodes c.remove_behind.new.self c.self.inside.most c.args.self.now c.args.path.now t c.self.view_is o
-    (subst (λ (p : Path). IsRemoved c.args.store.now c.self.inside.nodes c.remove_behind.new.self p) c.components-components.ensures.components (c.if-remove_behind.ensures.removed refl c.args.store.now o.opened)) h
+    shows_removed c.args.store.now c.self.inside.nodes c.self.inside.nodes c.remove_behind.new.nodes c.self.inside.most c.args.self.now c.args.path.now t c.self.view_is o
+    (subst (λ (p : Path). IsRemoved c.args.store.now c.self.inside.nodes c.remove_behind.new.nodes p) c.components-components.ensures.components (c.if-remove_behind.ensures.removed refl c.args.store.now o.opened)) h
 
 pub invariant_of-self : goal.invariant_of-self
 invariant_of-self c = record {
-  stage = stage_of c.args.store.now c.remove_behind.new.self (c.if-remove_behind.ensures.removed refl c.args.store.now (opened_in c.args.store.now c.self.inside.nodes c.self.inside.most c.args.self.now c.self.view_is c.self.invariant.stage (take (length c.components-components.result.now - 1) c.components-components.result.now) c.in-Some.number (child_in c.self.inside.nodes c.self.inside.last.child c.self.inside.last.directory.items (take (length c.components-components.result.now - 1) c.components-components.result.now) c.in-Some.number c.self.invariant.last_there c.in-Some.ensures.node.0 c.in-Some.ensures.node.1) c.requires.0 c.requires.1).opened).opened;
-  last_there = subst (λ (q : Path). IsChildOf c.remove_behind.new.self q c.in-Some.number) (sym c.in-Some.ensures.node.1 ∙ ap (λ d. d.items) (sym c.taken.ensures.directory)) (c.if-remove_behind.ensures.child refl);
+  stage = stage_of c.args.store.now c.remove_behind.new.nodes (c.if-remove_behind.ensures.removed refl c.args.store.now (opened_in c.args.store.now c.self.inside.nodes c.self.inside.most c.args.self.now c.self.view_is c.self.invariant.stage (take (length c.components-components.result.now - 1) c.components-components.result.now) c.in-Some.number (child_in c.self.inside.nodes c.self.inside.last.child c.self.inside.last.directory.items (take (length c.components-components.result.now - 1) c.components-components.result.now) c.in-Some.number c.self.invariant.last_there c.in-Some.ensures.node.0 c.in-Some.ensures.node.1) c.requires.0 c.requires.1).opened).opened;
+  last_there = subst (λ (q : Path). IsChildOf c.remove_behind.new.nodes q c.in-Some.number) (sym c.in-Some.ensures.node.1 ∙ ap (λ d. d.items) (sym c.taken.ensures.directory)) (c.if-remove_behind.ensures.child refl);
 }
 
 pub returns-then-remove_behind-clause-err : goal.returns-then-remove_behind-clause-err

@@ -9,7 +9,7 @@ pub invariant_of-self-2 : goal.invariant_of-self-2
 invariant_of-self-2 g c =
     let S = c.args.store.now in let t = c.requires.0 in let h = c.requires.1 in
     record {
-      stage = stage_of S c.rename.new.self (edited_open S c.enter_root.new.self c.rename.new.self (renamed t c.args.from.now c.args.to.now) c.rename.result
+      stage = stage_of S c.rename.new.nodes (edited_open S c.enter_root.new.self c.rename.new.nodes (renamed t c.args.from.now c.args.to.now) c.rename.result
           (c.rename.ensures.edit t h.tree (stands_opened S c.self.inside.nodes c.enter_root.new.self c.self.inside.most c.args.self.now t c.self.view_is c.in_ok-enter_root.ensures.ok h)));
       last_there = tt;
     }
@@ -17,7 +17,7 @@ invariant_of-self-2 g c =
 pub returns-clause-edit : goal.returns-clause-edit
 returns-clause-edit g c = λ t h.
     let S = c.args.store.now in
-    shows_moved S c.self.inside.nodes c.enter_root.new.self c.rename.new.self c.self.inside.most c.args.self.now c.self.view_is c.in_ok-enter_root.ensures.ok t h c.args.from.now c.args.to.now c.rename.ensures.path c.rename.result
+    shows_moved S c.self.inside.nodes c.enter_root.new.self c.rename.new.nodes c.self.inside.most c.args.self.now c.self.view_is c.in_ok-enter_root.ensures.ok t h c.args.from.now c.args.to.now c.rename.ensures.path c.rename.result
     (c.rename.ensures.edit t h.tree (stands_opened S c.self.inside.nodes c.enter_root.new.self c.self.inside.most c.args.self.now t c.self.view_is c.in_ok-enter_root.ensures.ok h))
 
 pub returns-clause-steps : goal.returns-clause-steps

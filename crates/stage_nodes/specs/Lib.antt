@@ -1,0 +1,12 @@
+pub mod Forests
+pub mod Frames
+pub mod Leaves
+pub mod Pools
+pub mod Directories
+pub mod Expanding
+pub mod Ways
+pub mod Branches
+pub mod Walks
+pub mod Items
+pub mod Roots
+pub mod Closing

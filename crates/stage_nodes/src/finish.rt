@@ -1,0 +1,155 @@
+// The open directories stored and closed, the deepest first.
+ghost use Rattle.std.specs.Prelude.{◌≡◌, ◌+◌, ◌≤◌, [], length, map, IfOk, IfErr, OnOk, List};
+ghost use Rattle.git_objects.specs.Names.{name};
+ghost use Rattle.git_objects.specs.Views.{entry_value};
+ghost use Rattle.git_objects.specs.declared.kind.Kind.TheVariants.{Tree};
+ghost use Rattle.git_objects.specs.Trees.{Flat, IsTree};
+ghost use Rattle.object_store.specs.Objects.{IsStore, Object};
+ghost use Rattle.object_store.specs.Unfolding.{StandsFor};
+ghost use Rattle.stage_nodes.specs.Branches.{Stands};
+ghost use Rattle.path_trees.specs.Levels.{IsRefused, IsTaken};
+ghost use Rattle.path_trees.specs.declared.found.TreeFault.TheVariants.{OutOfMemory};
+ghost use Rattle.stage_nodes.specs.Closing.{HasTips, IsDeepest, IsStoredAt, IsStoring, IsStoringFault, IsTurn};
+ghost use Rattle.stage_nodes.specs.Closing.{IsTurned, children_body, gathered};
+ghost use Rattle.stage_nodes.specs.Directories.{any};
+ghost use Rattle.stage_nodes.specs.Forests.{node_component};
+ghost use Rattle.stage_nodes.specs.Leaves.{is_held};
+ghost use Rattle.stage_nodes.specs.Pools.{hanging};
+ghost use Rattle.stage_nodes.specs.Ways.{IsOpen};
+
+use crate::nodes::{Content, Link, Node, Nodes};
+use git_objects::{EntryView, Name};
+use object_store::Store;
+use path_trees::{TreeFault, encode, insert, taken_in};
+use std::alloc::{AllocError, Global};
+
+// Many directories have no more entries than these.
+const ENTRIES: usize = 32;
+
+impl Nodes {
+    // A node's component.
+    fn component(&self, node: Node) -> &[u8]
+        requires { node.at + node.len ≤ length self.now.names.items }
+        ensures { result.now ≡ node_component self.now.names.items node }
+    {
+        &self.names[node.at..node.at + node.len]
+    }
+
+    // The entries of a directory whose children are leaves and stored directories.
+    fn entries(&self, alloc: Global, directory: usize) -> Result<Vec<EntryView<'_>>, AllocError>
+        requires { HasTips any self.now directory }
+        ensures { IfOk result (λ entries. map entry_value entries.items
+            ≡ gathered [] (hanging self.now (Link.First directory))) }
+    {
+        let mut entries = Vec::with_capacity(alloc, ENTRIES)?;
+        let mut link = Link::First(directory);
+        'children: while let Some(number) = self.target(link) {
+            let node = self.cells[number];
+            match node.content {
+                Content::Open => unreachable!(),
+                Content::Held(found) => {
+                    let entry = EntryView {
+                        mode: found.mode,
+                        component: self.component(node),
+                        name: found.name,
+                    };
+                    insert(&mut entries, entry)?;
+                }
+            }
+            link = Link::Next(number);
+        }
+        Ok(entries)
+    }
+
+    // Their body.
+    fn body(&self, alloc: Global, directory: usize) -> Result<Vec<u8>, AllocError>
+        requires { HasTips any self.now directory }
+        ensures { IfOk result (λ body. body.items ≡ children_body (hanging self.now (Link.First directory))) }
+    {
+        let entries = self.entries(alloc, directory)?;
+        encode(alloc, &entries)
+    }
+
+    // Takes in the tree of a directory whose children are leaves and stored directories.
+    fn store_tree(
+        &self,
+        alloc: Global,
+        store: &mut Store,
+        directory: usize,
+    ) -> Result<Name, TreeFault>
+        requires store { IsStore store.old }
+        requires tips { HasTips (is_held store.old) self.now directory }
+        ensures ok { IfOk result (λ n. (n.0 ≡ name Tree (children_body (hanging self.now (Link.First directory))))
+            × IsTaken store.old (children_body (hanging self.now (Link.First directory))) store.new) }
+        ensures err { IfErr result (λ e. (store.new ≡ store.old)
+            × IsRefused store.old (children_body (hanging self.now (Link.First directory))) e) }
+        ensures store { IsStore store.new }
+    {
+        match self.body(alloc, directory) {
+            Ok(body) => taken_in(store, &body),
+            Err(_) => Err(TreeFault::OutOfMemory),
+        }
+    }
+
+    // Stores such a directory below the root, and closes it.
+    fn close_stored(
+        &mut self,
+        alloc: Global,
+        store: &mut Store,
+        directory: usize,
+    ) -> Result<(), TreeFault>
+        requires store { IsStore store.old }
+        requires opened { IsOpen store.old self.old }
+        requires deepest { IsDeepest self.old directory }
+        ensures ok { OnOk result ((h : IsDeepest self.old directory)
+            → IsStoredAt store.old store.new self.old self.new directory h) }
+        ensures err { IfErr result (IsStoringFault store.old store.new self.old) }
+        ensures storing { IsStoring store.old store.new self.old self.new }
+    {
+        let name = self.store_tree(alloc, store, directory)?;
+        self.close(directory, name);
+        Ok(())
+    }
+
+    // Goes on from a place into open directories, up to the end of the first one that has none.
+    fn descend(&self, entered: &mut Vec<usize>, start: Link) -> Result<(), AllocError>
+        requires opened { (S : List Object) × IsOpen S self.now }
+        requires turn { IsTurn self.now entered.old.items start }
+        ensures { OnOk result (IsTurned self.now entered.new.items) }
+    {
+        let mut link = start;
+        'nodes: while let Some(number) = self.target(link) {
+            match self.cells[number].content {
+                Content::Held(_) => link = Link::Next(number),
+                Content::Open => {
+                    entered.push(number)?;
+                    link = Link::First(number);
+                }
+            }
+        }
+        Ok(())
+    }
+
+    /// Stores the trees of all open directories, closes those below the root, and gives the name of the root's tree.
+    pub fn finish(&mut self, alloc: Global, store: &mut Store) -> Result<Name, TreeFault>
+        requires store { IsStore store.old }
+        requires opened { IsOpen store.old self.old }
+        ensures ok { IfOk result (λ n. (t : Flat) → IsTree t → Stands store.old self.old t
+            → StandsFor store.new n.0 t) }
+        ensures err { IfErr result (IsStoringFault store.old store.new self.old) }
+        ensures storing { IsStoring store.old store.new self.old self.new }
+    {
+        let mut entered = Vec::new(alloc);
+        let mut link = Link::First(0);
+        'directories: loop {
+            let Ok(()) = self.descend(&mut entered, link) else {
+                return Err(TreeFault::OutOfMemory);
+            };
+            let Some(directory) = entered.pop() else {
+                return self.store_tree(alloc, store, 0);
+            };
+            self.close_stored(alloc, store, directory)?;
+            link = Link::Next(directory);
+        }
+    }
+}
