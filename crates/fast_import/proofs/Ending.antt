@@ -18,7 +18,7 @@ use Rattle.path_trees.specs.Made.{IsGrown, IsTreeFault}
 use Rattle.path_trees.specs.declared.found.TreeFault.{TreeFault}
 use Rattle.path_trees.specs.declared.found.TreeFault.TheVariants as trees
 use Rattle.path_trees.proofs.MadeObjects.{clash-by, grown-by}
-use Rattle.stage_tree.specs.Finished.{HasDirectory}
+use Rattle.stage_nodes.specs.Closing.{HasDirectory}
 use Rattle.fast_import.specs.Made.{IsDirectoryOf, IsMadeOf, IsPutFault}
 use Rattle.fast_import.specs.Replays.{Draft, commit_of}
 use Rattle.fast_import.specs.Replaying.{tree_fault}

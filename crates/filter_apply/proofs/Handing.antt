@@ -15,7 +15,7 @@ use Rattle.object_store.specs.Hands.{IsLeafOf, IsComponentOf}
 use Rattle.object_store.proofs.Growth.{clash_as}
 use Rattle.path_trees.specs.Standing.{node}
 use Rattle.path_trees.specs.declared.found.Found.{Found}
-use Rattle.stage_tree.specs.Finished.{HasDirectory}
+use Rattle.stage_nodes.specs.Closing.{HasDirectory}
 use Rattle.stage_tree.specs.Stages.{Staged, Shows}
 use Rattle.decision_lists.specs.Fronts.{strip, proper}
 use Rattle.decision_lists.specs.Entries.{Cone, at as point, below, base, cone_of, tail, Entry}

@@ -10,7 +10,7 @@ use Rattle.git_objects.specs.declared.kind.Kind.TheVariants.{Tree}
 use Rattle.object_store.specs.Objects.{IsStore, Object}
 use Rattle.path_trees.specs.Standing.{node}
 use Rattle.path_trees.specs.declared.found.Found.{Found}
-use Rattle.stage_tree.specs.Finished.{HasDirectory}
+use Rattle.stage_nodes.specs.Closing.{HasDirectory}
 use Rattle.stage_tree.specs.Stages.{Shows, Staged}
 use Rattle.decision_lists.specs.Entries.{Cone, Entry, at as at_cone, below as below_cone, cone_of, run, tail}
 use Rattle.filter_routes.proofs.Carried.{nowhere}

@@ -2,7 +2,7 @@ use Rattle.std.proofs.Common.{IfErr, Result, sym, subst}
 use Rattle.git_objects.specs.declared.name.Name.{Name}
 use Rattle.path_trees.specs.Made.{IsTreeFault}
 use Rattle.path_trees.specs.declared.found.TreeFault.{TreeFault}
-use Rattle.stage_tree.specs.Finished.{HasDirectory}
+use Rattle.stage_nodes.specs.Closing.{HasDirectory}
 use Rattle.fast_import.specs.Made.{IsDirectoryOf, IsPutFault}
 use Rattle.fast_import.proofs.Ending.{directories_fault, directories_grown}
 use Rattle.fast_import.proofs.commit_step.finished.Goals as goal

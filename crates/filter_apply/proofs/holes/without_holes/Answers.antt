@@ -2,7 +2,7 @@ use Rattle.std.proofs.Common.{◌≡◌, ℕ, [], slice_get, sym, ap, subst, ◌
 use Rattle.object_store.specs.Hands.{IsLeafOf, IsComponentOf}
 use Rattle.object_store.specs.Unfolding.{flat, StandsFor}
 use Rattle.path_trees.proofs.Placed.{got}
-use Rattle.stage_tree.specs.Finished.{HasDirectory}
+use Rattle.stage_nodes.specs.Closing.{HasDirectory}
 use Rattle.stage_tree.specs.Stages.{Shows}
 use Rattle.filter_apply.specs.Faults.{IsApplyFault, fault_of}
 use Rattle.filter_apply.specs.Hands.{IsPartObject}

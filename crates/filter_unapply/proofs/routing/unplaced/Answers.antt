@@ -4,7 +4,7 @@ use Rattle.git_objects.specs.declared.kind.Kind.TheVariants.{Tree}
 use Rattle.object_store.specs.Objects.{Object}
 use Rattle.object_store.specs.Unfolding.{flat}
 use Rattle.object_store.proofs.Growth.{flat-grown, grown_as, grown_self, grown_then, has-grown}
-use Rattle.stage_tree.specs.Finished.{HasDirectory}
+use Rattle.stage_nodes.specs.Closing.{HasDirectory}
 use Rattle.stage_tree.specs.Stages.{Shows}
 use Rattle.decision_lists.specs.Backward.{IsWayBack, route_cells}
 use Rattle.decision_lists.specs.Cells.{cells}

@@ -1,5 +1,5 @@
 use Rattle.object_store.specs.Unfolding.{flat}
-use Rattle.stage_tree.specs.Finished.{HasDirectory}
+use Rattle.stage_nodes.specs.Closing.{HasDirectory}
 use Rattle.filter_unapply.specs.Hands.{IsIn, IsMadeOf}
 use Rattle.filter_unapply.specs.Sifted.{sifted}
 use Rattle.filter_unapply.proofs.Fittings.{sifted-within}

@@ -4,7 +4,7 @@ use Rattle.git_objects.specs.Trees.{Flat, at}
 use Rattle.object_store.specs.Objects.{Object}
 use Rattle.object_store.specs.Unfolding.{flat}
 use Rattle.object_store.proofs.Growth.{grown_as, grown_then}
-use Rattle.stage_tree.specs.Finished.{HasDirectory}
+use Rattle.stage_nodes.specs.Closing.{HasDirectory}
 use Rattle.stage_tree.specs.Stages.{Shows}
 use Rattle.filter_unapply.specs.Hands.{IsIn, IsMadeOf}
 use Rattle.filter_unapply.specs.Sifted.{sifted}
