@@ -1,6 +1,6 @@
 // Bodies in one arena, with their places: what a store reads when it looks up or judges an object.
 ghost use Rattle.std.specs.Prelude.{◌≡◌, ◌+◌, ◌≤◌, length, IfOk, IfSome, MatchResult, None};
-ghost use Rattle.std.specs.Prelude.{true, is_some};
+ghost use Rattle.std.specs.Prelude.{true, is_some, map, Some};
 ghost use Rattle.std.specs.Option.{option_map};
 ghost use Rattle.std.specs.Result.{result_err};
 ghost use Rattle.git_objects.specs.Names.{name};
@@ -222,6 +222,19 @@ impl<'a> Shelf<'a> {
         stats
     }
 
+    // The sizes of a tree with these entries, whose children are held.
+    fn listed_stats(&self, entries: &[EntryView<'_>]) -> TreeStats
+        requires { missing_entry self.now (map entry_value entries.now) ≡ None }
+        ensures { result ≡ sizes (joined (body_of Blob self.now) (flat self.now) (map entry_value entries.now)) }
+    {
+        let mut total = NO_PATH;
+        for entry in entries {
+            let part = self.held_entry_stats(entry);
+            total = stats_joined(total, part);
+        }
+        total
+    }
+
     // The sizes of a tree with that body, or what is wrong with it: that it is none, or a child that is not held.
     fn tree_stats(&self, body: &[u8]) -> Result<TreeStats, PutError>
         ensures fault { result_err result ≡ option_map error_of (of_tree self.now (tree_entries body.now) None) }
@@ -307,6 +320,29 @@ impl<'a> Shelf<'a> {
             None => {
                 let stats = self.held_entries_stats(TreeView::of_canonical(body));
                 Ok(Judged::New { name, stats })
+            }
+        }
+    }
+
+    /// The same of a tree's body with these entries, which aren't read from it.
+    pub(crate) fn judge_listed(
+        &self,
+        entries: &[EntryView<'_>],
+        body: &[u8],
+    ) -> Result<Judged, PutError>
+        requires body { of_body self.now Kind.Tree body.now None ≡ None }
+        requires entries { tree_entries body.now ≡ Some (map entry_value entries.now) }
+        ensures { MatchResult result
+            (IsJudged self.now Kind.Tree body.now)
+            (λ e. refusal self.now Kind.Tree body.now ≡ refusal_told e) }
+    {
+        let name = name_of(Kind::Tree, body);
+        match self.is_same(&name, Kind::Tree, body) {
+            Some(true) => Ok(Judged::Held { name }),
+            Some(false) => Err(PutError::Collision { name }),
+            None => {
+                let total = self.listed_stats(entries);
+                Ok(Judged::New { name, stats: total })
             }
         }
     }

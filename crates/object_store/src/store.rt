@@ -1,6 +1,8 @@
 // A store of objects.
 ghost use Rattle.std.specs.Prelude.{◌≡◌, ◌⊎◌, ◌∷◌, [], length, IfOk, IfErr, OnOk, OnErr, None};
-ghost use Rattle.std.specs.Prelude.{true};
+ghost use Rattle.std.specs.Prelude.{true, map, Some};
+ghost use Rattle.git_objects.specs.Bodies.{tree_entries};
+ghost use Rattle.git_objects.specs.Views.{entry_value};
 ghost use Rattle.std.specs.Option.{option_map};
 ghost use Rattle.git_objects.specs.Names.{name};
 ghost use Rattle.object_store.specs.Objects.{find_named, has, is_body};
@@ -11,7 +13,7 @@ ghost use Rattle.object_store.specs.Sizes.{sizes, stats_of};
 ghost use Rattle.object_store.specs.Unfolding.{below, body_flat};
 
 use crate::shelf::{Judged, Place, Shelf};
-use git_objects::{Kind, Name};
+use git_objects::{EntryView, Kind, Name};
 use indexmap::IndexMap;
 use std::alloc::{AllocError, Global};
 use std::marker::Model;
@@ -187,6 +189,25 @@ impl Store {
         ensures store { IsStore self.new }
     {
         match self.shelf().judge_tree(body)? {
+            Judged::Held { name } => Ok(name),
+            Judged::New { name, stats } => match self.add(Kind::Tree, name, body, stats) {
+                Ok(()) => Ok(name),
+                Err(_) => Err(PutError::OutOfMemory),
+            },
+        }
+    }
+
+    /// Takes a tree in as `put_tree` does, from its entries too: they aren't read from the body.
+    pub fn put_listed(&mut self, entries: &[EntryView<'_>], body: &[u8]) -> Result<Name, PutError>
+        requires body { of_body self.old Kind.Tree body.now None ≡ None }
+        requires entries { tree_entries body.now ≡ Some (map entry_value entries.now) }
+        ensures ok { IfOk result (λ n. (n.0 ≡ name Kind.Tree body.now) × (refusal self.old Kind.Tree body.now ≡ None)
+            × (self.new ≡ with_object self.old Kind.Tree body.now)) }
+        ensures err { IfErr result (λ e. (self.new ≡ self.old)
+            × ((e ≡ PutError.OutOfMemory) ⊎ (refusal self.old Kind.Tree body.now ≡ refusal_told e))) }
+        ensures store { IsStore self.new }
+    {
+        match self.shelf().judge_listed(entries, body)? {
             Judged::Held { name } => Ok(name),
             Judged::New { name, stats } => match self.add(Kind::Tree, name, body, stats) {
                 Ok(()) => Ok(name),

@@ -16,7 +16,7 @@ mod walk;
 pub use clash::first_clash;
 pub use directory::{entries_in, listing};
 pub use edits::{put_at, remove_at, taken_in};
-pub use entries::{encode, insert};
+pub use entries::{insert, taken_entries};
 pub use found::{Found, Leaf, TreeFault};
 pub use join::{JoinFault, join_apart, join_disjoint};
 pub use laws::together_law;

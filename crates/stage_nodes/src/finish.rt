@@ -20,7 +20,7 @@ ghost use Rattle.stage_nodes.specs.Ways.{IsOpen};
 use crate::nodes::{Content, Link, Node, Nodes};
 use git_objects::{EntryView, Name};
 use object_store::Store;
-use path_trees::{TreeFault, encode, insert, taken_in};
+use path_trees::{TreeFault, insert, taken_entries};
 use std::alloc::{AllocError, Global};
 
 // Many directories have no more entries than these.
@@ -61,15 +61,6 @@ impl Nodes {
         Ok(entries)
     }
 
-    // Their body.
-    fn body(&self, alloc: Global, directory: usize) -> Result<Vec<u8>, AllocError>
-        requires { HasTips any self.now directory }
-        ensures { IfOk result (λ body. body.items ≡ children_body (hanging self.now (Link.First directory))) }
-    {
-        let entries = self.entries(alloc, directory)?;
-        encode(alloc, &entries)
-    }
-
     // Takes in the tree of a directory whose children are leaves and stored directories.
     fn store_tree(
         &self,
@@ -85,8 +76,8 @@ impl Nodes {
             × IsRefused store.old (children_body (hanging self.now (Link.First directory))) e) }
         ensures store { IsStore store.new }
     {
-        match self.body(alloc, directory) {
-            Ok(body) => taken_in(store, &body),
+        match self.entries(alloc, directory) {
+            Ok(entries) => taken_entries(alloc, store, &entries),
             Err(_) => Err(TreeFault::OutOfMemory),
         }
     }
