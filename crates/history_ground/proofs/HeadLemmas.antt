@@ -41,17 +41,17 @@ use Rattle.projection_laws.proofs.HeldCommits.{held, never-none}
 use Rattle.projection_laws.proofs.ProjectionLemmas.{projection-of}
 use Rattle.projection_laws.proofs.Reached.{commit-older}
 use Rattle.projection_laws.proofs.StoredGraphs.{at-row, name-is, older-all, row-at}
-use Rattle.history_ground.specs.Asked.{IsNone, IsShownBy}
-use Rattle.history_ground.specs.Grounds.{IsGround, Extends, IsShownOf, commits_of}
+use Rattle.projection_ground.specs.Asked.{IsNone, IsShownBy}
+use Rattle.projection_ground.specs.Grounds.{IsGround, Extends, IsShownOf, commits_of}
 use Rattle.history_ground.specs.Heads.{IsSeen, IsSeenObject}
-use Rattle.history_ground.specs.TrueMaps.{IsTrueMap}
-use Rattle.history_ground.specs.declared.ground.Ground.{Ground}
-use Rattle.history_ground.proofs.Asking.{shown-behind, shown-is}
-use Rattle.history_ground.proofs.Growing.{commits-same, extends-as, extends-then, true-map-grown}
+use Rattle.projection_ground.specs.TrueMaps.{IsTrueMap}
+use Rattle.projection_ground.specs.declared.ground.Ground.{Ground}
+use Rattle.projection_ground.proofs.Asking.{shown-behind, shown-is}
+use Rattle.projection_ground.proofs.Growing.{commits-same, extends-as, extends-then, true-map-grown}
 use Rattle.history_ground.proofs.OwnProjections.{IsAmong, own-has}
 use Rattle.history_ground.proofs.ProjectLemmas.{head-there, place-named, place-within}
 use Rattle.history_ground.proofs.TakenTurns.{fault-as}
-use Rattle.history_ground.proofs.TurnLemmas.{seen-fault, seen-same, tree-held}
+use Rattle.projection_ground.proofs.TurnLemmas.{seen-fault, seen-same, tree-held}
 
 -- ---- the commit
 

@@ -9,12 +9,12 @@ use Rattle.filter_apply.specs.declared.fault.ApplyError.{ApplyError}
 use Rattle.workspace.specs.Workspaces.{shown}
 use Rattle.projection_laws.specs.Projections.{history_graph}
 use Rattle.projection_laws.specs.StoredGraphs.{name_at}
-use Rattle.history_ground.specs.Grounds.{IsGround, Extends, IsShownOf, commits_of}
-use Rattle.history_ground.specs.Asked.{IsNone}
+use Rattle.projection_ground.specs.Grounds.{IsGround, Extends, IsShownOf, commits_of}
+use Rattle.projection_ground.specs.Asked.{IsNone}
 use Rattle.history_ground.specs.Histories.{IsOfHistory}
-use Rattle.history_ground.specs.declared.ground.Ground.{Ground}
-use Rattle.history_ground.proofs.Asking.{extends-none}
-use Rattle.history_ground.proofs.Growing.{commits-same, extends-as, extends-then}
+use Rattle.projection_ground.specs.declared.ground.Ground.{Ground}
+use Rattle.projection_ground.proofs.Asking.{extends-none}
+use Rattle.projection_ground.proofs.Growing.{commits-same, extends-as, extends-then}
 use Rattle.history_ground.proofs.TakenTurns.{fault-as}
 
 module _ (f : Filter) (head : Bytes) (g h k : Ground) (place : ℕ) (w : IsGround g) (a : Extends IsNone g h) (n : name_at h.graph place ≡ head) where

@@ -24,7 +24,7 @@ use Rattle.projection_laws.specs.StoredGraphs.{snapshot_named}
 use Rattle.projection_laws.specs.Histories.{AreMade, is_among}
 use Rattle.projection_laws.proofs.HistoryLemmas.{any-reverse, filter-append, map-append, reverse-more, same-image}
 use Rattle.history_ground.specs.Making.{with_name, IsAdded, IsTakenIn}
-use Rattle.history_ground.proofs.Growing.{commit-grown}
+use Rattle.projection_ground.proofs.Growing.{commit-grown}
 
 -- ---- a store that grows
 

@@ -15,7 +15,7 @@ use Rattle.commit_map.specs.declared.rule.Rule.{Rule}
 use Rattle.projection_laws.specs.Projections.{Choice, Nothing, Member, New, choice_of, leads, members, own_commit, own_commits, projected, projection, projections, shown_of}
 use Rattle.projection_laws.proofs.HistoryLemmas.{each-distinct, member-of, self-wanted, wanted-still}
 use Rattle.projection_laws.proofs.ProjectionLemmas.{projection-newest}
-use Rattle.history_ground.proofs.TurnLemmas.{contains-here}
+use Rattle.projection_ground.proofs.TurnLemmas.{contains-here}
 
 -- one of the commits has this projection's names
 abbrev pub IsAmong : List Snapshot → Shown → Type 0

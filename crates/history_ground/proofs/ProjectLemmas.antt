@@ -15,12 +15,12 @@ use Rattle.workspace.specs.Workspaces.{shown}
 use Rattle.projection_laws.specs.Projections.{projection_by}
 use Rattle.projection_laws.specs.Filled.{IsFilled, lacking}
 use Rattle.projection_laws.specs.StoredGraphs.{name_at}
-use Rattle.history_ground.specs.Grounds.{IsGround, commits_of, Extends, IsShownOf}
-use Rattle.history_ground.specs.Asked.{IsNone}
+use Rattle.projection_ground.specs.Grounds.{IsGround, commits_of, Extends, IsShownOf}
+use Rattle.projection_ground.specs.Asked.{IsNone}
 use Rattle.history_ground.specs.Walks.{IsWalked}
-use Rattle.history_ground.specs.declared.ground.Ground.{Ground}
-use Rattle.history_ground.proofs.Growing.{commits-same, extends-as, extends-then}
-use Rattle.history_ground.proofs.Filling.{entry-wins, filled-value}
+use Rattle.projection_ground.specs.declared.ground.Ground.{Ground}
+use Rattle.projection_ground.proofs.Growing.{commits-same, extends-as, extends-then}
+use Rattle.projection_ground.proofs.Filling.{entry-wins, filled-value}
 use Rattle.history_ground.proofs.Waiting.{has-named}
 
 nobody : Row

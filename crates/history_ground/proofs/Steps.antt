@@ -8,15 +8,15 @@ use Rattle.commit_map.specs.declared.commit_map.Shown as code
 use Rattle.filter_text.specs.Filters.{Filter}
 use Rattle.projection_laws.specs.Projections.{projected}
 use Rattle.projection_laws.specs.StoredGraphs.{name_at, snapshot_named}
-use Rattle.history_ground.specs.Choosing.{IsBelow}
-use Rattle.history_ground.specs.Grounds.{IsGround, Extends}
-use Rattle.history_ground.specs.Turns.{IsNew, IsTurn, kept_choice}
+use Rattle.projection_ground.specs.Choosing.{IsBelow}
+use Rattle.projection_ground.specs.Grounds.{IsGround, Extends}
+use Rattle.projection_ground.specs.Turns.{IsNew, IsTurn, kept_choice}
 use Rattle.history_ground.specs.Walks.{IsProjectedTo, IsSettled, IsStep}
-use Rattle.history_ground.specs.declared.ground.Ground.{Ground}
-use Rattle.history_ground.specs.declared.turning.Turn.{Turn}
-use Rattle.history_ground.specs.declared.turning.Turn.TheVariants as turns
-use Rattle.history_ground.proofs.Growing.{extends-map}
-use Rattle.history_ground.proofs.TurnLemmas.{some-placed}
+use Rattle.projection_ground.specs.declared.ground.Ground.{Ground}
+use Rattle.projection_ground.specs.declared.turning.Turn.{Turn}
+use Rattle.projection_ground.specs.declared.turning.Turn.TheVariants as turns
+use Rattle.projection_ground.proofs.Growing.{extends-map}
+use Rattle.projection_ground.proofs.TurnLemmas.{some-placed}
 
 -- a turn, for whichever commit stands at the place
 abbrev pub Turns : Filter → Ground → Ground → ℕ → Turn → Type 0

@@ -26,20 +26,20 @@ use Rattle.projection_laws.specs.Projections.{Member, New, known_at, leads, memb
 use Rattle.projection_laws.specs.StoredGraphs.{name_at, snapshot_named}
 use Rattle.projection_laws.specs.Histories.{AreMade, is_among}
 use Rattle.projection_laws.proofs.HistoryLemmas.{each-distinct, member-of, new-parents}
-use Rattle.history_ground.specs.Choosing.{Agree, commits_before, IsBelow}
-use Rattle.history_ground.specs.Grounds.{IsGround, Extends, IsShownOf, commits_of}
-use Rattle.history_ground.specs.Asked.{IsNone}
+use Rattle.projection_ground.specs.Choosing.{Agree, commits_before, IsBelow}
+use Rattle.projection_ground.specs.Grounds.{IsGround, Extends, IsShownOf, commits_of}
+use Rattle.projection_ground.specs.Asked.{IsNone}
 use Rattle.history_ground.specs.Making.{with_name, IsAdded, IsFit, IsTakenIn, IsBecome, IsTurnObject, IsEntered, IsReady, IsTaken}
-use Rattle.history_ground.specs.TrueMaps.{AreHeld}
-use Rattle.history_ground.specs.Turns.{Becomes, IsNew, kept_choice}
-use Rattle.history_ground.specs.declared.ground.Ground.{Ground}
-use Rattle.history_ground.specs.declared.turning.Turn.TheVariants as turns
-use Rattle.history_ground.proofs.Filling.{kept-append, kept-front}
-use Rattle.history_ground.proofs.Growing.{extends-as, extends-map, extends-then, front-self, graph-grown, held-grown, maps-grown, memo-grown}
+use Rattle.projection_ground.specs.TrueMaps.{AreHeld}
+use Rattle.projection_ground.specs.Turns.{Becomes, IsNew, kept_choice}
+use Rattle.projection_ground.specs.declared.ground.Ground.{Ground}
+use Rattle.projection_ground.specs.declared.turning.Turn.TheVariants as turns
+use Rattle.projection_ground.proofs.Filling.{kept-append, kept-front}
+use Rattle.projection_ground.proofs.Growing.{extends-as, extends-map, extends-then, front-self, graph-grown, held-grown, maps-grown, memo-grown}
 use Rattle.history_ground.proofs.MadeHistories.{IsIn, found-in, made-grown, made-more}
 use Rattle.object_store.proofs.PutObjects.{commit_fits}
 use Rattle.history_ground.proofs.Steps.{Turns, kept-projected}
-use Rattle.history_ground.proofs.TurnLemmas.{some-placed}
+use Rattle.projection_ground.proofs.TurnLemmas.{some-placed}
 
 -- ---- a ground with a store that has grown
 

@@ -25,19 +25,19 @@ use Rattle.projection_laws.proofs.OwnCommits.{among, apart, choice-is, choice_at
 use Rattle.projection_laws.proofs.Reached.{any-place}
 use Rattle.projection_laws.proofs.Rising.{each-all, rises, Rises, rises-split}
 use Rattle.projection_laws.proofs.StoredGraphs.{at-row, name-is, older, row-at, split-at, whole-graph}
-use Rattle.history_ground.specs.Choosing.{Agree, commits_before}
-use Rattle.history_ground.specs.Grounds.{IsGround, Extends, IsShownOf, commits_of}
-use Rattle.history_ground.specs.Asked.{IsAskedFor}
+use Rattle.projection_ground.specs.Choosing.{Agree, commits_before}
+use Rattle.projection_ground.specs.Grounds.{IsGround, Extends, IsShownOf, commits_of}
+use Rattle.projection_ground.specs.Asked.{IsAskedFor}
 use Rattle.history_ground.specs.Histories.{IsOfHistory}
 use Rattle.history_ground.specs.Making.{IsBecome, IsTurnObject, IsReady, IsTaken}
-use Rattle.history_ground.specs.TrueMaps.{AreHeld}
-use Rattle.history_ground.specs.declared.ground.Ground.{Ground}
-use Rattle.history_ground.specs.declared.seeing.Asked.{Asked}
-use Rattle.history_ground.proofs.Filling.{kept-each, newer-known, projection-at}
-use Rattle.history_ground.proofs.Growing.{commits-same, extends-as, extends-self, extends-then}
+use Rattle.projection_ground.specs.TrueMaps.{AreHeld}
+use Rattle.projection_ground.specs.declared.ground.Ground.{Ground}
+use Rattle.projection_ground.specs.declared.seeing.Asked.{Asked}
+use Rattle.projection_ground.proofs.Filling.{kept-each, newer-known, projection-at}
+use Rattle.projection_ground.proofs.Growing.{commits-same, extends-as, extends-self, extends-then}
 use Rattle.history_ground.proofs.MadeHistories.{among-made, contains-all, nothing-made}
 use Rattle.history_ground.proofs.TakenTurns.{fault-as}
-use Rattle.history_ground.proofs.TurnLemmas.{before-same, contains-here, placed, some-placed}
+use Rattle.projection_ground.proofs.TurnLemmas.{before-same, contains-here, placed, some-placed}
 use Rattle.history_ground.proofs.WalkLemmas.{snapshot-same}
 
 reaches-then : (rs : List Row) (i p j : ℕ) → Reaches rs i p → Reaches rs p j → Reaches rs i j

@@ -15,17 +15,17 @@ use Rattle.filter_text.specs.Filters.{Filter}
 use Rattle.workspace.specs.Workspaces.{shown}
 use Rattle.projection_laws.specs.Projections.{projection}
 use Rattle.projection_laws.specs.StoredGraphs.{name_at}
-use Rattle.history_ground.specs.Asked.{IsNone}
-use Rattle.history_ground.specs.Grounds.{IsGround, Extends, commits_of}
+use Rattle.projection_ground.specs.Asked.{IsNone}
+use Rattle.projection_ground.specs.Grounds.{IsGround, Extends, commits_of}
 use Rattle.history_ground.specs.Heads.{IsSeenObject}
-use Rattle.history_ground.specs.TrueMaps.{IsPutBehind, IsTakenOut, IsTrueMap}
+use Rattle.projection_ground.specs.TrueMaps.{IsPutBehind, IsTakenOut, IsTrueMap}
 use Rattle.history_ground.specs.TrueWalks.{IsMade, IsTrueWalk}
-use Rattle.history_ground.specs.declared.ground.Ground.{Ground}
-use Rattle.history_ground.specs.declared.true_maps.TrueMap.{TrueMap}
-use Rattle.history_ground.proofs.Asking.{extends-none}
-use Rattle.history_ground.proofs.Growing.{commits-same, extends-self}
+use Rattle.projection_ground.specs.declared.ground.Ground.{Ground}
+use Rattle.projection_ground.specs.declared.true_maps.TrueMap.{TrueMap}
+use Rattle.projection_ground.proofs.Asking.{extends-none}
+use Rattle.projection_ground.proofs.Growing.{commits-same, extends-self}
 use Rattle.history_ground.proofs.HeadLemmas.{more-map, more-seen, more-seen-fault, still-map}
-use Rattle.history_ground.proofs.TrueEntries.{true-behind, true-out}
+use Rattle.projection_ground.proofs.TrueEntries.{true-behind, true-out}
 
 -- what a map of projections from scratch has of a commit
 pub made-kept : (S : List Object) (g : Graph) (k : Rule) (f : Filter) (es : Entries) → IsTrueMap S g k f es → (n : Bytes) → has g n ≡ true → (o : Option code.Shown)

@@ -18,22 +18,22 @@ use Rattle.workspace.specs.Workspaces.{shown}
 use Rattle.projection_laws.specs.Projections.{Choice, New, choice_of, own_commits, projected, projection, projection_by, projections, known_at}
 use Rattle.projection_laws.specs.StoredGraphs.{name_at, snapshot_named}
 use Rattle.projection_laws.proofs.StoredGraphs.{name-is, split-at, whole-graph}
-use Rattle.history_ground.specs.Asked.{IsAskedFor}
-use Rattle.history_ground.specs.Choosing.{Agree, commits_before, IsBelow}
-use Rattle.history_ground.specs.Grounds.{IsGround, Extends, IsShownOf, commits_of}
+use Rattle.projection_ground.specs.Asked.{IsAskedFor}
+use Rattle.projection_ground.specs.Choosing.{Agree, commits_before, IsBelow}
+use Rattle.projection_ground.specs.Grounds.{IsGround, Extends, IsShownOf, commits_of}
 use Rattle.history_ground.specs.Heads.{IsSeenObject}
 use Rattle.history_ground.specs.Making.{IsBecome, IsEntered, IsTurnObject}
-use Rattle.history_ground.specs.TrueMaps.{AreHeld, IsTrueMap}
+use Rattle.projection_ground.specs.TrueMaps.{AreHeld, IsTrueMap}
 use Rattle.history_ground.specs.TrueWalks.{IsTrueStep, IsTrueWalk}
-use Rattle.history_ground.specs.Turns.{IsNew}
-use Rattle.history_ground.specs.declared.ground.Ground.{Ground}
-use Rattle.history_ground.specs.declared.seeing.Asked.{Asked}
-use Rattle.history_ground.proofs.Filling.{newer-known, projection-at}
-use Rattle.history_ground.proofs.Growing.{commits-same, extends-as, extends-self, extends-then, true-map-grown}
-use Rattle.history_ground.proofs.OwnPlaces.{has-behind, own-in}
+use Rattle.projection_ground.specs.Turns.{IsNew}
+use Rattle.projection_ground.specs.declared.ground.Ground.{Ground}
+use Rattle.projection_ground.specs.declared.seeing.Asked.{Asked}
+use Rattle.projection_ground.proofs.Filling.{newer-known, projection-at}
+use Rattle.projection_ground.proofs.Growing.{commits-same, extends-as, extends-self, extends-then, true-map-grown}
+use Rattle.projection_ground.proofs.OwnPlaces.{has-behind, own-in}
 use Rattle.history_ground.proofs.TakenTurns.{become, entered-new, fault-as, new-one}
-use Rattle.history_ground.proofs.TrueEntries.{entry-more}
-use Rattle.history_ground.proofs.TurnLemmas.{IsPlaced, before-same, placed, some-placed}
+use Rattle.projection_ground.proofs.TrueEntries.{entry-more}
+use Rattle.projection_ground.proofs.TurnLemmas.{IsPlaced, before-same, placed, some-placed}
 use Rattle.history_ground.proofs.Waiting.{IsStack, IsWaiting, has-named, latest, left_in, less-below, less-more, waiting-below, waiting-more, waiting-start}
 use Rattle.history_ground.proofs.WalkLemmas.{snapshot-same}
 

@@ -13,10 +13,10 @@ use Rattle.projection_laws.specs.StoredGraphs.{name_at}
 use Rattle.projection_laws.proofs.StoredGraphs.{row-at, name-is, older-all, older-has}
 use Rattle.projection_laws.proofs.HistoryLemmas.{reached-has}
 use Rattle.projection_laws.proofs.Reached.{reaches-reached}
-use Rattle.history_ground.specs.Choosing.{IsBelow}
-use Rattle.history_ground.specs.Grounds.{IsGround, commits_of}
-use Rattle.history_ground.specs.declared.ground.Ground.{Ground}
-use Rattle.history_ground.proofs.Filling.{kept-append, kept-new, kept-front, kept-other, weigh-set}
+use Rattle.projection_ground.specs.Choosing.{IsBelow}
+use Rattle.projection_ground.specs.Grounds.{IsGround, commits_of}
+use Rattle.projection_ground.specs.declared.ground.Ground.{Ground}
+use Rattle.projection_ground.proofs.Filling.{kept-append, kept-new, kept-front, kept-other, weigh-set}
 
 -- ---- the waiting commits, the latest first
 

@@ -14,15 +14,15 @@ use Rattle.projection_laws.specs.Projections.{choice_of, projected, projection_b
 use Rattle.projection_laws.specs.Filled.{IsFilled, lacking}
 use Rattle.projection_laws.specs.StoredGraphs.{name_at, snapshot_named}
 use Rattle.projection_laws.proofs.StoredGraphs.{name-is, split-at, whole-graph}
-use Rattle.history_ground.specs.Choosing.{Agree, commits_before, IsBelow}
-use Rattle.history_ground.specs.Grounds.{IsGround, commits_of, Extends, IsShownOf}
-use Rattle.history_ground.specs.Asked.{IsAskedFor}
-use Rattle.history_ground.specs.declared.seeing.Asked.{Asked}
+use Rattle.projection_ground.specs.Choosing.{Agree, commits_before, IsBelow}
+use Rattle.projection_ground.specs.Grounds.{IsGround, commits_of, Extends, IsShownOf}
+use Rattle.projection_ground.specs.Asked.{IsAskedFor}
+use Rattle.projection_ground.specs.declared.seeing.Asked.{Asked}
 use Rattle.history_ground.specs.Walks.{IsProjectedTo, IsSettled, IsStep, IsUnsettled, IsWalked}
-use Rattle.history_ground.specs.declared.ground.Ground.{Ground}
-use Rattle.history_ground.proofs.Growing.{commits-same, extends-as, extends-self, extends-then, snapshot-grown}
-use Rattle.history_ground.proofs.Filling.{filled-agrees, filled-more, filled-none, projection-at, weigh-set, none-front}
-use Rattle.history_ground.proofs.TurnLemmas.{IsPlaced, before-same, placed, some-placed}
+use Rattle.projection_ground.specs.declared.ground.Ground.{Ground}
+use Rattle.projection_ground.proofs.Growing.{commits-same, extends-as, extends-self, extends-then, snapshot-grown}
+use Rattle.projection_ground.proofs.Filling.{filled-agrees, filled-more, filled-none, projection-at, weigh-set, none-front}
+use Rattle.projection_ground.proofs.TurnLemmas.{IsPlaced, before-same, placed, some-placed}
 use Rattle.history_ground.proofs.Waiting.{IsStack, IsWaiting, latest, left_in, less-below, less-more, waiting-below, waiting-end, waiting-more, waiting-start}
 
 pub snapshot-same : (g h : Ground) (made : Object → Type 0) (place : ℕ) (c : Snapshot) (w : IsGround g) → Extends made g h → (p : IsPlaced g place c) → snapshot_named h.store (name_at g.graph place) ≡ Some c

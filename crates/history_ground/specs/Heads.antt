@@ -10,9 +10,9 @@ use Rattle.object_store.specs.Unfolding.{StandsFor}
 use Rattle.filter_text.specs.Filters.{Filter}
 use Rattle.workspace.specs.Workspaces.{shown}
 use Rattle.projection_laws.specs.Projections.{own_commits, projection}
-use Rattle.history_ground.specs.Grounds.{commits_of}
+use Rattle.projection_ground.specs.Grounds.{commits_of}
 use Rattle.history_ground.specs.Histories.{IsOfHistory}
-use Rattle.history_ground.specs.declared.ground.Ground.{Ground}
+use Rattle.projection_ground.specs.declared.ground.Ground.{Ground}
 use Rattle.history_ground.specs.declared.heads.Seen.{Seen}
 
 -- a commit of its own that the head or an ancestor becomes, also where another one of them has its name

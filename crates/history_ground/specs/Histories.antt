@@ -7,8 +7,8 @@ use Rattle.object_store.specs.StoredSnapshots.{snapshot_object}
 use Rattle.filter_text.specs.Filters.{Filter}
 use Rattle.workspace.specs.Workspaces.{shown}
 use Rattle.projection_laws.specs.Projections.{history_graph}
-use Rattle.history_ground.specs.Grounds.{IsShownOf, commits_of}
-use Rattle.history_ground.specs.declared.ground.Ground.{Ground}
+use Rattle.projection_ground.specs.Grounds.{IsShownOf, commits_of}
+use Rattle.projection_ground.specs.declared.ground.Ground.{Ground}
 
 -- a tree that the filter shows, or a part of it, or a commit of the history
 abbrev pub IsOfHistory : Filter → Ground → Bytes → Object → Type 0

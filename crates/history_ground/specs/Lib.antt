@@ -1,8 +1,3 @@
-pub mod TrueMaps
-pub mod Grounds
-pub mod Asked
-pub mod Choosing
-pub mod Turns
 pub mod Walks
 pub mod Histories
 pub mod Making

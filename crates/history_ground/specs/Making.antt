@@ -16,10 +16,10 @@ use Rattle.filter_text.specs.Filters.{Filter}
 use Rattle.projection_laws.specs.Projections.{Choice, New, own_commit, projected}
 use Rattle.projection_laws.specs.StoredGraphs.{name_at, snapshot_named}
 use Rattle.projection_laws.specs.Histories.{AreMade, is_among}
-use Rattle.history_ground.specs.Grounds.{IsShownOf, commits_of}
-use Rattle.history_ground.specs.TrueMaps.{AreHeld}
-use Rattle.history_ground.specs.Turns.{Becomes}
-use Rattle.history_ground.specs.declared.ground.Ground.{Ground}
+use Rattle.projection_ground.specs.Grounds.{IsShownOf, commits_of}
+use Rattle.projection_ground.specs.TrueMaps.{AreHeld}
+use Rattle.projection_ground.specs.Turns.{Becomes}
+use Rattle.projection_ground.specs.declared.ground.Ground.{Ground}
 
 -- with a name behind, where it isn't there
 abbrev pub with_name : List Bytes → Bytes → List Bytes

@@ -7,12 +7,12 @@ use Rattle.object_store.specs.Objects.{Object, has}
 use Rattle.commit_map.specs.Shown.{Shown, shown_value}
 use Rattle.commit_map.specs.declared.commit_map.Shown as code
 use Rattle.filter_text.specs.Filters.{Filter}
-use Rattle.history_ground.specs.Choosing.{IsBelow}
-use Rattle.history_ground.specs.Grounds.{Extends, commits_of}
+use Rattle.projection_ground.specs.Choosing.{IsBelow}
+use Rattle.projection_ground.specs.Grounds.{Extends, commits_of}
 use Rattle.history_ground.specs.Heads.{IsSeenObject}
 use Rattle.history_ground.specs.Making.{IsEntered}
-use Rattle.history_ground.specs.TrueMaps.{IsTrueMap}
-use Rattle.history_ground.specs.declared.ground.Ground.{Ground}
+use Rattle.projection_ground.specs.TrueMaps.{IsTrueMap}
+use Rattle.projection_ground.specs.declared.ground.Ground.{Ground}
 
 -- The commit at the place is projected; or another has to be first, and nothing is kept that wasn't; nor is it after an error.
 abbrev pub IsTrueStep : {E : Type 0} → Filter → ℕ → Ground → Ground → Result (Option ℕ) E → Type 0

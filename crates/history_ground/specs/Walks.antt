@@ -8,9 +8,9 @@ use Rattle.commit_map.specs.Shown.{Shown, Entries}
 use Rattle.projection_laws.specs.Projections.{choice_of, projected}
 use Rattle.projection_laws.specs.Filled.{IsFilled, lacking}
 use Rattle.projection_laws.specs.StoredGraphs.{name_at, snapshot_named}
-use Rattle.history_ground.specs.Choosing.{Agree, commits_before, IsBelow}
-use Rattle.history_ground.specs.Grounds.{commits_of, Extends, IsShownOf}
-use Rattle.history_ground.specs.declared.ground.Ground.{Ground}
+use Rattle.projection_ground.specs.Choosing.{Agree, commits_before, IsBelow}
+use Rattle.projection_ground.specs.Grounds.{commits_of, Extends, IsShownOf}
+use Rattle.projection_ground.specs.declared.ground.Ground.{Ground}
 
 -- what the commit at a place is projected to
 abbrev pub IsProjectedTo : Filter → Ground → ℕ → Option Shown → Type 0

@@ -4,21 +4,20 @@ ghost use Rattle.git_objects.specs.Snapshots.{tree_at};
 ghost use Rattle.commit_graph.specs.Graphs.{place_of};
 ghost use Rattle.filter_apply.specs.Faults.{IsApplyFault};
 ghost use Rattle.filter_text.specs.Shapes.{shape};
-ghost use Rattle.history_ground.specs.Grounds.{Extends, IsGround, IsShownOf, commits_of};
-ghost use Rattle.history_ground.specs.TrueMaps.{IsTrueMap};
+ghost use Rattle.projection_ground.specs.Grounds.{Extends, IsGround, IsShownOf, commits_of};
+ghost use Rattle.projection_ground.specs.TrueMaps.{IsTrueMap};
 ghost use Rattle.history_ground.specs.TrueWalks.{IsTrueWalk};
 ghost use Rattle.object_store.specs.Unfolding.{StandsFor};
 ghost use Rattle.history_ground.specs.Heads.{IsSeen, IsSeenObject};
 ghost use Rattle.workspace.specs.Laws.{IsUsable};
 ghost use Rattle.workspace.specs.Workspaces.{shown};
 
-use crate::Ground;
 use crate::making::made_to;
-use crate::seeing::{Asked, seen};
 use filter_apply::ApplyError;
 use filter_text::Filter;
 use git_objects::Name;
 use object_store::tree_of;
+use projection_ground::{Asked, Ground, seen};
 use std::alloc::Global;
 use std::mem;
 

@@ -18,20 +18,18 @@ ghost use Rattle.workspace.specs.Workspaces.{shown};
 ghost use Rattle.projection_laws.specs.Histories.{AreMade};
 ghost use Rattle.projection_laws.specs.Projections.{history_graph};
 ghost use Rattle.projection_laws.specs.StoredGraphs.{name_at};
-ghost use Rattle.history_ground.specs.Asked.{IsAskedFor, IsNone};
-ghost use Rattle.history_ground.specs.Grounds.{Extends, IsGround, commits_of};
+ghost use Rattle.projection_ground.specs.Asked.{IsAskedFor, IsNone};
+ghost use Rattle.projection_ground.specs.Grounds.{Extends, IsGround, commits_of};
 ghost use Rattle.history_ground.specs.Histories.{IsOfHistory};
 ghost use Rattle.history_ground.specs.Making.{IsAdded, IsFit, IsReady, IsTaken, IsTakenIn, IsTurnObject, with_name};
 
-use crate::Ground;
-use crate::seeing::Asked;
-use crate::turning::{Turn, take_turn};
 use commit_map::{CommitMap, Shown};
 use filter_apply::ApplyError;
 use filter_text::Filter;
 use git_objects::{Kind, Name};
 use indexmap::IndexSet;
 use object_store::{PutError, Store};
+use projection_ground::{Asked, Ground, Turn, take_turn};
 use std::alloc::{AllocError, Global};
 use std::mem;
 

@@ -13,22 +13,20 @@ ghost use Rattle.workspace.specs.Laws.{IsUsable};
 ghost use Rattle.workspace.specs.Workspaces.{shown};
 ghost use Rattle.projection_laws.specs.Projections.{projection};
 ghost use Rattle.projection_laws.specs.StoredGraphs.{name_at};
-ghost use Rattle.history_ground.specs.Asked.{IsAskedFor};
-ghost use Rattle.history_ground.specs.Grounds.{Extends, IsGround, commits_of};
+ghost use Rattle.projection_ground.specs.Asked.{IsAskedFor};
+ghost use Rattle.projection_ground.specs.Grounds.{Extends, IsGround, commits_of};
 ghost use Rattle.history_ground.specs.Heads.{IsSeenObject};
 ghost use Rattle.history_ground.specs.Making.{IsFit, IsTurnObject};
-ghost use Rattle.history_ground.specs.TrueMaps.{AreHeld, IsTrueMap};
+ghost use Rattle.projection_ground.specs.TrueMaps.{AreHeld, IsTrueMap};
 ghost use Rattle.history_ground.specs.TrueWalks.{IsMade, IsTrueStep, IsTrueWalk};
 
-use crate::Ground;
 use crate::histories::{keep, put_commit};
-use crate::seeing::Asked;
-use crate::turning::{Turn, take_turn};
 use crate::walking::wait;
 use commit_map::Shown;
 use filter_apply::ApplyError;
 use filter_text::Filter;
 use git_objects::Name;
+use projection_ground::{Asked, Ground, Turn, take_turn};
 use std::alloc::Global;
 
 // Puts a commit of its own into the store, and keeps it as what the commit at the place is projected to.

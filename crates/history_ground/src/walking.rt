@@ -12,17 +12,15 @@ ghost use Rattle.workspace.specs.Workspaces.{shown};
 ghost use Rattle.projection_laws.specs.Filled.{IsFilled, lacking};
 ghost use Rattle.projection_laws.specs.Projections.{projection_by};
 ghost use Rattle.projection_laws.specs.StoredGraphs.{name_at};
-ghost use Rattle.history_ground.specs.Asked.{IsAskedFor};
-ghost use Rattle.history_ground.specs.Grounds.{Extends, IsGround, IsShownOf, commits_of};
+ghost use Rattle.projection_ground.specs.Asked.{IsAskedFor};
+ghost use Rattle.projection_ground.specs.Grounds.{Extends, IsGround, IsShownOf, commits_of};
 ghost use Rattle.history_ground.specs.Walks.{IsStep, IsWalked};
 
-use crate::Ground;
-use crate::seeing::Asked;
-use crate::turning::{Turn, take_turn};
 use commit_map::Shown;
 use filter_apply::ApplyError;
 use filter_text::Filter;
 use git_objects::{Name, Steps};
+use projection_ground::{Asked, Ground, Turn, take_turn};
 use std::alloc::{AllocError, Global};
 use std::sync::ledger::Ledger;
 

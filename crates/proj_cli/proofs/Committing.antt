@@ -5,7 +5,7 @@ use Rattle.git_objects.specs.Results.{◌>>=◌}
 use Rattle.git_objects.specs.declared.quantity.Quantity.{Quantity}
 use Rattle.object_store.specs.Growth.{IsGrownBy}
 use Rattle.object_store.specs.Objects.{Object}
-use Rattle.history_ground.specs.Grounds.{IsGround}
+use Rattle.projection_ground.specs.Grounds.{IsGround}
 use Rattle.proj_io.specs.Items.{Stays}
 use Rattle.proj_io.specs.Stops.{IsPresent, OnlyAdds, adds_as}
 use Rattle.proj_io.specs.Views.{KeeperView}

@@ -18,9 +18,9 @@ use Rattle.fast_export.specs.Histories.{IsHistoryIn, are_distinct, are_ordered, 
 use Rattle.projection_laws.specs.Histories.{AreMade, OrderLaw, is_among, is_distinct, is_ordered}
 use Rattle.projection_laws.specs.ProjectionLaws.{HistoryLaw}
 use Rattle.projection_laws.specs.Projections.{history_graph}
-use Rattle.history_ground.specs.Grounds.{Extends, commits_of}
+use Rattle.projection_ground.specs.Grounds.{Extends, commits_of}
 use Rattle.history_ground.specs.Histories.{IsOfHistory}
-use Rattle.history_ground.specs.declared.ground.Ground.{Ground}
+use Rattle.projection_ground.specs.declared.ground.Ground.{Ground}
 use Rattle.proj_io.specs.Views.{SinkView}
 use Rattle.state_items.specs.Items.{Held}
 use Rattle.state_items.specs.Repos.{repo}

@@ -22,7 +22,7 @@ use Rattle.fast_import.specs.Whole.{IsMadeOfStream, IsStreamError}
 use Rattle.fast_import.specs.declared.replayed.Replayed.{Replayed as ReplayedNames}
 use Rattle.fast_import.specs.declared.whole.ReplayError.{ReplayError}
 use Rattle.fast_import.specs.declared.whole.ReplayError.TheVariants as replays
-use Rattle.history_ground.specs.Grounds.{IsGround}
+use Rattle.projection_ground.specs.Grounds.{IsGround}
 use Rattle.proj_io.specs.Stops.{IsPresent, OnlyAdds, adds_as}
 use Rattle.proj_io.specs.Views.{KeeperView}
 use Rattle.state_items.specs.Changes.{NoPlan, Plan, change_plan, objects_of}

@@ -15,7 +15,7 @@ use Rattle.filter_apply.specs.Hands.{IsNamedIn, parts_in}
 use Rattle.filter_apply.proofs.Members.{in-flat_map}
 use Rattle.filter_apply.proofs.Overs.{made_as}
 use Rattle.workspace.specs.Workspaces.{resolve}
-use Rattle.history_ground.specs.Grounds.{IsShownOf}
+use Rattle.projection_ground.specs.Grounds.{IsShownOf}
 use Rattle.state_items.specs.Hands.{IsTwice}
 use Rattle.state_items.specs.Items.{Held}
 use Rattle.state_items.specs.Repos.{repo}

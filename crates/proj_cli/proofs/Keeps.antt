@@ -24,8 +24,8 @@ use Rattle.filter_text.specs.Printing.{printed}
 use Rattle.workspace.specs.Workspaces.{shown}
 use Rattle.projection_laws.specs.Filled.{IsFilled}
 use Rattle.projection_laws.specs.Projections.{choice_of, known_at, projected, projection_by, projections}
-use Rattle.history_ground.specs.Grounds.{Extends, IsGround, IsShownOf, commits_of}
-use Rattle.history_ground.specs.declared.ground.Ground.{Ground}
+use Rattle.projection_ground.specs.Grounds.{Extends, IsGround, IsShownOf, commits_of}
+use Rattle.projection_ground.specs.declared.ground.Ground.{Ground}
 use Rattle.state_items.specs.Changes.{KeepPlan, NoPlan, entry_of, held_after, passed}
 use Rattle.state_items.specs.Items.{Held, is_canonical, is_of, is_rule}
 use Rattle.state_items.specs.Arrivals.{rows_of}
@@ -38,8 +38,8 @@ use Rattle.state_items.proofs.TreeParts.{all-each, each-map}
 use Rattle.repo_ground.specs.Contents.{Contents, Spells, entries_in, is_selected, room_in}
 use Rattle.repo_ground.specs.Keeping.{AreNamed, AreOfGraph, keep_plan, may_keep, new_entries, news, unheld}
 use Rattle.repo_ground.specs.Selecting.{IsSelected}
-use Rattle.history_ground.proofs.Filling.{kept-each}
-use Rattle.history_ground.proofs.Filling.{kept-append}
+use Rattle.projection_ground.proofs.Filling.{kept-each}
+use Rattle.projection_ground.proofs.Filling.{kept-append}
 use Rattle.repo_ground.proofs.Keeping.{spells-kept, with_kept}
 use Rattle.repo_ground.proofs.Reaching.{some-of}
 use Rattle.repo_ground.proofs.MapFronts.{rule-known}

@@ -44,7 +44,7 @@ use Rattle.fast_import.specs.declared.whole.ReplayError.{ReplayError}
 use Rattle.fast_import.specs.declared.whole.ReplayError.TheVariants as replays
 use Rattle.projection_laws.specs.Projections.{projection_by}
 use Rattle.projection_laws.specs.StoredGraphs.{snapshot_named}
-use Rattle.history_ground.specs.Grounds.{IsShownOf, commits_of}
+use Rattle.projection_ground.specs.Grounds.{IsShownOf, commits_of}
 use Rattle.commit_graph.specs.Graphs.{Row, place_of}
 use Rattle.state_items.specs.Changes.{fresh, held_after, objects_of, or_else, passed_by_objects, plan_of}
 use Rattle.state_items.specs.Hands.{IsTwice}

@@ -20,7 +20,7 @@ use Rattle.fast_import.specs.declared.replayed.Replayed.{Replayed}
 use Rattle.fast_import.specs.declared.replayed.Setting.{Setting}
 use Rattle.fast_import.specs.declared.whole.ReplayError.{ReplayError}
 use Rattle.projection_laws.specs.Projections.{projection_by}
-use Rattle.history_ground.specs.Grounds.{IsGround, IsShownOf, commits_of}
+use Rattle.projection_ground.specs.Grounds.{IsGround, IsShownOf, commits_of}
 use Rattle.proj_io.specs.Counts.{Counts}
 use Rattle.state_items.specs.Changes.{fresh, objects_of}
 use Rattle.state_items.specs.Items.{Held, nothing}

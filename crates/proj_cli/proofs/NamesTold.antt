@@ -14,7 +14,7 @@ use Rattle.fast_import.specs.Standing.{IsReplayedOf}
 use Rattle.fast_import.specs.Whole.{IsMadeOfStream, IsWhole}
 use Rattle.fast_import.specs.declared.replayed.Replayed.{Replayed as ReplayedNames}
 use Rattle.projection_laws.specs.Projections.{projection_by}
-use Rattle.history_ground.specs.Grounds.{IsGround}
+use Rattle.projection_ground.specs.Grounds.{IsGround}
 use Rattle.state_items.specs.Imported.{AreRefsTo, with_commits}
 use Rattle.state_items.specs.Items.{nothing}
 use Rattle.repo_ground.specs.Changes.{IsBatchOf, settings_of}
@@ -30,7 +30,7 @@ use Rattle.filter_apply.specs.Faults.{IsApplyFault}
 use Rattle.filter_apply.specs.declared.fault.ApplyError.{ApplyError}
 use Rattle.workspace.specs.Workspaces.{shown}
 use Rattle.fast_import.specs.declared.whole.ReplayError.{ReplayError}
-use Rattle.history_ground.specs.Grounds.{IsShownOf, commits_of}
+use Rattle.projection_ground.specs.Grounds.{IsShownOf, commits_of}
 use Rattle.state_items.specs.Changes.{fresh, objects_of}
 use Rattle.repo_ground.specs.Taking.{IsNotTaken, IsTaken}
 use Rattle.repo_ground.specs.declared.commit.CommitError.{CommitError}

@@ -17,8 +17,8 @@ use Rattle.filter_text.specs.Printing.{printed}
 use Rattle.workspace.specs.Workspaces.{shown}
 use Rattle.projection_laws.specs.Filled.{IsFilled}
 use Rattle.projection_laws.specs.Projections.{projection_by}
-use Rattle.history_ground.specs.Grounds.{Extends, IsGround, IsShownOf, commits_of}
-use Rattle.history_ground.specs.declared.ground.Ground.{Ground}
+use Rattle.projection_ground.specs.Grounds.{Extends, IsGround, IsShownOf, commits_of}
+use Rattle.projection_ground.specs.declared.ground.Ground.{Ground}
 use Rattle.proj_io.specs.Stops.{IsPresent, OnlyAdds, adds_as}
 use Rattle.proj_io.specs.Views.{KeeperView}
 use Rattle.state_items.specs.Changes.{KeepPlan, NoPlan, Plan, Room, held_after, passed, plan_items, room_of}

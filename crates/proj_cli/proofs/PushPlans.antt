@@ -5,8 +5,8 @@ use Rattle.git_objects.specs.Snapshots.{Graph}
 use Rattle.object_store.specs.Growth.{IsGrownBy}
 use Rattle.filter_text.specs.Filters.{Filter}
 use Rattle.commit_map.specs.declared.rule.Rule.{Rule}
-use Rattle.history_ground.specs.Grounds.{commits_of}
-use Rattle.history_ground.specs.declared.ground.Ground.{Ground}
+use Rattle.projection_ground.specs.Grounds.{commits_of}
+use Rattle.projection_ground.specs.declared.ground.Ground.{Ground}
 use Rattle.push_back.specs.Faults.{IsPushFault}
 use Rattle.push_back.specs.Planning.{IsPlanOf, IsPlanned}
 use Rattle.push_laws.specs.Pushes.{pushing}

@@ -28,7 +28,7 @@ use Rattle.workspace.specs.Workspaces.{shown}
 use Rattle.stream_reader.specs.declared.fault.StreamFault.{StreamFault}
 use Rattle.stream_reader.specs.declared.fault.StreamFault.TheVariants as streams
 use Rattle.projection_laws.specs.Projections.{projection}
-use Rattle.history_ground.specs.Grounds.{IsGround}
+use Rattle.projection_ground.specs.Grounds.{IsGround}
 use Rattle.fast_import.specs.Made.{IsPutFault}
 use Rattle.fast_import.specs.Standing.{AreBlobsIn, AreCommitsIn}
 use Rattle.fast_import.specs.declared.replayed.Made.{Made as MadeNames}

@@ -11,8 +11,8 @@ use Rattle.commit_map.specs.declared.rule.Rule.{Rule}
 use Rattle.commit_map.specs.declared.rule.Rule.TheVariants.{One, Two}
 use Rattle.filter_apply.specs.Truth.{AreTrueFor}
 use Rattle.projection_laws.specs.StoredGraphs.{IsGraphIn, graph_of}
-use Rattle.history_ground.specs.Grounds.{IsGround}
-use Rattle.history_ground.specs.TrueMaps.{AreTrueMaps}
+use Rattle.projection_ground.specs.Grounds.{IsGround}
+use Rattle.projection_ground.specs.TrueMaps.{AreTrueMaps}
 use Rattle.state_items.specs.Arrivals.{rows_of}
 use Rattle.state_items.specs.Appending.{IsAddition}
 use Rattle.state_items.specs.Changes.{NoPlan, Plan, RulePlan, held_after, passed, plan_items, room_of, rule_plan}

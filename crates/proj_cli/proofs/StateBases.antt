@@ -24,7 +24,7 @@ use Rattle.fast_import.specs.Whole.{IsMadeOfStream, IsWhole}
 use Rattle.fast_import.specs.declared.replayed.Replayed.{Replayed}
 use Rattle.fast_import.specs.declared.whole.ReplayError.{ReplayError}
 use Rattle.projection_laws.specs.StoredGraphs.{IsRowIn}
-use Rattle.history_ground.specs.Grounds.{IsGround}
+use Rattle.projection_ground.specs.Grounds.{IsGround}
 use Rattle.state_items.specs.Arrivals.{blobs_of, rows_of, with_blob_name}
 use Rattle.state_items.specs.Changes.{with_refs}
 use Rattle.state_items.specs.Items.{Held}

@@ -3,7 +3,7 @@ use Rattle.std.proofs.Common.{◌≡◌, ◌+◌, ℕ, List, ◌++◌, length, N
 use Rattle.std.specs.Prelude.{sum_by}
 use Rattle.std.proofs.lemmas.List.Sums.{sum_by-append}
 use Rattle.git_objects.specs.Paths.{Bytes}
-use Rattle.history_ground.specs.Grounds.{IsGround}
+use Rattle.projection_ground.specs.Grounds.{IsGround}
 use Rattle.state_items.specs.Appending.{IsAddition}
 use Rattle.state_items.specs.Changes.{Plan, Room, held_after, passed, plan_items, room_of}
 use Rattle.state_items.specs.Items.{Held}

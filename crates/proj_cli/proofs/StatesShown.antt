@@ -19,9 +19,9 @@ use Rattle.commit_map.specs.declared.rule.Rule.TheVariants.{One, Two}
 use Rattle.filter_text.specs.Filters.{Filter}
 use Rattle.workspace.specs.Workspaces.{shown}
 use Rattle.projection_laws.specs.Projections.{history_graph}
-use Rattle.history_ground.specs.Grounds.{Extends, IsShownOf, commits_of}
+use Rattle.projection_ground.specs.Grounds.{Extends, IsShownOf, commits_of}
 use Rattle.history_ground.specs.Histories.{IsOfHistory}
-use Rattle.history_ground.specs.declared.ground.Ground.{Ground}
+use Rattle.projection_ground.specs.declared.ground.Ground.{Ground}
 use Rattle.state_items.specs.Items.{Held}
 use Rattle.state_items.specs.Repos.{repo}
 use Rattle.state_items.specs.Steps.{are_heads}

@@ -23,10 +23,10 @@ use Rattle.filter_text.specs.Printing.{printed}
 use Rattle.workspace.specs.Workspaces.{shown}
 use Rattle.projection_laws.specs.Histories.{AreMade}
 use Rattle.projection_laws.specs.Projections.{history_graph, projection}
-use Rattle.history_ground.specs.Grounds.{Extends, commits_of}
+use Rattle.projection_ground.specs.Grounds.{Extends, commits_of}
 use Rattle.history_ground.specs.Heads.{IsSeen, IsSeenObject}
 use Rattle.history_ground.specs.Histories.{IsOfHistory}
-use Rattle.history_ground.specs.declared.ground.Ground.{Ground}
+use Rattle.projection_ground.specs.declared.ground.Ground.{Ground}
 use Rattle.history_ground.specs.declared.heads.Seen.{Seen}
 use Rattle.push_laws.specs.Pushes.{pushing}
 use Rattle.state_items.specs.Items.{Held}

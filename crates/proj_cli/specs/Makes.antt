@@ -12,7 +12,7 @@ use Rattle.object_store.specs.Objects.{Object}
 use Rattle.filter_text.specs.Filters.{Filter}
 use Rattle.filter_text.specs.Printing.{printed}
 use Rattle.commit_map.specs.Shown.{Entries}
-use Rattle.history_ground.specs.Grounds.{IsGround}
+use Rattle.projection_ground.specs.Grounds.{IsGround}
 use Rattle.proj_io.specs.Views.{SinkView, KeeperView}
 use Rattle.state_items.specs.Appending.{IsAddition}
 use Rattle.state_items.specs.Hands.{IsTwice}

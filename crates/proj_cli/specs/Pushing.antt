@@ -11,7 +11,7 @@ use Rattle.filter_text.specs.Filters.{Filter}
 use Rattle.workspace.specs.Workspaces.{shown}
 use Rattle.commit_map.specs.declared.rule.Rule.{Rule}
 use Rattle.projection_laws.specs.Projections.{history_graph, own_commits}
-use Rattle.history_ground.specs.Grounds.{IsShownOf}
+use Rattle.projection_ground.specs.Grounds.{IsShownOf}
 use Rattle.fast_import.specs.Made.{IsMadeBy}
 use Rattle.fast_import.specs.Replaying.{setting_value}
 use Rattle.fast_import.specs.Replays.{nothing_yet}

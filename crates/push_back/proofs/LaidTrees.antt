@@ -24,9 +24,9 @@ use Rattle.filter_unapply.specs.Laying.{Laid, LaidTree, NotHeld as LaidNotHeld, 
 use Rattle.filter_unapply.specs.Stored.{IsLaidTree}
 use Rattle.filter_unapply.specs.declared.fault.LayFault.{LayFault}
 use Rattle.filter_unapply.specs.declared.fault.LayFault.TheVariants as lay
-use Rattle.history_ground.specs.Grounds.{AreInFront, IsGround}
-use Rattle.history_ground.specs.declared.ground.Ground.{Ground}
-use Rattle.history_ground.proofs.Growing.{extends-as, extends-self, extends-then, ground-tables}
+use Rattle.projection_ground.specs.Grounds.{AreInFront, IsGround}
+use Rattle.projection_ground.specs.declared.ground.Ground.{Ground}
+use Rattle.projection_ground.proofs.Growing.{extends-as, extends-self, extends-then, ground-tables}
 use Rattle.history_ground.proofs.TakenTurns.{extends-store}
 use Rattle.workspace.specs.Workspaces.{next, resolve}
 use Rattle.push_laws.specs.PushVerdicts.{Refusal, is_bad_workspace, judged, original_tree, passed, tree_upon}

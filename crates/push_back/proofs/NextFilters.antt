@@ -16,8 +16,8 @@ use Rattle.filter_routes.specs.TableValues.{Table}
 use Rattle.filter_unapply.specs.Laying.{differs_at, same_leaf}
 use Rattle.workspace.specs.Views.{found_value}
 use Rattle.workspace.specs.Workspaces.{has_unreadable, next, place, resolve, shown_place, with_leaf}
-use Rattle.history_ground.specs.Grounds.{AreInFront}
-use Rattle.history_ground.proofs.Growing.{has-front, interned-front}
+use Rattle.projection_ground.specs.Grounds.{AreInFront}
+use Rattle.projection_ground.proofs.Growing.{has-front, interned-front}
 use Rattle.push_laws.specs.PushVerdicts.{is_bad, is_changed, same_found, same_place}
 use Rattle.push_back.specs.Originals.{IsWay}
 

@@ -26,8 +26,8 @@ use Rattle.filter_unapply.specs.Hands.{IsLaidMade}
 use Rattle.workspace.specs.Workspaces.{next}
 use Rattle.projection_laws.specs.Made.{IsOwnBody}
 use Rattle.projection_laws.proofs.HeldCommits.{held}
-use Rattle.history_ground.specs.Grounds.{IsGround}
-use Rattle.history_ground.specs.declared.ground.Ground.{Ground}
+use Rattle.projection_ground.specs.Grounds.{IsGround}
+use Rattle.projection_ground.specs.declared.ground.Ground.{Ground}
 use Rattle.object_store.proofs.PutObjects.{commit_fits}
 use Rattle.fast_import.specs.Standing.{IsCommitIn}
 use Rattle.fast_import.specs.declared.replayed.Made.{Made}

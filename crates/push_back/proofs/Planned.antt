@@ -22,11 +22,11 @@ use Rattle.filter_apply.specs.declared.fault.ApplyError.{ApplyError}
 use Rattle.filter_apply.specs.declared.fault.ApplyError.TheVariants as apply
 use Rattle.workspace.specs.Workspaces.{shown}
 use Rattle.projection_laws.specs.Projections.{projection}
-use Rattle.history_ground.specs.Grounds.{IsGround, Extends, commits_of}
+use Rattle.projection_ground.specs.Grounds.{IsGround, Extends, commits_of}
 use Rattle.history_ground.specs.Heads.{IsSeen, IsSeenObject}
-use Rattle.history_ground.specs.declared.ground.Ground.{Ground}
+use Rattle.projection_ground.specs.declared.ground.Ground.{Ground}
 use Rattle.history_ground.specs.declared.heads.Seen.{Seen}
-use Rattle.history_ground.proofs.Growing.{commits-same, extends-as, extends-then}
+use Rattle.projection_ground.proofs.Growing.{commits-same, extends-as, extends-then}
 use Rattle.history_ground.proofs.TakenTurns.{extends-store}
 use Rattle.proj_io.specs.Counts.{Counts}
 use Rattle.fast_import.specs.Made.{IsMadeBy}

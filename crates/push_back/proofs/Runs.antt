@@ -13,8 +13,8 @@ use Rattle.object_store.specs.Objects.{Object, IsStore, has}
 use Rattle.object_store.specs.Unfolding.{flat}
 use Rattle.object_store.proofs.Unfolding.{unfolding_law}
 use Rattle.filter_text.specs.Filters.{Filter}
-use Rattle.history_ground.specs.Grounds.{IsGround}
-use Rattle.history_ground.specs.declared.ground.Ground.{Ground}
+use Rattle.projection_ground.specs.Grounds.{IsGround}
+use Rattle.projection_ground.specs.declared.ground.Ground.{Ground}
 use Rattle.fast_import.specs.Standing.{AreCommitsIn, IsCommitIn}
 use Rattle.fast_import.specs.declared.replayed.Made.{Made}
 use Rattle.fast_import.proofs.Growing.{commits-grown}

@@ -13,8 +13,8 @@ use Rattle.filter_routes.specs.Interned.{HasAt}
 use Rattle.filter_routes.specs.TableValues.{Table}
 use Rattle.filter_unapply.specs.Hands.{IsLaidMade}
 use Rattle.workspace.specs.Workspaces.{next, resolve}
-use Rattle.history_ground.specs.Grounds.{Extends}
-use Rattle.history_ground.specs.declared.ground.Ground.{Ground}
+use Rattle.projection_ground.specs.Grounds.{Extends}
+use Rattle.projection_ground.specs.declared.ground.Ground.{Ground}
 use Rattle.fast_import.specs.Standing.{IsCommitIn}
 use Rattle.fast_import.specs.declared.replayed.Made.{Made}
 use Rattle.push_laws.specs.PushVerdicts.{Refusal, is_bad_workspace, original_of, original_tree, verdict_from}

@@ -5,9 +5,9 @@ use Rattle.git_objects.specs.Snapshots.{snapshot_name, tree_at}
 use Rattle.object_store.specs.Objects.{Object}
 use Rattle.filter_text.specs.Filters.{Filter}
 use Rattle.workspace.specs.Workspaces.{shown}
-use Rattle.history_ground.specs.Grounds.{Extends, commits_of}
+use Rattle.projection_ground.specs.Grounds.{Extends, commits_of}
 use Rattle.history_ground.specs.Heads.{IsSeenObject}
-use Rattle.history_ground.specs.declared.ground.Ground.{Ground}
+use Rattle.projection_ground.specs.declared.ground.Ground.{Ground}
 use Rattle.fast_import.specs.Made.{IsMadeBy}
 use Rattle.fast_import.specs.Replays.{nothing_yet}
 use Rattle.fast_import.specs.Standing.{AreBlobsIn}

@@ -8,7 +8,7 @@ ghost use Rattle.object_store.specs.Objects.{has};
 ghost use Rattle.object_store.specs.Unfolding.{flat};
 ghost use Rattle.filter_text.specs.Shapes.{shape};
 ghost use Rattle.workspace.specs.Laws.{IsUsable};
-ghost use Rattle.history_ground.specs.Grounds.{IsGround, commits_of};
+ghost use Rattle.projection_ground.specs.Grounds.{IsGround, commits_of};
 ghost use Rattle.fast_import.specs.Standing.{AreCommitsIn, IsCommitIn};
 ghost use Rattle.push_back.specs.Originals.{AreOriginals, Grows, IsMadeFor, IsOriginal, IsOriginalError};
 
@@ -18,7 +18,8 @@ use commit_map::Shown;
 use fast_import::Made;
 use filter_text::Filter;
 use git_objects::{Kind, Name, name_of};
-use history_ground::{Ground, put_commit};
+use history_ground::put_commit;
+use projection_ground::Ground;
 use projection_laws::own_body;
 use std::alloc::{AllocError, Global};
 

@@ -3,7 +3,7 @@ ghost use Rattle.std.specs.Prelude.{◌≡◌, ◌↔◌, ◌≤◌, true, lengt
 ghost use Rattle.git_objects.specs.Paths.{Bytes, is_bytes};
 ghost use Rattle.commit_graph.specs.Graphs.{place_of};
 ghost use Rattle.filter_text.specs.Shapes.{shape};
-ghost use Rattle.history_ground.specs.Grounds.{IsGround};
+ghost use Rattle.projection_ground.specs.Grounds.{IsGround};
 ghost use Rattle.proj_io.specs.Counts.{Counts};
 ghost use Rattle.push_back.specs.Planning.{IsPlanned};
 ghost use Rattle.workspace.specs.Laws.{IsUsable};
@@ -12,9 +12,10 @@ use crate::{Pair, Plan, PushBase, PushFault, originals, replay_push};
 use fast_import::Made;
 use filter_text::Filter;
 use git_objects::Name;
-use history_ground::{Ground, seen_head};
+use history_ground::seen_head;
 use path_names::RefName;
 use proj_io::Source;
+use projection_ground::Ground;
 use std::alloc::{AllocError, Global};
 
 /// Replays a stream that is pushed to a ref, which is at the commit `head`, through a filter, and works out the

@@ -11,7 +11,7 @@ ghost use Rattle.filter_unapply.specs.Hands.{IsLaidMade};
 ghost use Rattle.filter_unapply.specs.Laying.{laid_through, unseen};
 ghost use Rattle.workspace.specs.Laws.{IsUsable};
 ghost use Rattle.workspace.specs.Workspaces.{next};
-ghost use Rattle.history_ground.specs.Grounds.{IsGround};
+ghost use Rattle.projection_ground.specs.Grounds.{IsGround};
 ghost use Rattle.push_laws.specs.PushVerdicts.{judged, original_tree};
 ghost use Rattle.push_back.specs.Originals.{Grows};
 ghost use Rattle.push_back.specs.Refusals.{IsTreeAnswer};
@@ -23,8 +23,8 @@ use filter_routes::Table;
 use filter_text::Filter;
 use filter_unapply::{laid, unseen};
 use git_objects::Name;
-use history_ground::Ground;
 use object_store::Store;
+use projection_ground::Ground;
 use std::alloc::Global;
 
 // Lays a pushed tree through the new table's filter, where it overwrites nothing that only that filter shows, and where

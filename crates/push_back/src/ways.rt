@@ -11,7 +11,7 @@ ghost use Rattle.filter_routes.specs.Images.{image};
 ghost use Rattle.filter_routes.specs.Interned.{HasAt};
 ghost use Rattle.workspace.specs.Laws.{IsUsable};
 ghost use Rattle.workspace.specs.Workspaces.{place, resolve, shown_place};
-ghost use Rattle.history_ground.specs.Grounds.{AreInFront};
+ghost use Rattle.projection_ground.specs.Grounds.{AreInFront};
 ghost use Rattle.push_laws.specs.PushVerdicts.{same_found, same_place};
 ghost use Rattle.push_back.specs.Originals.{IsWay};
 

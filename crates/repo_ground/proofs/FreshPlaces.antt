@@ -11,7 +11,7 @@ use Rattle.commit_graph.proofs.Places.{absent}
 use Rattle.commit_map.specs.Shown.{Entries, Shown, kept_at}
 use Rattle.repo_ground.specs.Contents.{Contents}
 use Rattle.repo_ground.specs.Keeping.{AreFrom, new_entries, new_entry, unheld}
-use Rattle.history_ground.proofs.Filling.{kept-each}
+use Rattle.projection_ground.proofs.Filling.{kept-each}
 
 -- ---- lists
 

@@ -23,7 +23,7 @@ use Rattle.commit_graph.specs.Graphs.{Row}
 use Rattle.fast_import.specs.Bases.{base_in}
 use Rattle.fast_import.specs.Replays.{named_tree}
 use Rattle.projection_laws.specs.StoredGraphs.{graph_of, snapshot_named}
-use Rattle.history_ground.specs.Grounds.{IsGround, commits_of}
+use Rattle.projection_ground.specs.Grounds.{IsGround, commits_of}
 use Rattle.state_items.specs.Arrivals.{blobs_of, commit_row, rows_of, with_blob_name, with_commit, with_row}
 use Rattle.state_items.specs.Items.{Held}
 use Rattle.state_items.specs.Repos.{repo}

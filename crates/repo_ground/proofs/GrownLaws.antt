@@ -8,13 +8,13 @@ use Rattle.object_store.specs.Objects.{Object, IsStore, object_name}
 use Rattle.object_store.proofs.Growth.{found-grown}
 use Rattle.commit_map.specs.Rules.{rule_number}
 use Rattle.commit_map.specs.Shown.{Entries, kept_at}
-use Rattle.history_ground.specs.Grounds.{IsGround}
-use Rattle.history_ground.specs.declared.ground.Ground.{Ground}
+use Rattle.projection_ground.specs.Grounds.{IsGround}
+use Rattle.projection_ground.specs.declared.ground.Ground.{Ground}
 use Rattle.state_items.specs.Items.{Held}
 use Rattle.state_items.specs.KeptMaps.{entries_at}
 use Rattle.repo_ground.specs.Contents.{Contents, Spells, is_selected}
 use Rattle.repo_ground.specs.Laws.{GrownLaw}
-use Rattle.history_ground.proofs.Growing.{graph-grown, maps-grown, memo-grown}
+use Rattle.projection_ground.proofs.Growing.{graph-grown, maps-grown, memo-grown}
 
 -- a map of which as many entries are kept as of another
 abbrev entries_by : Contents → Bytes → ℕ → Entries → Entries

@@ -11,7 +11,7 @@ use Rattle.std.specs.List.{cons_option, filter_map, flat_map, list_any}
 use Rattle.std.specs.Cmp.Lexicographic.{bytes_decides}
 use Rattle.std.specs.Int.{to_be_bytes, w16, w32}
 use Rattle.commit_map.specs.Rules.{rule_number}
-use Rattle.history_ground.proofs.Filling.{kept-append, kept-each, kept-front}
+use Rattle.projection_ground.proofs.Filling.{kept-append, kept-each, kept-front}
 use Rattle.state_items.proofs.Lengths.{item-some}
 use Rattle.std.proofs.lemmas.List.{length-map, map-append, take-append-drop, take_all}
 use Rattle.std.proofs.lemmas.Option.{none-some, same_Some}

@@ -22,9 +22,9 @@ use Rattle.object_store.specs.StoredSnapshots.{snapshot_object}
 use Rattle.git_objects.specs.declared.kind.Kind.TheVariants.{Commit as CommitKind}
 use Rattle.std.specs.List.{list_all}
 use Rattle.projection_laws.specs.StoredGraphs.{IsGraphIn, graph_of}
-use Rattle.history_ground.specs.Grounds.{IsGround}
-use Rattle.history_ground.specs.TrueMaps.{AreTrueMaps}
-use Rattle.history_ground.proofs.TrueEntries.{rows-newer}
+use Rattle.projection_ground.specs.Grounds.{IsGround}
+use Rattle.projection_ground.specs.TrueMaps.{AreTrueMaps}
+use Rattle.projection_ground.proofs.TrueEntries.{rows-newer}
 use Rattle.state_items.specs.Arrivals.{AreHeld, AreNamed}
 use Rattle.state_items.specs.Appending.{IsAddition}
 use Rattle.state_items.specs.Changes.{ChangePlan, NoPlan, Plan, fresh, held_after, moved, objects_of, or_else, passed, passed_by_item, passed_by_objects, plan_items, with_refs}

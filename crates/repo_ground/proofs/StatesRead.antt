@@ -12,9 +12,9 @@ use Rattle.filter_apply.specs.Truth.{AreTrueFor}
 use Rattle.filter_cache.specs.Memos.{Key, Memo}
 use Rattle.filter_routes.specs.TableValues.{Table}
 use Rattle.projection_laws.specs.StoredGraphs.{IsGraphIn}
-use Rattle.history_ground.specs.Grounds.{IsGround, commits_of}
-use Rattle.history_ground.specs.TrueMaps.{AreTrueMaps}
-use Rattle.history_ground.specs.declared.true_maps.TrueMap.{TrueMap}
+use Rattle.projection_ground.specs.Grounds.{IsGround, commits_of}
+use Rattle.projection_ground.specs.TrueMaps.{AreTrueMaps}
+use Rattle.projection_ground.specs.declared.true_maps.TrueMap.{TrueMap}
 use Rattle.state_items.specs.Arrivals.{rows_of}
 use Rattle.state_items.specs.Changes.{with_refs}
 use Rattle.state_items.specs.Items.{Held}

@@ -8,7 +8,7 @@ use Rattle.git_objects.specs.Snapshots.{Snapshot}
 use Rattle.git_objects.specs.declared.name.Name.{Name}
 use Rattle.commit_graph.specs.Graphs.{Row}
 use Rattle.object_store.specs.Objects.{IsStore, Object, find_named, object_name}
-use Rattle.history_ground.specs.Grounds.{IsGround}
+use Rattle.projection_ground.specs.Grounds.{IsGround}
 use Rattle.state_items.specs.Arrivals.{AreHeld}
 use Rattle.state_items.specs.Changes.{fresh, objects_of, passed_by_objects}
 use Rattle.state_items.specs.Items.{Held}

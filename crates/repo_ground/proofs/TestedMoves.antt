@@ -15,7 +15,7 @@ use Rattle.git_objects.specs.declared.kind.Kind.TheVariants.{Commit as CommitKin
 use Rattle.commit_graph.specs.Graphs.{Reaches, Row, place_of}
 use Rattle.fast_import.specs.Replaying.{setting_value}
 use Rattle.fast_import.specs.declared.replayed.Setting.{Setting}
-use Rattle.history_ground.specs.Grounds.{IsGround}
+use Rattle.projection_ground.specs.Grounds.{IsGround}
 use Rattle.object_store.specs.Objects.{Object, has}
 use Rattle.object_store.specs.StoredSnapshots.{snapshots_in}
 use Rattle.ref_store.specs.Refs.{head_of}

@@ -3,7 +3,7 @@ use Rattle.std.proofs.Common.{◌≡◌, ℕ, List, [], length, take, Result, Ok
 use Rattle.std.specs.declared.option.Option.{Option}
 use Rattle.std.proofs.lemmas.List.{take_all}
 use Rattle.git_objects.specs.Paths.{Bytes}
-use Rattle.history_ground.specs.Grounds.{IsGround}
+use Rattle.projection_ground.specs.Grounds.{IsGround}
 use Rattle.proj_io.specs.Items.{Stays}
 use Rattle.state_items.specs.Items.{Held}
 use Rattle.state_items.specs.Readings.{Gathered, Holds}

@@ -6,7 +6,7 @@ use Rattle.object_store.specs.Objects.{Object, IsStore, find_named, object_name}
 use Rattle.ref_store.specs.Refs.{AreDistinct}
 use Rattle.commit_map.specs.Rules.{rule_number}
 use Rattle.commit_map.specs.Shown.{Entries, kept_at}
-use Rattle.history_ground.specs.declared.ground.Ground.{Ground}
+use Rattle.projection_ground.specs.declared.ground.Ground.{Ground}
 use Rattle.state_items.specs.Arrivals.{blobs_of, rows_of}
 use Rattle.state_items.specs.Changes.{Room, with_refs}
 use Rattle.state_items.specs.Items.{Held, has_room, is_rule, read_items}

@@ -4,7 +4,7 @@ use Rattle.git_objects.specs.Paths.{Bytes}
 use Rattle.git_objects.specs.declared.quantity.Quantity.{Quantity}
 use Rattle.object_store.specs.Objects.{Object}
 use Rattle.state_items.specs.Changes.{passed_by_item, passed_by_objects}
-use Rattle.history_ground.specs.Grounds.{IsGround}
+use Rattle.projection_ground.specs.Grounds.{IsGround}
 use Rattle.state_items.specs.Changes.{NoPlan, Plan, held_after, passed, plan_items}
 use Rattle.state_items.specs.Items.{Held}
 use Rattle.repo_ground.specs.Contents.{Contents, Spells, room_in}

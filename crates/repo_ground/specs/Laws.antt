@@ -7,8 +7,8 @@ use Rattle.object_store.specs.Objects.{Object, IsStore}
 use Rattle.commit_graph.specs.Graphs.{Row}
 use Rattle.fast_import.specs.Bases.{base_in}
 use Rattle.fast_import.specs.Replays.{Base, named_tree}
-use Rattle.history_ground.specs.Grounds.{IsGround, commits_of}
-use Rattle.history_ground.specs.declared.ground.Ground.{Ground}
+use Rattle.projection_ground.specs.Grounds.{IsGround, commits_of}
+use Rattle.projection_ground.specs.declared.ground.Ground.{Ground}
 use Rattle.state_items.specs.Items.{Held}
 use Rattle.state_items.specs.Repos.{repo}
 use Rattle.repo_ground.specs.Contents.{Contents, Spells}

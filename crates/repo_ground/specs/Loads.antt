@@ -1,7 +1,7 @@
 -- What is loaded from a keeper's items.
 use Rattle.std.specs.Prelude.{◌≡◌, ⊤, ℕ, List, [], None, Option, Result, Err, IfSome}
 use Rattle.git_objects.specs.Paths.{Bytes}
-use Rattle.history_ground.specs.Grounds.{IsGround}
+use Rattle.projection_ground.specs.Grounds.{IsGround}
 use Rattle.state_items.specs.Fields.{BrokenAt, Clash}
 use Rattle.state_items.specs.Items.{Held, Break, nothing}
 use Rattle.repo_ground.specs.Contents.{Contents, IsCurrent, Spells}

@@ -1,7 +1,7 @@
 -- Objects that are taken in without an item.
 use Rattle.std.specs.Prelude.{◌≡◌, ⊤, List, [], None, Some}
 use Rattle.object_store.specs.Objects.{Object}
-use Rattle.history_ground.specs.Grounds.{IsGround}
+use Rattle.projection_ground.specs.Grounds.{IsGround}
 use Rattle.state_items.specs.Changes.{ChangePlan, held_after, passed_by_objects}
 use Rattle.state_items.specs.Items.{Held}
 use Rattle.repo_ground.specs.Contents.{Contents, Spells}

@@ -2,7 +2,7 @@
 ghost use Rattle.std.specs.Prelude.{◌≡◌, ◌≢◌, ◌↔◌, ◌≤◌, List, length, IsErrOf, MatchResult};
 ghost use Rattle.git_objects.specs.Paths.{Bytes};
 ghost use Rattle.git_objects.specs.Snapshots.{Snapshot};
-ghost use Rattle.history_ground.specs.Grounds.{IsGround};
+ghost use Rattle.projection_ground.specs.Grounds.{IsGround};
 ghost use Rattle.proj_io.specs.Counts.{Counts};
 ghost use Rattle.proj_io.specs.Stops.{OnlyAdds, IsPresent};
 ghost use Rattle.proj_io.specs.Views.{keeper_view};

@@ -5,7 +5,7 @@ ghost use Rattle.git_objects.specs.Paths.{Bytes};
 ghost use Rattle.git_objects.specs.Refs.{Refs as Heads, bytes_cmp};
 ghost use Rattle.git_objects.specs.Snapshots.{Snapshot};
 ghost use Rattle.fast_import.specs.Replaying.{setting_value};
-ghost use Rattle.history_ground.specs.Grounds.{IsGround};
+ghost use Rattle.projection_ground.specs.Grounds.{IsGround};
 ghost use Rattle.object_store.specs.Objects.{Object};
 ghost use Rattle.state_items.specs.Items.{Held};
 ghost use Rattle.state_items.specs.Repos.{repo};

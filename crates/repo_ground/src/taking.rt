@@ -2,7 +2,7 @@
 ghost use Rattle.std.specs.Prelude.{List, MatchResult};
 ghost use Rattle.git_objects.specs.Paths.{Bytes};
 ghost use Rattle.git_objects.specs.Snapshots.{Snapshot};
-ghost use Rattle.history_ground.specs.Grounds.{IsGround};
+ghost use Rattle.projection_ground.specs.Grounds.{IsGround};
 ghost use Rattle.state_items.specs.Changes.{fresh, objects_of};
 ghost use Rattle.state_items.specs.Items.{Held};
 ghost use Rattle.repo_ground.specs.Changes.{IsBatchOf};

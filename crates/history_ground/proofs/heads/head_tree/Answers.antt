@@ -1,6 +1,6 @@
 use Rattle.filter_text.specs.Shapes.{shape}
-use Rattle.history_ground.specs.Grounds.{IsShownOf, commits_of}
-use Rattle.history_ground.proofs.Asking.{extends-none}
+use Rattle.projection_ground.specs.Grounds.{IsShownOf, commits_of}
+use Rattle.projection_ground.proofs.Asking.{extends-none}
 use Rattle.history_ground.proofs.HeadLemmas.{head-fault, head-same, head-shown, head-tree-has, root-held}
 use Rattle.history_ground.proofs.heads.head_tree.Goals as goal
 

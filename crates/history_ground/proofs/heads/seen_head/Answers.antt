@@ -1,7 +1,7 @@
 use Rattle.std.proofs.Common.{sym, subst}
 use Rattle.commit_map.specs.Shown.{Entries}
 use Rattle.filter_text.specs.Shapes.{shape}
-use Rattle.history_ground.specs.TrueMaps.{IsPutBehind, IsTakenOut}
+use Rattle.projection_ground.specs.TrueMaps.{IsPutBehind, IsTakenOut}
 use Rattle.history_ground.proofs.TrueHeads.{inner-ground, inner-map, inner-put}
 use Rattle.history_ground.proofs.heads.seen_head.Goals as goal
 

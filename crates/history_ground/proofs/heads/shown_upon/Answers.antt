@@ -7,11 +7,11 @@ use Rattle.commit_map.specs.Shown.{shown_value}
 use Rattle.filter_text.specs.Shapes.{shape}
 use Rattle.filter_apply.specs.Faults.{IsApplyFault}
 use Rattle.workspace.specs.Workspaces.{shown}
-use Rattle.history_ground.specs.Grounds.{commits_of}
+use Rattle.projection_ground.specs.Grounds.{commits_of}
 use Rattle.history_ground.specs.Heads.{IsSeenObject}
 use Rattle.history_ground.proofs.HeadLemmas.{more-seen-fault, seen-clash, seen-none, seen-some, trees}
 use Rattle.history_ground.proofs.TrueHeads.{made-held, projection-same, walk-map, walk-still, walk-then}
-use Rattle.history_ground.proofs.TurnLemmas.{handed-on}
+use Rattle.projection_ground.proofs.TurnLemmas.{handed-on}
 use Rattle.history_ground.proofs.heads.shown_upon.Goals as goal
 
 pub returns-in_err-tree-clause-walked : goal.returns-in_err-tree-clause-walked

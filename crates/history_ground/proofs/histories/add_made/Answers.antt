@@ -8,7 +8,7 @@ use Rattle.filter_apply.specs.Faults.{IsApplyFault}
 use Rattle.history_ground.specs.Making.{IsAdded}
 use Rattle.history_ground.proofs.MadeHistories.{added, taken-there}
 use Rattle.history_ground.proofs.TakenTurns.{fault-as}
-use Rattle.history_ground.proofs.TurnLemmas.{handed-on}
+use Rattle.projection_ground.proofs.TurnLemmas.{handed-on}
 use Rattle.history_ground.proofs.histories.add_made.Goals as goal
 
 pub returns-then-contains-clause-ok : goal.returns-then-contains-clause-ok

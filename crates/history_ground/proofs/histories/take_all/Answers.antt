@@ -10,7 +10,7 @@ use Rattle.filter_apply.specs.Faults.{IsApplyFault}
 use Rattle.projection_laws.specs.StoredGraphs.{name_at}
 use Rattle.history_ground.specs.Histories.{IsOfHistory}
 use Rattle.history_ground.proofs.TakingLemmas.{IsTaking, ready, split-take, taking-end, taking-fault, taking-more, taking-same, taking-start}
-use Rattle.history_ground.proofs.TurnLemmas.{handed-on}
+use Rattle.projection_ground.proofs.TurnLemmas.{handed-on}
 use Rattle.history_ground.proofs.histories.take_all.Goals as goal
 
 pub loop-place-init : goal.loop-place-init

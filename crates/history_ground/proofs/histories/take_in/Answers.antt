@@ -2,9 +2,9 @@ use Rattle.std.proofs.Common.{map, subst}
 use Rattle.git_objects.specs.Parts.{name_bytes}
 use Rattle.filter_text.specs.Shapes.{shape}
 use Rattle.history_ground.specs.Making.{IsAdded, IsTurnObject}
-use Rattle.history_ground.specs.Turns.{IsTurn}
-use Rattle.history_ground.proofs.Asking.{asked-grown}
-use Rattle.history_ground.proofs.Growing.{extends-self}
+use Rattle.projection_ground.specs.Turns.{IsTurn}
+use Rattle.projection_ground.proofs.Asking.{asked-grown}
+use Rattle.projection_ground.proofs.Growing.{extends-self}
 use Rattle.history_ground.proofs.Steps.{turn-below}
 use Rattle.history_ground.proofs.TakenTurns.{fault-either, fits, kept-either, kept-ok, made-object, made-ok, never-below, same-made}
 use Rattle.history_ground.proofs.histories.take_in.Goals as goal

@@ -11,12 +11,12 @@ use Rattle.filter_apply.specs.declared.fault.ApplyError.TheVariants.{OutOfMemory
 use Rattle.workspace.specs.Workspaces.{shown}
 use Rattle.projection_laws.specs.Histories.{AreMade}
 use Rattle.projection_laws.specs.Projections.{history_graph}
-use Rattle.history_ground.specs.Grounds.{commits_of}
+use Rattle.projection_ground.specs.Grounds.{commits_of}
 use Rattle.history_ground.specs.Histories.{IsOfHistory}
-use Rattle.history_ground.proofs.Asking.{extends-none}
+use Rattle.projection_ground.proofs.Asking.{extends-none}
 use Rattle.history_ground.proofs.HistoryEnds.{history-fault, history-grown, history-same}
 use Rattle.history_ground.proofs.ProjectLemmas.{named-head, place-within}
-use Rattle.history_ground.proofs.TurnLemmas.{handed-on, tree-held}
+use Rattle.projection_ground.proofs.TurnLemmas.{handed-on, tree-held}
 use Rattle.history_ground.proofs.histories.taken.Goals as goal
 
 -- what holds of a result's value, by what holds of it

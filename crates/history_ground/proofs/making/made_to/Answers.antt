@@ -3,11 +3,11 @@ use Rattle.std.proofs.lemmas.Result.{err_from_is_err_and}
 use Rattle.filter_apply.specs.Faults.{IsApplyFault}
 use Rattle.filter_text.specs.Shapes.{shape}
 use Rattle.commit_map.specs.Shown.{kept_at}
-use Rattle.history_ground.specs.Grounds.{commits_of}
+use Rattle.projection_ground.specs.Grounds.{commits_of}
 use Rattle.history_ground.specs.Heads.{IsSeenObject}
 use Rattle.history_ground.proofs.ProjectLemmas.{head-there, lacks-head, named-head, place-within}
 use Rattle.history_ground.proofs.TrueHeads.{made-kept, tables-fault, tables-map, tables-still, tables-walk}
-use Rattle.history_ground.proofs.TurnLemmas.{handed-on, tree-held}
+use Rattle.projection_ground.proofs.TurnLemmas.{handed-on, tree-held}
 use Rattle.history_ground.proofs.making.made_to.Goals as goal
 
 pub returns-in-Some-clause-ok : goal.returns-in-Some-clause-ok

@@ -6,14 +6,14 @@ use Rattle.filter_apply.specs.Faults.{IsApplyFault}
 use Rattle.filter_apply.specs.declared.fault.ApplyError.{ApplyError}
 use Rattle.filter_text.specs.Filters.{Filter}
 use Rattle.filter_text.specs.Shapes.{shape}
-use Rattle.history_ground.specs.Asked.{IsNone}
-use Rattle.history_ground.specs.Grounds.{IsShownOf, commits_of}
+use Rattle.projection_ground.specs.Asked.{IsNone}
+use Rattle.projection_ground.specs.Grounds.{IsShownOf, commits_of}
 use Rattle.history_ground.specs.Making.{IsEntered, IsTurnObject}
 use Rattle.history_ground.specs.TrueWalks.{IsTrueStep}
-use Rattle.history_ground.specs.Turns.{IsTurn}
-use Rattle.history_ground.specs.declared.ground.Ground.{Ground}
-use Rattle.history_ground.proofs.Asking.{asked-grown}
-use Rattle.history_ground.proofs.Growing.{extends-as, extends-self}
+use Rattle.projection_ground.specs.Turns.{IsTurn}
+use Rattle.projection_ground.specs.declared.ground.Ground.{Ground}
+use Rattle.projection_ground.proofs.Asking.{asked-grown}
+use Rattle.projection_ground.proofs.Growing.{extends-as, extends-self}
 use Rattle.history_ground.proofs.Steps.{turn-below}
 use Rattle.history_ground.proofs.TakenTurns.{entered-kept, fault-as, fits, kept-either}
 use Rattle.history_ground.proofs.TrueWalking.{put-entered, put-object, put-same}

@@ -5,7 +5,7 @@ use Rattle.filter_apply.specs.Faults.{IsApplyFault}
 use Rattle.projection_laws.specs.StoredGraphs.{name_at}
 use Rattle.history_ground.specs.Heads.{IsSeenObject}
 use Rattle.history_ground.proofs.TrueWalking.{IsMaking, making-below, making-fault, making-more, making-start, smaller-more, smaller-still, true-below, true-entered, walked-still}
-use Rattle.history_ground.proofs.TurnLemmas.{handed-on}
+use Rattle.projection_ground.proofs.TurnLemmas.{handed-on}
 use Rattle.history_ground.proofs.making.walk.Goals as goal
 
 pub loop-place-init : goal.loop-place-init

@@ -4,9 +4,9 @@ use Rattle.std.proofs.lemmas.Result.{err_from_is_err_and}
 use Rattle.filter_text.specs.Shapes.{shape}
 use Rattle.filter_apply.specs.Faults.{IsApplyFault}
 use Rattle.commit_map.specs.Shown.{shown_value}
-use Rattle.history_ground.specs.Grounds.{IsShownOf, commits_of}
-use Rattle.history_ground.proofs.Asking.{extends-none}
-use Rattle.history_ground.proofs.TurnLemmas.{handed-on, tree-held}
+use Rattle.projection_ground.specs.Grounds.{IsShownOf, commits_of}
+use Rattle.projection_ground.proofs.Asking.{extends-none}
+use Rattle.projection_ground.proofs.TurnLemmas.{handed-on, tree-held}
 use Rattle.history_ground.proofs.ProjectLemmas.{head-there, kept-head, lacks-head, named-head, place-within, whole-few, whole-fault, whole-kept, whole-map, whole-ok, whole-same}
 use Rattle.history_ground.proofs.walking.project_to.Goals as goal
 

@@ -9,12 +9,12 @@ use Rattle.filter_apply.specs.declared.fault.ApplyError.TheVariants.{OutOfMemory
 use Rattle.filter_text.specs.Filters.{Filter}
 use Rattle.filter_text.specs.Shapes.{shape}
 use Rattle.projection_laws.specs.StoredGraphs.{name_at}
-use Rattle.history_ground.specs.Asked.{IsAskedFor}
-use Rattle.history_ground.specs.Grounds.{Extends, IsShownOf, commits_of}
+use Rattle.projection_ground.specs.Asked.{IsAskedFor}
+use Rattle.projection_ground.specs.Grounds.{Extends, IsShownOf, commits_of}
 use Rattle.history_ground.specs.Walks.{IsSettled, IsStep}
-use Rattle.history_ground.specs.declared.ground.Ground.{Ground}
-use Rattle.history_ground.proofs.Asking.{asked-same}
-use Rattle.history_ground.proofs.Growing.{extends-map}
+use Rattle.projection_ground.specs.declared.ground.Ground.{Ground}
+use Rattle.projection_ground.proofs.Asking.{asked-same}
+use Rattle.projection_ground.proofs.Growing.{extends-map}
 use Rattle.history_ground.proofs.Steps.{settled, step-from, turn-below, turn-kept, turn-new}
 use Rattle.history_ground.proofs.walking.step.Goals as goal
 use Rattle.history_ground.proofs.walking.step.Goals.{in-Below, in-Kept, in-New}

@@ -2,8 +2,8 @@ use Rattle.std.proofs.Common.{◌++◌, ◌∷◌, length, List, ℕ, [], sym, s
 use Rattle.std.proofs.lemmas.Result.{err_from_is_err_and}
 use Rattle.filter_text.specs.Shapes.{shape}
 use Rattle.filter_apply.specs.Faults.{IsApplyFault}
-use Rattle.history_ground.specs.Grounds.{IsShownOf, commits_of}
-use Rattle.history_ground.proofs.TurnLemmas.{handed-on}
+use Rattle.projection_ground.specs.Grounds.{IsShownOf, commits_of}
+use Rattle.projection_ground.proofs.TurnLemmas.{handed-on}
 use Rattle.history_ground.proofs.WalkLemmas.{IsWalking, smaller-below, smaller-settled, step-below, step-settled, walked-below, walking-below, walking-settled, walking-start, fault-same}
 use Rattle.history_ground.proofs.walking.walk.Goals as goal
 

@@ -9,7 +9,7 @@ use Rattle.fast_export.specs.Histories.{IsHistoryIn}
 use Rattle.workspace.specs.Workspaces.{shown}
 use Rattle.projection_laws.specs.Histories.{AreMade}
 use Rattle.projection_laws.specs.Projections.{history_graph}
-use Rattle.history_ground.specs.Grounds.{commits_of}
+use Rattle.projection_ground.specs.Grounds.{commits_of}
 use Rattle.history_ground.specs.Histories.{IsOfHistory}
 use Rattle.proj_io.specs.Views.{sink_view}
 use Rattle.repo_ground.specs.Contents.{Contents}

@@ -6,8 +6,8 @@ use Rattle.object_store.specs.Growth.{IsGrownBy}
 use Rattle.filter_apply.specs.Faults.{IsApplyFault}
 use Rattle.filter_text.specs.Printing.{printed}
 use Rattle.filter_text.specs.Shapes.{shape}
-use Rattle.history_ground.specs.Grounds.{IsShownOf, commits_of}
-use Rattle.history_ground.specs.declared.ground.Ground.{Ground}
+use Rattle.projection_ground.specs.Grounds.{IsShownOf, commits_of}
+use Rattle.projection_ground.specs.declared.ground.Ground.{Ground}
 use Rattle.proj_io.specs.Views.{keeper_view}
 use Rattle.state_items.specs.Changes.{NoPlan}
 use Rattle.proj_io.specs.declared.keeper.KeepError.{KeepError}

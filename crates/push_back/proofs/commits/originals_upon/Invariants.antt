@@ -4,7 +4,7 @@ use Rattle.git_objects.specs.declared.kind.Kind.TheVariants.{Commit, Tree}
 use Rattle.object_store.specs.Objects.{has}
 use Rattle.object_store.specs.Unfolding.{flat}
 use Rattle.filter_text.specs.Shapes.{shape}
-use Rattle.history_ground.specs.Grounds.{IsGround}
+use Rattle.projection_ground.specs.Grounds.{IsGround}
 use Rattle.fast_import.specs.Standing.{AreCommitsIn}
 use Rattle.push_back.proofs.Runs.{IsUpTo}
 use Rattle.push_back.proofs.commits.originals_upon.Given as goal

@@ -4,7 +4,7 @@ use Rattle.object_store.specs.Unfolding.{flat}
 use Rattle.filter_text.specs.Shapes.{shape}
 use Rattle.filter_unapply.specs.Hands.{IsLaidMade}
 use Rattle.workspace.specs.Workspaces.{next, resolve}
-use Rattle.history_ground.proofs.Growing.{has-within}
+use Rattle.projection_ground.proofs.Growing.{has-within}
 use Rattle.push_laws.specs.PushVerdicts.{Refusal, original_tree}
 use Rattle.push_back.specs.Refusals.{IsTreeAnswer}
 use Rattle.push_back.specs.declared.refusal.TreeRefusal.TheVariants.{BadWorkspace}

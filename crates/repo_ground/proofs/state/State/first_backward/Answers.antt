@@ -1,6 +1,6 @@
 use Rattle.std.proofs.Common.{◌≡◌, List, sym, ap, subst, ◌∙◌}
 use Rattle.commit_graph.specs.Graphs.{Row}
-use Rattle.history_ground.specs.Grounds.{IsGround}
+use Rattle.projection_ground.specs.Grounds.{IsGround}
 use Rattle.state_items.specs.Repos.{repo}
 use Rattle.repo_ground.specs.Changes.{IsBatchOf}
 use Rattle.repo_ground.specs.Contents.{Contents}

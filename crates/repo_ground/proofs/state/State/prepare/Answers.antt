@@ -4,7 +4,7 @@ use Rattle.git_objects.specs.Paths.{is_nil}
 use Rattle.git_objects.specs.Refs.{Refs}
 use Rattle.fast_import.specs.Replaying.{setting_value}
 use Rattle.fast_import.specs.declared.replayed.Setting.{Setting}
-use Rattle.history_ground.specs.Grounds.{IsGround}
+use Rattle.projection_ground.specs.Grounds.{IsGround}
 use Rattle.object_store.specs.Fits.{is_commit}
 use Rattle.ref_store.specs.Pairs.{pairs}
 use Rattle.state_items.specs.Changes.{fresh, objects_of}

@@ -1,7 +1,7 @@
 -- Proves what src/taking.rt needs of `take`.
 use Rattle.std.proofs.Common.{◌≡◌, ◌+◌, ℕ, List, [], ◌++◌, drop, filter, length, map, reverse, None, refl, sym, ap, subst, ◌∙◌}
 use Rattle.git_objects.specs.Parts.{name_bytes}
-use Rattle.history_ground.specs.Grounds.{IsGround}
+use Rattle.projection_ground.specs.Grounds.{IsGround}
 use Rattle.object_store.specs.Fits.{is_commit}
 use Rattle.object_store.specs.Objects.{Object}
 use Rattle.state_items.specs.Changes.{fresh, objects_of, passed_by_objects}

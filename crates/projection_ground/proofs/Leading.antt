@@ -1,0 +1,119 @@
+-- Whether a projection leads the others, from what is kept.
+use Rattle.std.proofs.Common.{◌≡◌, ℕ, ◌<◌, ◌≤◌, ◌↔◌, Bool, true, false, cond, ◌||◌, List, [], ◌∷◌, map, length, slice_get, get_or, Option, Some, None, IsSome, unwrap_or, All, Contains, refl, sym, ap, subst, ◌∙◌, arith, true≢false}
+use Rattle.std.specs.List.{find, filter_map, cons_option, list_all, list_any}
+use Rattle.std.specs.Option.{option_map, option_map_or}
+use Rattle.std.proofs.lemmas.List.Elements.{All-contains, All-head, All-tail, Contains-get_or}
+use Rattle.std.proofs.lemmas.List.Folds.{list_all-map}
+use Rattle.std.proofs.lemmas.Option.{slice_get-get_or}
+use Rattle.git_objects.specs.Paths.{Bytes}
+use Rattle.git_objects.specs.Snapshots.{Graph, has}
+use Rattle.commit_graph.specs.Graphs.{Row, Reaches, Through}
+use Rattle.commit_graph.proofs.Reaching.{reaches-down}
+use Rattle.commit_map.specs.Shown.{Shown, Entries, kept_at}
+use Rattle.commit_map.specs.Shown as shown
+use Rattle.commit_map.specs.declared.commit_map.Shown as code
+use Rattle.projection_laws.specs.Projections.{distinct, is_same, is_shown_as, is_reached, known_at, leads, members}
+use Rattle.projection_laws.specs.StoredGraphs.{name_at}
+use Rattle.projection_laws.proofs.StoredGraphs.{row-at, name-is, older-has}
+use Rattle.projection_laws.proofs.Reached.{same-reached}
+use Rattle.projection_ground.specs.Choosing.{parents_at, names_at, commits_before, Agree, AreKept, IsBelow}
+use Rattle.projection_ground.specs.Grounds.{IsGround}
+use Rattle.projection_ground.specs.declared.ground.Ground.{Ground}
+use Rattle.projection_ground.proofs.Lacks.{find-some}
+
+-- ---- what agrees
+
+known-some : (o : Option (Option Shown)) (x : Option Shown) → IsSome o → ((p : Option Shown) → o ≡ Some p → p ≡ x) → unwrap_or o None ≡ x
+known-some None x k h = absurd (true≢false (sym k))
+known-some (Some p) x k h = h p refl
+
+pub known-agrees : (es ks : Entries) (older : Graph) (n : Bytes) → Agree es ks older → has older n ≡ true → IsSome (kept_at n es) → known_at es n ≡ known_at ks n
+known-agrees es ks older n a h k = known-some (kept_at n es) (known_at ks n) k (λ p e. a n p h e)
+
+shown-agrees : (es ks : Entries) (older : Graph) (m : Shown) (n : Bytes) → Agree es ks older → has older n ≡ true → IsSome (kept_at n es) → is_shown_as es m n ≡ is_shown_as ks m n
+shown-agrees es ks older m n a h k = ap (λ o. option_map_or (is_same m) o false) (known-agrees es ks older n a h k)
+
+any-same : {A : Type 0} (f g : A → Bool) (xs : List A) → All (λ x. f x ≡ g x) xs → list_any f xs ≡ list_any g xs
+any-same f g [] h = refl
+any-same f g (x ∷ xs) h = λ i. All-head (λ y. f y ≡ g y) x xs h i || any-same f g xs (All-tail (λ y. f y ≡ g y) x xs h) i
+
+find-same : {A : Type 0} (f g : A → Bool) (xs : List A) → All (λ x. f x ≡ g x) xs → find f xs ≡ find g xs
+find-same f g [] h = refl
+find-same f g (x ∷ xs) h = λ i. cond (All-head (λ y. f y ≡ g y) x xs h i) (Some x) (find-same f g xs (All-tail (λ y. f y ≡ g y) x xs h) i)
+
+find-map : {A B : Type 0} (f : A → B) (test : B → Bool) (xs : List A) → find test (map f xs) ≡ option_map f (find (λ x. test (f x)) xs)
+find-map f test [] = refl
+find-map f test (x ∷ xs) = by (test (f x)) (find-map f test xs)
+  where
+    by : (b : Bool) → find test (map f xs) ≡ option_map f (find (λ x. test (f x)) xs) → cond b (Some (f x)) (find test (map f xs)) ≡ option_map f (cond b (Some x) (find (λ x. test (f x)) xs))
+    by true e = refl
+    by false e = e
+
+filter-map-same : {A B C : Type 0} (f : A → B) (p q : B → Option C) (xs : List A) → All (λ x. p (f x) ≡ q (f x)) xs → filter_map p (map f xs) ≡ filter_map q (map f xs)
+filter-map-same f p q [] h = refl
+filter-map-same f p q (x ∷ xs) h = λ i. cons_option (All-head (λ y. p (f y) ≡ q (f y)) x xs h i) (filter-map-same f p q xs (All-tail (λ y. p (f y) ≡ q (f y)) x xs h) i)
+
+all-same : {A : Type 0} (f g : A → Bool) (xs : List A) → ((x : A) → f x ≡ g x) → list_all f xs ≡ list_all g xs
+all-same f g xs h = ap (λ t. list_all t xs) (λ i x. h x i)
+
+-- ---- over a ground
+
+module _ (g : Ground) (place : ℕ) (w : IsGround g) (there : place < length g.graph) (ks : Entries) (a : Agree g.map ks (commits_before g place)) where
+  older-in : (p : ℕ) → p < place → has (commits_before g place) (name_at g.graph p) ≡ true
+  older-in p b =
+      let r = row-at g.store g.graph w.graph p (omega (arith, b, there)) in
+      ap (has (commits_before g place)) (name-is g.store g.graph w.graph p r.0 r.1) ∙ older-has g.store g.graph w.graph place (omega (arith, there)) p r.0 r.1 b
+
+  pub places-agree : (m : Shown) (ps : List ℕ) → All (λ p. p < place) ps → AreKept g ps → All (λ p. is_shown_as g.map m (name_at g.graph p) ≡ is_shown_as ks m (name_at g.graph p)) ps
+  places-agree m ps b k i d l = shown-agrees g.map ks (commits_before g place) m (name_at g.graph (get_or ps i d)) a (older-in (get_or ps i d) (b i d l)) (k i d l)
+
+  pub members-agree : (ps : List ℕ) → All (λ p. p < place) ps → AreKept g ps → members g.map (names_at g.graph ps) ≡ members ks (names_at g.graph ps)
+  members-agree ps b k =
+      ap distinct (filter-map-same (name_at g.graph) (known_at g.map) (known_at ks) ps
+      (λ i d l. known-agrees g.map ks (commits_before g place) (name_at g.graph (get_or ps i d)) a (older-in (get_or ps i d) (b i d l)) (k i d l)))
+
+  -- no parent is projected to m
+  pub leads-none : (m : Shown) (ps : List ℕ) → All (λ p. p < place) ps → AreKept g ps → None ≡ find (λ p. is_shown_as g.map m (name_at g.graph p)) ps → false ≡ leads (commits_before g place) ks (names_at g.graph ps) m
+  leads-none m ps b k e =
+      ap (λ o. option_map_or (λ p. list_all (is_reached (commits_before g place) ks p) (members ks (names_at g.graph ps))) o false)
+      (ap (option_map (name_at g.graph)) (e ∙ find-same (λ p. is_shown_as g.map m (name_at g.graph p)) (λ p. is_shown_as ks m (name_at g.graph p)) ps (places-agree m ps b k))
+      ∙ sym (find-map (name_at g.graph) (is_shown_as ks m) ps))
+
+  -- the first that is projected to m, and the places that it reaches
+  pub leads-some : (m : Shown) (ps : List ℕ) (ms : List code.Shown) (first : ℕ) (places : List ℕ) → All (λ p. p < place) ps → AreKept g ps → Some first ≡ find (λ p. is_shown_as g.map m (name_at g.graph p)) ps
+      → ((i : ℕ) → Contains places i ↔ Reaches g.graph first i) → All (λ p. p < place) places → AreKept g places → map shown.shown_value ms ≡ members g.map (names_at g.graph ps)
+      → list_all (λ x. list_any (λ p. is_shown_as g.map (shown.shown_value x) (name_at g.graph p)) places) ms ≡ leads (commits_before g place) ks (names_at g.graph ps) m
+  leads-some m ps ms first places b k e exact low held same =
+      let f = find-some (λ p. is_shown_as g.map m (name_at g.graph p)) ps first (sym e) in
+      let below : first < place = All-contains (λ p. p < place) ps first b f.0 in
+      sym (list_all-map (λ x. list_any (λ p. is_shown_as g.map x (name_at g.graph p)) places) shown.shown_value ms)
+      ∙ ap (list_all (λ x. list_any (λ p. is_shown_as g.map x (name_at g.graph p)) places)) (same ∙ members-agree ps b k)
+      ∙ all-same (λ x. list_any (λ p. is_shown_as g.map x (name_at g.graph p)) places) (is_reached (commits_before g place) ks (name_at g.graph first)) (members ks (names_at g.graph ps))
+      (λ x. any-same (λ p. is_shown_as g.map x (name_at g.graph p)) (λ p. is_shown_as ks x (name_at g.graph p)) places (places-agree x places low held)
+      ∙ same-reached g.store g.graph w.graph first place below (omega (arith, there)) places exact (is_shown_as ks x))
+      ∙ ap (λ o. option_map_or (λ p. list_all (is_reached (commits_before g place) ks p) (members ks (names_at g.graph ps))) o false)
+      (ap (option_map (name_at g.graph)) (e ∙ find-same (λ p. is_shown_as g.map m (name_at g.graph p)) (λ p. is_shown_as ks m (name_at g.graph p)) ps (places-agree m ps b k))
+      ∙ sym (find-map (name_at g.graph) (is_shown_as ks m) ps))
+
+-- the places that a commit below reaches are below
+pub reached-below : (g : Ground) (place first : ℕ) (places : List ℕ) → IsGround g → first < place → ((i : ℕ) → Contains places i ↔ Reaches g.graph first i) → All (λ p. p < place) places
+reached-below g place first places w b exact i d l =
+    let down : get_or places i d ≤ first = reaches-down g.graph w.graph.graph first (get_or places i d) ((exact (get_or places i d)).0 (Contains-get_or places i d l)) in
+    omega (arith, down, b)
+
+pub reached-within : (g : Ground) (place first : ℕ) (places : List ℕ) → IsGround g → first < place → place < length g.graph → ((i : ℕ) → Contains places i ↔ Reaches g.graph first i) → All (λ p. p < length g.graph) places
+reached-within g place first places w b t exact i d l =
+    let x : get_or places i d < place = reached-below g place first places w b exact i d l in
+    omega (arith, x, t)
+
+-- one of them of which nothing is kept
+pub lacks-below : (g : Ground) (place first q : ℕ) (places : List ℕ) → IsGround g → place < length g.graph → Contains (parents_at g.graph place) first → first < place → ((i : ℕ) → Contains places i ↔ Reaches g.graph first i)
+    → Contains places q → kept_at (name_at g.graph q) g.map ≡ None → IsBelow g place q
+lacks-below g place first q places w t c b exact m e = record {
+  before = (let down : q ≤ first = reaches-down g.graph w.graph.graph first q ((exact q).0 m) in omega (arith, down, b));
+  reached =
+      let d : Row = record { name = []; tree = []; parents = [] } in
+      let r : slice_get g.graph place ≡ Some (get_or g.graph place d) = slice_get-get_or g.graph place d t in
+      Through place first q (get_or g.graph place d) r (subst (λ o. Contains (option_map_or (λ (r : Row). r.parents) o []) first) r c) ((exact q).0 m);
+  lacked = e;
+}

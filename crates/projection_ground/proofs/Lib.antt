@@ -1,0 +1,10 @@
+pub mod Growing
+pub mod Asking
+pub mod Gathering
+pub mod Lacks
+pub mod Leading
+pub mod Chosen
+pub mod TurnLemmas
+pub mod Filling
+pub mod OwnPlaces
+pub mod TrueEntries

@@ -1,0 +1,36 @@
+-- What a filter shows of a tree of the ground, and what is known of it.
+use Rattle.std.specs.Prelude.{◌≡◌, true, Result, IfSome, IfOk, IfErr}
+use Rattle.git_objects.specs.Paths.{Bytes}
+use Rattle.git_objects.specs.Trees.{Flat}
+use Rattle.git_objects.specs.declared.kind.Kind.TheVariants.{Tree}
+use Rattle.git_objects.specs.declared.name.Name.{Name}
+use Rattle.object_store.specs.Objects.{Object, has}
+use Rattle.object_store.specs.Unfolding.{flat, StandsFor}
+use Rattle.filter_text.specs.Filters.{Filter}
+use Rattle.filter_routes.specs.Interned.{HasAt}
+use Rattle.filter_routes.specs.Lenses.{seen_through}
+use Rattle.filter_routes.specs.Origins.{lens_of}
+use Rattle.filter_apply.specs.Faults.{IsApplyFault}
+use Rattle.filter_apply.specs.Hands.{IsShownObject}
+use Rattle.filter_apply.specs.declared.fault.ApplyError.{ApplyError}
+use Rattle.workspace.specs.Workspaces.{resolve, shown}
+use Rattle.projection_ground.specs.Grounds.{Extends}
+use Rattle.projection_ground.specs.declared.ground.Ground.{Ground}
+use Rattle.projection_ground.specs.declared.seeing.Asked.{Asked}
+
+-- no object
+abbrev pub IsNone : Object → Type 0
+IsNone o = ⊥
+
+-- The tree of a name is shown by a filter without a workspace: what is shown is in the store then, and map, graph and rule are as
+-- they were.
+pub record IsShownBy (f : Filter) (root : Bytes) (g g' : Ground) (result : Result Name ApplyError) : Type 0 where
+  pub ok : IfOk result (λ n. StandsFor g'.store n.0 (seen_through (lens_of f) (flat g.store root)))
+  pub err : IfErr result (IsApplyFault (IsShownObject f (flat g.store root)) g'.store)
+  pub same : Extends (IsShownObject f (flat g.store root)) g g'
+  pub map : g'.map ≡ g.map
+
+-- The table is that of the filter for every tree, and the pair is a tree of the store with what the filter shows of it.
+pub record IsAskedFor (f : Filter) (g : Ground) (a : Asked) : Type 0 where
+  pub table : IfSome a.table (λ n. (t : Flat) → HasAt g.tables (resolve f t) n)
+  pub last : IfSome a.last (λ p. (has Tree g.store p.0.0 ≡ true) × StandsFor g.store p.1.0 (shown f (flat g.store p.0.0)))

@@ -1,0 +1,63 @@
+-- What becomes of a commit, from what is kept of older ones.
+use Rattle.std.specs.Prelude.{◌≡◌, ◌<◌, ℕ, Bool, true, List, [], map, take, slice_get, Option, Some, None, All, IsSome}
+use Rattle.std.specs.Option.{option_map_or}
+use Rattle.git_objects.specs.Paths.{Bytes}
+use Rattle.git_objects.specs.Snapshots.{Snapshot, Graph, has}
+use Rattle.commit_graph.specs.Graphs.{Row, Reaches}
+use Rattle.commit_map.specs.Shown.{Shown, Entries, kept_at, shown_value}
+use Rattle.projection_laws.specs.Projections.{add_shown, known_at, leads}
+use Rattle.projection_laws.specs.Projections as projections
+use Rattle.projection_laws.specs.StoredGraphs.{name_at, graph_of}
+use Rattle.projection_ground.specs.declared.choosing.Choice.{Choice}
+use Rattle.projection_ground.specs.declared.choosing.Choice.TheVariants.{Below, Nothing, Member, New}
+use Rattle.projection_ground.specs.declared.choosing.Test.{Test}
+use Rattle.projection_ground.specs.declared.choosing.Test.TheVariants.{Is, Lacks}
+use Rattle.projection_ground.specs.declared.ground.Ground.{Ground}
+
+-- the places of the parents of the commit at a place
+abbrev pub parents_at : List Row → ℕ → List ℕ
+parents_at rows i = option_map_or (λ r. r.parents) (slice_get rows i) []
+
+-- the names of the commits at these places
+abbrev pub names_at : List Row → List ℕ → List Bytes
+names_at rows ps = map (name_at rows) ps
+
+-- the commits before a place, the newest first
+abbrev pub commits_before : Ground → ℕ → Graph
+commits_before g i = graph_of g.store (take i g.graph)
+
+-- what is kept of the commits is what is known of them
+abbrev pub Agree : Entries → Entries → Graph → Type 0
+Agree es ks older = (n : Bytes) (o : Option Shown) → has older n ≡ true → kept_at n es ≡ Some o → o ≡ known_at ks n
+
+-- something is kept of the commits at these places
+abbrev pub AreKept : Ground → List ℕ → Type 0
+AreKept g ps = All (λ p. IsSome (kept_at (name_at g.graph p) g.map)) ps
+
+-- with a projection behind, where there is one and none of its name is there
+abbrev pub with_known : List Shown → Option Shown → List Shown
+with_known before None = before
+with_known before (Some p) = add_shown before p
+
+-- a commit before the place that the one at the place reaches, and that the map lacks
+pub record IsBelow (g : Ground) (place q : ℕ) : Type 0 where
+  pub before : q < place
+  pub reached : Reaches g.graph place q
+  pub lacked : kept_at (name_at g.graph q) g.map ≡ None
+
+-- whether a projection of a parent of the commit at the place leads the others, by what is known
+abbrev pub leads_at : Ground → ℕ → Entries → Shown → Bool
+leads_at g place ks m = leads (commits_before g place) ks (names_at g.graph (parents_at g.graph place)) m
+
+-- Whether something is so of the commit at the place by all that agrees with what is kept; or a commit that has to be projected first.
+abbrev pub IsTest : Ground → ℕ → (Entries → Bool) → Test → Type 0
+IsTest g place value (Is b) = (ks : Entries) → Agree g.map ks (commits_before g place) → b ≡ value ks
+IsTest g place value (Lacks q) = IsBelow g place q
+
+-- What becomes of the commit at the place by all that agrees with what is kept, where a commit of its own is d; or a commit that has
+-- to be projected first.
+abbrev pub IsChoice : Ground → ℕ → Snapshot → (Entries → projections.Choice) → Choice → Type 0
+IsChoice g place d value (Below q) = IsBelow g place q
+IsChoice g place d value Nothing = (ks : Entries) → Agree g.map ks (commits_before g place) → value ks ≡ projections.Nothing
+IsChoice g place d value (Member m) = (ks : Entries) → Agree g.map ks (commits_before g place) → value ks ≡ projections.Member (shown_value m)
+IsChoice g place d value New = (ks : Entries) → Agree g.map ks (commits_before g place) → value ks ≡ projections.New d

@@ -1,0 +1,5 @@
+pub mod TrueMaps
+pub mod Grounds
+pub mod Asked
+pub mod Choosing
+pub mod Turns

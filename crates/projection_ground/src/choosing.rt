@@ -1,0 +1,288 @@
+// What becomes of a commit, from what is kept of older ones.
+ghost use Rattle.std.specs.Prelude.{◌≡◌, ◌+◌, ◌<◌, ◌≤◌, ◌&&◌, ℕ, true, All};
+ghost use Rattle.std.specs.Prelude.{Contains, IfOk, IfSome, IfNone, None, OnOk, length, map, is_none};
+ghost use Rattle.std.specs.List.{find, list_all, list_any};
+ghost use Rattle.std.specs.Option.{option_map};
+ghost use Rattle.git_objects.specs.Paths.{is_nil, same_bytes};
+ghost use Rattle.git_objects.specs.Commits.{Letter};
+ghost use Rattle.git_objects.specs.Snapshots.{Snapshot};
+ghost use Rattle.git_objects.specs.declared.kind.Kind.TheVariants.{Tree};
+ghost use Rattle.object_store.specs.Objects.{has};
+ghost use Rattle.object_store.specs.Unfolding.{flat};
+ghost use Rattle.commit_map.specs.Shown.{kept_at, shown_value};
+ghost use Rattle.projection_laws.specs.Projections.{chosen, is_shown_as, known_at, member_or, members, own};
+ghost use Rattle.projection_laws.specs.StoredGraphs.{name_at};
+ghost use Rattle.projection_ground.specs.Grounds.{IsGround};
+ghost use Rattle.projection_ground.specs.Choosing.{AreKept, IsBelow, IsChoice, IsTest, leads_at};
+ghost use Rattle.projection_ground.specs.Choosing.{names_at, parents_at, with_known};
+
+use crate::Ground;
+use commit_map::{Rule, Shown};
+use git_objects::Name;
+use object_store::Store;
+use std::alloc::{AllocError, Global};
+
+// Whether a projection leads the others.
+pub(crate) enum Test {
+    Is(bool),
+    // The commit at this place has to be projected first.
+    Lacks(u32),
+}
+
+// What becomes of a commit.
+pub(crate) enum Choice {
+    // The commit at this place has to be projected first.
+    Below(u32),
+    Nothing,
+    Member(Shown),
+    // A commit of its own.
+    New,
+}
+
+// What is kept of the commit at a place, if anything is.
+fn kept(ground: &Ground, place: u32) -> Option<Option<Shown>>
+    requires { place < length ground.now.graph }
+    ensures { option_map (λ s. option_map shown_value s) result
+        ≡ kept_at (name_at ground.now.graph place) ground.now.map }
+{
+    ground.map.get(&ground.graph.name(place))
+}
+
+// The projection of the commit at a place, as far as it is known.
+fn known(ground: &Ground, place: u32) -> Option<Shown>
+    requires { place < length ground.now.graph }
+    ensures { option_map shown_value result ≡ known_at ground.now.map (name_at ground.now.graph place) }
+{
+    kept(ground, place).flatten()
+}
+
+// The first of these places of whose commit nothing is kept.
+fn first_lacking(ground: &Ground, places: &[u32]) -> Option<u32>
+    requires { All (λ p. p < length ground.now.graph) places.now }
+    ensures { result ≡ find (λ p. is_none (kept_at (name_at ground.now.graph p) ground.now.map)) places.now }
+{
+    places.iter().copied().find(|p| kept(ground, *p).is_none())
+}
+
+// The first parent of the commit at a place of which nothing is kept.
+pub(crate) fn lacking_parent(ground: &Ground, place: u32) -> Option<u32>
+    requires { place < length ground.now.graph }
+    ensures some { IfSome result (IsBelow ground.now place) }
+    ensures none { IfNone result (AreKept ground.now (parents_at ground.now.graph place)) }
+{
+    first_lacking(ground, ground.graph.parents(place))
+}
+
+// Adds a projection, where there is one and none of its name was added before.
+fn add_known(onto: &mut Vec<Shown>, shown: Option<Shown>) -> Result<(), AllocError>
+    ensures shown { OnOk result (map shown_value onto.new.items
+        ≡ with_known (map shown_value onto.old.items) (option_map shown_value shown)) }
+    ensures few { OnOk result (length onto.new.items ≤ length onto.old.items + 1) }
+{
+    let Some(shown) = shown else {
+        return Ok(());
+    };
+    if is_member(onto, &shown) {
+        return Ok(());
+    }
+    onto.push(shown)?;
+    Ok(())
+}
+
+// Whether one of these has the name of a projection.
+fn is_member(before: &[Shown], shown: &Shown) -> bool
+    ensures { result ≡ list_any (λ p. same_bytes shown.now.commit.0 p.commit.0) before.now }
+{
+    before.iter().any(|p| shown.commit == p.commit)
+}
+
+// The projections of the parents, each once.
+pub(crate) fn members(
+    alloc: Global,
+    ground: &Ground,
+    parents: &[u32],
+) -> Result<Vec<Shown>, AllocError>
+    requires { All (λ p. p < length ground.now.graph) parents.now }
+    ensures members { IfOk result (λ ms. map shown_value ms.items
+        ≡ members ground.now.map (names_at ground.now.graph parents.now)) }
+    ensures few { IfOk result (λ ms. length ms.items ≤ length parents.now) }
+{
+    let mut found = Vec::new(alloc);
+    for parent in parents {
+        add_known(&mut found, known(ground, *parent))?;
+    }
+    Ok(found)
+}
+
+// Whether the commit at a place is projected to m.
+fn is_shown_as(ground: &Ground, place: u32, m: &Shown) -> bool
+    requires { place < length ground.now.graph }
+    ensures { result ≡ is_shown_as ground.now.map (shown_value m.now) (name_at ground.now.graph place) }
+{
+    match known(ground, place) {
+        None => false,
+        Some(shown) => m.commit == shown.commit,
+    }
+}
+
+// The first of these places with the commit that is projected to m.
+fn first_shown_as(ground: &Ground, places: &[u32], m: &Shown) -> Option<u32>
+    requires { All (λ p. p < length ground.now.graph) places.now }
+    ensures { result ≡ find (λ p. is_shown_as ground.now.map (shown_value m.now)
+        (name_at ground.now.graph p)) places.now }
+{
+    places.iter().copied().find(|p| is_shown_as(ground, *p, m))
+}
+
+// Whether one of the commits at these places is projected to m.
+fn is_among(ground: &Ground, places: &[u32], m: &Shown) -> bool
+    requires { All (λ p. p < length ground.now.graph) places.now }
+    ensures { result ≡ list_any (λ p. is_shown_as ground.now.map (shown_value m.now)
+        (name_at ground.now.graph p)) places.now }
+{
+    first_shown_as(ground, places, m).is_some()
+}
+
+// Whether each of these is the projection of one of the commits at the places.
+fn are_among(ground: &Ground, places: &[u32], members: &[Shown]) -> bool
+    requires { All (λ p. p < length ground.now.graph) places.now }
+    ensures { result ≡ list_all (λ m. list_any
+        (λ p. is_shown_as ground.now.map (shown_value m) (name_at ground.now.graph p)) places.now) members.now }
+{
+    members.iter().all(|m| is_among(ground, places, m))
+}
+
+// The last of these places of whose commit nothing is kept.
+fn last_lacking(ground: &Ground, places: &[u32]) -> Option<u32>
+    requires { All (λ p. p < length ground.now.graph) places.now }
+    ensures some { IfSome result (λ p. Contains places.now p
+        × (kept_at (name_at ground.now.graph p) ground.now.map ≡ None)) }
+    ensures none { IfNone result (AreKept ground.now places.now) }
+{
+    for i in (0..places.len()).rev() {
+        if kept(ground, places[i]).is_none() {
+            return Some(places[i]);
+        }
+    }
+    None
+}
+
+// Whether m leads the other projections of the parents of the commit at a place, from the first parent that is
+// projected to it.
+fn leads(ground: &Ground, place: u32, projected: &[Shown], m: &Shown) -> Result<Test, AllocError>
+    requires ground { IsGround ground.now }
+    requires place { place < length ground.now.graph }
+    requires kept { AreKept ground.now (parents_at ground.now.graph place) }
+    requires members { map shown_value projected.now
+        ≡ members ground.now.map (names_at ground.now.graph (parents_at ground.now.graph place)) }
+    ensures { IfOk result (IsTest ground.now place (λ ks. leads_at ground.now place ks (shown_value m.now))) }
+{
+    let Some(first) = first_shown_as(ground, ground.graph.parents(place), m) else {
+        return Ok(Test::Is(false));
+    };
+    let places = ground.graph.ancestors(first)?;
+    match last_lacking(ground, &places) {
+        Some(place) => Ok(Test::Lacks(place)),
+        None => Ok(Test::Is(are_among(ground, &places, projected))),
+    }
+}
+
+// Whether a projection of a parent of the commit at a place has the tree and leads the others.
+fn has_and_leads(
+    ground: &Ground,
+    place: u32,
+    projected: &[Shown],
+    tree: &Name,
+    m: &Shown,
+) -> Result<Test, AllocError>
+    requires ground { IsGround ground.now }
+    requires place { place < length ground.now.graph }
+    requires kept { AreKept ground.now (parents_at ground.now.graph place) }
+    requires members { map shown_value projected.now
+        ≡ members ground.now.map (names_at ground.now.graph (parents_at ground.now.graph place)) }
+    ensures { IfOk result (IsTest ground.now place (λ ks. same_bytes m.now.tree.0 tree.now.0
+        && leads_at ground.now place ks (shown_value m.now))) }
+{
+    if m.tree != *tree {
+        return Ok(Test::Is(false));
+    }
+    leads(ground, place, projected, m)
+}
+
+// The first of the parents' projections that has the tree and leads the others, for the commit at a place; or a
+// commit of its own.
+fn first_leading(
+    ground: &Ground,
+    place: u32,
+    projected: &[Shown],
+    tree: &Name,
+) -> Result<Choice, AllocError>
+    requires ground { IsGround ground.now }
+    requires place { place < length ground.now.graph }
+    requires kept { AreKept ground.now (parents_at ground.now.graph place) }
+    requires members { map shown_value projected.now
+        ≡ members ground.now.map (names_at ground.now.graph (parents_at ground.now.graph place)) }
+    ensures { (d : Snapshot) → IfOk result (IsChoice ground.now place d
+        (λ ks. member_or (find (λ m. same_bytes m.tree tree.now.0 && leads_at ground.now place ks m)
+        (map shown_value projected.now)) d)) }
+{
+    for m in projected {
+        match has_and_leads(ground, place, projected, tree, m)? {
+            Test::Lacks(below) => return Ok(Choice::Below(below)),
+            Test::Is(true) => return Ok(Choice::Member(*m)),
+            Test::Is(false) => {}
+        }
+    }
+    Ok(Choice::New)
+}
+
+// Whether the tree of that name has no path.
+fn is_empty(store: &Store, tree: &Name) -> bool
+    requires { has Tree store.now tree.now.0 ≡ true }
+    ensures { result ≡ is_nil (flat store.now tree.now.0) }
+{
+    match store.stats(tree) {
+        None => unreachable!(),
+        Some(stats) => stats.files == 0,
+    }
+}
+
+// What becomes of the commit at a place, of which this tree is shown, upon the projections of its parents.
+pub(crate) fn chosen(
+    ground: &Ground,
+    place: u32,
+    projected: &[Shown],
+    tree: &Name,
+) -> Result<Choice, AllocError>
+    requires ground { IsGround ground.now }
+    requires place { place < length ground.now.graph }
+    requires kept { AreKept ground.now (parents_at ground.now.graph place) }
+    requires members { map shown_value projected.now
+        ≡ members ground.now.map (names_at ground.now.graph (parents_at ground.now.graph place)) }
+    requires tree { has Tree ground.now.store tree.now.0 ≡ true }
+    ensures { (letter : Letter) → IfOk result (IsChoice ground.now place
+        (own (flat ground.now.store tree.now.0) letter (map shown_value projected.now))
+        (λ ks. chosen ground.now.rule (leads_at ground.now place ks)
+        (flat ground.now.store tree.now.0) letter (map shown_value projected.now))) }
+{
+    match projected {
+        [] => {
+            if is_empty(&ground.store, tree) {
+                Ok(Choice::Nothing)
+            } else {
+                Ok(Choice::New)
+            }
+        }
+        [m] => {
+            if m.tree == *tree {
+                Ok(Choice::Member(*m))
+            } else {
+                Ok(Choice::New)
+            }
+        }
+        _ => match ground.rule {
+            Rule::One => Ok(Choice::New),
+            Rule::Two => first_leading(ground, place, projected, tree),
+        },
+    }
+}
