@@ -23,9 +23,6 @@ use object_store::Store;
 use path_trees::{TreeFault, insert, taken_entries};
 use std::alloc::{AllocError, Global};
 
-// Many directories have no more entries than these.
-const ENTRIES: usize = 32;
-
 impl Nodes {
     // A node's component.
     fn component(&self, node: Node) -> &[u8]
@@ -35,13 +32,26 @@ impl Nodes {
         &self.names[node.at..node.at + node.len]
     }
 
+    // Room for the entries of a directory, which then take memory once.
+    fn room_for(&self, directory: usize) -> usize
+        requires { HasTips any self.now directory }
+    {
+        let mut room = 0usize;
+        let mut link = Link::First(directory);
+        'children: while let Some(number) = self.target(link) {
+            room = room.saturating_add(1);
+            link = Link::Next(number);
+        }
+        room
+    }
+
     // The entries of a directory whose children are leaves and stored directories.
     fn entries(&self, alloc: Global, directory: usize) -> Result<Vec<EntryView<'_>>, AllocError>
         requires { HasTips any self.now directory }
         ensures { IfOk result (λ entries. map entry_value entries.items
             ≡ gathered [] (hanging self.now (Link.First directory))) }
     {
-        let mut entries = Vec::with_capacity(alloc, ENTRIES)?;
+        let mut entries = Vec::with_capacity(alloc, self.room_for(directory))?;
         let mut link = Link::First(directory);
         'children: while let Some(number) = self.target(link) {
             let node = self.cells[number];
