@@ -24,7 +24,7 @@ stream() {
     files) awk "$head"' BEGIN { head(1); for (i = 0; i < 20000; i++) file(sprintf("f%07d", i), i % 1000) }' ;;
     million) awk "$head"' BEGIN { head(1); for (i = 0; i < 1000000; i++) file(sprintf("f%07d", i), i % 1000) }' ;;
     deep) awk "$head"' BEGIN { p = "a"; for (i = 0; i < 126; i++) p = p "/a"
-        for (n = 1; n <= 200; n++) { head(n, n - 1); for (i = 0; i < 10; i++) file(p "/f" (n + i) % 50, n " " i); print "" } }' ;;
+        for (n = 1; n <= 2000; n++) { head(n, n - 1); for (i = 0; i < 10; i++) file(p "/f" (n + i) % 50, n " " i); print "" } }' ;;
     renames) awk "$head"' BEGIN { head(1); for (i = 0; i < 1000; i++) file("a/f" i, i); print ""
         for (n = 2; n <= 20001; n++) { head(n, n - 1); print n % 2 ? "R b a" : "R a b"; print "" } }' ;;
     esac
