@@ -1,6 +1,7 @@
 #!/usr/bin/env bash
-# Times whole calls of `proj` on a journal, beside Git's of the same kind: commits of 10 changes over 1,000 files, of which
-# half lie below `a`. Its word is the number of commits (5700). It takes the program that `PROJ` names, or the built one.
+# Times whole calls of `proj` on a journal, beside Git's of the same kind: commits of 3 changes over 1,000 files of some
+# 700 bytes, of which half lie below `a`; about ten objects and 2 KB of stream a commit. Its word is the number of commits
+# (5700). It takes the program that `PROJ` names, or the built one.
 set -u
 cd "$(dirname "$0")/.." || exit 1
 proj=${PROJ:-$PWD/crates/proj/out/proj}
@@ -23,9 +24,12 @@ history() {
                 for (j = 0; j < 10; j++) text = text "x" j " = :/" (j % 2 ? "a" : "b") "/d" 5 * j "\n"
                 printf "M 100644 inline ws/workspace.josh\ndata %d\n%s\n", length(text), text
             }
-            for (j = 0; j < 10; j++) {
+            for (j = 0; j < 3; j++) {
                 k = (i * 7 + j * 101) % 1000
-                text = "line " i " " j " of a file that is changed, and that has a few words more than its number\n"
+                text = ""
+                for (n = 1; n <= 8; n++) {
+                    text = text "line " n " of " i " " j ", which is changed, and has a few words more than its number\n"
+                }
                 top = dir != "" ? dir : k % 2 ? "a/" : "b/"
                 printf "M 100644 inline %sd%d/f%d\ndata %d\n%s\n", top, int(k / 20), k, length(text), text
             }

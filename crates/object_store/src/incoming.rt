@@ -64,6 +64,13 @@ impl Incoming {
         self.arena.reserve_exact(bytes)
     }
 
+    /// Takes memory for so many more objects beside their bodies at once.
+    pub fn reserve_objects(&mut self, count: usize) -> Result<(), AllocError>
+        ensures { self.new ≡ self.old }
+    {
+        self.places.reserve(count)
+    }
+
     /// Begins another piece, of so many zeros. What stood in the piece before can't be written any more.
     pub fn begin(&mut self, size: usize) -> Result<(), AllocError>
         ensures ok { OnOk result (self.new

@@ -324,7 +324,7 @@ impl<'a> Shelf<'a> {
         }
     }
 
-    /// The same of a tree's body with these entries, which aren't read from it.
+    /// What `judge_tree` says of a tree's body with these entries, which aren't read from it.
     pub(crate) fn judge_listed(
         &self,
         entries: &[EntryView<'_>],

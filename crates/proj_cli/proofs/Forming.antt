@@ -8,6 +8,7 @@ use Rattle.object_store.specs.Objects.{Object, IsStore, find_named, object_name}
 use Rattle.proj_io.specs.Counts.{Counts}
 use Rattle.proj_io.specs.Items.{Stays, Gets}
 use Rattle.proj_io.specs.Stops.{OnlyAdds, Nothing, adds_as, adds_on}
+use Rattle.proj_io.specs.Uses.{IsOnlyRead, IsUsed}
 use Rattle.proj_io.specs.Views.{SinkView, KeeperView}
 use Rattle.state_items.specs.Hands.{IsTwice}
 use Rattle.state_items.specs.Items.{Held, read_items}
@@ -186,6 +187,19 @@ adds-nothing a b x y Kind adds = adds_as a b x y Nothing Kind (λ left none. abs
 -- a fault in a later call
 pub counts-on : (f g h : ℕ) (Early Late : Type 0) → Counts f g Early → Counts g h Late → Counts f h Late
 counts-on f g h Early Late first second = record { later = omega (arith, first.later, second.later); rose = λ e. omega (arith, first.later, second.rose e) }
+
+-- a call behind one that only read
+pub used-on : {K : Type 0} (items_of : K → Option (List (List ℕ))) (number_of : K → ℕ) (opens tells : K → Type 0) (moment : K → ℕ) (left_since : K → ℕ → List (List ℕ) → Type 0) (faults : K → ℕ) (a b d : K) (Early Late : Type 0)
+    → IsOnlyRead items_of number_of opens tells moment left_since a b → Counts (faults a) (faults b) Early → IsUsed faults opens tells b d Late → IsUsed faults opens tells a d Late
+used-on items_of number_of opens tells moment left_since faults a b d Early Late first counts second = record {
+  is_open = second.is_open;
+  told = (λ x. first.told.0 (second.told.0 x), λ x. second.told.1 (first.told.1 x));
+  cause = counts-on _ _ _ _ _ counts second.cause;
+}
+
+-- no call was made
+pub used-not : {K : Type 0} (faults : K → ℕ) (opens tells : K → Type 0) (k : K) {HasFailed : Type 0} → opens k → Counts (faults k) (faults k) HasFailed → IsUsed faults opens tells k k HasFailed
+used-not faults opens tells k may counts = record { is_open = λ _. may; told = (λ x. x, λ x. x); cause = counts }
 
 -- what was loaded
 module _ (items : List Bytes) (k m : KeeperView) (number : ℕ) (s : Contents) (told : k.items ≡ Some items) (kept : KeepsItems k m) (w : IsLoaded k.items number s) where

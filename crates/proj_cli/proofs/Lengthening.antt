@@ -84,6 +84,10 @@ told-input (Some l) = refl
 pub for-any : (left : Option Bytes) (Says : Bytes → Type 0) → ((all : Bytes) → Says all) → ForInput left Says
 for-any left Says h = record { all = unwrap_or left []; told = told-input left; says = h (unwrap_or left []) }
 
+-- what is said of an input says more
+pub for-later : (left : Option Bytes) (Says Other : Bytes → Type 0) → ((all : Bytes) → Says all → Other all) → ForInput left Says → ForInput left Other
+for-later left Says Other h given = record { all = given.all; told = given.told; says = h given.all given.says }
+
 -- ---- a call
 
 -- what it leaves at its beginning
@@ -95,11 +99,11 @@ still-there o items list told is = by (subst (λ (p : Option (List Bytes)). IsPr
 
 -- and since then
 pub since-began : (left : Option Bytes) (asked : Command) (items : List Bytes) (a b : ℕ) (x y : ℕ → List Bytes → Type 0) → ForInput left (λ all. OnlyAdds a b x y (MayLeave asked items all))
-    → ((list : List Bytes) → x a list → list ≡ items) → ForInput left (λ all. (list : List Bytes) → y a list → MayLeave asked items all list)
+    → ((list : List Bytes) → x a list → list ≡ items) → ForInput left (λ all. ((list : List Bytes) → y a list → MayLeave asked items all list) × OnlyAdds a b x y (MayLeave asked items all))
 since-began left asked items a b x y adds at_first = record {
   all = adds.all;
   told = adds.told;
-  says = λ list since. ⊎_elim (λ was. inl (at_first list was)) (λ new. new) (adds.says.each a list (omega arith) since);
+  says = (λ list since. ⊎_elim (λ was. inl (at_first list was)) (λ new. new) (adds.says.each a list (omega arith) since), adds.says);
 }
 
 -- where the call doesn't answer a fault of the store, the command didn't

@@ -20,7 +20,6 @@ use Rattle.object_store.specs.Unfolding.{flat}
 use Rattle.filter_text.specs.Filters.{sub}
 use Rattle.filter_text.specs.Limits.{read}
 use Rattle.filter_routes.specs.FaultTests.{fault}
-use Rattle.stream_reader.specs.Heads.{blob}
 use Rattle.fast_export.specs.ExportTexts.{export_text}
 use Rattle.state_items.specs.Items.{change_text, is_canonical, kept_text, read_item, read_items, rule_text}
 use Rattle.state_items.specs.Changes.{fresh, plan_items, room_of}

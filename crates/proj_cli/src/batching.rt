@@ -1,9 +1,10 @@
 // Batches: commands one after another, upon one state.
-ghost use Rattle.std.specs.Prelude.{◌≡◌, ◌≢◌, ◌≤◌, ◌^◌, ◌↔◌, IfErr, IfOk, IfSome, List, Err, None, Some};
+ghost use Rattle.std.specs.Prelude.{◌≡◌, ◌≢◌, ◌≤◌, ◌^◌, IfErr, IfOk, IfSome, List, Err, None, Some};
 ghost use Rattle.std.specs.Prelude.{false, length, map, true};
 ghost use Rattle.git_objects.specs.Paths.{Bytes};
 ghost use Rattle.proj_io.specs.Counts.{Counts};
 ghost use Rattle.proj_io.specs.Stops.{OnlyAdds};
+ghost use Rattle.proj_io.specs.Uses.{IsUsed};
 ghost use Rattle.proj_io.specs.Views.{SourceView, keeper_view, sink_view};
 ghost use Rattle.proj_words.specs.Views.{entry_value};
 ghost use Rattle.state_items.specs.Items.{Held};
@@ -64,8 +65,7 @@ fn answer_entry<O: Sink, K: Keeper>(
     out: &mut O,
     store: &mut K,
 ) -> Outcome
-    requires open { K.is_open store.old }
-    requires number { state.old.number ≡ K.number store.old }
+    requires open { K.is_open store.old × (state.old.number ≡ K.number store.old) }
     requires state { IsBehind state.old }
     ensures answered { let kept = keeper_view K.items K.number K.faults in
         let shown = sink_view O.written O.faults O.refusals in
@@ -78,9 +78,7 @@ fn answer_entry<O: Sink, K: Keeper>(
         OnlyAdds (K.moment store.old) (K.moment store.new) (K.left_since store.old) (K.left_since store.new)
         (IsTurnStop items ts (entry_value entry.entry)) }
     ensures number { result ≡ Outcome.Done → state.new.number ≡ K.number store.new }
-    ensures is_open { result ≢ Outcome.StoreFault → K.is_open store.new }
-    ensures told { K.tells store.new ↔ K.tells store.old }
-    ensures cause { Counts (K.faults store.old) (K.faults store.new) (result ≡ Outcome.StoreFault) }
+    ensures used { IsUsed K.faults K.is_open K.tells store.old store.new (result ≡ Outcome.StoreFault) }
     ensures write { Counts (O.faults out.old) (O.faults out.new) (result ≡ Outcome.WriteFault) }
     ensures memory { O.refusals out.old ≤ O.refusals out.new }
 {
@@ -98,8 +96,7 @@ fn answer_entries<O: Sink, K: Keeper>(
     out: &mut O,
     store: &mut K,
 ) -> Outcome
-    requires open { K.is_open store.old }
-    requires number { state.old.number ≡ K.number store.old }
+    requires open { K.is_open store.old × (state.old.number ≡ K.number store.old) }
     requires state { (items : List Bytes) × (h : Held) × IsStateOf items h state.old ×
         (state.old.basis.store ≡ h.objects) }
     ensures run { let kept = keeper_view K.items K.number K.faults in
@@ -114,9 +111,7 @@ fn answer_entries<O: Sink, K: Keeper>(
         OnlyAdds (K.moment store.old) (K.moment store.new) (K.left_since store.old) (K.left_since store.new)
         (IsLeftBy items (map entry_value entries.now)) }
     ensures early { result ≢ Outcome.ReadFault }
-    ensures is_open { result ≢ Outcome.StoreFault → K.is_open store.new }
-    ensures told { K.tells store.new ↔ K.tells store.old }
-    ensures cause { Counts (K.faults store.old) (K.faults store.new) (result ≡ Outcome.StoreFault) }
+    ensures used { IsUsed K.faults K.is_open K.tells store.old store.new (result ≡ Outcome.StoreFault) }
     ensures write { Counts (O.faults out.old) (O.faults out.new) (result ≡ Outcome.WriteFault) }
     ensures memory { O.refusals out.old ≤ O.refusals out.new }
 {

@@ -3,8 +3,8 @@ ghost use Rattle.std.specs.Prelude.{◌≡◌, ◌≢◌, ◌≤◌, ◌↔◌, 
 ghost use Rattle.git_objects.specs.Paths.{Bytes};
 ghost use Rattle.path_names.specs.RefNames.{is_ref_name};
 ghost use Rattle.proj_io.specs.Counts.{Counts};
-ghost use Rattle.proj_io.specs.Items.{Stays};
-ghost use Rattle.proj_io.specs.Stops.{OnlyAdds, Nothing};
+ghost use Rattle.proj_io.specs.Stops.{OnlyAdds};
+ghost use Rattle.proj_io.specs.Uses.{IsOnlyRead, IsUsed};
 ghost use Rattle.proj_io.specs.Views.{keeper_view, sink_view};
 ghost use Rattle.proj_words.specs.Words.{Export, Import, Name, Project, Push, Rule as RuleCommand};
 ghost use Rattle.state_items.specs.Items.{is_rule};
@@ -40,10 +40,8 @@ pub(crate) fn import_form<S: Source, K: Keeper>(
         IsForm (Import force) items all (seen store.old) (seen store.new)
         (OnlyAdds (K.moment store.old) (K.moment store.new) (K.left_since store.old) (K.left_since store.new)) result) }
     ensures early { result ≢ Err Outcome.WriteFault }
-    ensures is_open { result ≢ Err Outcome.StoreFault → K.is_open store.new }
-    ensures told { K.tells store.new ↔ K.tells store.old }
     ensures read { Counts (S.faults input.old) (S.faults input.new) (result ≡ Err Outcome.ReadFault) }
-    ensures cause { Counts (K.faults store.old) (K.faults store.new) (result ≡ Err Outcome.StoreFault) }
+    ensures used { IsUsed K.faults K.is_open K.tells store.old store.new (result ≡ Err Outcome.StoreFault) }
 {
     match load(alloc, store) {
         Err(outcome) => Err(outcome),
@@ -65,9 +63,7 @@ pub(crate) fn project_form<K: Keeper>(
         IsForm (Project refname.now filter.now) items all (seen store.old) (seen store.new)
         (OnlyAdds (K.moment store.old) (K.moment store.new) (K.left_since store.old) (K.left_since store.new)) result }
     ensures early { IsBeforeDevices result }
-    ensures is_open { result ≢ Err Outcome.StoreFault → K.is_open store.new }
-    ensures told { K.tells store.new ↔ K.tells store.old }
-    ensures cause { Counts (K.faults store.old) (K.faults store.new) (result ≡ Err Outcome.StoreFault) }
+    ensures used { IsUsed K.faults K.is_open K.tells store.old store.new (result ≡ Err Outcome.StoreFault) }
 {
     match open(alloc, refname, filter, store) {
         Err(outcome) => Err(outcome),
@@ -96,10 +92,8 @@ pub(crate) fn push_form<S: Source, K: Keeper>(
         IsForm (Push refname.now filter.now) items all (seen store.old) (seen store.new)
         (OnlyAdds (K.moment store.old) (K.moment store.new) (K.left_since store.old) (K.left_since store.new)) result) }
     ensures early { result ≢ Err Outcome.WriteFault }
-    ensures is_open { result ≢ Err Outcome.StoreFault → K.is_open store.new }
-    ensures told { K.tells store.new ↔ K.tells store.old }
     ensures read { Counts (S.faults input.old) (S.faults input.new) (result ≡ Err Outcome.ReadFault) }
-    ensures cause { Counts (K.faults store.old) (K.faults store.new) (result ≡ Err Outcome.StoreFault) }
+    ensures used { IsUsed K.faults K.is_open K.tells store.old store.new (result ≡ Err Outcome.StoreFault) }
 {
     match open(alloc, refname, filter, store) {
         Err(outcome) => Err(outcome),
@@ -127,9 +121,7 @@ pub(crate) fn rule_form<K: Keeper>(
         IsForm (RuleCommand number) items all (seen store.old) (seen store.new)
         (OnlyAdds (K.moment store.old) (K.moment store.new) (K.left_since store.old) (K.left_since store.new)) result }
     ensures early { IsBeforeDevices result }
-    ensures is_open { result ≢ Err Outcome.StoreFault → K.is_open store.new }
-    ensures told { K.tells store.new ↔ K.tells store.old }
-    ensures cause { Counts (K.faults store.old) (K.faults store.new) (result ≡ Err Outcome.StoreFault) }
+    ensures used { IsUsed K.faults K.is_open K.tells store.old store.new (result ≡ Err Outcome.StoreFault) }
 {
     let Some(rule) = Rule::of(number) else {
         unreachable!()
@@ -174,12 +166,7 @@ pub(crate) fn export_form<O: Sink, K: Keeper>(
         (items : List Bytes) (all : Bytes) → K.items store.old ≡ Some items →
         IsExport (case (Export refname.now filter.now) (loaded items) all) items (seen out.old) (seen out.new) result }
     ensures unread { result ≢ Outcome.ReadFault }
-    ensures number { K.number store.new ≡ K.number store.old }
-    ensures items { Stays (K.items store.old) (K.items store.new) }
-    ensures is_open { K.is_open store.new }
-    ensures told { K.tells store.new ↔ K.tells store.old }
-    ensures stops { OnlyAdds (K.moment store.old) (K.moment store.new) (K.left_since store.old) (K.left_since store.new)
-        Nothing }
+    ensures kept { IsOnlyRead K.items K.number K.is_open K.tells K.moment K.left_since store.old store.new }
     ensures cause { Counts (K.faults store.old) (K.faults store.new) (result ≡ Outcome.StoreFault) }
     ensures write { Counts (O.faults out.old) (O.faults out.new) (result ≡ Outcome.WriteFault) }
     ensures memory { O.refusals out.old ≤ O.refusals out.new }

@@ -1,12 +1,13 @@
 // What a stream brings to the store.
 ghost use Rattle.std.specs.Prelude.{◌≡◌, ◌≢◌, ◌⊎◌, ◌↔◌, ◌++◌, List, Err};
-ghost use Rattle.std.specs.Prelude.{Ok, map, reverse, true, IfOk, IfSome, MatchResult};
+ghost use Rattle.std.specs.Prelude.{Ok, reverse, true, IfOk, IfSome, MatchResult};
 ghost use Rattle.git_objects.specs.Paths.{Bytes, is_bytes};
 ghost use Rattle.git_objects.specs.Snapshots.{Snapshot};
 ghost use Rattle.fast_import.specs.Replays.{ran};
 ghost use Rattle.projection_ground.specs.Grounds.{IsGround};
 ghost use Rattle.proj_io.specs.Counts.{Counts};
 ghost use Rattle.proj_io.specs.Stops.{OnlyAdds};
+ghost use Rattle.proj_io.specs.Uses.{IsUsed};
 ghost use Rattle.proj_io.specs.Views.{keeper_view};
 ghost use Rattle.repo_ground.specs.Changes.{IsBatchOf, IsStopOf, settings_of};
 ghost use Rattle.repo_ground.specs.Laws.{base_of};
@@ -110,8 +111,7 @@ pub fn import<S: Source, K: Keeper>(
     store: &mut K,
     force: bool,
 ) -> Result<Bytes, Outcome>
-    requires open { K.is_open store.old }
-    requires number { state.old.number ≡ K.number store.old }
+    requires open { K.is_open store.old × (state.old.number ≡ K.number store.old) }
     requires state { IsState state.old }
     ensures made { let seen = keeper_view K.items K.number K.faults in
         (items : List Bytes) (h : Held) → IsStateOf items h state.old →
@@ -121,10 +121,8 @@ pub fn import<S: Source, K: Keeper>(
         OnlyAdds (K.moment store.old) (K.moment store.new) (K.left_since store.old) (K.left_since store.new)
         (IsStopOf h state.old p (K.items store.old)) }
     ensures early { result ≢ Err Outcome.WriteFault }
-    ensures is_open { result ≢ Err Outcome.StoreFault → K.is_open store.new }
-    ensures told { K.tells store.new ↔ K.tells store.old }
     ensures read { Counts (S.faults input.old) (S.faults input.new) (result ≡ Err Outcome.ReadFault) }
-    ensures cause { Counts (K.faults store.old) (K.faults store.new) (result ≡ Err Outcome.StoreFault) }
+    ensures used { IsUsed K.faults K.is_open K.tells store.old store.new (result ≡ Err Outcome.StoreFault) }
 {
     let replayed = replay_upon(alloc, state, input)?;
     let Ok((report, batch)) = prepared(alloc, replayed) else {

@@ -1,11 +1,10 @@
 // Loading what a command works with.
-ghost use Rattle.std.specs.Prelude.{◌≡◌, ◌⊎◌, ◌↔◌, List, Err, Ok, Some, IfErr, IfOk, true};
+ghost use Rattle.std.specs.Prelude.{◌≡◌, ◌⊎◌, List, Err, Ok, Some, IfErr, IfOk, true};
 ghost use Rattle.filter_text.specs.Shapes.{shape};
 ghost use Rattle.git_objects.specs.Paths.{Bytes};
 ghost use Rattle.path_names.specs.RefNames.{is_ref_name};
 ghost use Rattle.proj_io.specs.Counts.{Counts};
-ghost use Rattle.proj_io.specs.Items.{Stays};
-ghost use Rattle.proj_io.specs.Stops.{OnlyAdds, Nothing};
+ghost use Rattle.proj_io.specs.Uses.{IsOnlyRead};
 ghost use Rattle.repo_ground.specs.Loads.{IsLoaded};
 ghost use Rattle.workspace.specs.Laws.{IsUsable};
 ghost use Rattle.proj_cli.specs.Cases.{loaded};
@@ -53,12 +52,7 @@ pub(crate) fn load<K: Keeper>(alloc: Global, store: &mut K) -> Result<State, Out
     ensures ok { IfOk result (IsLoaded (K.items store.old) (K.number store.old)) }
     ensures err { (items : List Bytes) → K.items store.old ≡ Some items → IfErr result (IsEarly (loaded items)) }
     ensures early { IsBeforeDevices result }
-    ensures number { K.number store.new ≡ K.number store.old }
-    ensures items { Stays (K.items store.old) (K.items store.new) }
-    ensures is_open { K.is_open store.new }
-    ensures told { K.tells store.new ↔ K.tells store.old }
-    ensures stops { OnlyAdds (K.moment store.old) (K.moment store.new) (K.left_since store.old) (K.left_since store.new)
-        Nothing }
+    ensures kept { IsOnlyRead K.items K.number K.is_open K.tells K.moment K.left_since store.old store.new }
     ensures cause { Counts (K.faults store.old) (K.faults store.new) (result ≡ Err Outcome.StoreFault) }
 {
     match State::load(alloc, store) {
@@ -106,12 +100,7 @@ pub(crate) fn open<K: Keeper>(
     ensures err { (items : List Bytes) → K.items store.old ≡ Some items →
         IfErr result (IsEarly (opening filter.now items)) }
     ensures early { IsBeforeDevices result }
-    ensures number { K.number store.new ≡ K.number store.old }
-    ensures items { Stays (K.items store.old) (K.items store.new) }
-    ensures is_open { K.is_open store.new }
-    ensures told { K.tells store.new ↔ K.tells store.old }
-    ensures stops { OnlyAdds (K.moment store.old) (K.moment store.new) (K.left_since store.old) (K.left_since store.new)
-        Nothing }
+    ensures kept { IsOnlyRead K.items K.number K.is_open K.tells K.moment K.left_since store.old store.new }
     ensures cause { Counts (K.faults store.old) (K.faults store.new) (result ≡ Err Outcome.StoreFault) }
 {
     let subject = match read_subject(alloc, refname, filter) {

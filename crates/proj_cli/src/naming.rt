@@ -70,9 +70,7 @@ fn projected<L: Ledger>(
     head: &Name,
     blank: Blank,
 ) -> Result<Option<Shown>, ApplyError>
-    requires name { blank.name ≡ L.name }
-    requires parts { blank.parts ≡ L.parts }
-    requires some { 0 < blank.parts }
+    requires blank { (blank.name ≡ L.name) × (blank.parts ≡ L.parts) × (0 < blank.parts) }
     requires usable { IsUsable (shape filter.now) }
     requires ground { IsGround ground.old }
     requires head { IsSome (place_of head.now.0 ground.old.graph) }

@@ -114,27 +114,25 @@ pub fn run<S: Source, O: Sink, E: Sink, K: Keeper>(
         let asked = command (map (λ word. string_bytes word) words.now) in
         IsComplete asked (seen input.old out.old store.old) (seen input.new out.new store.new) result }
     // A form that doesn't read leaves the input, and one that doesn't load leaves the store.
-    ensures unread { reads (command (map (λ word. string_bytes word) words.now)) ≡ false → input.new ≡ input.old }
-    ensures unloaded { loads (command (map (λ word. string_bytes word) words.now)) ≡ false → store.new ≡ store.old }
+    ensures untouched { let asked = command (map (λ word. string_bytes word) words.now) in
+        (reads asked ≡ false → input.new ≡ input.old) × (loads asked ≡ false → store.new ≡ store.old) }
     // Words without a form are answered without a look at any device.
     ensures idle { command (map (λ word. string_bytes word) words.now) ≡ Unknown →
         (out.new ≡ out.old) × ((result ≡ Outcome.OutOfMemory) ⊎ (result ≡ Outcome.Usage)) }
     ensures text { let seen = sink_view E.written E.faults E.refusals in GetsText (seen err.old) (seen err.new)
         (text_of result) }
-    // Only after a fault of the store it may have to be opened again.
-    ensures is_open { result ≢ Outcome.StoreFault → K.is_open store.new }
     // A stop at any moment of the call leaves the items at entry, or these and behind them, whole, the command's item.
+    // Since a moment before the call it leaves what it might have left then, or one of these two lists.
     ensures stops { let asked = command (map (λ word. string_bytes word) words.now) in
         (items : List Bytes) → K.items store.old ≡ Some items → ForInput (S.left input.old) (λ all.
-        (list : List Bytes) → K.left_since store.new (K.moment store.old) list → MayLeave asked items all list) }
-    // Since a moment before the call it leaves what it might have left then, or one of these two lists.
-    ensures adds { let asked = command (map (λ word. string_bytes word) words.now) in
-        (items : List Bytes) → K.items store.old ≡ Some items → ForInput (S.left input.old) (λ all.
+        ((list : List Bytes) → K.left_since store.new (K.moment store.old) list → MayLeave asked items all list) ×
         OnlyAdds (K.moment store.old) (K.moment store.new) (K.left_since store.old) (K.left_since store.new)
         (MayLeave asked items all)) }
-    // After a call that didn't answer a fault of the store it leaves the items that the store then has.
-    ensures settled { result ≢ Outcome.StoreFault → (all : List Bytes) → K.items store.new ≡ Some all →
-        (list : List Bytes) → K.left_since store.new (K.moment store.new) list → list ≡ all }
+    // Only after a fault of the store it may have to be opened again. After a call that didn't answer one a stop leaves
+    // the items that the store then has.
+    ensures settled { result ≢ Outcome.StoreFault → K.is_open store.new × ((all : List Bytes) →
+        K.items store.new ≡ Some all → (list : List Bytes) → K.left_since store.new (K.moment store.new) list →
+        list ≡ all) }
 {
     let asked = read_command(words);
     let outcome = act(alloc, asked, input, out, store);

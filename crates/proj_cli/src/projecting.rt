@@ -1,5 +1,5 @@
 // The projection of a ref's commit.
-ghost use Rattle.std.specs.Prelude.{◌≡◌, ◌≢◌, ◌↔◌, ◌<◌, List, None, Err, Ok, IfErr, IfOk, IsSome, OnOk};
+ghost use Rattle.std.specs.Prelude.{◌≡◌, ◌≢◌, ◌<◌, List, None, Err, Ok, IfErr, IfOk, IsSome};
 ghost use Rattle.git_objects.specs.Paths.{Bytes};
 ghost use Rattle.commit_graph.specs.Graphs.{place_of};
 ghost use Rattle.commit_map.specs.Shown.{kept_at};
@@ -8,8 +8,8 @@ ghost use Rattle.filter_apply.specs.Faults.{IsApplyFault};
 ghost use Rattle.projection_laws.specs.Filled.{IsFilled};
 ghost use Rattle.projection_laws.specs.Projections.{projection_by};
 ghost use Rattle.projection_ground.specs.Grounds.{Extends, IsGround, IsShownOf, commits_of};
-ghost use Rattle.proj_io.specs.Counts.{Counts};
 ghost use Rattle.proj_io.specs.Stops.{OnlyAdds};
+ghost use Rattle.proj_io.specs.Uses.{IsUsed};
 ghost use Rattle.proj_io.specs.Views.{keeper_view};
 ghost use Rattle.repo_ground.specs.Changes.{IsStopOf};
 ghost use Rattle.state_items.specs.Changes.{Plan};
@@ -43,8 +43,7 @@ pub fn project<K: Keeper>(
     filter: &Filter,
     refname: &RefName,
 ) -> Result<Bytes, Outcome>
-    requires open { K.is_open store.old }
-    requires number { state.old.number ≡ K.number store.old }
+    requires open { K.is_open store.old × (state.old.number ≡ K.number store.old) }
     requires usable { IsUsable (shape filter.now) }
     requires sound { (text : Bytes) × (sound text ≡ Ok (shape filter.now)) }
     requires state { IsState state.old }
@@ -56,9 +55,7 @@ pub fn project<K: Keeper>(
         OnlyAdds (K.moment store.old) (K.moment store.new) (K.left_since store.old) (K.left_since store.new)
         (IsStopOf h state.old p (K.items store.old)) }
     ensures early { (result ≢ Err Outcome.WriteFault) × (result ≢ Err Outcome.ReadFault) }
-    ensures is_open { result ≢ Err Outcome.StoreFault → K.is_open store.new }
-    ensures told { K.tells store.new ↔ K.tells store.old }
-    ensures cause { Counts (K.faults store.old) (K.faults store.new) (result ≡ Err Outcome.StoreFault) }
+    ensures used { IsUsed K.faults K.is_open K.tells store.old store.new (result ≡ Err Outcome.StoreFault) }
 {
     let Some(head) = state.head(refname) else {
         return Err(Outcome::UnknownRef);
@@ -89,17 +86,14 @@ fn shown_line<L: Ledger>(
     head: &Name,
     blank: Blank,
 ) -> Result<Bytes, ApplyError>
-    requires name { blank.name ≡ L.name }
-    requires parts { blank.parts ≡ L.parts }
-    requires some { 0 < blank.parts }
+    requires blank { (blank.name ≡ L.name) × (blank.parts ≡ L.parts) × (0 < blank.parts) }
     requires usable { IsUsable (shape filter.now) }
     requires ground { IsGround ground.old }
     requires head { IsSome (place_of head.now.0 ground.old.graph) }
-    ensures line { IfOk result (λ line. line ≡ name_line (projection_by ground.old.rule (shown (shape filter.now))
-        ground.old.map (commits_of ground.old) head.now.0)) }
+    ensures line { IfOk result (λ line. (line ≡ name_line (projection_by ground.old.rule (shown (shape filter.now))
+        ground.old.map (commits_of ground.old) head.now.0)) × IsSome (kept_at head.now.0 ground.new.map)) }
     ensures map { IsFilled ground.old.rule (shown (shape filter.now)) (commits_of ground.old) head.now.0
         ground.old.map ground.new.map }
-    ensures kept { OnOk result (IsSome (kept_at head.now.0 ground.new.map)) }
     ensures same { Extends (IsShownOf (shape filter.now) (commits_of ground.old)) ground.old ground.new }
     ensures err { IfErr result (IsApplyFault (IsShownOf (shape filter.now) (commits_of ground.old)) ground.new.store) }
 {

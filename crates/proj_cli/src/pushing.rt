@@ -5,6 +5,7 @@ ghost use Rattle.commit_graph.specs.Graphs.{place_of};
 ghost use Rattle.filter_text.specs.Shapes.{shape};
 ghost use Rattle.proj_io.specs.Counts.{Counts};
 ghost use Rattle.proj_io.specs.Stops.{OnlyAdds};
+ghost use Rattle.proj_io.specs.Uses.{IsUsed};
 ghost use Rattle.proj_io.specs.Views.{keeper_view};
 ghost use Rattle.repo_ground.specs.Changes.{IsStopOf};
 ghost use Rattle.state_items.specs.Changes.{Plan};
@@ -97,8 +98,7 @@ pub fn push<S: Source, K: Keeper>(
     filter: &Filter,
     refname: &RefName,
 ) -> Result<Bytes, Outcome>
-    requires open { K.is_open store.old }
-    requires number { state.old.number ≡ K.number store.old }
+    requires open { K.is_open store.old × (state.old.number ≡ K.number store.old) }
     requires usable { IsUsable (shape filter.now) }
     requires state { IsState state.old }
     ensures made { let seen = keeper_view K.items K.number K.faults in
@@ -109,10 +109,8 @@ pub fn push<S: Source, K: Keeper>(
         OnlyAdds (K.moment store.old) (K.moment store.new) (K.left_since store.old) (K.left_since store.new)
         (IsStopOf h state.old p (K.items store.old)) }
     ensures early { result ≢ Err Outcome.WriteFault }
-    ensures is_open { result ≢ Err Outcome.StoreFault → K.is_open store.new }
-    ensures told { K.tells store.new ↔ K.tells store.old }
     ensures read { Counts (S.faults input.old) (S.faults input.new) (result ≡ Err Outcome.ReadFault) }
-    ensures cause { Counts (K.faults store.old) (K.faults store.new) (result ≡ Err Outcome.StoreFault) }
+    ensures used { IsUsed K.faults K.is_open K.tells store.old store.new (result ≡ Err Outcome.StoreFault) }
 {
     let Some(head) = state.head(refname) else {
         return Err(Outcome::UnknownRef);

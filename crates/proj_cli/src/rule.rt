@@ -1,9 +1,9 @@
 // Setting the rule of projection.
-ghost use Rattle.std.specs.Prelude.{◌≡◌, ◌≢◌, ◌↔◌, List, Err, Ok};
+ghost use Rattle.std.specs.Prelude.{◌≡◌, ◌≢◌, List, Err, Ok};
 ghost use Rattle.git_objects.specs.Paths.{Bytes};
 ghost use Rattle.commit_map.specs.Rules.{rule_number};
-ghost use Rattle.proj_io.specs.Counts.{Counts};
 ghost use Rattle.proj_io.specs.Stops.{OnlyAdds};
+ghost use Rattle.proj_io.specs.Uses.{IsUsed};
 ghost use Rattle.proj_io.specs.Views.{keeper_view};
 ghost use Rattle.repo_ground.specs.Changes.{IsStopOf};
 ghost use Rattle.state_items.specs.Changes.{Plan};
@@ -27,8 +27,7 @@ pub fn set_rule<K: Keeper>(
     store: &mut K,
     rule: Rule,
 ) -> Result<Bytes, Outcome>
-    requires open { K.is_open store.old }
-    requires number { state.old.number ≡ K.number store.old }
+    requires open { K.is_open store.old × (state.old.number ≡ K.number store.old) }
     requires state { IsState state.old }
     ensures made { let seen = keeper_view K.items K.number K.faults in
         (items : List Bytes) (h : Held) → IsStateOf items h state.old → (p : Plan) ×
@@ -37,9 +36,7 @@ pub fn set_rule<K: Keeper>(
         OnlyAdds (K.moment store.old) (K.moment store.new) (K.left_since store.old) (K.left_since store.new)
         (IsStopOf h state.old p (K.items store.old)) }
     ensures early { (result ≢ Err Outcome.WriteFault) × (result ≢ Err Outcome.ReadFault) }
-    ensures is_open { result ≢ Err Outcome.StoreFault → K.is_open store.new }
-    ensures told { K.tells store.new ↔ K.tells store.old }
-    ensures cause { Counts (K.faults store.old) (K.faults store.new) (result ≡ Err Outcome.StoreFault) }
+    ensures used { IsUsed K.faults K.is_open K.tells store.old store.new (result ≡ Err Outcome.StoreFault) }
 {
     let line = rule_report(alloc, rule)?;
     match state.set_rule(store, rule) {

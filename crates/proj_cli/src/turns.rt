@@ -1,10 +1,10 @@
 // The commands of a batch's entries, each upon the state that the entries before it left.
-ghost use Rattle.std.specs.Prelude.{◌≡◌, ◌≢◌, ◌↔◌, List, Err, Ok, true};
+ghost use Rattle.std.specs.Prelude.{◌≡◌, ◌≢◌, List, Err, Ok, true};
 ghost use Rattle.git_objects.specs.Paths.{Bytes};
 ghost use Rattle.path_names.specs.RefNames.{is_ref_name};
 ghost use Rattle.filter_text.specs.Shapes.{shape};
-ghost use Rattle.proj_io.specs.Counts.{Counts};
 ghost use Rattle.proj_io.specs.Stops.{OnlyAdds};
+ghost use Rattle.proj_io.specs.Uses.{IsUsed};
 ghost use Rattle.proj_io.specs.Views.{KeeperView, keeper_view};
 ghost use Rattle.proj_words.specs.Views.{command_of};
 ghost use Rattle.proj_words.specs.Words.{Export, Project, Push, Rule as RuleCommand, is_formed};
@@ -40,8 +40,7 @@ fn project_upon<K: Keeper>(
     state: &mut State,
     store: &mut K,
 ) -> Result<Bytes, Outcome>
-    requires open { K.is_open store.old }
-    requires number { state.old.number ≡ K.number store.old }
+    requires open { K.is_open store.old × (state.old.number ≡ K.number store.old) }
     requires state { IsState state.old }
     requires refname { is_ref_name refname.now ≡ true }
     ensures made { let seen = keeper_view K.items K.number K.faults in
@@ -50,9 +49,7 @@ fn project_upon<K: Keeper>(
         (seen store.new)
         (OnlyAdds (K.moment store.old) (K.moment store.new) (K.left_since store.old) (K.left_since store.new)) result }
     ensures early { (result ≢ Err Outcome.WriteFault) × (result ≢ Err Outcome.ReadFault) }
-    ensures is_open { result ≢ Err Outcome.StoreFault → K.is_open store.new }
-    ensures told { K.tells store.new ↔ K.tells store.old }
-    ensures cause { Counts (K.faults store.old) (K.faults store.new) (result ≡ Err Outcome.StoreFault) }
+    ensures used { IsUsed K.faults K.is_open K.tells store.old store.new (result ≡ Err Outcome.StoreFault) }
 {
     let subject = read_subject(alloc, refname, filter)?;
     state.put_away()?;
@@ -68,8 +65,7 @@ fn push_upon<K: Keeper>(
     state: &mut State,
     store: &mut K,
 ) -> Result<Bytes, Outcome>
-    requires open { K.is_open store.old }
-    requires number { state.old.number ≡ K.number store.old }
+    requires open { K.is_open store.old × (state.old.number ≡ K.number store.old) }
     requires state { IsState state.old }
     requires refname { is_ref_name refname.now ≡ true }
     ensures made { let seen = keeper_view K.items K.number K.faults in
@@ -78,9 +74,7 @@ fn push_upon<K: Keeper>(
         (seen store.new)
         (OnlyAdds (K.moment store.old) (K.moment store.new) (K.left_since store.old) (K.left_since store.new)) result }
     ensures early { (result ≢ Err Outcome.WriteFault) × (result ≢ Err Outcome.ReadFault) }
-    ensures is_open { result ≢ Err Outcome.StoreFault → K.is_open store.new }
-    ensures told { K.tells store.new ↔ K.tells store.old }
-    ensures cause { Counts (K.faults store.old) (K.faults store.new) (result ≡ Err Outcome.StoreFault) }
+    ensures used { IsUsed K.faults K.is_open K.tells store.old store.new (result ≡ Err Outcome.StoreFault) }
 {
     let subject = read_subject(alloc, refname, filter)?;
     push(
@@ -140,8 +134,7 @@ fn rule_upon<K: Keeper>(
     state: &mut State,
     store: &mut K,
 ) -> Result<Bytes, Outcome>
-    requires open { K.is_open store.old }
-    requires number { state.old.number ≡ K.number store.old }
+    requires open { K.is_open store.old × (state.old.number ≡ K.number store.old) }
     requires state { IsState state.old }
     requires rule { is_rule number ≡ true }
     ensures made { let seen = keeper_view K.items K.number K.faults in
@@ -149,9 +142,7 @@ fn rule_upon<K: Keeper>(
         IsCommandMade (RuleCommand number) all items h state.old state.new (seen store.old) (seen store.new)
         (OnlyAdds (K.moment store.old) (K.moment store.new) (K.left_since store.old) (K.left_since store.new)) result }
     ensures early { (result ≢ Err Outcome.WriteFault) × (result ≢ Err Outcome.ReadFault) }
-    ensures is_open { result ≢ Err Outcome.StoreFault → K.is_open store.new }
-    ensures told { K.tells store.new ↔ K.tells store.old }
-    ensures cause { Counts (K.faults store.old) (K.faults store.new) (result ≡ Err Outcome.StoreFault) }
+    ensures used { IsUsed K.faults K.is_open K.tells store.old store.new (result ≡ Err Outcome.StoreFault) }
 {
     let Some(rule) = Rule::of(number) else {
         unreachable!()
@@ -168,8 +159,7 @@ pub(crate) fn run_upon<K: Keeper>(
     state: &mut State,
     store: &mut K,
 ) -> Result<Bytes, Outcome>
-    requires open { K.is_open store.old }
-    requires number { state.old.number ≡ K.number store.old }
+    requires open { K.is_open store.old × (state.old.number ≡ K.number store.old) }
     requires state { IsState state.old }
     requires formed { is_formed (command_of asked) ≡ true }
     ensures made { let seen = keeper_view K.items K.number K.faults in
@@ -177,9 +167,7 @@ pub(crate) fn run_upon<K: Keeper>(
         IsCommandMade (command_of asked.entry) input.now items h state.old state.new (seen store.old) (seen store.new)
         (OnlyAdds (K.moment store.old) (K.moment store.new) (K.left_since store.old) (K.left_since store.new)) result }
     ensures early { (result ≢ Err Outcome.WriteFault) × (result ≢ Err Outcome.ReadFault) }
-    ensures is_open { result ≢ Err Outcome.StoreFault → K.is_open store.new }
-    ensures told { K.tells store.new ↔ K.tells store.old }
-    ensures cause { Counts (K.faults store.old) (K.faults store.new) (result ≡ Err Outcome.StoreFault) }
+    ensures used { IsUsed K.faults K.is_open K.tells store.old store.new (result ≡ Err Outcome.StoreFault) }
 {
     match asked {
         Command::Import(force) => {

@@ -5,6 +5,7 @@ use Rattle.std.specs.List.{list_all}
 use Rattle.std.specs.Option.{is_none, is_some, option_map}
 use Rattle.git_objects.specs.Lists.{Each}
 use Rattle.commit_graph.specs.Graphs.{Row, place_of}
+use Rattle.commit_map.specs.Rules.{rule_number}
 use Rattle.commit_map.specs.Shown.{Entries, Shown, kept_at}
 use Rattle.git_objects.specs.Paths.{Bytes, is_nil}
 use Rattle.state_items.specs.Appending.{is_result}
@@ -12,7 +13,7 @@ use Rattle.state_items.specs.Items.{Held, is_canonical}
 use Rattle.state_items.specs.Changes.{Plan, NoPlan, KeepPlan, passed, plan_items}
 use Rattle.proj_io.specs.declared.keeper.KeepError.{KeepError}
 use Rattle.proj_io.specs.declared.keeper.KeepError.TheVariants.{Failed, OutOfMemory}
-use Rattle.repo_ground.specs.Contents.{Contents, room_in}
+use Rattle.repo_ground.specs.Contents.{Contents, SpellsSomething, room_in}
 
 -- the entries of the selected map that no item holds, in order of arrival
 abbrev pub unheld : Contents → Entries
@@ -36,6 +37,12 @@ AreNamed es = list_all (λ e. is_result e.1) es ≡ true
 -- each entry of the map that no item holds is of a commit of the graph
 abbrev pub AreOfGraph : Contents → Type 0
 AreOfGraph s = Each (λ e. IsSome (place_of e.0 s.basis.graph)) (unheld s)
+
+-- Some items spell what is held, and the map is that of the filter of this text under the state's rule.
+pub record IsKeepable (s : Contents) (text : Bytes) : Type 0 where
+  pub spells : SpellsSomething s
+  pub originals : AreOfGraph s
+  pub selected : s.selected ≡ Some (text, rule_number s.basis.rule)
 
 -- no commit of these entries stands before that place of the graph
 abbrev pub AreFrom : List Row → ℕ → Entries → Type 0

@@ -1,10 +1,10 @@
 // Committing what a command brings.
-ghost use Rattle.std.specs.Prelude.{◌≡◌, ◌≢◌, ◌↔◌, ◌≤◌, List, length, IsErrOf, MatchResult};
+ghost use Rattle.std.specs.Prelude.{◌≡◌, ◌≤◌, List, length, IsErrOf, MatchResult};
 ghost use Rattle.git_objects.specs.Paths.{Bytes};
 ghost use Rattle.git_objects.specs.Snapshots.{Snapshot};
 ghost use Rattle.projection_ground.specs.Grounds.{IsGround};
-ghost use Rattle.proj_io.specs.Counts.{Counts};
 ghost use Rattle.proj_io.specs.Stops.{OnlyAdds, IsPresent};
+ghost use Rattle.proj_io.specs.Uses.{IsUsed};
 ghost use Rattle.proj_io.specs.Views.{keeper_view};
 ghost use Rattle.state_items.specs.Items.{Held};
 ghost use Rattle.repo_ground.specs.Drafting.{HasMore, cut_to, IsDraftOrNot, IsNoDraft};
@@ -70,8 +70,7 @@ impl State {
     ///
     /// All memory is taken before the item is appended.
     pub fn commit<K: Keeper>(&mut self, keeper: &mut K, batch: Batch) -> Result<(), CommitError>
-        requires open { K.is_open keeper.old }
-        requires number { self.old.number ≡ K.number keeper.old }
+        requires open { K.is_open keeper.old × (self.old.number ≡ K.number keeper.old) }
         requires ground { IsGround self.old.basis }
         requires batch { (h : Held) × (blobs : List Bytes) × (cs : List Snapshot) ×
             IsBatchOf h self.old batch blobs cs }
@@ -83,16 +82,15 @@ impl State {
         ensures items { let seen = keeper_view K.items K.number K.faults in
             (h : Held) (blobs : List Bytes) (cs : List Snapshot) → IsBatchOf h self.old batch blobs cs →
             Appends (batch_plan h batch blobs cs) (seen keeper.old) (seen keeper.new) result }
-        ensures is_open { MatchResult result (λ _. K.is_open keeper.new) (λ e. e ≢ CommitError.StoreFault →
-            K.is_open keeper.new) }
-        ensures told { K.tells keeper.new ↔ K.tells keeper.old }
-        // A stop during the call leaves the items, or these with the plan's item behind them.
-        ensures stops { (h : Held) (blobs : List Bytes) (cs : List Snapshot) → IsBatchOf h self.old batch blobs cs →
-            OnlyAdds (K.moment keeper.old) (K.moment keeper.new) (K.left_since keeper.old) (K.left_since keeper.new)
-            (IsStopOf h self.old (batch_plan h batch blobs cs) (K.items keeper.old)) }
-        ensures stops_refused { IsRefusal result → OnlyAdds (K.moment keeper.old) (K.moment keeper.new)
-            (K.left_since keeper.old) (K.left_since keeper.new) (IsPresent (K.items keeper.old)) }
-        ensures cause { Counts (K.faults keeper.old) (K.faults keeper.new) (IsErrOf result CommitError.StoreFault) }
+        // A stop during the call leaves the items, or these with the plan's item behind them; only the items where the
+        // plan is refused.
+        ensures stops { let adds = OnlyAdds (K.moment keeper.old) (K.moment keeper.new) (K.left_since keeper.old)
+            (K.left_since keeper.new) in
+            ((h : Held) (blobs : List Bytes) (cs : List Snapshot) → IsBatchOf h self.old batch blobs cs →
+            adds (IsStopOf h self.old (batch_plan h batch blobs cs) (K.items keeper.old)))
+            × (IsRefusal result → adds (IsPresent (K.items keeper.old))) }
+        ensures used { IsUsed K.faults K.is_open K.tells keeper.old keeper.new
+            (IsErrOf result CommitError.StoreFault) }
     {
         let mark = self.mark();
         match self.prepare(&batch) {

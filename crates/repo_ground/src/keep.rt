@@ -1,6 +1,6 @@
 // Keeping the projections of the selected filter.
-ghost use Rattle.std.specs.Prelude.{◌≡◌, ◌≢◌, ◌↔◌, ◌≤◌, ◌+◌, ◌*◌, ◌^◌};
-ghost use Rattle.std.specs.Prelude.{ℕ, List, Some, true, Err, length};
+ghost use Rattle.std.specs.Prelude.{◌≡◌, ◌≢◌, ◌≤◌, ◌+◌, ◌*◌, ◌^◌};
+ghost use Rattle.std.specs.Prelude.{ℕ, List, true, Err, length};
 ghost use Rattle.std.specs.Prelude.{IfOk, IsErrOf, IsSome, OnOk, MatchResult};
 ghost use Rattle.std.specs.List.{flat_map};
 ghost use Rattle.std.specs.Option.{is_some, option_map};
@@ -9,17 +9,16 @@ ghost use Rattle.commit_graph.specs.Graphs.{Row};
 ghost use Rattle.commit_map.specs.Shown.{entry_value, entry_values, kept_at};
 ghost use Rattle.state_items.specs.Changes.{passed_by_item, passed_by_objects};
 ghost use Rattle.state_items.specs.Writings.{sized};
-ghost use Rattle.commit_map.specs.Rules.{rule_number};
 ghost use Rattle.filter_text.specs.Printing.{printed};
 ghost use Rattle.filter_text.specs.Shapes.{shape};
-ghost use Rattle.proj_io.specs.Counts.{Counts};
 ghost use Rattle.proj_io.specs.Stops.{IsPresent, OnlyAdds};
+ghost use Rattle.proj_io.specs.Uses.{IsUsed};
 ghost use Rattle.proj_io.specs.Views.{keeper_view};
 ghost use Rattle.state_items.specs.Appending.{is_result};
 ghost use Rattle.state_items.specs.Items.{Held, entry_text, is_canonical, kept_text};
 ghost use Rattle.repo_ground.specs.Changes.{Appends, IsCommitted, IsStopOf, keep_error_result};
 ghost use Rattle.repo_ground.specs.Contents.{Spells, SpellsSomething, room_in};
-ghost use Rattle.repo_ground.specs.Keeping.{AreFrom, AreNamed, AreOfGraph, IsItemOf, IsKeepRefused, keep_plan};
+ghost use Rattle.repo_ground.specs.Keeping.{AreFrom, AreNamed, IsItemOf, IsKeepable, IsKeepRefused, keep_plan};
 ghost use Rattle.repo_ground.specs.Keeping.{new_entries, new_entry, unheld};
 
 use crate::State;
@@ -35,29 +34,23 @@ impl State {
     /// appends nothing where there are none, where the filter's text isn't one that is read as a sound filter's
     /// canonical text, or where the state would pass a limit.
     pub fn keep<K: Keeper>(&mut self, keeper: &mut K, filter: &Filter) -> Result<(), KeepError>
-        requires open { K.is_open keeper.old }
-        requires number { self.old.number ≡ K.number keeper.old }
-        requires spells { SpellsSomething self.old }
-        requires originals { AreOfGraph self.old }
-        requires selected { self.old.selected ≡ Some (printed (shape filter.now), rule_number self.old.basis.rule) }
+        requires open { K.is_open keeper.old × (self.old.number ≡ K.number keeper.old) }
+        requires state { IsKeepable self.old (printed (shape filter.now)) }
         ensures state { (h : Held) → Spells h self.old →
             let p = keep_plan h self.old (printed (shape filter.now)) in
             MatchResult result (λ _. IsCommitted h p self.old self.new) (λ e. IsKeepRefused p self.old self.new e) }
-        ensures store { self.new.basis.store ≡ self.old.basis.store }
         ensures items { let seen = keeper_view K.items K.number K.faults in (h : Held) → Spells h self.old →
             Appends (keep_plan h self.old (printed (shape filter.now)))
             (seen keeper.old) (seen keeper.new)
             (keep_error_result result) }
-        ensures is_open { MatchResult result (λ _. K.is_open keeper.new)
-            (λ e. e ≢ KeepError.Failed → K.is_open keeper.new) }
-        ensures told { K.tells keeper.new ↔ K.tells keeper.old }
-        ensures stops { (h : Held) → Spells h self.old → OnlyAdds (K.moment keeper.old) (K.moment keeper.new)
-            (K.left_since keeper.old) (K.left_since keeper.new)
-            (IsStopOf h self.old (keep_plan h self.old (printed (shape filter.now))) (K.items keeper.old)) }
-        ensures stops_memory { IsErrOf result KeepError.OutOfMemory →
-            OnlyAdds (K.moment keeper.old) (K.moment keeper.new) (K.left_since keeper.old) (K.left_since keeper.new)
-            (IsPresent (K.items keeper.old)) }
-        ensures cause { Counts (K.faults keeper.old) (K.faults keeper.new) (IsErrOf result KeepError.Failed) }
+        // A stop during the call leaves the items, or these with the plan's item behind them; only the items where
+        // there is no memory.
+        ensures stops { let adds = OnlyAdds (K.moment keeper.old) (K.moment keeper.new) (K.left_since keeper.old)
+            (K.left_since keeper.new) in
+            ((h : Held) → Spells h self.old →
+            adds (IsStopOf h self.old (keep_plan h self.old (printed (shape filter.now))) (K.items keeper.old)))
+            × (IsErrOf result KeepError.OutOfMemory → adds (IsPresent (K.items keeper.old))) }
+        ensures used { IsUsed K.faults K.is_open K.tells keeper.old keeper.new (IsErrOf result KeepError.Failed) }
         ensures basis { self.new.basis ≡ self.old.basis }
         ensures named { result ≢ Err KeepError.OutOfMemory → is_canonical (printed (shape filter.now)) ≡ true →
             AreNamed (new_entries self.old) }

@@ -1,15 +1,14 @@
 // Reading a keeper's items, one after another.
-ghost use Rattle.std.specs.Prelude.{◌≡◌, ◌≤◌, ◌+◌, ◌^◌, ◌&&◌, ◌↔◌, Ok, Err, true};
-ghost use Rattle.std.specs.Prelude.{nat_lt, nat_le, length, IfOk};
-ghost use Rattle.std.specs.Prelude.{◌⊎◌, IfErr, IfSome, IsErr, OnOk, MatchResult};
+ghost use Rattle.std.specs.Prelude.{◌≡◌, ◌≤◌, ◌+◌, ◌^◌, ◌&&◌, ◌⊎◌, Err, nat_lt, nat_le, IfOk};
+ghost use Rattle.std.specs.Prelude.{IfErr, IfSome, IsErr, MatchResult};
 ghost use Rattle.git_objects.specs.declared.limits.TheConstants.{ITEM_BYTES, ITEMS, STORE_BYTES};
 ghost use Rattle.proj_io.specs.Counts.{Counts};
-ghost use Rattle.proj_io.specs.Items.{Stays, item_of};
-ghost use Rattle.proj_io.specs.Stops.{OnlyAdds, Nothing};
+ghost use Rattle.proj_io.specs.Items.{item_of};
+ghost use Rattle.proj_io.specs.Uses.{IsOnlyRead};
 ghost use Rattle.state_items.specs.Items.{Held, item_fits, nothing, read_items, read_one};
-ghost use Rattle.state_items.specs.Readings.{Holds, HoldsSomething, with_piece};
+ghost use Rattle.state_items.specs.Readings.{Holds, HoldsSomething};
 ghost use Rattle.repo_ground.specs.Loads.{IsLoadFault};
-ghost use Rattle.repo_ground.specs.Steps.{AreRead, IsReadNext, IsUnread, load_error};
+ghost use Rattle.repo_ground.specs.Steps.{AreRead, IsFetched, IsReadNext, IsUnread, load_error};
 
 use crate::LoadError;
 use git_objects::limits::{ITEM_BYTES, ITEMS, STORE_BYTES};
@@ -39,12 +38,7 @@ fn load_error(item: u32, fault: ItemFault) -> LoadError
 fn total_size<K: Keeper>(keeper: &mut K, count: u32) -> Result<u64, Failed>
     requires { K.is_open keeper.old }
     ensures sum { IfOk result (λ total. total ≤ 2 ^ 31) }
-    ensures same { K.number keeper.new ≡ K.number keeper.old }
-    ensures items { Stays (K.items keeper.old) (K.items keeper.new) }
-    ensures is_open { K.is_open keeper.new }
-    ensures told { K.tells keeper.new ↔ K.tells keeper.old }
-    ensures stops { OnlyAdds (K.moment keeper.old) (K.moment keeper.new) (K.left_since keeper.old)
-        (K.left_since keeper.new) Nothing }
+    ensures kept { IsOnlyRead K.items K.number K.is_open K.tells K.moment K.left_since keeper.old keeper.new }
     ensures cause { Counts (K.faults keeper.old) (K.faults keeper.new) (IsErr result) }
 {
     let mut total = 0u64;
@@ -71,12 +65,7 @@ pub(crate) fn reserve_items<K: Keeper>(
     requires { K.is_open keeper.old }
     ensures error { IfErr result (λ e. (e ≡ LoadError.StoreFault) ⊎ (e ≡ LoadError.OutOfMemory)) }
     ensures reading { reading.new ≡ reading.old }
-    ensures same { K.number keeper.new ≡ K.number keeper.old }
-    ensures items { Stays (K.items keeper.old) (K.items keeper.new) }
-    ensures is_open { K.is_open keeper.new }
-    ensures told { K.tells keeper.new ↔ K.tells keeper.old }
-    ensures stops { OnlyAdds (K.moment keeper.old) (K.moment keeper.new) (K.left_since keeper.old)
-        (K.left_since keeper.new) Nothing }
+    ensures kept { IsOnlyRead K.items K.number K.is_open K.tells K.moment K.left_since keeper.old keeper.new }
     ensures cause { Counts (K.faults keeper.old) (K.faults keeper.new) (result ≡ Err LoadError.StoreFault) }
 {
     let total = match total_size(keeper, count) {
@@ -98,19 +87,11 @@ fn fetch<K: Keeper>(
 ) -> Result<u64, LoadError>
     requires open { K.is_open keeper.old }
     requires before { before ≤ 2 ^ 31 }
-    ensures piece { OnOk result (reading.new ≡ with_piece reading.old reading.new.piece) }
-    ensures fits { OnOk result (item_fits number before reading.new.piece ≡ true) }
-    ensures size { IfOk result (λ now. now ≡ before + length reading.new.piece) }
-    ensures keeps { OnOk result (IfSome (K.items keeper.old) (λ all. reading.new.piece ≡ item_of all number)) }
+    ensures fetched { IfOk result (IsFetched (K.items keeper.old) number before reading.old reading.new) }
     ensures unread { IfSome (K.items keeper.old) (λ all.
         IfErr result (λ e. IsUnread number e (item_fits number before (item_of all number)))) }
     ensures sum { IfOk result (λ now. now ≤ 2 ^ 31) }
-    ensures same { K.number keeper.new ≡ K.number keeper.old }
-    ensures items { Stays (K.items keeper.old) (K.items keeper.new) }
-    ensures is_open { K.is_open keeper.new }
-    ensures told { K.tells keeper.new ↔ K.tells keeper.old }
-    ensures stops { OnlyAdds (K.moment keeper.old) (K.moment keeper.new) (K.left_since keeper.old)
-        (K.left_since keeper.new) Nothing }
+    ensures kept { IsOnlyRead K.items K.number K.is_open K.tells K.moment K.left_since keeper.old keeper.new }
     ensures cause { Counts (K.faults keeper.old) (K.faults keeper.new) (result ≡ Err LoadError.StoreFault) }
 {
     let size = match keeper.size(number) {
@@ -155,12 +136,7 @@ fn load_item<K: Keeper>(
         (λ now. IsReadNext (K.items keeper.old) number before h now reading.new)
         (λ e. IfSome (K.items keeper.old) (λ all. IsLoadFault e (read_one number before h (item_of all number)))) }
     ensures sum { IfOk result (λ now. now ≤ 2 ^ 31) }
-    ensures same { K.number keeper.new ≡ K.number keeper.old }
-    ensures items { Stays (K.items keeper.old) (K.items keeper.new) }
-    ensures is_open { K.is_open keeper.new }
-    ensures told { K.tells keeper.new ↔ K.tells keeper.old }
-    ensures stops { OnlyAdds (K.moment keeper.old) (K.moment keeper.new) (K.left_since keeper.old)
-        (K.left_since keeper.new) Nothing }
+    ensures kept { IsOnlyRead K.items K.number K.is_open K.tells K.moment K.left_since keeper.old keeper.new }
     ensures cause { Counts (K.faults keeper.old) (K.faults keeper.new) (result ≡ Err LoadError.StoreFault) }
 {
     let now = match fetch(keeper, number, before, reading) {
@@ -185,12 +161,7 @@ pub(crate) fn load_items<K: Keeper>(
     ensures read { MatchResult result
         (λ size. AreRead (K.items keeper.old) count size reading.new)
         (λ e. IfSome (K.items keeper.old) (λ all. IsLoadFault e (read_items all))) }
-    ensures same { K.number keeper.new ≡ K.number keeper.old }
-    ensures items { Stays (K.items keeper.old) (K.items keeper.new) }
-    ensures is_open { K.is_open keeper.new }
-    ensures told { K.tells keeper.new ↔ K.tells keeper.old }
-    ensures stops { OnlyAdds (K.moment keeper.old) (K.moment keeper.new) (K.left_since keeper.old)
-        (K.left_since keeper.new) Nothing }
+    ensures kept { IsOnlyRead K.items K.number K.is_open K.tells K.moment K.left_since keeper.old keeper.new }
     ensures cause { Counts (K.faults keeper.old) (K.faults keeper.new) (result ≡ Err LoadError.StoreFault) }
 {
     let mut size = 0;

@@ -1,10 +1,10 @@
 // Setting the rule by which commits are projected.
-ghost use Rattle.std.specs.Prelude.{◌≡◌, ◌≢◌, ◌↔◌, ◌<◌, ◌≤◌, ◌+◌, ℕ, None};
+ghost use Rattle.std.specs.Prelude.{◌≡◌, ◌<◌, ◌≤◌, ◌+◌, ℕ, None};
 ghost use Rattle.std.specs.Prelude.{IsErrOf, MatchResult};
 ghost use Rattle.commit_map.specs.Rules.{rule_number};
 ghost use Rattle.git_objects.specs.declared.limits.TheConstants.{ITEMS, STORE_BYTES};
-ghost use Rattle.proj_io.specs.Counts.{Counts};
 ghost use Rattle.proj_io.specs.Stops.{OnlyAdds, IsPresent};
+ghost use Rattle.proj_io.specs.Uses.{IsUsed};
 ghost use Rattle.proj_io.specs.Views.{keeper_view};
 ghost use Rattle.state_items.specs.Changes.{RulePlan, passed, rule_plan};
 ghost use Rattle.state_items.specs.Items.{Held};
@@ -20,23 +20,22 @@ use state_items::{first_passed, rule_item};
 impl State {
     /// Appends an item with the rule, where it isn't the state's. A filter has to be selected again then.
     pub fn set_rule<K: Keeper>(&mut self, keeper: &mut K, rule: Rule) -> Result<(), CommitError>
-        requires open { K.is_open keeper.old }
-        requires number { self.old.number ≡ K.number keeper.old }
+        requires open { K.is_open keeper.old × (self.old.number ≡ K.number keeper.old) }
         requires spells { SpellsSomething self.old }
         ensures state { (h : Held) → Spells h self.old → let p = rule_plan h (rule_number rule) in
             MatchResult result (λ _. IsCommitted h p self.old self.new) (λ e. IsRefused h p self.old self.new e) }
         ensures store { self.new.basis.store ≡ self.old.basis.store }
         ensures items { let seen = keeper_view K.items K.number K.faults in (h : Held) → Spells h self.old →
             Appends (rule_plan h (rule_number rule)) (seen keeper.old) (seen keeper.new) result }
-        ensures is_open { MatchResult result (λ _. K.is_open keeper.new)
-            (λ e. e ≢ CommitError.StoreFault → K.is_open keeper.new) }
-        ensures told { K.tells keeper.new ↔ K.tells keeper.old }
-        ensures stops { (h : Held) → Spells h self.old → OnlyAdds (K.moment keeper.old) (K.moment keeper.new)
-            (K.left_since keeper.old) (K.left_since keeper.new)
-            (IsStopOf h self.old (rule_plan h (rule_number rule)) (K.items keeper.old)) }
-        ensures stops_refused { IsRefusal result → OnlyAdds (K.moment keeper.old) (K.moment keeper.new)
-            (K.left_since keeper.old) (K.left_since keeper.new) (IsPresent (K.items keeper.old)) }
-        ensures cause { Counts (K.faults keeper.old) (K.faults keeper.new) (IsErrOf result CommitError.StoreFault) }
+        // A stop during the call leaves the items, or these with the plan's item behind them; only the items where the
+        // plan is refused.
+        ensures stops { let adds = OnlyAdds (K.moment keeper.old) (K.moment keeper.new) (K.left_since keeper.old)
+            (K.left_since keeper.new) in
+            ((h : Held) → Spells h self.old →
+            adds (IsStopOf h self.old (rule_plan h (rule_number rule)) (K.items keeper.old)))
+            × (IsRefusal result → adds (IsPresent (K.items keeper.old))) }
+        ensures used { IsUsed K.faults K.is_open K.tells keeper.old keeper.new
+            (IsErrOf result CommitError.StoreFault) }
     {
         if self.ground.rule.number() == rule.number() {
             return Ok(());

@@ -1,5 +1,5 @@
 // What a keeper's items spell.
-ghost use Rattle.std.specs.Prelude.{◌≡◌, ◌↔◌, [], Err, None, IfErr, IfOk, IfSome, OnOk};
+ghost use Rattle.std.specs.Prelude.{◌≡◌, [], Err, None, IfErr, IfOk, IfSome, OnOk};
 ghost use Rattle.std.specs.FinMap.{find};
 ghost use Rattle.std.specs.Option.{option_map};
 ghost use Rattle.git_objects.specs.Parts.{name_bytes};
@@ -8,8 +8,7 @@ ghost use Rattle.filter_text.specs.Printing.{printed};
 ghost use Rattle.filter_text.specs.Shapes.{shape};
 ghost use Rattle.projection_ground.specs.Grounds.{IsGround};
 ghost use Rattle.proj_io.specs.Counts.{Counts};
-ghost use Rattle.proj_io.specs.Items.{Stays};
-ghost use Rattle.proj_io.specs.Stops.{OnlyAdds, Nothing};
+ghost use Rattle.proj_io.specs.Uses.{IsOnlyRead};
 ghost use Rattle.ref_store.specs.Refs.{head_of};
 ghost use Rattle.state_items.specs.Items.{Held, read_items};
 ghost use Rattle.state_items.specs.Readings.{Holds};
@@ -161,12 +160,7 @@ impl State {
         requires { K.is_open keeper.old }
         ensures ok { IfOk result (IsLoaded (K.items keeper.old) (K.number keeper.old)) }
         ensures err { IfSome (K.items keeper.old) (λ items. IfErr result (λ e. IsLoadFault e (read_items items))) }
-        ensures same { K.number keeper.new ≡ K.number keeper.old }
-        ensures items { Stays (K.items keeper.old) (K.items keeper.new) }
-        ensures is_open { K.is_open keeper.new }
-        ensures told { K.tells keeper.new ↔ K.tells keeper.old }
-        ensures stops { OnlyAdds (K.moment keeper.old) (K.moment keeper.new) (K.left_since keeper.old)
-            (K.left_since keeper.new) Nothing }
+        ensures kept { IsOnlyRead K.items K.number K.is_open K.tells K.moment K.left_since keeper.old keeper.new }
         ensures cause { Counts (K.faults keeper.old) (K.faults keeper.new) (result ≡ Err LoadError.StoreFault) }
     {
         let count = match keeper.count() {

@@ -10,7 +10,8 @@ use Rattle.git_objects.specs.Parts.{name_bytes}
 use Rattle.git_objects.specs.declared.kind.Kind.{Kind}
 use Rattle.git_objects.specs.declared.kind.Kind.TheVariants.{Blob, Tree, Commit as CommitKind}
 use Rattle.git_objects.specs.declared.name.Name.{Name}
-use Rattle.object_store.specs.Objects.{Object, object_name, same_kind, IsStore}
+use Rattle.object_store.specs.Objects.{Object, has_name, object_name, same_kind, IsStore}
+use Rattle.object_store.specs.Puts.{refusal}
 use Rattle.commit_graph.specs.Graphs.{Row, place_of}
 use Rattle.state_items.specs.Items.{has_room}
 
@@ -55,6 +56,12 @@ blobs_of (o ∷ older) = with_blob_name (blobs_of older) o.kind o.body
 -- the names are those of the objects, in order of arrival
 abbrev pub AreNamed : List Object → List Name → Type 0
 AreNamed S names = reverse (map name_bytes names) ≡ map object_name S
+
+-- an object that may be taken in and isn't held stands behind the others then
+pub record IsAdded (S : List Object) (k : Kind) (b : Bytes) (T : List Object) : Type 0 where
+  pub refusal : refusal S k b ≡ None
+  pub fresh : has_name S (name k b) ≡ false
+  pub objects : T ≡ record { kind = k; body = b } ∷ S
 
 -- objects from the newest to the oldest, and what is held beside them
 pub record AreHeld (S : List Object) (names : List Name) (rows : List Row) (blobs : List Name) : Type 0 where

@@ -14,8 +14,8 @@ ghost use Rattle.object_store.specs.Objects.{Object, has, has_name, IsStore};
 ghost use Rattle.object_store.specs.Puts.{refusal};
 ghost use Rattle.object_store.specs.Unfolding.{flat};
 ghost use Rattle.state_items.specs.HeldObjects.{HoldsObjects};
-ghost use Rattle.state_items.specs.Arrivals.{AreNamed, HasArrived, HasParents, more_commits, place_in, with_blob_name};
-ghost use Rattle.state_items.specs.Arrivals.{with_row};
+ghost use Rattle.state_items.specs.Arrivals.{AreNamed, HasArrived, HasParents, IsAdded, more_commits, place_in};
+ghost use Rattle.state_items.specs.Arrivals.{with_blob_name, with_row};
 ghost use Rattle.state_items.specs.Items.{kind_field, kind_of, object_field, objects_field, take_object};
 ghost use Rattle.state_items.specs.Steps.{body_field, put_fault};
 ghost use Rattle.state_items.specs.Stops.{IsStop, spot_at};
@@ -30,6 +30,9 @@ use git_objects::{CommitView, Kind, Name};
 use indexmap::IndexSet;
 use object_store::{Incoming, PutError, TreeStats};
 use std::alloc::{AllocError, Global};
+
+// How many bytes an item takes at least for an object.
+const LEAST_OBJECT: usize = 5;
 
 /// The objects that items have brought: the store, and what is held beside it.
 #[derive(Drop)]
@@ -110,15 +113,9 @@ fn put_fault(error: PutError, at: usize) -> ItemFault
 fn add(incoming: &mut Incoming, names: &mut IndexSet<Name>, part: Part) -> Result<Name, ItemFault>
     requires within { part.at + part.len ≤ length incoming.old.piece }
     requires named { AreNamed incoming.old.objects names.old.keys }
-    ensures refusal { IfOk result (λ _. refusal incoming.old.objects part.kind
-        (take part.len (drop part.at incoming.old.piece)) ≡ None) }
-    ensures fresh { IfOk result (λ _. has_name incoming.old.objects
-        (name part.kind (take part.len (drop part.at incoming.old.piece))) ≡ false) }
+    ensures added { OnOk result (IsAdded incoming.old.objects part.kind
+        (take part.len (drop part.at incoming.old.piece)) incoming.new.objects) }
     ensures name { IfOk result (λ n. n.0 ≡ name part.kind (take part.len (drop part.at incoming.old.piece))) }
-    ensures objects { IfOk result (λ _. incoming.new.objects ≡ record {
-      kind = part.kind;
-      body = take part.len (drop part.at incoming.old.piece);
-    } ∷ incoming.old.objects) }
     ensures whole { IsStore incoming.new.objects }
     ensures names { IfOk result (λ n. names.new.keys ≡ names.old.keys ++ n ∷ []) }
     ensures piece { incoming.new.piece ≡ incoming.old.piece }
@@ -231,6 +228,21 @@ impl Objects {
             graph: Graph::new(alloc),
             blobs: IndexSet::new(alloc),
         }
+    }
+
+    // Takes memory for so many objects more at once, as far as what follows a place of the item and the limit allow so
+    // many.
+    pub(crate) fn reserve(&mut self, at: usize, count: u32) -> Result<(), AllocError>
+        requires { at ≤ length self.old.incoming.piece }
+        ensures incoming { self.new.incoming ≡ self.old.incoming }
+        ensures names { self.new.names.keys ≡ self.old.names.keys }
+        ensures graph { self.new.graph ≡ self.old.graph }
+        ensures blobs { self.new.blobs ≡ self.old.blobs }
+    {
+        let most = (self.incoming.piece().len() - at) / LEAST_OBJECT;
+        let count = most.min(count.min(OBJECTS) as usize);
+        self.incoming.reserve_objects(count)?;
+        self.names.reserve(count)
     }
 
     // Enters the object that arrived last, where it is within the limits of its kind: says whether it is.

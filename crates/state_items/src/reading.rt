@@ -195,6 +195,7 @@ fn read_change(
     ensures distinct { OnOk result (AreDistinct refs.new) }
 {
     let (count, begin) = count_at(objects.incoming.piece(), at)?;
+    objects.reserve(begin, count)?;
     let end = objects.read(alloc, begin, count)?;
     read_refs(alloc, &objects.incoming, end, refs)
 }

@@ -15,16 +15,13 @@ loop-entry-init g c =
     let kept = keeper_view g.K.Keeper.items g.K.Keeper.number g.K.Keeper.faults in
     let shown = sink_view g.O.Sink.written g.O.Sink.faults g.O.Sink.refusals in
     let then = c.args.store.now in (
-      none-answered (map entry_value c.args.entries.now) c.args.state.now (shown c.args.out.now) (kept then) (g.K.Keeper.moment then) (g.K.Keeper.left_since then) c.requires.number,
-      c.requires.open,
+      none-answered (map entry_value c.args.entries.now) c.args.state.now (shown c.args.out.now) (kept then) (g.K.Keeper.moment then) (g.K.Keeper.left_since then) c.requires.open.1,
+      c.requires.open.0,
       (λ x. x, λ x. x),
     )
 
 pub answer_entry-requires-clause-open : goal.answer_entry-requires-clause-open
-answer_entry-requires-clause-open g c = c.loop-entry.invariant.1
-
-pub answer_entry-requires-clause-number : goal.answer_entry-requires-clause-number
-answer_entry-requires-clause-number g c = c.loop-entry.invariant.0.number
+answer_entry-requires-clause-open g c = (c.loop-entry.invariant.1, c.loop-entry.invariant.0.number)
 
 pub answer_entry-requires-clause-state : goal.answer_entry-requires-clause-state
 answer_entry-requires-clause-state g c = behind-some _ _ _ _ _ _ _ _ _ c.loop-entry.invariant.0 c.requires.state
@@ -47,14 +44,15 @@ returns-in_default-clause-early g c =
     answered-early _ _ _ _ (entries-at entry_value all c.loop-entry.entry-index _ c.loop-entry-test.true) _ _ _ _ _ _ _ _ _ _ _ _ _ _ _ c.loop-entry.invariant.0 c.answer_entry.result c.answer_entry.ensures.answered
     c.answer_entry.ensures.stops c.requires.state
 
-pub returns-in_default-clause-told : goal.returns-in_default-clause-told
-returns-in_default-clause-told g c =
+pub returns-in_default-clause-used : goal.returns-in_default-clause-used
+returns-in_default-clause-used g c =
     let was = c.loop-entry.invariant.2 in
-    let tells = c.answer_entry.ensures.told in
-    (λ x. was.0 (tells.0 x), λ x. tells.1 (was.1 x))
-
-pub returns-in_default-clause-cause : goal.returns-in_default-clause-cause
-returns-in_default-clause-cause g c = counts-since _ _ _ _ c.loop-entry.invariant.0.failures c.answer_entry.ensures.cause
+    let used = c.answer_entry.ensures.used in
+    record {
+      is_open = used.is_open;
+      told = (λ x. was.0 (used.told.0 x), λ x. used.told.1 (was.1 x));
+      cause = counts-since _ _ _ _ c.loop-entry.invariant.0.failures used.cause;
+    }
 
 pub returns-in_default-clause-write : goal.returns-in_default-clause-write
 returns-in_default-clause-write g c = counts-since _ _ _ _ c.loop-entry.invariant.0.faults c.answer_entry.ensures.write
@@ -75,9 +73,9 @@ loop-entry-preserved g c =
       subst
           (λ (es : List Entry). AreAnswered (map entry_value all) es c.args.state.now c.answer_entry.new.state (shown c.args.out.now) (shown c.answer_entry.new.out) (kept then) (kept now) (OnlyAdds (at then) (at now) (since then) (since now)))
           (sym (ap (λ (n : ℕ). map entry_value (take n all)) (add-one k) ∙ entries-more entry_value all k _ lt))
-          (answered-more _ _ _ _ (entries-at entry_value all k _ lt) _ _ _ _ _ _ _ _ _ _ _ _ _ _ _ was.0 c.answer_entry.result does.answered does.stops c.in-Done.is (does.number c.in-Done.is) does.write.later does.memory does.cause.later),
-      does.is_open (λ e. let no : Done ≡ StoreFault = sym c.in-Done.is ∙ e in cc),
-      (λ x. was.2.0 (does.told.0 x), λ x. does.told.1 (was.2.1 x)),
+          (answered-more _ _ _ _ (entries-at entry_value all k _ lt) _ _ _ _ _ _ _ _ _ _ _ _ _ _ _ was.0 c.answer_entry.result does.answered does.stops c.in-Done.is (does.number c.in-Done.is) does.write.later does.memory does.used.cause.later),
+      does.used.is_open (λ e. let no : Done ≡ StoreFault = sym c.in-Done.is ∙ e in cc),
+      (λ x. was.2.0 (does.used.told.0 x), λ x. does.used.told.1 (was.2.1 x)),
     )
 
 pub returns-clause-run : goal.returns-clause-run
@@ -87,8 +85,12 @@ returns-clause-run g c = λ (items : List Bytes) (h : Held) (i j : SourceView) s
 pub returns-clause-stops : goal.returns-clause-stops
 returns-clause-stops g c = λ (items : List Bytes) (h : Held) state only told. (c.loop-entry.invariant.0.underway items h state only).stops told
 
-pub returns-clause-cause : goal.returns-clause-cause
-returns-clause-cause g c = counts-without _ _ _ c.loop-entry.invariant.0.failures (λ e. cc)
+pub returns-clause-used : goal.returns-clause-used
+returns-clause-used g c = record {
+  is_open = λ _. c.loop-entry.invariant.1;
+  told = c.loop-entry.invariant.2;
+  cause = counts-without _ _ _ c.loop-entry.invariant.0.failures (λ e. cc);
+}
 
 pub returns-clause-write : goal.returns-clause-write
 returns-clause-write g c = counts-without _ _ _ c.loop-entry.invariant.0.faults (λ e. cc)

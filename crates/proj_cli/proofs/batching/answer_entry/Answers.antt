@@ -58,15 +58,17 @@ returns-clause-number g c = λ done.
     number-replied c.recall_law.ensures w.0 w.1 e c.args.state.now b none none (shown c.args.out.now) (shown c.reply.new.out) c.run_upon-made.new.state (kept then) (kept now) adds c.reply.result c.run_upon-made.result
     (subst (λ (a : Command). IsCommandMade a e.input (items_after w.0 w.1) b.held c.args.state.now c.run_upon-made.new.state (kept then) (kept now) adds c.run_upon-made.result) c.line_command-asked.ensures.command
     (c.run_upon-made.ensures.made (items_after w.0 w.1) b.held b.state))
-    c.run_upon-made.ensures.early c.reply.ensures.replied done c.requires.number
+    c.run_upon-made.ensures.early c.reply.ensures.replied done c.requires.open.1
 
-pub returns-clause-is_open : goal.returns-clause-is_open
-returns-clause-is_open g c = λ apart.
+pub returns-clause-used : goal.returns-clause-used
+returns-clause-used g c =
     let shown = sink_view g.O.Sink.written g.O.Sink.faults g.O.Sink.refusals in
-    c.run_upon-made.ensures.is_open (λ e. apart (store-told (shown c.args.out.now) (shown c.reply.new.out) c.reply.result c.run_upon-made.result c.reply.ensures.replied e))
-
-pub returns-clause-cause : goal.returns-clause-cause
-returns-clause-cause g c =
-    let shown = sink_view g.O.Sink.written g.O.Sink.faults g.O.Sink.refusals in
-    let counts = c.run_upon-made.ensures.cause in
-    record { later = counts.later; rose = λ e. counts.rose (store-made (shown c.args.out.now) (shown c.reply.new.out) c.reply.result c.run_upon-made.result c.reply.ensures.replied e) }
+    let used = c.run_upon-made.ensures.used in
+    record {
+      is_open = λ apart. used.is_open (λ e. apart (store-told (shown c.args.out.now) (shown c.reply.new.out) c.reply.result c.run_upon-made.result c.reply.ensures.replied e));
+      told = used.told;
+      cause = record {
+        later = used.cause.later;
+        rose = λ e. used.cause.rose (store-made (shown c.args.out.now) (shown c.reply.new.out) c.reply.result c.run_upon-made.result c.reply.ensures.replied e);
+      };
+    }

@@ -33,7 +33,7 @@ returns-in-Ok-clause-exported g c = λ (items : List Bytes) (all : Bytes) told.
     let t = c.args.filter.now in
     let mid = c.open.new.store in
     let does = c.in-Ok.ensures in
-    opened-export exporting exporting-holds (Export r t) r t items all refl (kept then) (kept mid) c.in-Ok.opened does.ok told (does.number, does.items)
+    opened-export exporting exporting-holds (Export r t) r t items all refl (kept then) (kept mid) c.in-Ok.opened does.ok told (does.kept.number, does.kept.items)
     c.export.new.state (shown c.args.out.now) (shown c.export.new.out) c.export.result c.export.ensures.exported
 
 pub returns-in-Ok-clause-unread : goal.returns-in-Ok-clause-unread

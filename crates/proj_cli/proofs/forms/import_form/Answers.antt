@@ -8,7 +8,7 @@ use Rattle.proj_words.specs.Words.{Import}
 use Rattle.repo_ground.specs.Laws.{base_of}
 use Rattle.proj_cli.specs.Cases.{ImportCase}
 use Rattle.proj_cli.specs.Forms.{IsForm}
-use Rattle.proj_cli.proofs.Forming.{counts-on, loaded-state}
+use Rattle.proj_cli.proofs.Forming.{used-on, loaded-state}
 use Rattle.proj_cli.proofs.Lengthening.{for-any}
 use Rattle.proj_cli.proofs.Opening.{loaded-form, unloaded-form}
 use Rattle.proj_cli.proofs.forms.import_form.Goals as goal
@@ -23,7 +23,7 @@ returns-in-Err-clause-made g c = λ (items : List Bytes) told.
     let does = c.in-Err.ensures in
     for-any (g.S.Source.left c.args.input.now) (λ all. IsForm (Import c.args.force) items all (kept then) (kept now) (OnlyAdds (at then) (at now) (since then) (since now)) (Err c.in-Err.outcome))
     (λ all. unloaded-form (λ h. ImportCase c.args.force h (ran (base_of h) all)) (λ h. refl) (Import c.args.force) items all (λ h. refl) (λ x. refl) c.in-Err.outcome (kept then) (kept now) (at then) (at now) (since then) (since now)
-    (does.err items told) (does.number, does.items) does.stops)
+    (does.err items told) (does.kept.number, does.kept.items) does.kept.stops)
 
 pub returns-in-Ok-clause-made : goal.returns-in-Ok-clause-made
 returns-in-Ok-clause-made g c = λ (items : List Bytes) told.
@@ -35,16 +35,13 @@ returns-in-Ok-clause-made g c = λ (items : List Bytes) told.
     let now = c.import.new.store in
     let does = c.in-Ok.ensures in
     let s = c.in-Ok.state in
-    let made = c.import.ensures.made items does.ok.held (loaded-state items (kept then) (kept mid) (g.K.Keeper.number then) s told (does.number, does.items) does.ok) in
+    let made = c.import.ensures.made items does.ok.held (loaded-state items (kept then) (kept mid) (g.K.Keeper.number then) s told (does.kept.number, does.kept.items) does.ok) in
     record {
       all = made.0;
       told = made.1;
-      says = loaded-form (λ h. ImportCase c.args.force h (ran (base_of h) made.0)) (λ h. refl) (Import c.args.force) items made.0 (λ h. refl) (λ x. refl) (kept then) (kept mid) s told (does.number, does.items) does.ok
-          c.import.new.state (kept now) c.import.result (at then) (at mid) (at now) (since then) (since mid) (since now) does.stops made.2 made.3 made.4;
+      says = loaded-form (λ h. ImportCase c.args.force h (ran (base_of h) made.0)) (λ h. refl) (Import c.args.force) items made.0 (λ h. refl) (λ x. refl) (kept then) (kept mid) s told (does.kept.number, does.kept.items) does.ok
+          c.import.new.state (kept now) c.import.result (at then) (at mid) (at now) (since then) (since mid) (since now) does.kept.stops made.2 made.3 made.4;
     }
 
-pub returns-in-Ok-clause-cause : goal.returns-in-Ok-clause-cause
-returns-in-Ok-clause-cause g c = counts-on _ _ _ _ _ c.load.ensures.cause c.import.ensures.cause
-
-pub returns-in-Ok-clause-told : goal.returns-in-Ok-clause-told
-returns-in-Ok-clause-told g c = (λ x. c.load.ensures.told.0 (c.import.ensures.told.0 x), λ x. c.import.ensures.told.1 (c.load.ensures.told.1 x))
+pub returns-in-Ok-clause-used : goal.returns-in-Ok-clause-used
+returns-in-Ok-clause-used g c = used-on _ _ _ _ _ _ _ _ _ _ _ _ c.load.ensures.kept c.load.ensures.cause c.import.ensures.used

@@ -73,7 +73,7 @@ returns-in-Ok-commit-clause-made g c = λ items h w.
     commit-done items h t.0 t.1 c.args.force c.args.state.now w s1 c.in_ok-replayed.replayed c.in-Ok.report c.in-Ok.batch u c.in-Ok.ensures
     (λ blobs cs k. c.in_ok-all_forward.ensures.forward h blobs cs (subst (λ (v : Contents). IsBatchOf h v c.in-Ok.batch blobs cs) same k)) c.commit.new.self
     (keeper_view g.K.Keeper.items g.K.Keeper.number g.K.Keeper.faults before) (keeper_view g.K.Keeper.items g.K.Keeper.number g.K.Keeper.faults now) (g.K.Keeper.moment before)
-    (g.K.Keeper.moment now) (g.K.Keeper.left_since before) (g.K.Keeper.left_since now) (e.stops h) tt (e.state h) (e.items h)
+    (g.K.Keeper.moment now) (g.K.Keeper.left_since before) (g.K.Keeper.left_since now) (e.stops.0 h) tt (e.state h) (e.items h)
     in
     (t.0, t.2, m.0, m.1, m.2)
 
@@ -90,7 +90,7 @@ returns-in-Err-clause-made g c = λ items h w.
     commit-refused items h t.0 t.1 c.args.force c.args.state.now w s1 c.in_ok-replayed.replayed c.in-Ok.report c.in-Ok.batch u c.in-Ok.ensures
     (λ blobs cs k. c.in_ok-all_forward.ensures.forward h blobs cs (subst (λ (v : Contents). IsBatchOf h v c.in-Ok.batch blobs cs) same k)) c.commit.new.self
     (keeper_view g.K.Keeper.items g.K.Keeper.number g.K.Keeper.faults before) (keeper_view g.K.Keeper.items g.K.Keeper.number g.K.Keeper.faults now) (g.K.Keeper.moment before)
-    (g.K.Keeper.moment now) (g.K.Keeper.left_since before) (g.K.Keeper.left_since now) (e.stops h) c.in-Err.error c.commit_outcome.result c.commit_outcome.ensures (e.state h) e.store (e.items h)
-    e.stops_refused
+    (g.K.Keeper.moment now) (g.K.Keeper.left_since before) (g.K.Keeper.left_since now) (e.stops.0 h) c.in-Err.error c.commit_outcome.result c.commit_outcome.ensures (e.state h) e.store (e.items h)
+    e.stops.1
     in
     (t.0, t.2, m.0, m.1, m.2)

@@ -30,13 +30,13 @@ returns-in-Export-clause-answer g c =
     subst (λ (a : Command). IsAnswer a (seen c.args.input.now c.args.out.now c.args.store.now) (seen c.args.input.now c.export_form.new.out c.export_form.new.store) c.export_form.result)
     (ap₂ Export c.as_bytes.ensures.value c.as_bytes-in-Export.ensures.value ∙ sym (ap command_of c.in-Export.is))
     (export-answer c.as_bytes.result.now c.as_bytes-in-Export.result.now (read c.args.input.now) (shown c.args.out.now) (shown c.export_form.new.out) (kept c.args.store.now) (kept c.export_form.new.store) c.export_form.result
-    does.unread does.write does.cause does.memory (does.number, does.items) does.exported)
+    does.unread does.write does.cause does.memory (does.kept.number, does.kept.items) does.exported)
 
 pub returns-in-Export-clause-adds : goal.returns-in-Export-clause-adds
 returns-in-Export-clause-adds g c = λ (items : List Bytes) told.
     for-any (g.S.Source.left c.args.input.now)
     (λ all. OnlyAdds (g.K.Keeper.moment c.args.store.now) (g.K.Keeper.moment c.export_form.new.store) (g.K.Keeper.left_since c.args.store.now) (g.K.Keeper.left_since c.export_form.new.store) (MayLeave (command_of c.args.asked) items all))
-    (λ all. adds-nothing (g.K.Keeper.moment c.args.store.now) (g.K.Keeper.moment c.export_form.new.store) (g.K.Keeper.left_since c.args.store.now) (g.K.Keeper.left_since c.export_form.new.store) (MayLeave (command_of c.args.asked) items all) c.export_form.ensures.stops)
+    (λ all. adds-nothing (g.K.Keeper.moment c.args.store.now) (g.K.Keeper.moment c.export_form.new.store) (g.K.Keeper.left_since c.args.store.now) (g.K.Keeper.left_since c.export_form.new.store) (MayLeave (command_of c.args.asked) items all) c.export_form.ensures.kept.stops)
 
 pub returns-in-Batch-clause-answer : goal.returns-in-Batch-clause-answer
 returns-in-Batch-clause-answer g c =

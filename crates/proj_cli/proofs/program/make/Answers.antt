@@ -19,7 +19,7 @@ returns-in-Import-clause-made g c =
     let now = c.import_form.new.store in
     let does = c.import_form.ensures in
     subst (λ (a : Command). IsMade a (read c.args.input.now) (read c.import_form.new.input) (kept then) (kept now) (OnlyAdds (at then) (at now) (since then) (since now)) c.import_form.result) (sym (ap command_of c.in-Import.is))
-    (whole-made (read c.args.input.now) (read c.import_form.new.input) (kept then) (kept now) (at then) (at now) (since then) (since now) c.import_form.result (Import c.in-Import.force) refl refl refl does.read does.cause does.early does.made)
+    (whole-made (read c.args.input.now) (read c.import_form.new.input) (kept then) (kept now) (at then) (at now) (since then) (since now) c.import_form.result (Import c.in-Import.force) refl refl refl does.read does.used.cause does.early does.made)
 
 pub returns-in-Project-clause-made : goal.returns-in-Project-clause-made
 returns-in-Project-clause-made g c =
@@ -34,7 +34,7 @@ returns-in-Project-clause-made g c =
     let filter = c.as_bytes-in-Project in
     subst (λ (a : Command). IsMade a (read c.args.input.now) (read c.args.input.now) (kept then) (kept now) (OnlyAdds (at then) (at now) (since then) (since now)) c.project_form.result)
     (ap₂ Project refname.ensures.value filter.ensures.value ∙ sym (ap command_of c.in-Project.is))
-    (loaded-made (read c.args.input.now) (kept then) (kept now) (at then) (at now) (since then) (since now) c.project_form.result (Project refname.result.now filter.result.now) refl refl does.cause does.early does.made)
+    (loaded-made (read c.args.input.now) (kept then) (kept now) (at then) (at now) (since then) (since now) c.project_form.result (Project refname.result.now filter.result.now) refl refl does.used.cause does.early does.made)
 
 pub returns-in-Push-clause-made : goal.returns-in-Push-clause-made
 returns-in-Push-clause-made g c =
@@ -49,7 +49,7 @@ returns-in-Push-clause-made g c =
     let filter = c.as_bytes-in-Push-2 in
     subst (λ (a : Command). IsMade a (read c.args.input.now) (read c.push_form.new.input) (kept then) (kept now) (OnlyAdds (at then) (at now) (since then) (since now)) c.push_form.result)
     (ap₂ Push refname.ensures.value filter.ensures.value ∙ sym (ap command_of c.in-Push.is))
-    (whole-made (read c.args.input.now) (read c.push_form.new.input) (kept then) (kept now) (at then) (at now) (since then) (since now) c.push_form.result (Push refname.result.now filter.result.now) refl refl refl does.read does.cause does.early does.made)
+    (whole-made (read c.args.input.now) (read c.push_form.new.input) (kept then) (kept now) (at then) (at now) (since then) (since now) c.push_form.result (Push refname.result.now filter.result.now) refl refl refl does.read does.used.cause does.early does.made)
 
 pub returns-in-Name-clause-made : goal.returns-in-Name-clause-made
 returns-in-Name-clause-made g c =
@@ -75,7 +75,7 @@ returns-in-Rule-clause-made g c =
     let now = c.rule_form.new.store in
     let does = c.rule_form.ensures in
     subst (λ (a : Command). IsMade a (read c.args.input.now) (read c.args.input.now) (kept then) (kept now) (OnlyAdds (at then) (at now) (since then) (since now)) c.rule_form.result) (sym (ap command_of c.in-Rule.is))
-    (loaded-made (read c.args.input.now) (kept then) (kept now) (at then) (at now) (since then) (since now) c.rule_form.result (Rule c.in-Rule.number) refl refl does.cause does.early does.made)
+    (loaded-made (read c.args.input.now) (kept then) (kept now) (at then) (at now) (since then) (since now) c.rule_form.result (Rule c.in-Rule.number) refl refl does.used.cause does.early does.made)
 
 pub returns-in-Unknown-clause-made : goal.returns-in-Unknown-clause-made
 returns-in-Unknown-clause-made g c =

@@ -1,8 +1,8 @@
 -- Proves what src/program.rt needs of `run`.
-use Rattle.std.proofs.Common.{List, subst, map, string_bytes}
+use Rattle.std.proofs.Common.{◌∙◌, List, ap, subst, map, string_bytes}
 use Rattle.git_objects.specs.Paths.{Bytes}
 use Rattle.proj_io.specs.Stops.{OnlyAdds}
-use Rattle.proj_words.specs.Words.{command}
+use Rattle.proj_words.specs.Words.{command, loads, reads}
 use Rattle.proj_cli.specs.Calls.{devices}
 use Rattle.proj_cli.specs.Runs.{IsAnswer, MayLeave}
 use Rattle.proj_cli.specs.Stopped.{ForInput}
@@ -21,17 +21,21 @@ returns-clause-answer g c =
 pub returns-clause-complete : goal.returns-clause-complete
 returns-clause-complete g c = complete (command (map (λ word. string_bytes word) c.args.words.now)) _ _ c.finish.result (returns-clause-answer g c)
 
-pub returns-clause-adds : goal.returns-clause-adds
-returns-clause-adds g c = λ (items : List Bytes) told.
-    subst (λ asked. ForInput (g.S.Source.left c.args.input.now) (λ all. OnlyAdds (g.K.Keeper.moment c.args.store.now) (g.K.Keeper.moment c.act-outcome.new.store) (g.K.Keeper.left_since c.args.store.now) (g.K.Keeper.left_since c.act-outcome.new.store) (MayLeave asked items all)))
-    c.read_command-asked.ensures.command (c.act-outcome.ensures.adds items told)
+pub returns-clause-untouched : goal.returns-clause-untouched
+returns-clause-untouched g c =
+    let asked = c.read_command-asked.ensures.command in
+    let does = c.act-outcome.ensures in
+    (λ no. does.unread (ap reads asked ∙ no), λ no. does.unloaded (ap loads asked ∙ no))
 
 pub returns-clause-stops : goal.returns-clause-stops
 returns-clause-stops g c = λ (items : List Bytes) told.
-    since-began (g.S.Source.left c.args.input.now) (command (map (λ word. string_bytes word) c.args.words.now)) items _ _ _ _ (returns-clause-adds g c items told)
+    let adds =
+    subst (λ asked. ForInput (g.S.Source.left c.args.input.now) (λ all. OnlyAdds (g.K.Keeper.moment c.args.store.now) (g.K.Keeper.moment c.act-outcome.new.store) (g.K.Keeper.left_since c.args.store.now) (g.K.Keeper.left_since c.act-outcome.new.store) (MayLeave asked items all)))
+    c.read_command-asked.ensures.command (c.act-outcome.ensures.adds items told) in
+    since-began (g.S.Source.left c.args.input.now) (command (map (λ word. string_bytes word) c.args.words.now)) items _ _ _ _ adds
     (λ list left. still-there (g.K.Keeper.items c.args.store.now) items list told (g.met.K.Keeper.settled c.args.store.now list c.requires left))
 
 pub returns-clause-settled : goal.returns-clause-settled
-returns-clause-settled g c = λ no_store (all : List Bytes) told list left.
-    still-there (g.K.Keeper.items c.act-outcome.new.store) all list told
-    (g.met.K.Keeper.settled c.act-outcome.new.store list (c.act-outcome.ensures.is_open (no-fault c.act-outcome.result c.finish.result c.finish.ensures.outcome no_store)) left)
+returns-clause-settled g c = λ no_store.
+    let may = c.act-outcome.ensures.is_open (no-fault c.act-outcome.result c.finish.result c.finish.ensures.outcome no_store) in
+    (may, λ (all : List Bytes) told list left. still-there (g.K.Keeper.items c.act-outcome.new.store) all list told (g.met.K.Keeper.settled c.act-outcome.new.store list may left))

@@ -1,8 +1,10 @@
 -- Proves what src/projecting.rt needs of `project`.
-use Rattle.std.proofs.Common.{Err, sym, subst}
+use Rattle.std.proofs.Common.{Err, Some, ap, sym, subst, ◌∙◌}
 use Rattle.git_objects.specs.Paths.{Bytes}
 use Rattle.git_objects.specs.declared.name.Name.{Name}
 use Rattle.object_store.specs.Growth.{IsGrownBy}
+use Rattle.commit_map.specs.Rules.{rule_number}
+use Rattle.commit_map.specs.declared.rule.Rule.{Rule}
 use Rattle.filter_apply.specs.Faults.{IsApplyFault}
 use Rattle.filter_text.specs.Printing.{printed}
 use Rattle.filter_text.specs.Shapes.{shape}
@@ -64,25 +66,20 @@ returns-in-Err-OutOfMemory-clause-made g c = λ items h w.
       adds-none (g.K.Keeper.moment c.args.store.now) (g.K.Keeper.left_since c.args.store.now) (IsStopOf h s NoPlan (g.K.Keeper.items c.args.store.now)),
     )
 
-pub keep-requires-clause-spells : goal.keep-requires-clause-spells
-keep-requires-clause-spells g c =
+pub keep-requires-clause-state : goal.keep-requires-clause-state
+keep-requires-clause-state g c =
     let q = c.requires.state in
     let s : Contents = c.args.state.now in
     let v : Contents = the_view c.state.inside in
     let f = shape c.args.filter.now in
     let chosen = subst (IsSelected (printed f) s) (sym c.state.view_is) c.in-Ok.ensures.selected in
     let e = c.in-Ok-shown_line.ensures in
-    (q.1, (state-projected q.0 q.1 s f q.2 c.requires.fresh v chosen c.in-Some.head.0 c.shown_line.new.ground e.map e.same).spells)
-
-pub keep-requires-clause-originals : goal.keep-requires-clause-originals
-keep-requires-clause-originals g c =
-    let q = c.requires.state in
-    let s : Contents = c.args.state.now in
-    let v : Contents = the_view c.state.inside in
-    let f = shape c.args.filter.now in
-    let chosen = subst (IsSelected (printed f) s) (sym c.state.view_is) c.in-Ok.ensures.selected in
-    let e = c.in-Ok-shown_line.ensures in
-    of-graph q.0 q.1 s f q.2 c.requires.fresh v chosen c.in-Some.head.0 c.shown_line.new.ground e.map e.same
+    let projected = state-projected q.0 q.1 s f q.2 c.requires.fresh v chosen c.in-Some.head.0 c.shown_line.new.ground e.map e.same in
+    record {
+      spells = (q.1, projected.spells);
+      originals = of-graph q.0 q.1 s f q.2 c.requires.fresh v chosen c.in-Some.head.0 c.shown_line.new.ground e.map e.same;
+      selected = chosen.selected ∙ ap (λ (r : Rule). Some (printed f, rule_number r)) (sym (e.same.rule ∙ ap (λ (x : Contents). x.basis.rule) chosen.same));
+    }
 
 pub returns-in-Ok-keep-clause-made : goal.returns-in-Ok-keep-clause-made
 returns-in-Ok-keep-clause-made g c = λ items h w.
@@ -99,11 +96,11 @@ returns-in-Ok-keep-clause-made g c = λ items h w.
     let spelled = (state-projected items h s f w c.requires.fresh v chosen n c.shown_line.new.ground e.map e.same).spells in
     let named = k.named (λ q. cc) in (
       keep_plan h (record v { basis = c.shown_line.new.ground }) (printed f),
-      projected-now items h s f c.args.refname.now n w there c.requires.fresh v chosen c.shown_line.new.ground e.map e.same e.kept named c.recall_law.ensures c.requires.sound.0 c.requires.sound.1 c.keep.new.self
+      projected-now items h s f c.args.refname.now n w there c.requires.fresh v chosen c.shown_line.new.ground e.map e.same e.line.1 named c.recall_law.ensures c.requires.sound.0 c.requires.sound.1 c.keep.new.self
           (keeper_view g.K.Keeper.items g.K.Keeper.number g.K.Keeper.faults before) (keeper_view g.K.Keeper.items g.K.Keeper.number g.K.Keeper.faults now) c.in-Ok-shown_line.line
-          (k.items h spelled) (k.state h spelled) k.basis e.line,
-      adds-kept items h s f c.args.refname.now n w there c.requires.fresh v chosen c.shown_line.new.ground e.map e.same e.kept named c.recall_law.ensures c.requires.sound.0 c.requires.sound.1
-          (g.K.Keeper.moment before) (g.K.Keeper.moment now) (g.K.Keeper.left_since before) (g.K.Keeper.left_since now) (g.K.Keeper.items before) (k.stops h spelled),
+          (k.items h spelled) (k.state h spelled) k.basis e.line.0,
+      adds-kept items h s f c.args.refname.now n w there c.requires.fresh v chosen c.shown_line.new.ground e.map e.same e.line.1 named c.recall_law.ensures c.requires.sound.0 c.requires.sound.1
+          (g.K.Keeper.moment before) (g.K.Keeper.moment now) (g.K.Keeper.left_since before) (g.K.Keeper.left_since now) (g.K.Keeper.items before) (k.stops.0 h spelled),
     )
 
 pub returns-in-Err-Failed-clause-made : goal.returns-in-Err-Failed-clause-made
@@ -123,10 +120,10 @@ returns-in-Err-Failed-clause-made g c = λ items h w.
     let kept = subst (λ (x : KeepError). Appends (keep_plan h (record v { basis = c.shown_line.new.ground }) (printed f)) (keeper_view g.K.Keeper.items g.K.Keeper.number g.K.Keeper.faults before) (keeper_view g.K.Keeper.items g.K.Keeper.number g.K.Keeper.faults now) (keep_error_result (Err x)))
     c.in-Err-Failed.field-0-is (k.items h spelled) in (
       keep_plan h (record v { basis = c.shown_line.new.ground }) (printed f),
-      store-failed items h s f c.args.refname.now n w there c.requires.fresh v chosen c.shown_line.new.ground e.map e.same e.kept named c.recall_law.ensures c.requires.sound.0 c.requires.sound.1 c.keep.new.self
+      store-failed items h s f c.args.refname.now n w there c.requires.fresh v chosen c.shown_line.new.ground e.map e.same e.line.1 named c.recall_law.ensures c.requires.sound.0 c.requires.sound.1 c.keep.new.self
           (keeper_view g.K.Keeper.items g.K.Keeper.number g.K.Keeper.faults before) (keeper_view g.K.Keeper.items g.K.Keeper.number g.K.Keeper.faults now) kept k.basis,
-      adds-kept items h s f c.args.refname.now n w there c.requires.fresh v chosen c.shown_line.new.ground e.map e.same e.kept named c.recall_law.ensures c.requires.sound.0 c.requires.sound.1
-          (g.K.Keeper.moment before) (g.K.Keeper.moment now) (g.K.Keeper.left_since before) (g.K.Keeper.left_since now) (g.K.Keeper.items before) (k.stops h spelled),
+      adds-kept items h s f c.args.refname.now n w there c.requires.fresh v chosen c.shown_line.new.ground e.map e.same e.line.1 named c.recall_law.ensures c.requires.sound.0 c.requires.sound.1
+          (g.K.Keeper.moment before) (g.K.Keeper.moment now) (g.K.Keeper.left_since before) (g.K.Keeper.left_since now) (g.K.Keeper.items before) (k.stops.0 h spelled),
     )
 
 pub returns-clause-made : goal.returns-clause-made
@@ -149,5 +146,5 @@ returns-clause-made g c = λ items h w.
       no-memory items h s f c.args.refname.now n w there c.keep.new.self (keeper_view g.K.Keeper.items g.K.Keeper.number g.K.Keeper.faults before) (keeper_view g.K.Keeper.items g.K.Keeper.number g.K.Keeper.faults now) stays
           (shown-grown items h s f c.args.refname.now n w there c.requires.fresh v chosen c.keep.new.self.basis.store shown),
       adds-present h s (g.K.Keeper.moment before) (g.K.Keeper.moment now) (g.K.Keeper.left_since before) (g.K.Keeper.left_since now) (g.K.Keeper.items before)
-          (k.stops_memory (λ i. Err (c.in-Err-OutOfMemory-keep.field-0-is i))),
+          (k.stops.1 (λ i. Err (c.in-Err-OutOfMemory-keep.field-0-is i))),
     )

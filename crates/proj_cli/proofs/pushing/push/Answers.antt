@@ -86,7 +86,7 @@ returns-in-Ok-commit-clause-made g c = λ items h w.
     commit-done items h f c.args.refname.now c.in-Some.head.0 t.0 t.1 c.args.state.now w c.requires.usable (sym (c.in-Some.ensures.held h w.spells)) c.planned_upon.new.state c.in_ok-plan.plan t.3
     c.in-Ok.report c.in-Ok.batch c.in-Some-copied.last c.in-Ok.ensures last c.commit.new.self
     (keeper_view g.K.Keeper.items g.K.Keeper.number g.K.Keeper.faults before) (keeper_view g.K.Keeper.items g.K.Keeper.number g.K.Keeper.faults now) (g.K.Keeper.moment before)
-    (g.K.Keeper.moment now) (g.K.Keeper.left_since before) (g.K.Keeper.left_since now) (e.stops h) tt (e.state h) (e.items h)
+    (g.K.Keeper.moment now) (g.K.Keeper.left_since before) (g.K.Keeper.left_since now) (e.stops.0 h) tt (e.state h) (e.items h)
     in
     (t.0, t.2, m.0, m.1, m.2)
 
@@ -102,7 +102,7 @@ returns-in-Err-clause-made g c = λ items h w.
     commit-refused items h f c.args.refname.now c.in-Some.head.0 t.0 t.1 c.args.state.now w c.requires.usable (sym (c.in-Some.ensures.held h w.spells)) c.planned_upon.new.state c.in_ok-plan.plan t.3
     c.in-Ok.report c.in-Ok.batch c.in-Some-copied.last c.in-Ok.ensures last c.commit.new.self
     (keeper_view g.K.Keeper.items g.K.Keeper.number g.K.Keeper.faults before) (keeper_view g.K.Keeper.items g.K.Keeper.number g.K.Keeper.faults now) (g.K.Keeper.moment before)
-    (g.K.Keeper.moment now) (g.K.Keeper.left_since before) (g.K.Keeper.left_since now) (e.stops h) c.in-Err.error c.commit_outcome.result c.commit_outcome.ensures (e.state h) e.store (e.items h)
-    e.stops_refused
+    (g.K.Keeper.moment now) (g.K.Keeper.left_since before) (g.K.Keeper.left_since now) (e.stops.0 h) c.in-Err.error c.commit_outcome.result c.commit_outcome.ensures (e.state h) e.store (e.items h)
+    e.stops.1
     in
     (t.0, t.2, m.0, m.1, m.2)

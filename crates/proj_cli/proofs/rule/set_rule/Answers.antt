@@ -17,7 +17,7 @@ returns-in-Err-clause-made g c = λ items h w.
     set-refused items h c.args.state.now c.args.rule w c.set_rule.new.self (keeper_view g.K.Keeper.items g.K.Keeper.number g.K.Keeper.faults before)
     (keeper_view g.K.Keeper.items g.K.Keeper.number g.K.Keeper.faults now)
     (g.K.Keeper.moment before) (g.K.Keeper.moment now) (g.K.Keeper.left_since before) (g.K.Keeper.left_since now) c.in-Err.error c.commit_outcome.result c.commit_outcome.ensures (e.state h w.spells) e.store
-    (e.items h w.spells) (e.stops h w.spells) e.stops_refused
+    (e.items h w.spells) (e.stops.0 h w.spells) e.stops.1
 
 pub returns-in-Ok-clause-made : goal.returns-in-Ok-clause-made
 returns-in-Ok-clause-made g c = λ items h w.
@@ -27,4 +27,4 @@ returns-in-Ok-clause-made g c = λ items h w.
     set-done items h c.args.state.now c.args.rule w c.set_rule.new.self (keeper_view g.K.Keeper.items g.K.Keeper.number g.K.Keeper.faults before)
     (keeper_view g.K.Keeper.items g.K.Keeper.number g.K.Keeper.faults now)
     (g.K.Keeper.moment before) (g.K.Keeper.moment now) (g.K.Keeper.left_since before) (g.K.Keeper.left_since now) tt c.of.result (c.of.ensures ∙ c.in_ok-line.ensures) (e.state h w.spells) (e.items h w.spells)
-    (e.stops h w.spells)
+    (e.stops.0 h w.spells)

@@ -6,6 +6,7 @@ use Rattle.proj_words.specs.Words.{command}
 use Rattle.proj_cli.specs.Stopped.{ForInput}
 use Rattle.proj_cli.specs.Served.{IsServed, LeavesWhole, seen}
 use Rattle.proj_cli.proofs.DiskLists.{run_stops, settled_steady, steady_stops, steady_whole, unopened_stops, whole_some}
+use Rattle.proj_cli.proofs.Lengthening.{for-later}
 use Rattle.proj_cli.proofs.Lifting.{ran_on}
 use Rattle.proj_cli.proofs.serving.serve.Goals as goal
 
@@ -26,8 +27,8 @@ returns-in-Ok-clause-served g c =
     (inl (ran_on asked (read c.args.input.now) (read ran.new.input) (shown c.args.out.now) (shown ran.new.out) (heard c.args.err.now) (heard ran.new.err) (content c.args.disk) (content journal.disk) (content end)
     (g.D.Disk.faults c.args.disk) (g.D.Disk.faults journal.disk) (g.D.Disk.faults end) (number_of (content journal.disk) journal.places.items) (number_of (content end) store.places.items) ran.result c.in-Ok.ensures.items
     c.outcome_code.result c.outcome_code.ensures c.in-Ok.ensures.list c.in-Ok.ensures.synced c.in-Ok.ensures.cause (items_counted (content journal.disk) journal.places.items) (items_counted (content end) store.places.items)
-    ran.ensures.answer (λ no_load. ap (λ s. content (disk_of s)) (ran.ensures.unloaded no_load)) (λ unknown. (ran.ensures.idle unknown).1) ran.ensures.text
-    (λ no_fault. settled_steady (content end) (g.D.Disk.moment end) (g.D.Disk.left_since end) (λ image is. g.met.D.Disk.counts_now end (g.D.Disk.moment end) image (omega arith) is) (ran.ensures.settled no_fault))))
+    ran.ensures.answer (λ no_load. ap (λ s. content (disk_of s)) (ran.ensures.untouched.1 no_load)) (λ unknown. (ran.ensures.idle unknown).1) ran.ensures.text
+    (λ no_fault. settled_steady (content end) (g.D.Disk.moment end) (g.D.Disk.left_since end) (λ image is. g.met.D.Disk.counts_now end (g.D.Disk.moment end) image (omega arith) is) (ran.ensures.settled no_fault).1)))
 
 pub returns-in-Ok-clause-stops : goal.returns-in-Ok-clause-stops
 returns-in-Ok-clause-stops g c view told whole =
@@ -41,7 +42,7 @@ returns-in-Ok-clause-stops g c view told whole =
     let still = c.in-Ok.ensures.items ∙ ap items_of told in
     subst (λ (disk : _). ForInput (g.S.Source.left c.args.input.now) (λ all. (image : List ℕ) → left disk (m d) image → LeavesWhole asked all view image)) (sym c.into_disk.ensures)
     (run_stops (g.S.Source.left c.args.input.now) asked view (g.D.Disk.content d) told whole (m d) (m j) (left d) (left j) (λ image was. g.met.D.Disk.only_now d image was)
-    (c.in-Ok.ensures.stops view told (whole_some (g.D.Disk.content d) view told (g.met.D.Disk.reads d) whole)) (m end) (left end) (c.run-outcome.ensures.adds items still))
+    (c.in-Ok.ensures.stops view told (whole_some (g.D.Disk.content d) view told (g.met.D.Disk.reads d) whole)) (m end) (left end) (for-later _ _ _ (λ all says. says.1) (c.run-outcome.ensures.stops items still)))
 
 pub returns-in-Ok-clause-steady : goal.returns-in-Ok-clause-steady
 returns-in-Ok-clause-steady g c view told steady =

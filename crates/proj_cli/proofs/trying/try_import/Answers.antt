@@ -14,8 +14,8 @@ pub returns-in_err-stream-clause-left : goal.returns-in_err-stream-clause-left
 returns-in_err-stream-clause-left c =
     passed-whole (Unit {0}) c.from_residual.result OutOfMemory c.from_residual.ensures.1 (IsLeft (import_hands c.args.count) (import_left c.args.count) c.args.state.now) tt
 
-pub import-requires-clause-number : goal.import-requires-clause-number
-import-requires-clause-number c = c.requires.empty.number ∙ sym c.requires.number
+pub import-requires-clause-open : goal.import-requires-clause-open
+import-requires-clause-open c = (tt, c.requires.empty.number ∙ sym c.requires.number)
 
 pub import-requires-clause-state : goal.import-requires-clause-state
 import-requires-clause-state c = ([], nothing, (empty-tried c.args.state.now c.requires.empty).state)
@@ -26,7 +26,7 @@ returns-in_err-import-clause-left c =
     let e = c.in_err-import.field-0.0 in
     passed-whole (Unit {0}) c.from_residual-in_err-import.result e c.from_residual-in_err-import.ensures.1 (IsLeft (import_hands c.args.count) (import_left c.args.count) c.import.new.state)
     (import-ended c.args.count c.args.state.now c.import.new.state c.requires.empty m.0 (m.1 ∙ same_Some _ _ c.new-input.ensures.told ∙ c.deref.ensures.value ∙ c.in_ok-stream.ensures) _ _ m.2 e
-    (never-fault e ReadFault c.in_err-import.ensures.read) (never-fault e StoreFault c.in_err-import.ensures.cause) m.3)
+    (never-fault e ReadFault c.in_err-import.ensures.read) (never-fault e StoreFault c.in_err-import.ensures.used.cause) m.3)
 
 pub returns-clause-left : goal.returns-clause-left
 returns-clause-left c =

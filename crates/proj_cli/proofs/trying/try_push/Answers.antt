@@ -37,11 +37,11 @@ returns-in_err-stream-clause-left c = λ items h hands w.
     let ks = hands ++ push_hands p c.args.seconds items in
     passed-whole (Unit {0}) c.from_residual-in_err-stream.result OutOfMemory c.from_residual-in_err-stream.ensures.1 (IsLeft ks (push_left p c.args.seconds items) c.head_projection.new.state) tt
 
-pub push-requires-clause-number : goal.push-requires-clause-number
-push-requires-clause-number c =
+pub push-requires-clause-open : goal.push-requires-clause-open
+push-requires-clause-open c =
     let q = c.requires.state in
     let t = c.in_ok-from.ensures q.0 q.1 q.2 [] q.3 in
-    t.1.state.current.number ∙ sym q.3.state.current.number ∙ c.requires.number
+    (tt, t.1.state.current.number ∙ sym q.3.state.current.number ∙ c.requires.number)
 
 pub push-requires-clause-state : goal.push-requires-clause-state
 push-requires-clause-state c =
@@ -59,7 +59,7 @@ returns-in_err-push-clause-left c = λ items h hands w.
     passed-whole (Unit {0}) c.from_residual-in_err-push.result e c.from_residual-in_err-push.ensures.1 (IsLeft ks (push_left p c.args.seconds items) c.push.new.state)
     (push-ended p c.args.seconds items h hands (shape c.in_ok-subject.subject.filter) w.state.current.read c.in_ok-subject.ensures.sound c.in_ok-subject.subject.refname c.in_ok-subject.ensures.refname
     (option_map name_bytes c.in_ok-from.from) t.0 c.head_projection.new.state c.push.new.state (λ all. (c.in_ok-from.ensures items h hands all w).1) m.0
-    (m.1 ∙ same_Some _ _ c.new-input.ensures.told ∙ c.deref.ensures.value ∙ c.in_ok-stream.ensures) _ _ m.2 e (never-fault e ReadFault c.in_err-push.ensures.read) (never-fault e StoreFault c.in_err-push.ensures.cause) m.3)
+    (m.1 ∙ same_Some _ _ c.new-input.ensures.told ∙ c.deref.ensures.value ∙ c.in_ok-stream.ensures) _ _ m.2 e (never-fault e ReadFault c.in_err-push.ensures.read) (never-fault e StoreFault c.in_err-push.ensures.used.cause) m.3)
 
 pub returns-clause-left : goal.returns-clause-left
 returns-clause-left c = λ items h hands w.

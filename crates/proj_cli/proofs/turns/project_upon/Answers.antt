@@ -8,6 +8,7 @@ use Rattle.proj_words.specs.declared.outcome.Outcome.TheVariants.{OutOfMemory}
 use Rattle.repo_ground.specs.Contents.{Contents}
 use Rattle.state_items.specs.Items.{Held}
 use Rattle.proj_cli.proofs.CommandsMade.{away-made, away-state, away-stops, case-made, cased, command-short, command-refused, own-count, own-first}
+use Rattle.proj_cli.proofs.Forming.{used-not}
 use Rattle.proj_cli.proofs.Opening.{projecting}
 use Rattle.proj_cli.proofs.Refusing.{memory-own, unsound-own}
 use Rattle.proj_cli.proofs.turns.project_upon.Goals as goal
@@ -28,10 +29,10 @@ returns-in_err-subject-clause-early g c =
     let e = c.in_err-subject.field-0.0 in
     own-first c.from_residual.result e c.from_residual.ensures.1 (unsound-own c.args.filter.now e c.in_err-subject.ensures.err)
 
-pub returns-in_err-subject-clause-cause : goal.returns-in_err-subject-clause-cause
-returns-in_err-subject-clause-cause g c =
+pub returns-in_err-subject-clause-used : goal.returns-in_err-subject-clause-used
+returns-in_err-subject-clause-used g c =
     let e = c.in_err-subject.field-0.0 in
-    own-count _ c.from_residual.result e c.from_residual.ensures.1 (unsound-own c.args.filter.now e c.in_err-subject.ensures.err)
+    used-not _ _ _ _ c.requires.open.0 (own-count _ c.from_residual.result e c.from_residual.ensures.1 (unsound-own c.args.filter.now e c.in_err-subject.ensures.err))
 
 pub returns-in_err-put_away-clause-made : goal.returns-in_err-put_away-clause-made
 returns-in_err-put_away-clause-made g c = λ (items : List Bytes) (h : Held) (all : Bytes) w.
@@ -45,11 +46,11 @@ returns-in_err-put_away-clause-made g c = λ (items : List Bytes) (h : Held) (al
 pub returns-in_err-put_away-clause-early : goal.returns-in_err-put_away-clause-early
 returns-in_err-put_away-clause-early g c = own-first c.from_residual-in_err-put_away.result OutOfMemory c.from_residual-in_err-put_away.ensures.1 memory-own
 
-pub returns-in_err-put_away-clause-cause : goal.returns-in_err-put_away-clause-cause
-returns-in_err-put_away-clause-cause g c = own-count _ c.from_residual-in_err-put_away.result OutOfMemory c.from_residual-in_err-put_away.ensures.1 memory-own
+pub returns-in_err-put_away-clause-used : goal.returns-in_err-put_away-clause-used
+returns-in_err-put_away-clause-used g c = used-not _ _ _ _ c.requires.open.0 (own-count _ c.from_residual-in_err-put_away.result OutOfMemory c.from_residual-in_err-put_away.ensures.1 memory-own)
 
-pub project-requires-clause-number : goal.project-requires-clause-number
-project-requires-clause-number g c = ap (λ (s : Contents). s.number) c.in_ok-put_away.ensures.away.same ∙ c.requires.number
+pub project-requires-clause-open : goal.project-requires-clause-open
+project-requires-clause-open g c = (c.requires.open.0, ap (λ (s : Contents). s.number) c.in_ok-put_away.ensures.away.same ∙ c.requires.open.1)
 
 pub project-requires-clause-sound : goal.project-requires-clause-sound
 project-requires-clause-sound g c = (c.args.filter.now, c.in_ok-subject.ensures.sound)

@@ -7,6 +7,7 @@ use Rattle.proj_io.specs.Views.{keeper_view}
 use Rattle.proj_words.specs.Words.{Push}
 use Rattle.state_items.specs.Items.{Held}
 use Rattle.proj_cli.proofs.CommandsMade.{case-made, cased, command-refused, own-count, own-first, slice-input}
+use Rattle.proj_cli.proofs.Forming.{used-not}
 use Rattle.proj_cli.proofs.Opening.{pushing_back}
 use Rattle.proj_cli.proofs.Refusing.{unsound-own}
 use Rattle.proj_cli.proofs.turns.push_upon.Goals as goal
@@ -27,10 +28,10 @@ returns-in_err-subject-clause-early g c =
     let e = c.in_err-subject.field-0.0 in
     own-first c.from_residual.result e c.from_residual.ensures.1 (unsound-own c.args.filter.now e c.in_err-subject.ensures.err)
 
-pub returns-in_err-subject-clause-cause : goal.returns-in_err-subject-clause-cause
-returns-in_err-subject-clause-cause g c =
+pub returns-in_err-subject-clause-used : goal.returns-in_err-subject-clause-used
+returns-in_err-subject-clause-used g c =
     let e = c.in_err-subject.field-0.0 in
-    own-count _ c.from_residual.result e c.from_residual.ensures.1 (unsound-own c.args.filter.now e c.in_err-subject.ensures.err)
+    used-not _ _ _ _ c.requires.open.0 (own-count _ c.from_residual.result e c.from_residual.ensures.1 (unsound-own c.args.filter.now e c.in_err-subject.ensures.err))
 
 pub returns-clause-made : goal.returns-clause-made
 returns-clause-made g c = λ (items : List Bytes) (h : Held) w.

@@ -15,6 +15,7 @@ use Rattle.proj_cli.specs.Cases.{ImportCase, case, loaded}
 use Rattle.proj_cli.specs.Forms.{IsFormMade}
 use Rattle.proj_cli.specs.Running.{IsCommandMade}
 use Rattle.proj_cli.proofs.CommandsMade.{case-made, name-command, never-counts, slice-input, still-made, usage-refused}
+use Rattle.proj_cli.proofs.Forming.{used-not}
 use Rattle.proj_cli.proofs.turns.run_upon.Goals as goal
 
 pub returns-in-Import-clause-made : goal.returns-in-Import-clause-made
@@ -78,8 +79,8 @@ returns-in-Export-clause-made g c = λ (items : List Bytes) (h : Held) w.
 pub returns-in-Export-clause-early : goal.returns-in-Export-clause-early
 returns-in-Export-clause-early g c = let quiet = c.export_upon.ensures.early in (quiet.0, quiet.1)
 
-pub returns-in-Export-clause-cause : goal.returns-in-Export-clause-cause
-returns-in-Export-clause-cause g c = never-counts _ c.export_upon.result c.export_upon.ensures.early.2
+pub returns-in-Export-clause-used : goal.returns-in-Export-clause-used
+returns-in-Export-clause-used g c = used-not _ _ _ _ c.requires.open.0 (never-counts _ c.export_upon.result c.export_upon.ensures.early.2)
 
 pub returns-in-Name-clause-made : goal.returns-in-Name-clause-made
 returns-in-Name-clause-made g c = λ (items : List Bytes) (h : Held) w.
@@ -103,8 +104,8 @@ returns-in-Name-clause-made g c = λ (items : List Bytes) (h : Held) w.
 pub returns-in-Name-clause-early : goal.returns-in-Name-clause-early
 returns-in-Name-clause-early g c = (c.name_form.ensures.early.0, no_fault c.name_form.ensures.read)
 
-pub returns-in-Name-clause-cause : goal.returns-in-Name-clause-cause
-returns-in-Name-clause-cause g c = never-counts _ c.name_form.result c.name_form.ensures.early.1
+pub returns-in-Name-clause-used : goal.returns-in-Name-clause-used
+returns-in-Name-clause-used g c = used-not _ _ _ _ c.requires.open.0 (never-counts _ c.name_form.result c.name_form.ensures.early.1)
 
 pub returns-in-Rule-clause-made : goal.returns-in-Rule-clause-made
 returns-in-Rule-clause-made g c = λ (items : List Bytes) (h : Held) w.

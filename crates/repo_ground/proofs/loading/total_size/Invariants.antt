@@ -1,15 +1,10 @@
-use Rattle.std.proofs.Common.{◌≡◌, ◌≤◌, ◌^◌, ◌↔◌}
-use Rattle.proj_io.specs.Items.{Stays}
-use Rattle.proj_io.specs.Stops.{OnlyAdds, Nothing}
+use Rattle.std.proofs.Common.{◌≤◌, ◌^◌}
+use Rattle.proj_io.specs.Uses.{IsOnlyRead}
 use Rattle.repo_ground.proofs.loading.total_size.Given as goal
 
 abbrev pub invariant-loop-item : goal.invariant-loop-item
 invariant-loop-item g l = record {
   sum : l.total ≤ 2 ^ 31;
-  same : g.K.Keeper.number l.keeper ≡ g.K.Keeper.number l.fn.keeper;
-  items : Stays (g.K.Keeper.items l.fn.keeper) (g.K.Keeper.items l.keeper);
-  is_open : g.K.Keeper.is_open l.keeper;
-  told : g.K.Keeper.tells l.keeper ↔ g.K.Keeper.tells l.fn.keeper;
-  stops : OnlyAdds (g.K.Keeper.moment l.fn.keeper) (g.K.Keeper.moment l.keeper) (g.K.Keeper.left_since l.fn.keeper) (g.K.Keeper.left_since l.keeper) Nothing;
+  kept : IsOnlyRead g.K.Keeper.items g.K.Keeper.number g.K.Keeper.is_open g.K.Keeper.tells g.K.Keeper.moment g.K.Keeper.left_since l.fn.keeper l.keeper;
   faults : g.K.Keeper.faults l.fn.keeper ≤ g.K.Keeper.faults l.keeper;
 }

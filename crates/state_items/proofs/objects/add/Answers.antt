@@ -13,13 +13,13 @@ fresh c =
     ∙ sym (name-known c.args.incoming.now.objects c.args.names.now.keys c.in-Ok.name c.requires.named)
     ∙ not-true (list_any (λ (j : Name). same_bytes c.in-Ok.name.0 j.0) c.args.names.now.keys) (sym c.in-Ok-true.field-0-test ∙ c.in-Ok-true.ensures.added)
 
-pub returns-in-Ok-true-clause-fresh : goal.returns-in-Ok-true-clause-fresh
-returns-in-Ok-true-clause-fresh c = fresh c
-
-pub returns-in-Ok-true-clause-objects : goal.returns-in-Ok-true-clause-objects
-returns-in-Ok-true-clause-objects c =
-    c.in-Ok.ensures.ok.2
-    ∙ ap (λ b. cond b c.args.incoming.now.objects (record { kind = c.args.part.kind; body = (take c.args.part.len (drop c.args.part.at c.args.incoming.now.piece)) } ∷ c.args.incoming.now.objects)) (fresh c)
+pub returns-in-Ok-true-clause-added : goal.returns-in-Ok-true-clause-added
+returns-in-Ok-true-clause-added c = record {
+  refusal = c.in-Ok.ensures.ok.1;
+  fresh = fresh c;
+  objects = c.in-Ok.ensures.ok.2
+      ∙ ap (λ b. cond b c.args.incoming.now.objects (record { kind = c.args.part.kind; body = (take c.args.part.len (drop c.args.part.at c.args.incoming.now.piece)) } ∷ c.args.incoming.now.objects)) (fresh c);
+}
 
 pub returns-in-Ok-false-clause-err : goal.returns-in-Ok-false-clause-err
 returns-in-Ok-false-clause-err c =

@@ -14,9 +14,9 @@ use Rattle.repo_ground.proofs.state.State.keep.Goals as goal
 -- src/keep.rt:52:37
 pub append-requires-clause-some : goal.append-requires-clause-some
 append-requires-clause-some g c =
-    let h = c.requires.spells.0 in
+    let h = c.requires.state.spells.0 in
     let p = keep_plan h c.args.self.now (printed (shape c.args.filter.now)) in
-    let made = subst (λ o. IsItemOf h c.args.self.now p o) c.in-Ok-Some.field-0-is (c.in-Ok-Some.ensures.item h c.requires.spells.1) in
+    let made = subst (λ o. IsItemOf h c.args.self.now p o) c.in-Ok-Some.field-0-is (c.in-Ok-Some.ensures.item h c.requires.state.spells.1) in
     subst (λ (t : Bytes). 0 < length t) (sym c.deref.ensures.value) (plan-some (keep_plan h c.args.self.now (printed (shape c.args.filter.now))) c.in-Ok-Some.item.items made.0)
 
 -- src/keep.rt:33:5
@@ -27,8 +27,8 @@ returns-clause-state g c = λ h w.
     let item : Bytes = c.in-Ok-Some.item.items in
     let made = subst (λ (x : Contents). IsItemOf h x (keep_plan h x text) (Some c.in-Ok-Some.item)) (sym c.self.view_is)
     (subst (λ o. IsItemOf h c.args.self.now (keep_plan h c.args.self.now text) o) c.in-Ok-Some.field-0-is (c.in-Ok-Some.ensures.item h w)) in
-    let chosen = subst (λ (x : Contents). x.selected ≡ Some (text, rule_number x.basis.rule)) (sym c.self.view_is) c.requires.selected in
-    let done = keep-committed h v text item (subst (Spells h) (sym c.self.view_is) w) (subst AreOfGraph (sym c.self.view_is) c.requires.originals) chosen made.0 made.1 in
+    let chosen = subst (λ (x : Contents). x.selected ≡ Some (text, rule_number x.basis.rule)) (sym c.self.view_is) c.requires.state.selected in
+    let done = keep-committed h v text item (subst (Spells h) (sym c.self.view_is) w) (subst AreOfGraph (sym c.self.view_is) c.requires.state.originals) chosen made.0 made.1 in
     let at = subst (λ (x : Contents). IsCommitted h (keep_plan h x text) x (with_kept v (length item))) c.self.view_is done in
     subst (λ (n : ℕ). IsCommitted h (keep_plan h c.args.self.now text) c.args.self.now (record v { kept = n; number = v.number + 1; size = v.size + c.len.result })) (sym c.len-self-inside.ensures)
     (subst (λ (n : ℕ). IsCommitted h (keep_plan h c.args.self.now text) c.args.self.now (with_kept v n)) (sym (c.len.ensures ∙ sym c.deref.ensures.len ∙ ap length c.deref.ensures.value)) at)

@@ -18,7 +18,7 @@ returns-then-not-has_room-clause-object c =
     let k = c.args.part.kind in
     let b = take c.args.part.len (drop c.args.part.at c.args.self.now.incoming.piece) in
     let key = c.in_ok-key.ensures in
-    take-full c.args.self.now.incoming.objects k b c.args.part.at key.refusal key.fresh
+    take-full c.args.self.now.incoming.objects k b c.args.part.at key.added.refusal key.added.fresh
     (sym (room-is _ _ _ _ c.requires.held k b c.in_ok-key.key c.add.new.names.keys c.len.result c.len-2.result key.names c.len.ensures.len c.len-2.ensures.len key.name)
     ∙ (λ i. nat_le c.len.result (2 ^ 22) && nat_le (sym c.more_commits.ensures i) (2 ^ 20)) ∙ sym c.has_room.ensures ∙ c.if-not-has_room.true)
 
@@ -28,7 +28,7 @@ enter-requires-clause-arrived c =
     let b = take c.args.part.len (drop c.args.part.at c.args.self.now.incoming.piece) in
     let key = c.in_ok-key.ensures in
     subst (λ (p : Bytes). HasArrived c.args.self.now.graph (map name_bytes c.args.self.now.blobs.keys) k (take c.args.part.len (drop c.args.part.at p))) (sym key.piece)
-    (arrived _ _ _ _ c.requires.held k b c.add.new.incoming.objects key.whole key.objects key.fresh)
+    (arrived _ _ _ _ c.requires.held k b c.add.new.incoming.objects key.whole key.added.objects key.added.fresh)
 
 pub returns-then-not-branch-clause-object : goal.returns-then-not-branch-clause-object
 returns-then-not-branch-clause-object c =
@@ -38,9 +38,9 @@ returns-then-not-branch-clause-object c =
     let key = c.in_ok-key.ensures in
     let fits : body_fits S k (at c.args.self.now.incoming.piece) ≡ false =
     ap (λ (p : Bytes). body_fits S k (at p)) (sym key.piece)
-    ∙ sym (c.in_ok-enter.ensures.fits S (key.objects ∙ ap (λ (p : Bytes). record { kind = k; body = at p } ∷ S) (sym key.piece)))
+    ∙ sym (c.in_ok-enter.ensures.fits S (key.added.objects ∙ ap (λ (p : Bytes). record { kind = k; body = at p } ∷ S) (sym key.piece)))
     ∙ c.if-not-branch.true in
-    take-unfit S k (at c.args.self.now.incoming.piece) c.args.part.at key.refusal key.fresh fits
+    take-unfit S k (at c.args.self.now.incoming.piece) c.args.part.at key.added.refusal key.added.fresh fits
 
 pub returns-clause-object : goal.returns-clause-object
 returns-clause-object c =
@@ -51,13 +51,13 @@ returns-clause-object c =
     let key = c.in_ok-key.ensures in
     let fits : body_fits S k b ≡ true =
     ap (λ (p : Bytes). body_fits S k (at p)) (sym key.piece)
-    ∙ sym (c.in_ok-enter.ensures.fits S (key.objects ∙ ap (λ (p : Bytes). record { kind = k; body = at p } ∷ S) (sym key.piece)))
+    ∙ sym (c.in_ok-enter.ensures.fits S (key.added.objects ∙ ap (λ (p : Bytes). record { kind = k; body = at p } ∷ S) (sym key.piece)))
     ∙ c.if-not-branch.false in
     let room =
     sym (room-is _ _ _ _ c.requires.held k b c.in_ok-key.key c.add.new.names.keys c.len.result c.len-2.result key.names c.len.ensures.len c.len-2.ensures.len key.name)
     ∙ (λ i. nat_le c.len.result (2 ^ 22) && nat_le (sym c.more_commits.ensures i) (2 ^ 20)) ∙ sym c.has_room.ensures ∙ c.if-not-has_room.false in
-    take-new S k b c.args.part.at key.refusal key.fresh fits room
-    ∙ ap (λ (T : List Object). Ok T) (sym (ap (λ (s : Intake). s.objects) c.in_ok-enter.ensures.incoming ∙ key.objects))
+    take-new S k b c.args.part.at key.added.refusal key.added.fresh fits room
+    ∙ ap (λ (T : List Object). Ok T) (sym (ap (λ (s : Intake). s.objects) c.in_ok-enter.ensures.incoming ∙ key.added.objects))
 
 pub returns-clause-held : goal.returns-clause-held
 returns-clause-held c =
@@ -71,7 +71,7 @@ returns-clause-held c =
     sym (room-is _ _ _ _ c.requires.held k b c.in_ok-key.key c.add.new.names.keys c.len.result c.len-2.result key.names c.len.ensures.len c.len-2.ensures.len key.name)
     ∙ (λ i. nat_le c.len.result (2 ^ 22) && nat_le (sym c.more_commits.ensures i) (2 ^ 20)) ∙ sym c.has_room.ensures ∙ c.if-not-has_room.false in
     held-more _ _ _ _ c.requires.held k b c.enter.new.self.incoming.objects c.in_ok-key.key c.enter.new.self.names.keys c.enter.new.self.graph c.enter.new.self.blobs.keys
-    (subst IsStore (sym same) key.whole) (same ∙ key.objects) (later.names ∙ key.names) key.name
+    (subst IsStore (sym same) key.whole) (same ∙ key.added.objects) (later.names ∙ key.names) key.name
     (later.rows c.if-not-branch.false ∙ ap (λ (p : Bytes). with_row c.args.self.now.graph k (at p)) key.piece)
     (later.blobs c.if-not-branch.false ∙ ap (λ (p : Bytes). with_blob_name (map name_bytes c.args.self.now.blobs.keys) k (at p)) key.piece)
     room
@@ -79,4 +79,4 @@ returns-clause-held c =
 pub returns-clause-commits : goal.returns-clause-commits
 returns-clause-commits c = λ n h.
     commits-stay _ _ _ _ c.requires.held c.args.part.kind (take c.args.part.len (drop c.args.part.at c.args.self.now.incoming.piece)) c.enter.new.self.incoming.objects
-    (ap (λ (s : Intake). s.objects) c.in_ok-enter.ensures.incoming ∙ c.in_ok-key.ensures.objects) n h
+    (ap (λ (s : Intake). s.objects) c.in_ok-enter.ensures.incoming ∙ c.in_ok-key.ensures.added.objects) n h
