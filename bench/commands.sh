@@ -75,11 +75,15 @@ export_by_git() {
 history 1 "$commits" '' '' >"$work/stream"
 printf '%d commits, a stream of %d MB\n' "$commits" $(($(wc -c <"$work/stream") / 1000000))
 timed 'git fast-import' git_import git <"$work/stream"
-timed 'git hash-object of as many bytes' git hash-object --stdin <"$work/stream"
 timed 'import' ours import <"$work/stream"
 printf 'a journal of %d MB\n' $(($(wc -c <"$work/store") / 1000000))
 timed 'the same import again' ours import <"$work/stream"
 timed 'loading alone (a rule that is set already)' ours rule 1
+timed 'git hash-object of the journal' git hash-object --stdin <"$work/store"
+if [ -x /usr/bin/time ]; then
+    most=$(/usr/bin/time -f %M "$proj" "$work/store" rule 1 2>&1 >"$work/out")
+    printf 'the most memory that loading holds: %d MB\n' $((most * 1024 / 1000000))
+fi
 timed 'project :/a, first' ours project $main :/a
 timed 'project :/a again' ours project $main :/a
 timed 'project :[x=:/a,y=:/b], first' ours project $main ':[x=:/a,y=:/b]'
