@@ -1,6 +1,7 @@
 pub mod Basics
 pub mod Order
 pub mod Texts
+pub mod Fronts
 pub mod Spellings
 pub mod IdentSpelling
 pub mod Neighbours

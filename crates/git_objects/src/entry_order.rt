@@ -18,6 +18,18 @@ fn slash(is_dir: bool) -> &'static [u8]
 pub fn compare_components(a: &[u8], a_dir: bool, b: &[u8], b_dir: bool) -> Ordering
     ensures { result ≡ slice_cmp nat_cmp (dir_key a.now a_dir) (dir_key b.now b_dir) }
 {
+    // The front decides nearly always, and slices are compared much faster than chained iterators.
+    let n = a.len().min(b.len());
+    match a[..n].cmp(&b[..n]) {
+        Ordering::Equal => compare_tails(&a[n..], a_dir, &b[n..], b_dir),
+        order => order,
+    }
+}
+
+// Compares so what stands behind a front that two components share.
+fn compare_tails(a: &[u8], a_dir: bool, b: &[u8], b_dir: bool) -> Ordering
+    ensures { result ≡ slice_cmp nat_cmp (dir_key a.now a_dir) (dir_key b.now b_dir) }
+{
     a.iter()
         .chain(slash(a_dir).iter())
         .cmp(b.iter().chain(slash(b_dir).iter()))

@@ -1,21 +1,18 @@
-use Rattle.std.proofs.Common.{◌≡◌, Bool, true, false, ◌++◌, [], ◌∙◌, refl, ap, append-nil}
+use Rattle.std.proofs.Common.{sym, ◌∙◌, arith}
 use Rattle.std.specs.Ordering.{nat_cmp}
 use Rattle.std.specs.Cmp.Lexicographic.{slice_cmp}
-use Rattle.std.proofs.lemmas.Iterator.{YieldsList-from_slice}
-use Rattle.std.proofs.lemmas.Iterator.Consumers.{YieldsList-from_chain}
-use Rattle.std.proofs.lemmas.Iterator.Search.{cmp_from_yields_List}
-use Rattle.git_objects.specs.Paths.{Bytes}
+use Rattle.std.proofs.lemmas.List.{take_rest}
 use Rattle.git_objects.specs.Entries.{dir_key}
+use Rattle.git_objects.proofs.Fronts.{front_ties, front_decides}
 use Rattle.git_objects.proofs.entry_order.compare_components.Goals as goal
 
-joined_key : (c s : Bytes) (v : Bool) → s ≡ dir_key [] v → c ++ s ≡ dir_key c v
-joined_key c s true e = ap (λ (t : Bytes). c ++ t) e
-joined_key c s false e = ap (λ (t : Bytes). c ++ t) e ∙ append-nil c
+pub returns-in-Equal : goal.returns-in-Equal
+returns-in-Equal c =
+    c.compare_tails.ensures
+    ∙ (λ i. slice_cmp nat_cmp (dir_key (take_rest c.args.a.now c.min-n.result i) c.args.a_dir) (dir_key (take_rest c.args.b.now c.min-n.result i) c.args.b_dir))
+    ∙ front_ties c.min-n.result c.args.a.now c.args.b.now c.args.a_dir c.args.b_dir (omega arith) (omega arith) (sym c.in-Equal.is ∙ c.cmp.ensures)
 
-pub returns : goal.returns
-returns c =
-    cmp_from_yields_List (λ x y. y ≡ x) _ nat_cmp _ c.cmp.ensures.ran
-    (YieldsList-from_chain (YieldsList-from_slice c.args.a.now (cc)) (YieldsList-from_slice c.slash.result.now (cc)) (cc) (cc))
-    (λ it e. YieldsList-from_chain (YieldsList-from_slice c.args.b.now (cc)) (YieldsList-from_slice c.slash-2.result.now (cc)) (cc) (cc))
-    (λ x y. refl)
-    ∙ (λ i. slice_cmp nat_cmp (joined_key c.args.a.now c.slash.result.now c.args.a_dir c.slash.ensures i) (joined_key c.args.b.now c.slash-2.result.now c.args.b_dir c.slash-2.ensures i))
+pub returns-in_default : goal.returns-in_default
+returns-in_default c =
+    c.cmp.ensures
+    ∙ front_decides c.min-n.result c.args.a.now c.args.b.now c.args.a_dir c.args.b_dir (omega arith) (omega arith) (λ e. c.in_default.not-Equal (c.cmp.ensures ∙ e))
