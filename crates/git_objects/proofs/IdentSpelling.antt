@@ -60,6 +60,18 @@ cut-front b (x ∷ u) v h =
     ap (λ w. cond w (Some ([], u ++ b ∷ v)) (in_front x (cut_at b (u ++ b ∷ v)))) (not-false (nat_eq x b) (first_so _ _ h))
     ∙ ap (in_front x) (cut-front b u v (second_so _ _ h))
 
+pub cut-avoids : (b : ℕ) (t u v : Bytes) → cut_at b t ≡ Some (u, v) → avoids b u ≡ true
+cut-avoids b [] u v e = cc
+cut-avoids b (x ∷ xs) u v e =
+    elim (nat_eq x b) as (λ w. nat_eq x b ≡ w → cond w (Some ([], xs)) (in_front x (cut_at b xs)) ≡ Some (u, v) → avoids b u ≡ true) [
+      | true ↦ λ s f. ap (avoids b) (sym (first_of ([], xs) (u, v) f))
+      | false ↦ λ s f. avoided (cut_at b xs) (cut-avoids b xs) (ap not s) f
+    ] refl e
+  where
+    avoided : (o : Option (Bytes × Bytes)) → ((p q : Bytes) → o ≡ Some (p, q) → avoids b p ≡ true) → not (nat_eq x b) ≡ true → in_front x o ≡ Some (u, v) → avoids b u ≡ true
+    avoided None h s f = cc
+    avoided (Some r) h s f = ap (avoids b) (sym (first_of (x ∷ r.0, r.1) (u, v) f)) ∙ and_both s (h r.0 r.1 refl)
+
 pub avoids-from : (b : ℕ) (p : ℕ → Bool) → ((x : ℕ) → p x ≡ true → not (nat_eq x b) ≡ true) → (u : Bytes) → list_all p u ≡ true → avoids b u ≡ true
 avoids-from b p h [] e = refl
 avoids-from b p h (x ∷ u) e = and_both (h x (first_so _ _ e)) (avoids-from b p h u (second_so _ _ e))

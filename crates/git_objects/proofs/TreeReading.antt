@@ -1,5 +1,5 @@
 -- Reading a tree's body gives what it spells, and each spelling is read.
-use Rattle.std.proofs.Common.{◌≡◌, ℕ, zero, suc, ◌<◌, ◌≤◌, Bool, true, false, cond, not, ◌&&◌, List, [], ◌∷◌, ◌++◌, length, take, drop, Option, Some, None, refl, sym, ap, subst, ◌∙◌, nat_eq, arith, append_assoc, length-append, length-take}
+use Rattle.std.proofs.Common.{◌≡◌, ℕ, zero, suc, ◌<◌, ◌≤◌, ◌-◌, Bool, true, false, cond, not, ◌&&◌, List, [], ◌∷◌, ◌++◌, length, take, drop, Option, Some, None, refl, sym, ap, subst, ◌∙◌, nat_eq, arith, append_assoc, length-append, length-take}
 use Rattle.std.specs.Prelude.{nat_le, nat_lt, IsSome}
 use Rattle.std.specs.Option.{option_map, option_and_then, is_some}
 use Rattle.std.specs.List.{list_all}
@@ -20,7 +20,7 @@ use Rattle.git_objects.specs.declared.mode.Mode.{Mode}
 use Rattle.git_objects.specs.declared.mode.Mode.TheVariants.{File, Exec, Link, Module, Dir}
 use Rattle.git_objects.specs.declared.entry.Entry.{Entry}
 use Rattle.git_objects.proofs.Basics.{and_both, plain-component}
-use Rattle.git_objects.proofs.IdentSpelling.{cut-spelled, cut-front, avoids, avoids-from, some_same}
+use Rattle.git_objects.proofs.IdentSpelling.{cut-spelled, cut-front, cut-avoids, avoids, avoids-from, some_same}
 use Rattle.git_objects.proofs.Neighbours.{entries_listing, listing_entries}
 
 -- ---- steps that may fail
@@ -81,7 +81,7 @@ line-rest m c n r = simp append_assoc
 long : (n : ℕ) (t : Bytes) → nat_le n (length t) ≡ true → length (take n t) ≡ n
 long n t h = omega (arith, length-take n t, leb-true n (length t) h)
 
-pub entry-spelled : (b : Bytes) (e : Entry) (r : Bytes) → entry_from b ≡ Some (e, r) → (b ≡ entry_line e ++ r) × (length e.name.0 ≡ 20)
+pub entry-spelled : (b : Bytes) (e : Entry) (r : Bytes) → entry_from b ≡ Some (e, r) → (b ≡ entry_line e ++ r) × (length e.name.0 ≡ 20) × (avoids 0 e.component ≡ true)
 entry-spelled b e r h =
     let s = then_some (λ (s : Bytes × Bytes). option_and_then (λ m. option_and_then (target_from m) (cut_at 0 s.1)) (mode_from s.0)) (cut_at 32 b) (e, r) h in
     let m = then_some (λ (m : Mode). option_and_then (target_from m) (cut_at 0 s.0.1)) (mode_from s.0.0) (e, r) s.2 in
@@ -95,8 +95,11 @@ entry-spelled b e r h =
     ∙ ap (λ (t : Bytes). t ++ 32 ∷ s.0.1) (sym (mode-spelled s.0.0 m.0 m.1))
     ∙ ap (λ (t : Bytes). mode_text m.0 ++ 32 ∷ t) (cut-spelled 0 s.0.1 k.0.0 k.0.1 k.1)
     ∙ ap (λ (t : Bytes). mode_text m.0 ++ 32 ∷ (k.0.0 ++ 0 ∷ t)) (sym (take-append-drop 20 k.0.1))
-    ∙ sym (line-rest m.0 k.0.0 (take 20 k.0.1) (drop 20 k.0.1)) in
-    (text ∙ (λ i. entry_line (same i) ++ rest i), ap (λ (x : Entry). length x.name.0) (sym same) ∙ long 20 k.0.1 c.0)
+    ∙ sym (line-rest m.0 k.0.0 (take 20 k.0.1) (drop 20 k.0.1)) in (
+      text ∙ (λ i. entry_line (same i) ++ rest i),
+      ap (λ (x : Entry). length x.name.0) (sym same) ∙ long 20 k.0.1 c.0,
+      ap (λ (x : Entry). avoids 0 x.component) (sym same) ∙ cut-avoids 0 s.0.1 k.0.0 k.0.1 k.1,
+    )
 
 target-read : (m : Mode) (c n r : Bytes) → length n ≡ 20 → target_from m (c, n ++ r) ≡ Some (record { mode = m; component = c; name = record { 0 = n } }, r)
 target-read m c n r e =
@@ -112,6 +115,30 @@ entry-read e r c n =
     ∙ ap (option_and_then (λ (m : Mode). option_and_then (target_from m) (cut_at 0 (e.component ++ 0 ∷ (e.name.0 ++ r))))) (mode-read e.mode)
     ∙ ap (option_and_then (target_from e.mode)) (cut-front 0 e.component (e.name.0 ++ r) c)
     ∙ target-read e.mode e.component e.name.0 r n
+
+module _ (b d : Bytes) (e : Entry) (r : Bytes) (first : entry_from b ≡ Some (e, r)) where
+  -- the bytes that a first entry takes
+  abbrev taken : Bytes
+  taken = take (length b - length r) b
+
+  taken-line : taken ≡ entry_line e
+  taken-line =
+      let k = entry-spelled b e r first in
+      let size : length b - length r ≡ length (entry_line e) = omega (arith, ap length k.0, length-append (entry_line e) r) in
+      (λ i. take (size i) (k.0 i)) ∙ take-append_seam (entry_line e) r
+
+  -- what begins with these bytes has this entry first
+  pub same-first : (s : Bytes) → same_bytes (take (length taken) d) taken ≡ true → s ≡ drop (length taken) d → entry_from d ≡ Some (e, s)
+  same-first s f g =
+      let k = entry-spelled b e r first in
+      let whole : d ≡ taken ++ s = sym (take-append-drop (length taken) d) ∙ (λ i. (bytes_decides (take (length taken) d) taken).0 f i ++ sym g i) in
+      ap entry_from (whole ∙ ap (λ (t : Bytes). t ++ s) taken-line) ∙ entry-read e s k.2 k.1
+
+  -- and the other way round
+  pub same-taken : (s : Bytes) → entry_from d ≡ Some (e, s) → same_bytes (take (length taken) d) taken ≡ true
+  same-taken s f =
+      (bytes_decides (take (length taken) d) taken).1
+      ((λ i. take (length (taken-line i)) ((entry-spelled d e s f).0 i)) ∙ take-append_seam (entry_line e) s ∙ sym taken-line)
 
 line-some : (e : Entry) (r : Bytes) → length r < length (entry_line e ++ r)
 line-some e r =

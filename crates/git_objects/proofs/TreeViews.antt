@@ -1,6 +1,6 @@
 -- What is seen of a tree's body, entry by entry.
 use Rattle.std.proofs.Common.{◌≡◌, ◌<◌, Bool, true, false, cond, not, ◌&&◌, ◌||◌, List, [], ◌∷◌, length, Option, Some, None, refl, sym, ap, subst, ◌∙◌, true≢false, arith, nat_eq}
-use Rattle.std.specs.Prelude.{IsSome, unwrap_or}
+use Rattle.std.specs.Prelude.{IsSome, unwrap_or, slice_get}
 use Rattle.std.specs.Option.{option_map, option_and_then, is_some, ForSome}
 use Rattle.std.proofs.lemmas.Bool.{eqb-true}
 use Rattle.std.specs.Ordering.{is_lt}
@@ -99,6 +99,10 @@ pub tree_empty : is_some (tree_entries []) ≡ true
 unfolding tree_entries
 tree_empty = refl
 
+pub none_listed : unwrap_or (tree_entries []) [] ≡ []
+unfolding tree_entries
+none_listed = refl
+
 next_cons : (e : Entry) (o : Option (List Entry)) → IsSome (option_and_then if_listed (option_map (λ es. e ∷ es) o)) → (es : List Entry) × (option_and_then if_listed (option_map (λ es. e ∷ es) o) ≡ Some (e ∷ es)) × (option_and_then if_listed o ≡ Some es)
 next_cons e None h = absurd (true≢false (sym h))
 next_cons e (Some es) h =
@@ -116,6 +120,17 @@ pub tree_end : (b : Bytes) → entry_from b ≡ None → IsSome (tree_entries b)
 unfolding tree_entries
 tree_end [] h k = refl
 tree_end (x ∷ b) h k = absurd (true≢false (sym k ∙ tree_none (x ∷ b) (omega arith) h))
+
+-- a body that lists an entry first begins with it
+pub tree_first : (b : Bytes) (e : Entry) → IsSome (tree_entries b) → slice_get (unwrap_or (tree_entries b) []) 0 ≡ Some e → (r : Bytes) × (entry_from b ≡ Some (e, r))
+tree_first b e k h = found (entry_from b) refl
+  where
+    found : (o : Option (Entry × Bytes)) → entry_from b ≡ o → (r : Bytes) × (entry_from b ≡ Some (e, r))
+    found None f = let none = sym h ∙ ap (λ (o : Option (List Entry)). slice_get (unwrap_or o []) 0) (tree_end b f k) in cc
+    found (Some p) f =
+        let n = tree_next b p.0 p.1 f k in
+        let same : Some e ≡ Some p.0 = sym h ∙ ap (λ (o : Option (List Entry)). slice_get (unwrap_or o []) 0) n.1 in
+        (p.1, f ∙ ap (λ (x : Entry). Some (x, p.1)) (sym (some_same e p.0 same)))
 
 pub nothing_left : (b : Bytes) → true ≡ nat_eq (length b) 0 → is_some (tree_entries b) ≡ true
 nothing_left [] e = tree_empty

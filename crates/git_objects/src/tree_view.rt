@@ -1,10 +1,11 @@
 // What a tree's body lists, seen in place.
-ghost use Rattle.std.specs.Prelude.{◌≡◌, List, Some, ◌∷◌, [], drop, is_some, slice_get, true};
+ghost use Rattle.std.specs.Prelude.{◌≡◌, ◌≢◌, List, Some, None, IfSome, ◌∷◌, ◌++◌, [], drop, is_some, slice_get, true, false};
 ghost use Rattle.std.specs.Option.{ForSome};
 ghost use Rattle.std.specs.Option.{option_map};
 ghost use Rattle.std.specs.Ordering.{is_lt};
 ghost use Rattle.git_objects.specs.Entries.{entry_component, entry_dir, git_cmp};
 ghost use Rattle.git_objects.specs.Bodies.{entry_from, first_mode, mode_from, target_from, tree_entries};
+ghost use Rattle.git_objects.specs.Paths.{Bytes};
 ghost use Rattle.git_objects.specs.Neighbours.{before_dir, fits_before, is_alone, spelled_entries, stands};
 ghost use Rattle.git_objects.specs.Views.{entry_value};
 ghost use Rattle.git_objects.specs.declared.entry.Entry.{Entry};
@@ -86,6 +87,36 @@ impl<'a> TreeView<'a> {
             }
         }
     }
+
+    /// Passes by the entries at the front that another view has at its front, too; all of both, where both list the
+    /// same.
+    pub fn pass_same(&mut self, other: &mut TreeView<'_>)
+        ensures same { (es : List Entry) × (self.old ≡ es ++ self.new) × (other.old ≡ es ++ other.new) }
+        ensures apart { (e : Entry) → slice_get self.new 0 ≡ Some e → slice_get other.new 0 ≢ Some e }
+    {
+        if self.rest == other.rest {
+            self.rest = &[];
+            other.rest = &[];
+            return;
+        }
+        'entries: while self.pass_first(other) {}
+    }
+
+    // Passes by the first entry, where the other view has it first, too.
+    fn pass_first(&mut self, other: &mut TreeView<'_>) -> bool
+        ensures passed { result ≡ true → (e : Entry) × (self.old ≡ e ∷ self.new) × (other.old ≡ e ∷ other.new) }
+        ensures kept { result ≡ false → (self.new ≡ self.old) × (other.new ≡ other.old) }
+        ensures apart { result ≡ false → (e : Entry) → slice_get self.new 0 ≡ Some e → slice_get other.new 0 ≢ Some e }
+    {
+        match after_same(self.rest, other.rest) {
+            None => false,
+            Some((rest, other_rest)) => {
+                self.rest = rest;
+                other.rest = other_rest;
+                true
+            }
+        }
+    }
 }
 
 fn mode_from(text: &[u8]) -> Option<Mode>
@@ -147,6 +178,17 @@ fn first_entry<'a>(body: &'a [u8]) -> Option<(EntryView<'a>, &'a [u8])>
     let (mode, rest) = first_mode(body)?;
     let (component, rest) = cut(0, rest)?;
     target(mode, component, rest)
+}
+
+// What follows the first entry of each of two bodies, where both spell the same one.
+fn after_same<'a, 'b>(a: &'a [u8], b: &'b [u8]) -> Option<(&'a [u8], &'b [u8])>
+    ensures apart { result ≡ None → (e : Entry) (r s : Bytes) → entry_from a.now ≡ Some (e, r) → entry_from b.now ≢ Some (e, s) }
+    ensures same { IfSome result (λ r. (e : Entry) × (entry_from a.now ≡ Some (e, r.0.now)) × (entry_from b.now ≡ Some (e, r.1.now))) }
+{
+    let (_, after) = first_entry(a)?;
+    let line = &a[..a.len() - after.len()];
+    let other_after = b.strip_prefix(line)?;
+    Some((after, other_after))
 }
 
 // Whether an entry stands before another.
