@@ -20,6 +20,7 @@ use crate::rule::keep_error;
 use fast_import::Setting;
 use git_objects::{Name, Quantity};
 use proj_io::Keeper;
+use state_items::found_objects;
 use std::alloc::AllocError;
 
 /// What is to be committed: names of objects in the state's store, and refs.
@@ -160,19 +161,14 @@ impl State {
             number: self.number,
             size: self.size,
         };
-        let item = match item_within(self.alloc, &self.ground.store, names, &moved, meter) {
+        let objects = found_objects(self.alloc, &self.ground.store, names)?;
+        let item = match item_within(self.alloc, &objects, &moved, meter) {
             Err(error) => return Err(error),
             Ok(item) => item,
         };
         let refs = with_moved(self.alloc, &self.refs, &moved)?;
         let graph = &mut self.ground.graph;
-        enter(
-            self.alloc,
-            &self.ground.store,
-            graph,
-            &mut self.blobs,
-            names,
-        )?;
+        enter(self.alloc, graph, &mut self.blobs, names, &objects)?;
         Ok(Some(Draft { item, refs }))
     }
 }

@@ -1,19 +1,19 @@
 // The item of a change, and the limits that it may pass.
 ghost use Rattle.std.specs.Prelude.{◌≡◌, ◌≤◌, ◌+◌, ◌^◌, ◌&&◌, List, drop};
-ghost use Rattle.std.specs.Prelude.{filter, length, MatchResult};
+ghost use Rattle.std.specs.Prelude.{filter, length, map, MatchResult};
 ghost use Rattle.git_objects.specs.Paths.{is_nil};
 ghost use Rattle.std.specs.Prelude.{Ok, Err};
+ghost use Rattle.object_store.specs.Errors.{object_value};
 ghost use Rattle.object_store.specs.Fits.{is_commit};
 ghost use Rattle.object_store.specs.Objects.{Object};
 ghost use Rattle.ref_store.specs.Pairs.{pairs};
 ghost use Rattle.state_items.specs.Items.{change_text};
-ghost use Rattle.state_items.specs.Writings.{found};
 ghost use Rattle.repo_ground.specs.Drafting.{IsItemOf, passed_with};
 
 use crate::CommitError;
 use git_objects::Name;
 use indexmap::IndexSet;
-use object_store::Store;
+use object_store::ObjectRef;
 use path_names::RefName;
 use ref_store::Refs;
 use state_items::{change_item, change_size, count_commits, first_passed};
@@ -54,26 +54,24 @@ pub(crate) fn is_nothing(names: &[Name], moved: &[(RefName, Name)]) -> bool
 /// The item of these objects and refs, or the first limit that it passes.
 pub(crate) fn item_within(
     alloc: Global,
-    store: &Store,
-    names: &[Name],
+    objects: &[ObjectRef<'_>],
     refs: &[(RefName, Name)],
     meter: Meter,
 ) -> Result<Vec<u8>, CommitError>
-    requires found { length (found store.now names.now) ≡ length names.now }
-    ensures { (S : List Object) → meter.commits + length (filter is_commit (found store.now names.now))
+    ensures { (S : List Object) → meter.commits + length (filter is_commit (map object_value objects.now))
         ≡ length (filter is_commit S) → meter.objects ≡ length S →
-        let text = change_text (found store.now names.now) (pairs refs.now) in
+        let text = change_text (map object_value objects.now) (pairs refs.now) in
         let passed = passed_with S meter.number meter.size text in MatchResult result
         (λ item. IsItemOf passed text (Ok item.items))
         (λ e. IsItemOf passed text (Err e)) }
 {
-    let commits = meter.commits as usize + count_commits(store, names);
-    let size = change_size(store, names, refs);
+    let commits = meter.commits as usize + count_commits(objects);
+    let size = change_size(objects, refs);
     match first_passed(commits, meter.objects, size, meter.number, meter.size) {
         Some(which) => Err(CommitError::Limit { which }),
         None => match size {
             None => Err(CommitError::OutOfMemory),
-            Some(size) => match change_item(alloc, store, names, refs, size) {
+            Some(size) => match change_item(alloc, objects, refs, size) {
                 Err(_) => Err(CommitError::OutOfMemory),
                 Ok(item) => Ok(item),
             },

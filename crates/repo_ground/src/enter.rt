@@ -1,23 +1,22 @@
 // Entering new objects among the commits and the known blobs.
-ghost use Rattle.std.specs.Prelude.{◌≡◌, ◌<◌, ◌^◌, ◌++◌, ◌∷◌, List, None, Some, true, false, map};
-ghost use Rattle.std.specs.Prelude.{length, reverse, All, IfOk, OnOk};
-ghost use Rattle.std.specs.List.{list_all, list_any};
-ghost use Rattle.std.specs.Option.{is_some};
-ghost use Rattle.git_objects.specs.Paths.{same_bytes};
+ghost use Rattle.std.specs.Prelude.{◌≡◌, ◌<◌, ◌^◌, ◌++◌, ◌∷◌, List, None, map};
+ghost use Rattle.std.specs.Prelude.{length, reverse, OnOk};
 ghost use Rattle.git_objects.specs.CommitBodies.{commit_from};
 ghost use Rattle.git_objects.specs.Names.{name};
 ghost use Rattle.git_objects.specs.Parts.{name_bytes};
 ghost use Rattle.git_objects.specs.Snapshots.{Snapshot};
 ghost use Rattle.commit_graph.specs.Graphs.{place_of};
-ghost use Rattle.object_store.specs.Objects.{Object, find_named, object_name};
-ghost use Rattle.state_items.specs.Arrivals.{AreHeld, HasArrived, HasParents, place_in, with_blob_name, with_row};
+ghost use Rattle.object_store.specs.Errors.{object_value};
+ghost use Rattle.object_store.specs.Objects.{Object, object_name};
+ghost use Rattle.state_items.specs.Arrivals.{AreHeld, HasArrived, HasParents, with_blob_name, with_row};
+ghost use Rattle.state_items.specs.Writings.{found};
 ghost use Rattle.repo_ground.specs.Entering.{AreNewIn, IsFront, with_all};
 ghost use Rattle.repo_ground.specs.Reaching.{HasCommits, IsNext, MayEnter};
 
 use commit_graph::Graph;
 use git_objects::{CommitView, Kind, Name};
 use indexmap::IndexSet;
-use object_store::Store;
+use object_store::{ObjectRef, Store};
 use state_items::parent_places;
 use std::alloc::{AllocError, Global};
 
@@ -80,52 +79,51 @@ pub(crate) fn enter_commits(
     Ok(())
 }
 
-// Enters an object of the store: a commit behind the others, a blob's name behind the others.
+// Enters an object: a commit behind the others, a blob's name behind the others.
 fn enter_one(
     alloc: Global,
-    store: &Store,
     graph: &mut Graph,
     blobs: &mut IndexSet<Name>,
     key: Name,
+    object: ObjectRef<'_>,
 ) -> Result<(), AllocError>
-    requires arrived { (o : Object) × (find_named store.now key.0 ≡ Some o) × (key.0 ≡ object_name o) ×
-        HasArrived graph.old (map name_bytes blobs.old.keys) o.kind o.body }
-    ensures rows { OnOk result ((o : Object) → find_named store.now key.0 ≡ Some o →
-        graph.new ≡ with_row graph.old o.kind o.body) }
-    ensures blobs { OnOk result ((o : Object) → find_named store.now key.0 ≡ Some o →
-        map name_bytes blobs.new.keys ≡ with_blob_name (map name_bytes blobs.old.keys) o.kind o.body) }
+    requires arrived { (key.0 ≡ object_name (object_value object)) ×
+        HasArrived graph.old (map name_bytes blobs.old.keys) object.kind object.body.now }
+    ensures rows { OnOk result (graph.new ≡ with_row graph.old object.entry.kind object.entry.body.now) }
+    ensures blobs { OnOk result (map name_bytes blobs.new.keys ≡
+        with_blob_name (map name_bytes blobs.old.keys) object.entry.kind object.entry.body.now) }
     ensures front { IsFront graph.old graph.new × IsFront blobs.old.keys blobs.new.keys }
 {
-    match store.get(&key) {
-        None => Ok(()),
-        Some(object) => match object.kind {
-            Kind::Blob => {
-                blobs.insert(key)?;
-                Ok(())
-            }
-            Kind::Tree => Ok(()),
-            Kind::Commit => enter_commit(alloc, graph, key, object.body),
-        },
+    match object.kind {
+        Kind::Blob => {
+            blobs.insert(key)?;
+            Ok(())
+        }
+        Kind::Tree => Ok(()),
+        Kind::Commit => enter_commit(alloc, graph, key, object.body),
     }
 }
 
-/// Enters the objects of these names, one after another. After want of memory the first of them may be entered.
+/// Enters these objects, which have these names, one after another. After want of memory the first of them may be
+/// entered.
 pub(crate) fn enter(
     alloc: Global,
-    store: &Store,
     graph: &mut Graph,
     blobs: &mut IndexSet<Name>,
     names: &[Name],
+    objects: &[ObjectRef<'_>],
 ) -> Result<(), AllocError>
-    requires new { (H : List Object) × (held : List Name) × AreHeld H held graph.old blobs.old.keys ×
-        AreNewIn store.now H names.now }
-    ensures entered { OnOk result ((H : List Object) (held : List Name) → AreHeld H held graph.old blobs.old.keys →
-        AreNewIn store.now H names.now →
-        AreHeld (with_all store.now H names.now) (held ++ names.now) graph.new blobs.new.keys) }
+    requires new { (S : List Object) × (H : List Object) × (held : List Name) ×
+        AreHeld H held graph.old blobs.old.keys × AreNewIn S H names.now ×
+        (map object_value objects.now ≡ found S names.now) }
+    ensures entered { OnOk result ((S : List Object) (H : List Object) (held : List Name) →
+        AreHeld H held graph.old blobs.old.keys → AreNewIn S H names.now →
+        map object_value objects.now ≡ found S names.now →
+        AreHeld (with_all S H names.now) (held ++ names.now) graph.new blobs.new.keys) }
     ensures front { IsFront graph.old graph.new × IsFront blobs.old.keys blobs.new.keys }
 {
-    for name in names {
-        enter_one(alloc, store, graph, blobs, *name)?;
+    for (name, object) in names.iter().zip(objects) {
+        enter_one(alloc, graph, blobs, *name, *object)?;
     }
     Ok(())
 }

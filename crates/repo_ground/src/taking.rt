@@ -12,7 +12,7 @@ use crate::draft::names_from;
 use crate::enter::enter;
 use crate::holding::hold_batch;
 use crate::{Batch, CommitError, State};
-use state_items::{count_commits, first_passed};
+use state_items::{count_commits, first_passed, found_objects};
 
 impl State {
     /// Holds and enters the blobs and commits of a batch, where the state then passes no limit of commits and objects.
@@ -29,19 +29,14 @@ impl State {
         let before = self.held.len();
         hold_batch(self.alloc, &self.ground.store, &mut self.held, batch)?;
         let names = names_from(&self.held, before);
-        let commits = self.ground.graph.len() as usize + count_commits(&self.ground.store, names);
+        let objects = found_objects(self.alloc, &self.ground.store, names)?;
+        let commits = self.ground.graph.len() as usize + count_commits(&objects);
         // An item of no bytes, which is the only one, passes no limit.
         if let Some(which) = first_passed(commits, self.held.len(), Some(0), 0, 0) {
             return Err(CommitError::Limit { which });
         }
         let graph = &mut self.ground.graph;
-        enter(
-            self.alloc,
-            &self.ground.store,
-            graph,
-            &mut self.blobs,
-            names,
-        )?;
+        enter(self.alloc, graph, &mut self.blobs, names, &objects)?;
         Ok(())
     }
 }

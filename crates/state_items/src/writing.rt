@@ -1,10 +1,10 @@
 // Writing items.
-ghost use Rattle.std.specs.Prelude.{◌≡◌, ◌≤◌, ◌<◌, ◌^◌, ◌+◌, ◌++◌, ◌∷◌, [], None, filter, length, nat_le};
+ghost use Rattle.std.specs.Prelude.{◌≡◌, ◌≤◌, ◌<◌, ◌^◌, ◌+◌, ◌++◌, None, filter, length, map, nat_le};
 ghost use Rattle.std.specs.Prelude.{IfOk, List, OnOk, ℕ};
-ghost use Rattle.std.specs.Bool.{if◌then◌else◌};
 ghost use Rattle.std.specs.Int.{to_be_bytes, w32};
 ghost use Rattle.std.specs.List.{flat_map};
 ghost use Rattle.git_objects.specs.declared.limits.TheConstants.{ITEMS, STORE_BYTES};
+ghost use Rattle.object_store.specs.Errors.{object_value};
 ghost use Rattle.object_store.specs.Fits.{is_commit};
 ghost use Rattle.object_store.specs.Objects.{Object};
 ghost use Rattle.ref_store.specs.Pairs.{pair, pairs};
@@ -18,7 +18,7 @@ ghost use Rattle.state_items.specs.Writings.{first_passed, found, sized};
 use commit_map::{Rule, Shown};
 use git_objects::limits::{COMMITS, ITEM_BYTES, ITEMS, OBJECTS, STORE_BYTES};
 use git_objects::{Kind, Name, Quantity};
-use object_store::Store;
+use object_store::{ObjectRef, Store};
 use path_names::RefName;
 use std::alloc::{AllocError, Global};
 
@@ -34,28 +34,42 @@ pub fn add_size(size: usize, more: usize) -> Option<usize>
     }
 }
 
-// `size` and the bytes that an item takes for an object, or None above the limit of an item.
-fn add_object(store: &Store, name: &Name, size: usize) -> Option<usize>
-    requires { size ≤ 2 ^ 29 }
-    ensures { result ≡ sized (size + length (flat_map object_text (found store.now (name.now ∷ [])))) }
+/// The objects of these names that are in the store, each looked up once.
+pub fn found_objects<'a>(
+    alloc: Global,
+    store: &'a Store,
+    names: &[Name],
+) -> Result<Vec<ObjectRef<'a>>, AllocError>
+    ensures { IfOk result (λ v. map object_value v.items ≡ found store.now names.now) }
 {
-    match store.get(name) {
-        None => Some(size),
-        Some(object) => match add_size(size, 5) {
-            None => None,
-            Some(size) => add_size(size, object.body.len()),
-        },
+    let mut objects = Vec::with_capacity(alloc, names.len())?;
+    for name in names {
+        if let Some(object) = store.get(name) {
+            objects.push(object)?;
+        }
+    }
+    Ok(objects)
+}
+
+// `size` and the bytes that an item takes for an object, or None above the limit of an item.
+fn add_object(object: &ObjectRef<'_>, size: usize) -> Option<usize>
+    requires { size ≤ 2 ^ 29 }
+    ensures { result ≡ sized (size + length (object_text (object_value object.now))) }
+{
+    match add_size(size, 5) {
+        None => None,
+        Some(size) => add_size(size, object.body.len()),
     }
 }
 
 // `size` and the bytes that an item takes for these objects, or None above the limit of an item.
-fn add_objects(store: &Store, names: &[Name], size: usize) -> Option<usize>
+fn add_objects(objects: &[ObjectRef<'_>], size: usize) -> Option<usize>
     requires { size ≤ 2 ^ 29 }
-    ensures { result ≡ sized (size + length (flat_map object_text (found store.now names.now))) }
+    ensures { result ≡ sized (size + length (flat_map object_text (map object_value objects.now))) }
 {
     let mut size = size;
-    for name in names {
-        match add_object(store, name, size) {
+    for object in objects {
+        match add_object(object, size) {
             None => return None,
             Some(more) => size = more,
         }
@@ -92,32 +106,29 @@ fn add_refs(refs: &[(RefName, Name)], size: usize) -> Option<usize>
 
 /// The length in bytes of the item of these objects and refs, or None above the limit of an item.
 #[tactic(auto, unfolding(crate::specs::Items::change_text))]
-pub fn change_size(store: &Store, names: &[Name], refs: &[(RefName, Name)]) -> Option<usize>
-    ensures { result ≡ sized (length (change_text (found store.now names.now) (pairs refs.now))) }
+pub fn change_size(objects: &[ObjectRef<'_>], refs: &[(RefName, Name)]) -> Option<usize>
+    ensures { result ≡ sized (length (change_text (map object_value objects.now) (pairs refs.now))) }
 {
-    match add_objects(store, names, 10) {
+    match add_objects(objects, 10) {
         None => None,
         Some(size) => add_refs(refs, size),
     }
 }
 
-fn is_commit(store: &Store, name: &Name) -> bool
-    ensures { (if result then 1 else 0) ≡ length (filter is_commit (found store.now (name.now ∷ []))) }
+fn is_commit(object: &ObjectRef<'_>) -> bool
+    ensures { result ≡ is_commit (object_value object.now) }
 {
-    match store.get(name) {
-        None => false,
-        Some(object) => object.kind == Kind::Commit,
-    }
+    object.kind == Kind::Commit
 }
 
 /// How many of these objects are commits.
-pub fn count_commits(store: &Store, names: &[Name]) -> usize
-    ensures number { result ≡ length (filter is_commit (found store.now names.now)) }
+pub fn count_commits(objects: &[ObjectRef<'_>]) -> usize
+    ensures number { result ≡ length (filter is_commit (map object_value objects.now)) }
     ensures bound { result < 2 ^ 63 }
 {
     let mut count = 0;
-    for name in names {
-        if is_commit(store, name) {
+    for object in objects {
+        if is_commit(object) {
             count += 1;
         }
     }
@@ -189,28 +200,23 @@ fn kind_byte(kind: Kind) -> u8
 }
 
 // Writes an object: its kind, its length and its body.
-fn write_object(text: &mut Vec<u8>, store: &Store, name: &Name) -> Result<(), AllocError>
-    requires { length (flat_map object_text (found store.now (name.now ∷ []))) ≤ 2 ^ 29 }
-    ensures { OnOk result (text.new.items ≡ text.old.items ++ flat_map object_text (found store.now (name.now ∷ []))) }
+fn write_object(text: &mut Vec<u8>, object: &ObjectRef<'_>) -> Result<(), AllocError>
+    requires { length (object_text (object_value object.now)) ≤ 2 ^ 29 }
+    ensures { OnOk result (text.new.items ≡ text.old.items ++ object_text (object_value object.now)) }
 {
-    match store.get(name) {
-        None => Ok(()),
-        Some(object) => {
-            text.push(kind_byte(object.kind))?;
-            text.extend_from_slice(&(object.body.len() as u32).to_be_bytes())?;
-            text.extend_from_slice(object.body)?;
-            Ok(())
-        }
-    }
+    text.push(kind_byte(object.kind))?;
+    text.extend_from_slice(&(object.body.len() as u32).to_be_bytes())?;
+    text.extend_from_slice(object.body)?;
+    Ok(())
 }
 
 // Writes these objects.
-fn write_objects(text: &mut Vec<u8>, store: &Store, names: &[Name]) -> Result<(), AllocError>
-    requires { length (flat_map object_text (found store.now names.now)) ≤ 2 ^ 29 }
-    ensures { OnOk result (text.new.items ≡ text.old.items ++ flat_map object_text (found store.now names.now)) }
+fn write_objects(text: &mut Vec<u8>, objects: &[ObjectRef<'_>]) -> Result<(), AllocError>
+    requires { length (flat_map object_text (map object_value objects.now)) ≤ 2 ^ 29 }
+    ensures { OnOk result (text.new.items ≡ text.old.items ++ flat_map object_text (map object_value objects.now)) }
 {
-    for name in names {
-        write_object(text, store, name)?;
+    for object in objects {
+        write_object(text, object)?;
     }
     Ok(())
 }
@@ -245,25 +251,23 @@ fn write_number(text: &mut Vec<u8>, n: usize) -> Result<(), AllocError>
     text.extend_from_slice(&(n as u32).to_be_bytes())
 }
 
-/// The item of these objects, which are in the store, and of these refs. `size` is its length in bytes, of which it is
-/// made at once: each body is copied once.
+/// The item of these objects and refs. `size` is its length in bytes, of which it is made at once: each body is copied
+/// once.
 #[tactic(auto, unfolding(crate::specs::Items::change_text))]
 pub fn change_item(
     alloc: Global,
-    store: &Store,
-    names: &[Name],
+    objects: &[ObjectRef<'_>],
     refs: &[(RefName, Name)],
     size: usize,
 ) -> Result<Vec<u8>, AllocError>
-    requires found { length (found store.now names.now) ≡ length names.now }
-    requires size { length (change_text (found store.now names.now) (pairs refs.now)) ≤ 2 ^ 29 }
-    ensures { IfOk result (λ item. item.items ≡ change_text (found store.now names.now) (pairs refs.now)) }
+    requires size { length (change_text (map object_value objects.now) (pairs refs.now)) ≤ 2 ^ 29 }
+    ensures { IfOk result (λ item. item.items ≡ change_text (map object_value objects.now) (pairs refs.now)) }
 {
     let mut text = Vec::new(alloc);
     text.reserve(size)?;
     text.extend_from_slice(&[1, 1])?;
-    write_number(&mut text, names.len())?;
-    write_objects(&mut text, store, names)?;
+    write_number(&mut text, objects.len())?;
+    write_objects(&mut text, objects)?;
     write_number(&mut text, refs.len())?;
     write_refs(&mut text, refs)?;
     Ok(text)

@@ -1,11 +1,11 @@
-use Rattle.std.proofs.Common.{◌≡◌, ◌≤◌, ◌^◌, ◌++◌, drop, length}
+use Rattle.std.proofs.Common.{◌≡◌, ◌≤◌, ◌^◌, ◌++◌, drop, length, map}
 use Rattle.std.specs.List.{flat_map}
-use Rattle.state_items.specs.Writings.{found}
+use Rattle.object_store.specs.Errors.{object_value}
 use Rattle.state_items.specs.Items.{object_text}
 use Rattle.state_items.proofs.writing.write_objects.Given as goal
 
-abbrev pub invariant-loop-name : goal.invariant-loop-name
-invariant-loop-name l = record {
-  bound : length (flat_map object_text (found l.store (drop l.name-index l.names))) ≤ 2 ^ 29;
-  rest : l.text.items ++ flat_map object_text (found l.store (drop l.name-index l.names)) ≡ l.initial.text.items ++ flat_map object_text (found l.store l.names);
+abbrev pub invariant-loop-object : goal.invariant-loop-object
+invariant-loop-object l = record {
+  bound : length (flat_map object_text (map object_value (drop l.object-index l.objects))) ≤ 2 ^ 29;
+  rest : l.text.items ++ flat_map object_text (map object_value (drop l.object-index l.objects)) ≡ l.initial.text.items ++ flat_map object_text (map object_value l.objects);
 }

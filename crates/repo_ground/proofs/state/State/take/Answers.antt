@@ -2,6 +2,7 @@
 use Rattle.std.proofs.Common.{◌≡◌, ◌+◌, ℕ, List, [], ◌++◌, drop, filter, length, map, reverse, None, refl, sym, ap, subst, ◌∙◌}
 use Rattle.git_objects.specs.Parts.{name_bytes}
 use Rattle.projection_ground.specs.Grounds.{IsGround}
+use Rattle.object_store.specs.Errors.{object_value}
 use Rattle.object_store.specs.Fits.{is_commit}
 use Rattle.object_store.specs.Objects.{Object}
 use Rattle.state_items.specs.Changes.{fresh, objects_of, passed_by_objects}
@@ -38,15 +39,19 @@ enter-requires c =
     let ext = c.in_ok-hold_batch.ensures.extends in
     let n = news-of h v b blobs cs w g.graph.store old new names refl step ext en in
     let all : List Object = reverse (fresh h.objects (objects_of blobs cs)) ++ h.objects in
-    let counted : c.len.result + c.count_commits.result ≡ length (filter is_commit all) = ap (λ (k : ℕ). c.len.result + k) c.count_commits.ensures.number ∙ ap (λ (k : ℕ). k + length (filter is_commit (found v.basis.store names))) c.len.ensures.len ∙ n.commits in
+    let read : map object_value c.deref.result.now ≡ found v.basis.store names = ap (map object_value) c.deref.ensures.value ∙ c.in_ok-objects.ensures in
+    let counted : c.len.result + c.count_commits.result ≡ length (filter is_commit all) =
+    ap (λ (k : ℕ). c.len.result + k) c.count_commits.ensures.number ∙ (λ i. c.len.ensures.len i + length (filter is_commit (read i))) ∙ n.commits in
     let passed = c.first_passed.ensures all [] counted (c.len-2.ensures.len ∙ n.objects) refl in
     let fits : passed_by_objects all None ≡ None = sym passed ∙ c.in_default.is in
     record {
       new = (
+        v.basis.store,
         h.objects,
         old,
         held-before h v b blobs cs w g.graph.store old c.self.inside.blobs.keys refl refl,
         n.fresh.new (room-with h v b blobs cs w g.graph.store 0 0 [] fits),
+        ap (map object_value) c.deref-2.ensures.value ∙ c.in_ok-objects.ensures,
       );
     }
 
@@ -64,7 +69,9 @@ returns-in-Some c = λ h blobs cs u.
     let ext = c.in_ok-hold_batch.ensures.extends in
     let n = news-of h v b blobs cs w g.graph.store old new names refl step ext en in
     let all : List Object = reverse (fresh h.objects (objects_of blobs cs)) ++ h.objects in
-    let counted : c.len.result + c.count_commits.result ≡ length (filter is_commit all) = ap (λ (k : ℕ). c.len.result + k) c.count_commits.ensures.number ∙ ap (λ (k : ℕ). k + length (filter is_commit (found v.basis.store names))) c.len.ensures.len ∙ n.commits in
+    let read : map object_value c.deref.result.now ≡ found v.basis.store names = ap (map object_value) c.deref.ensures.value ∙ c.in_ok-objects.ensures in
+    let counted : c.len.result + c.count_commits.result ≡ length (filter is_commit all) =
+    ap (λ (k : ℕ). c.len.result + k) c.count_commits.ensures.number ∙ (λ i. c.len.ensures.len i + length (filter is_commit (read i))) ∙ n.commits in
     let passed = c.first_passed.ensures all [] counted (c.len-2.ensures.len ∙ n.objects) refl in
     sym passed ∙ c.in-Some.is
 
@@ -82,11 +89,14 @@ returns c = λ h blobs cs u.
     let ext = c.in_ok-hold_batch.ensures.extends in
     let n = news-of h v b blobs cs w g.graph.store old new names refl step ext en in
     let all : List Object = reverse (fresh h.objects (objects_of blobs cs)) ++ h.objects in
-    let counted : c.len.result + c.count_commits.result ≡ length (filter is_commit all) = ap (λ (k : ℕ). c.len.result + k) c.count_commits.ensures.number ∙ ap (λ (k : ℕ). k + length (filter is_commit (found v.basis.store names))) c.len.ensures.len ∙ n.commits in
+    let read : map object_value c.deref.result.now ≡ found v.basis.store names = ap (map object_value) c.deref.ensures.value ∙ c.in_ok-objects.ensures in
+    let counted : c.len.result + c.count_commits.result ≡ length (filter is_commit all) =
+    ap (λ (k : ℕ). c.len.result + k) c.count_commits.ensures.number ∙ (λ i. c.len.ensures.len i + length (filter is_commit (read i))) ∙ n.commits in
     let passed = c.first_passed.ensures all [] counted (c.len-2.ensures.len ∙ n.objects) refl in
     let fits : passed_by_objects all None ≡ None = sym passed ∙ c.in_default.is in
     let before = held-before h v b blobs cs w g.graph.store old c.self.inside.blobs.keys refl refl in
-    let entered = c.in_ok-enter.ensures.entered h.objects old before (n.fresh.new (room-with h v b blobs cs w g.graph.store 0 0 [] fits)) in
+    let objects : map object_value c.deref-2.result.now ≡ found v.basis.store names = ap (map object_value) c.deref-2.ensures.value ∙ c.in_ok-objects.ensures in
+    let entered = c.in_ok-enter.ensures.entered v.basis.store h.objects old before (n.fresh.new (room-with h v b blobs cs w g.graph.store 0 0 [] fits)) objects in
     let held = held-with h v b blobs cs w g.graph.store old new names refl step ext en c.enter.new.blobs.keys c.enter.new.graph entered in
     subst (λ (x : Contents). IsTaken h (fresh h.objects (objects_of blobs cs)) x (record v { basis = record v.basis { graph = c.enter.new.graph }; blobs = map name_bytes c.enter.new.blobs.keys; names = map name_bytes new })) c.self.view_is
     (taken-is h v b blobs cs w g.graph.store names new c.enter.new.blobs.keys c.enter.new.graph g n held fits)
