@@ -13,6 +13,7 @@ pub mod Members
 mod Grows
 mod TreeLaw
 mod Walks
+mod Passing
 mod StoredCommits
 pub mod Entered
 pub mod Batches

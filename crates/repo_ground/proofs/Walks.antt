@@ -163,18 +163,31 @@ stored-none S H n s h i k =
 
 -- ---- the steps of the walk
 
+-- objects of which none is new are passed by
+pass-by : (S : List Object) (names : List Name) (known os : List Object) → grown (held_of S names) known ≡ held_of S names → IsReady S names (known ++ os) → IsStep S names names (known ++ os) os
+pass-by S names known os none r = let H = held_of S names in record {
+  ready = record {
+    whole = r.whole;
+    holds = r.holds;
+    fed = subst (λ (T : List Object). AreFed S T os) none (fed-back S H known os r.fed);
+  };
+  same = ap (λ (T : List Object). grown T os) (sym none) ∙ sym (grown-append H known os);
+}
+
 -- a tree that is held is passed by
 pub skip-step : (S : List Object) (names : List Name) (n : Bytes) (os : List Object) → has_name (held_of S names) n ≡ true → IsReady S names (stored_objects S n ++ os) → IsStep S names names (stored_objects S n ++ os) os
 skip-step S names n os k r =
+    pass-by S names (stored_objects S n) os (stored-none S (held_of S names) n r.whole r.holds.held (named-in S (reverse (map name_bytes names))) k) r
+
+-- so are entries whose children are held
+pub skip-entries : (S : List Object) (names : List Name) (es : List Entry) (os : List Object) → HasChildren (held_of S names) es →
+    IsReady S names (entries_steps itself [] S es ++ os) → IsStep S names names (entries_steps itself [] S es ++ os) os
+skip-entries S names es os h r =
     let H = held_of S names in
-    let none = stored-none S H n r.whole r.holds.held (named-in S (reverse (map name_bytes names))) k in record {
-      ready = record {
-        whole = r.whole;
-        holds = r.holds;
-        fed = subst (λ (T : List Object). AreFed S T os) none (fed-back S H (stored_objects S n) os r.fed);
-      };
-      same = ap (λ (T : List Object). grown T os) (sym none) ∙ sym (grown-append H (stored_objects S n) os);
-    }
+    let i = named-in S (reverse (map name_bytes names)) in
+    let same = part-entries S H i (λ n t. stored-part S H n r.whole r.holds.held i t) es h in
+    let none = ap (grown H) (sym same) ∙ grown-known H (entries_steps itself [] H es) (entries-known H (λ n t. stored-known H n r.holds.held t) es h) in
+    pass-by S names (entries_steps itself [] S es) os none r
 
 -- the same objects, spelled otherwise
 pub same-step : (S : List Object) (names : List Name) (os left : List Object) → os ≡ left → IsReady S names os → IsStep S names names os left
@@ -191,11 +204,11 @@ module _ {A : Type 0} (f : Object → A) (mark : List A) (S : List Object) where
       ap (λ (t : List A). t ++ frame_steps f mark S x) (frames-push ds d) ∙ append_assoc (frame_steps f mark S d) (frames_steps f mark S ds) (frame_steps f mark S x)
 
   -- a tree that is gone down into
-  pub frames-open : (ds : List Frame) (n : Name) (es : List Entry) → IsStore S → has Tree S n.0 ≡ true → listed (body_of Tree S n.0) ≡ es →
-      tree_steps f mark S n.0 ++ frames_steps f mark S ds ≡ frames_steps f mark S (ds ++ record { name = n; entries = es } ∷ [])
-  frames-open ds n es s h e =
+  pub frames-open : (ds : List Frame) (n : Name) (es bs : List Entry) → IsStore S → has Tree S n.0 ≡ true → listed (body_of Tree S n.0) ≡ es →
+      tree_steps f mark S n.0 ++ frames_steps f mark S ds ≡ frames_steps f mark S (ds ++ record { name = n; entries = es; beside = bs } ∷ [])
+  frames-open ds n es bs s h e =
       ap (λ (t : List A). t ++ frames_steps f mark S ds) (tree-unfolds f mark S n.0 s h ∙ ap (λ (l : List Entry). steps f mark S l ++ f (tree_at S n.0) ∷ []) e)
-      ∙ sym (frames-push ds (record { name = n; entries = es }))
+      ∙ sym (frames-push ds (record { name = n; entries = es; beside = bs }))
 
   -- the first of the entries that are left
   pub first-entry : (es : List Entry) (e : Entry) → Some e ≡ slice_get es 0 → entries_steps f mark S es ≡ child f mark S e.mode e.name.0 ++ entries_steps f mark S (drop 1 es)
@@ -206,20 +219,20 @@ pub absent-step : (S : List Object) (names : List Name) (n : Bytes) (os : List O
 absent-step S names n os h r = same-step S names (stored_objects S n ++ os) os (ap (λ (t : List Object). t ++ os) (no-steps itself [] S n h)) r
 
 -- one step at a frame: its tree, a blob, or a tree below it
-pub frame-end : {A : Type 0} (f : Object → A) (mark : List A) (S : List Object) (n : Name) (es es' : List Entry) → es' ≡ [] →
-    entries_steps f mark S es ≡ next_steps f mark S None ++ entries_steps f mark S es' → frame_steps f mark S (record { name = n; entries = es }) ≡ f (tree_at S n.0) ∷ []
-frame-end f mark S n es es' h e = ap (λ (t : List _). t ++ f (tree_at S n.0) ∷ []) (e ∙ ap (entries_steps f mark S) h)
+pub frame-end : {A : Type 0} (f : Object → A) (mark : List A) (S : List Object) (n : Name) (es es' bs : List Entry) → es' ≡ [] →
+    entries_steps f mark S es ≡ next_steps f mark S None ++ entries_steps f mark S es' → frame_steps f mark S (record { name = n; entries = es; beside = bs }) ≡ f (tree_at S n.0) ∷ []
+frame-end f mark S n es es' bs h e = ap (λ (t : List _). t ++ f (tree_at S n.0) ∷ []) (e ∙ ap (entries_steps f mark S) h)
 
-pub frame-next : {A : Type 0} (f : Object → A) (mark : List A) (S : List Object) (n : Name) (es es' : List Entry) (ds : List Frame) (k : Child) →
+pub frame-next : {A : Type 0} (f : Object → A) (mark : List A) (S : List Object) (n : Name) (es es' bs : List Entry) (ds : List Frame) (k : Child) →
     entries_steps f mark S es ≡ next_steps f mark S (Some k) ++ entries_steps f mark S es' →
-    frame_steps f mark S (record { name = n; entries = es }) ++ frames_steps f mark S ds ≡ next_steps f mark S (Some k) ++ frames_steps f mark S (ds ++ record { name = n; entries = es' } ∷ [])
-frame-next f mark S n es es' ds k e =
+    frame_steps f mark S (record { name = n; entries = es; beside = bs }) ++ frames_steps f mark S ds ≡ next_steps f mark S (Some k) ++ frames_steps f mark S (ds ++ record { name = n; entries = es'; beside = bs } ∷ [])
+frame-next f mark S n es es' bs ds k e =
     let last = f (tree_at S n.0) ∷ [] in
     let next = next_steps f mark S (Some k) in
     ap (λ (t : List _). (t ++ last) ++ frames_steps f mark S ds) e
     ∙ ap (λ (t : List _). t ++ frames_steps f mark S ds) (append_assoc next (entries_steps f mark S es') last)
     ∙ append_assoc next (entries_steps f mark S es' ++ last) (frames_steps f mark S ds)
-    ∙ ap (λ (t : List _). next ++ t) (sym (frames-push f mark S ds (record { name = n; entries = es' })))
+    ∙ ap (λ (t : List _). next ++ t) (sym (frames-push f mark S ds (record { name = n; entries = es'; beside = bs })))
 
 -- ---- open frames
 

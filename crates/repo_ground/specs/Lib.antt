@@ -9,6 +9,7 @@ pub mod Keeping
 pub mod Laws
 pub mod Growing
 pub mod StoredObjects
+pub mod Beside
 pub mod Entering
 pub mod Moving
 pub mod Drafting

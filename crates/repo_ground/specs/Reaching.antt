@@ -49,9 +49,13 @@ pub record MayEnter (S : List Object) (rows : List Row) (known : List Snapshot) 
 
 -- ---- refs that may be tested
 
--- refs in order of arrival have the commits that they have in byte order, and these commits have rows
+-- refs in order of arrival have the commits that they have in byte order
+abbrev pub IsSorting : Refs → Refs → Type 0
+IsSorting refs sorted = (r : Bytes) → head_of refs r ≡ find_entry bytes_cmp r sorted
+
+-- and these commits have rows
 pub record AreHeads (rows : List Row) (refs sorted : Refs) : Type 0 where
-  pub found : (r : Bytes) → head_of refs r ≡ find_entry bytes_cmp r sorted
+  pub found : IsSorting refs sorted
   pub placed : (r n : Bytes) → head_of refs r ≡ Some n → IsSome (place_of n rows)
 
 -- old and new commits of these settings have rows, the new ones as some of these commits

@@ -1,11 +1,11 @@
 // Holding the objects of a batch.
-ghost use Rattle.std.specs.Prelude.{◌≡◌, true, [], List, map, OnOk, Some};
+ghost use Rattle.std.specs.Prelude.{◌≡◌, true, [], List, map, IfOk, OnOk, Some};
 ghost use Rattle.std.specs.List.{flat_map, list_all};
 ghost use Rattle.git_objects.specs.Parts.{name_bytes};
 ghost use Rattle.git_objects.specs.Paths.{Bytes};
 ghost use Rattle.git_objects.specs.Snapshots.{Snapshot};
 ghost use Rattle.object_store.specs.Objects.{Object, find_named, has};
-ghost use Rattle.object_store.specs.StoredSnapshots.{snapshot_object};
+ghost use Rattle.object_store.specs.StoredSnapshots.{IsTreeOf, snapshot_object};
 ghost use Rattle.fast_import.specs.Standing.{AreBlobsIn};
 ghost use Rattle.projection_laws.specs.StoredGraphs.{snapshot_named};
 ghost use Rattle.state_items.specs.Changes.{blob_object, commit_objects, objects_of};
@@ -19,22 +19,26 @@ use indexmap::IndexSet;
 use object_store::{Store, tree_of};
 use std::alloc::{AllocError, Global};
 
-// Holds a commit and the objects of its tree.
+// Holds a commit and the objects of its tree, whose name it gives. What this tree shares with a held tree, which may be
+// named, isn't looked up.
 fn hold_commit(
     alloc: Global,
     store: &Store,
     held: &mut IndexSet<Name>,
     name: Name,
-) -> Result<(), AllocError>
+    beside: Option<Name>,
+) -> Result<Name, AllocError>
     requires { has Kind.Commit store.now name.0 ≡ true }
+    ensures tree { IfOk result (λ t. IsTreeOf store.now name.0 t.0) }
     ensures step { OnOk result (let S = store.now in (c : Snapshot) → snapshot_named S name.0 ≡ Some c →
         find_named S name.0 ≡ Some (snapshot_object c) → IsReady S held.old.keys (commit_objects c) →
         IsStep S held.old.keys held.new.keys (commit_objects c) []) }
     ensures extends { Extends held.old.keys held.new.keys }
 {
     let tree = tree_of(store, &name);
-    hold_tree(alloc, store, held, tree)?;
-    hold(held, name)
+    hold_tree(alloc, store, held, tree, beside)?;
+    hold(held, name)?;
+    Ok(tree)
 }
 
 // Holds these commits and the objects of their trees, one commit after another.
@@ -50,8 +54,9 @@ fn hold_commits(
         IsStep S held.old.keys held.new.keys (flat_map commit_objects cs) []) }
     ensures extends { Extends held.old.keys held.new.keys }
 {
+    let mut beside = None;
     for name in names {
-        hold_commit(alloc, store, held, *name)?;
+        beside = Some(hold_commit(alloc, store, held, *name, beside)?);
     }
     Ok(())
 }

@@ -1,5 +1,5 @@
 // Whether refs move forward.
-ghost use Rattle.std.specs.Prelude.{◌≡◌, ◌++◌, ◌∷◌, [], List, map, reverse, IfOk};
+ghost use Rattle.std.specs.Prelude.{◌≡◌, ◌++◌, ◌∷◌, [], List, map, reverse, true, IfOk, None};
 ghost use Rattle.std.specs.FinMap.{find};
 ghost use Rattle.git_objects.specs.Paths.{Bytes};
 ghost use Rattle.git_objects.specs.Refs.{Refs as Heads, bytes_cmp};
@@ -12,7 +12,7 @@ ghost use Rattle.state_items.specs.Repos.{repo};
 ghost use Rattle.repo_ground.specs.Changes.{IsBatchOf, settings_of};
 ghost use Rattle.repo_ground.specs.Entering.{IsFront};
 ghost use Rattle.repo_ground.specs.Moves.{IsMove, backward, first_backward};
-ghost use Rattle.repo_ground.specs.Reaching.{MayMove, MayTest};
+ghost use Rattle.repo_ground.specs.Reaching.{IsSorting, MayMove, MayTest};
 
 use crate::enter::enter_commits;
 use crate::{Batch, State};
@@ -86,7 +86,33 @@ fn backward_among(
     Ok(None)
 }
 
-// Enters the batch's commits that have no rows, and tests its settings. The first rows stay.
+// Whether a setting's ref isn't there, or has the new commit already.
+fn is_settled(refs: &Refs, setting: &Setting) -> bool
+    ensures { result ≡ true → let e = setting_value setting.now in (cs : List Snapshot) (sorted : Heads) →
+        IsSorting refs.now sorted → backward cs e (find bytes_cmp e.0 sorted) ≡ None }
+{
+    match refs.get(&setting.refname) {
+        None => true,
+        Some(old) => old == setting.head,
+    }
+}
+
+// Whether the ref of each setting isn't there or has the new commit already: then none moves backward, whatever
+// commits there are.
+fn are_settled(refs: &Refs, settings: &[Setting]) -> bool
+    ensures { result ≡ true → (cs : List Snapshot) (sorted : Heads) → IsSorting refs.now sorted →
+        first_backward cs sorted (map setting_value settings.now) ≡ None }
+{
+    for setting in settings {
+        if !is_settled(refs, setting) {
+            return false;
+        }
+    }
+    true
+}
+
+// Enters the batch's commits that have no rows, and tests its settings. The first rows stay. Where no ref moves that is
+// there, no commit has to be entered.
 fn backward_in(
     alloc: Global,
     store: &Store,
@@ -101,6 +127,9 @@ fn backward_in(
         IfOk result (IsMove (first_backward (reverse cs ++ known) sorted (settings_of batch.now))) }
     ensures front { IsFront graph.old graph.new }
 {
+    if are_settled(refs, &batch.refs) {
+        return Ok(None);
+    }
     enter_commits(alloc, store, graph, &batch.commits)?;
     backward_among(alloc, graph, refs, &batch.refs)
 }

@@ -5,7 +5,6 @@ use Rattle.repo_ground.specs.Growing.{IsReady, IsStep}
 use Rattle.repo_ground.specs.StoredObjects.{stored_objects}
 use Rattle.repo_ground.proofs.Grows.{ready-front, step-front, step-then}
 use Rattle.repo_ground.proofs.StoredCommits.{commit-spelled}
-use Rattle.repo_ground.proofs.Walks.{on-ok}
 use Rattle.repo_ground.proofs.holding.hold_commit.Goals as goal
 
 pub returns-clause-step : goal.returns-clause-step
@@ -16,12 +15,10 @@ returns-clause-step c =
     let mid = c.hold_tree.new.held.keys in
     let new = c.hold.new.held.keys in
     let front = stored_objects S c.tree_of-tree.result.0 in
-    on-ok c.hold.result
-    (λ step x named found r.
+    λ x named found r.
     let last = snapshot_object x ∷ [] in
     let e = commit-spelled S n c.tree_of-tree.result.0 x r.whole c.tree_of-tree.ensures named in
     let q = subst (λ (os : List Object). IsReady S old os) e r in
     let tree = step-front S old mid front last q (c.in_ok-hold_tree.ensures.step (ready-front S old front last q)) in
     subst (λ (os : List Object). IsStep S old new os []) (sym e)
-    (step-then S old mid new (front ++ last) last [] tree (step S (snapshot_object x) [] found tree.ready)))
-    c.hold.ensures.step
+    (step-then S old mid new (front ++ last) last [] tree (c.in_ok-hold.ensures.step S (snapshot_object x) [] found tree.ready))
