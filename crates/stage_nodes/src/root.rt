@@ -11,7 +11,7 @@ use path_trees::Found;
 use std::alloc::{AllocError, Global};
 
 // Room for the nodes of a few directories.
-const NODES: usize = 64;
+const NODES: usize = 256;
 
 // Room for the bytes of their components.
 const NAMES: usize = 1024;
