@@ -58,7 +58,8 @@ pub fn spell(alloc: Global, entries: &[Entry]) -> Result<Vec<u8>, AllocError>
     Ok(body)
 }
 
-// Adds one entry, with the bytes of its name. The digits and the space are one append of constant length, which is fast.
+// Adds one entry, with the bytes of its name. The digits and the space are one append of constant length, which is
+// fast.
 #[tactic(auto, unfolding(crate::specs::Names::line))]
 fn add_line(body: &mut Vec<u8>, mode: Mode, component: &[u8], name: &[u8]) -> Result<(), AllocError>
     ensures { OnOk result (body.new.items ≡ body.old.items ++ line mode component.now name.now) }

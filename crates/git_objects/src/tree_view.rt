@@ -1,5 +1,6 @@
 // What a tree's body lists, seen in place.
-ghost use Rattle.std.specs.Prelude.{◌≡◌, ◌≢◌, List, Some, None, IfSome, ◌∷◌, ◌++◌, [], drop, is_some, slice_get, true, false};
+ghost use Rattle.std.specs.Prelude.{◌≡◌, ◌≢◌, List, Some, None, IfSome, ◌∷◌, ◌++◌, [], drop, is_some};
+ghost use Rattle.std.specs.Prelude.{slice_get, true, false};
 ghost use Rattle.std.specs.Option.{ForSome};
 ghost use Rattle.std.specs.Option.{option_map};
 ghost use Rattle.std.specs.Ordering.{is_lt};
@@ -182,8 +183,10 @@ fn first_entry<'a>(body: &'a [u8]) -> Option<(EntryView<'a>, &'a [u8])>
 
 // What follows the first entry of each of two bodies, where both spell the same one.
 fn after_same<'a, 'b>(a: &'a [u8], b: &'b [u8]) -> Option<(&'a [u8], &'b [u8])>
-    ensures apart { result ≡ None → (e : Entry) (r s : Bytes) → entry_from a.now ≡ Some (e, r) → entry_from b.now ≢ Some (e, s) }
-    ensures same { IfSome result (λ r. (e : Entry) × (entry_from a.now ≡ Some (e, r.0.now)) × (entry_from b.now ≡ Some (e, r.1.now))) }
+    ensures apart { result ≡ None → (e : Entry) (r s : Bytes) → entry_from a.now ≡ Some (e, r) →
+        entry_from b.now ≢ Some (e, s) }
+    ensures same { IfSome result (λ r. (e : Entry) × (entry_from a.now ≡ Some (e, r.0.now)) ×
+        (entry_from b.now ≡ Some (e, r.1.now))) }
 {
     let (_, after) = first_entry(a)?;
     let line = &a[..a.len() - after.len()];
