@@ -38,7 +38,8 @@ AreNamed es = list_all (λ e. is_result e.1) es ≡ true
 abbrev pub AreOfGraph : Contents → Type 0
 AreOfGraph s = Each (λ e. IsSome (place_of e.0 s.basis.graph)) (unheld s)
 
--- Some items spell what is held, and the map is that of the filter of this text under the state's rule.
+-- Some items spell what is held, each entry of the map that no item holds is of a commit of the graph, and the map is
+-- that of the filter of this text under the state's rule.
 pub record IsKeepable (s : Contents) (text : Bytes) : Type 0 where
   pub spells : SpellsSomething s
   pub originals : AreOfGraph s

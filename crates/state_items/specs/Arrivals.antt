@@ -57,7 +57,7 @@ blobs_of (o ∷ older) = with_blob_name (blobs_of older) o.kind o.body
 abbrev pub AreNamed : List Object → List Name → Type 0
 AreNamed S names = reverse (map name_bytes names) ≡ map object_name S
 
--- an object that may be taken in and isn't held stands behind the others then
+-- an object that may be taken in and isn't held arrives: the newest stands in front of the others
 pub record IsAdded (S : List Object) (k : Kind) (b : Bytes) (T : List Object) : Type 0 where
   pub refusal : refusal S k b ≡ None
   pub fresh : has_name S (name k b) ≡ false
