@@ -206,3 +206,21 @@ names_more ps i d lt h k =
     ap (λ (qs : List Name). list_all is_name (map name_bytes qs)) (take_more ps i d lt)
     ∙ ap (list_all is_name) (map-append name_bytes (take i ps) (get_or ps i d ∷ []))
     ∙ names_push (map name_bytes (take i ps)) (name_bytes (get_or ps i d)) h k
+
+-- ---- the tree alone
+
+tree_behind : (t : Bytes) (o : Option (List Bytes × Letter)) (c : Commit) → option_map (λ r. record { tree = t; parents = r.0; letter = r.1 }) o ≡ Some c → t ≡ c.tree
+tree_behind t None c h = absurd (none_some h)
+  where
+    none_some : None ≡ Some c → ⊥
+    none_some e = cc
+tree_behind t (Some r) c h = let e : record { tree = t; parents = r.0; letter = r.1 } ≡ c = cc in ap (λ (d : Commit). d.tree) e
+
+tree_first_by : (o : Option (Bytes × Bytes)) (c : Commit) → option_and_then (λ t. option_map (λ r. record { tree = t.0; parents = r.0; letter = r.1 }) (rest_from 16 t.1)) o ≡ Some c → option_map (λ r. r.0) o ≡ Some c.tree
+tree_first_by None c h = cc
+tree_first_by (Some t) c h = ap Some (tree_behind t.0 (rest_from 16 t.1) c h)
+
+-- the name in a commit's first line is that of its tree
+pub tree_first : (b : Bytes) (o : Option (Bytes × Bytes)) (c : Commit) → o ≡ name_field (codes "tree") b → commit_from b ≡ Some c → option_map (λ r. r.0) o ≡ Some c.tree
+unfolding commit_from
+tree_first b o c e h = tree_first_by o c (ap (option_and_then (λ t. option_map (λ r. record { tree = t.0; parents = r.0; letter = r.1 }) (rest_from 16 t.1))) e ∙ h)

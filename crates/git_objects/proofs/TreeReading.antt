@@ -251,13 +251,20 @@ names_bytes [] h k = refl
 names_bytes (e ∷ es) h k =
     and_both (and_both (line_name e (bytes_first (entry_line e) (body_text es) h)) (first_so _ _ k)) (names_bytes es (bytes_second (entry_line e) (body_text es) h) (second_so _ _ k))
 
+pub read_text : (b : Bytes) (es : List Entry) → tree_entries b ≡ Some es → body_text es ≡ b
+unfolding tree_entries
+read_text b es h =
+    let d = then_some if_listed (spelled_entries b) es h in
+    let c = cond_some (is_listing d.0) d.0 es d.2 in
+    ap body_text (sym c.1) ∙ (spelled_within (length b) b d.0 d.1).0
+
 read_law : (b : Bytes) (es : List Entry) → is_bytes b ≡ true → tree_entries b ≡ Some es → IsTreeBody es b
 unfolding tree_entries
 read_law b es bytes h =
     let d = then_some if_listed (spelled_entries b) es h in
     let c = cond_some (is_listing d.0) d.0 es d.2 in
     let s = spelled_within (length b) b d.0 d.1 in
-    let text : body_text es ≡ b = ap body_text (sym c.1) ∙ s.0 in
+    let text : body_text es ≡ b = read_text b es h in
     let listed : is_listing es ≡ true = ap is_listing (sym c.1) ∙ c.0 in
     let long : names_long es ≡ true = ap names_long (sym c.1) ∙ s.1 in
     record {

@@ -6,13 +6,13 @@ use Rattle.std.proofs.lemmas.Bool.{eqb-true}
 use Rattle.std.specs.Ordering.{is_lt}
 use Rattle.std.specs.Cmp.{second_so}
 use Rattle.git_objects.specs.Paths.{Bytes, same_bytes, is_component}
-use Rattle.git_objects.specs.Entries.{git_cmp, entry_component, entry_dir}
+use Rattle.git_objects.specs.Entries.{git_cmp, entry_component, entry_dir, body_text}
 use Rattle.git_objects.specs.Bodies.{entry_from, is_first, is_listing, if_listed, tree_entries}
 use Rattle.git_objects.specs.Neighbours.{spelled_entries, before_dir, is_alone, fits_before, stands}
 use Rattle.git_objects.specs.declared.entry.Entry.{Entry}
 use Rattle.git_objects.proofs.IdentSpelling.{some_same}
 use Rattle.git_objects.proofs.Neighbours.{in_order-listing}
-use Rattle.git_objects.proofs.TreeReading.{spelled-entry, spelled-none}
+use Rattle.git_objects.proofs.TreeReading.{read_text, spelled-entry, spelled-none}
 
 -- ---- whether a component stands alone
 
@@ -135,3 +135,11 @@ tree_first b e k h = found (entry_from b) refl
 pub nothing_left : (b : Bytes) → true ≡ nat_eq (length b) 0 → is_some (tree_entries b) ≡ true
 nothing_left [] e = tree_empty
 nothing_left (x ∷ b) e = let none : length (x ∷ b) ≡ 0 = eqb-true (length (x ∷ b)) 0 (sym e) in absurd (omega arith)
+
+-- the bytes that are left spell the entries that are left
+pub tree_text : (b : Bytes) → IsSome (tree_entries b) → b ≡ body_text (unwrap_or (tree_entries b) [])
+tree_text b h = by (tree_entries b) refl h
+  where
+    by : (o : Option (List Entry)) → tree_entries b ≡ o → IsSome o → b ≡ body_text (unwrap_or o [])
+    by None e g = absurd (true≢false (sym g))
+    by (Some es) e g = sym (read_text b es e)

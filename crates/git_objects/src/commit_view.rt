@@ -1,8 +1,9 @@
 // What a commit's body says, seen in place.
-ghost use Rattle.std.specs.Prelude.{◌≡◌, ◌≤◌, true, None, IfSome, IfNone, length, slice_get};
+ghost use Rattle.std.specs.Prelude.{◌≡◌, ◌≤◌, true, None, Some, IfSome, IfNone, length, slice_get};
 ghost use Rattle.std.specs.List.{list_all};
 ghost use Rattle.std.specs.Option.{option_map};
 ghost use Rattle.git_objects.specs.Bodies.{is_name};
+ghost use Rattle.git_objects.specs.Commits.{Commit};
 ghost use Rattle.git_objects.specs.CommitBodies.{commit_from, field_from, ident_field, is_parent, letter_from};
 ghost use Rattle.git_objects.specs.CommitBodies.{lower_name, name_field, rest_from, strip};
 ghost use Rattle.git_objects.specs.ParentLines.{parents_at, with_parents};
@@ -108,6 +109,17 @@ impl<'a> CommitView<'a> {
         ensures { result.now ≡ self.now.letter.message }
     {
         self.letter.message
+    }
+}
+
+/// The name of the tree in a commit's body, as the caller knows it to be one. What stands behind the line of the tree
+/// isn't read.
+pub fn tree_in_commit(body: &[u8]) -> Option<Name>
+    ensures { (c : Commit) → commit_from body.now ≡ Some c → option_map name_bytes result ≡ Some c.tree }
+{
+    match name_field(b"tree", body) {
+        None => None,
+        Some((tree, _)) => Some(tree),
     }
 }
 

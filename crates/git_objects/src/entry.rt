@@ -29,6 +29,7 @@ pub fn encode_tree(alloc: Global, entries: &[Entry]) -> Result<Vec<u8>, AllocErr
 }
 
 /// Adds one entry to a body: the mode's digits, a space, the component, a zero byte and the 20 bytes of a name.
+#[inline(always)]
 pub fn add_entry(
     body: &mut Vec<u8>,
     mode: Mode,
@@ -60,6 +61,7 @@ pub fn spell(alloc: Global, entries: &[Entry]) -> Result<Vec<u8>, AllocError>
 
 // Adds one entry, with the bytes of its name. The digits and the space are one append of constant length, which is
 // fast.
+#[inline(always)]
 #[tactic(auto, unfolding(crate::specs::Names::line))]
 fn add_line(body: &mut Vec<u8>, mode: Mode, component: &[u8], name: &[u8]) -> Result<(), AllocError>
     ensures { OnOk result (body.new.items ≡ body.old.items ++ line mode component.now name.now) }

@@ -65,6 +65,7 @@ impl Ident {
     }
 }
 
+#[inline(always)]
 fn first_of(byte: u8, text: &[u8]) -> Option<usize>
     ensures { result ≡ position (λ x. x == byte) text.now }
 {
@@ -72,6 +73,7 @@ fn first_of(byte: u8, text: &[u8]) -> Option<usize>
 }
 
 // What stands before the first byte of that value, and what stands after it.
+#[inline(always)]
 pub fn cut(byte: u8, text: &[u8]) -> Option<(&[u8], &[u8])>
     ensures { option_map (λ r. (r.0.now, r.1.now)) result ≡ cut_at byte text.now }
 {

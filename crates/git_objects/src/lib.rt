@@ -20,10 +20,10 @@ mod tree_view;
 
 pub use bytes::Bytes;
 pub use commit::{CommitParts, encode_commit};
-pub use commit_view::CommitView;
+pub use commit_view::{CommitView, tree_in_commit};
 pub use component::{Component, is_component};
 pub use entry::{Entry, add_entry, encode_tree};
-pub use entry_order::compare_components;
+pub use entry_order::{compare_bytes, compare_components};
 pub use ident::{Ident, IdentFault};
 pub use kind::Kind;
 pub use laws::{commit_body_law, ident_law, tree_body_law};

@@ -1,5 +1,5 @@
 // Names of objects.
-ghost use Rattle.std.specs.Prelude.{true, ◌≡◌, ◌↔◌, ◌∷◌, [], IsSome, IsTrue, length, replicate};
+ghost use Rattle.std.specs.Prelude.{true, ◌≡◌, ◌↔◌, ◌∷◌, [], IsSome, IsTrue, length, replicate, take};
 ghost use Rattle.std.proofs.Common.{rules};
 ghost use Rattle.std.specs.Cmp.Rules.{hashing};
 ghost use Rattle.std.specs.List.{AllPass};
@@ -22,14 +22,15 @@ use std::hash::{Hash, Hasher};
 #[derive(Clone, Copy, Debug, PartialEq, Eq)]
 pub struct Name(pub [u8; 20]);
 
-// One write of all 20 bytes: a map keyed by names hashes each of them once.
+// One write of eight bytes. A name is the value of a hash by itself, so these tell nearly all names apart, and they are
+// hashed much faster than 20.
 impl Hash for Name {
-    ghost hash_input = { λ n. n.0 ∷ [] };
+    ghost hash_input = { λ n. take 8 n.0 ∷ [] };
 
     ghost respects_eq = { Prim.search (hashing, rules) };
 
     fn hash<H: Hasher>(&self, state: &mut H) {
-        state.write(&self.0);
+        state.write(&self.0[..8]);
     }
 }
 

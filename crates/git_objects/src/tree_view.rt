@@ -4,7 +4,7 @@ ghost use Rattle.std.specs.Prelude.{slice_get, true, false};
 ghost use Rattle.std.specs.Option.{ForSome};
 ghost use Rattle.std.specs.Option.{option_map};
 ghost use Rattle.std.specs.Ordering.{is_lt};
-ghost use Rattle.git_objects.specs.Entries.{entry_component, entry_dir, git_cmp};
+ghost use Rattle.git_objects.specs.Entries.{body_text, entry_component, entry_dir, git_cmp};
 ghost use Rattle.git_objects.specs.Bodies.{entry_from, first_mode, mode_from, target_from, tree_entries};
 ghost use Rattle.git_objects.specs.Paths.{Bytes};
 ghost use Rattle.git_objects.specs.Neighbours.{before_dir, fits_before, is_alone, spelled_entries, stands};
@@ -75,7 +75,16 @@ impl<'a> TreeView<'a> {
         TreeView { rest: self.rest }
     }
 
+    /// The bytes that spell the entries that are left.
+    #[inline(always)]
+    pub fn bytes(&self) -> &'a [u8]
+        ensures { result.now ≡ body_text self.now }
+    {
+        self.rest
+    }
+
     /// The next entry.
+    #[inline(always)]
     pub fn next(&mut self) -> Option<EntryView<'a>>
         ensures entry { option_map entry_value result ≡ slice_get self.old 0 }
         ensures rest { self.new ≡ drop 1 self.old }
@@ -142,6 +151,7 @@ fn mode_from(text: &[u8]) -> Option<Mode>
 }
 
 // An entry of that mode and component, from what follows the zero byte.
+#[inline(always)]
 fn target<'a>(mode: Mode, component: &'a [u8], text: &'a [u8]) -> Option<(EntryView<'a>, &'a [u8])>
     ensures { option_map (λ r. (entry_value r.0, r.1.now)) result
         ≡ target_from mode (component.now, text.now) }
@@ -158,14 +168,15 @@ fn target<'a>(mode: Mode, component: &'a [u8], text: &'a [u8]) -> Option<(EntryV
 }
 
 // The mode of the first entry, and what follows the space behind it. The two that are common are looked for at once.
+#[inline(always)]
 fn first_mode<'a>(body: &'a [u8]) -> Option<(Mode, &'a [u8])>
     ensures { option_map (λ r. (r.0, r.1.now)) result ≡ first_mode body.now }
 {
-    if let Some(rest) = body.strip_prefix(b"100644 ".as_slice()) {
-        return Some((Mode::File, rest));
-    }
     if let Some(rest) = body.strip_prefix(b"40000 ".as_slice()) {
         return Some((Mode::Dir, rest));
+    }
+    if let Some(rest) = body.strip_prefix(b"100644 ".as_slice()) {
+        return Some((Mode::File, rest));
     }
     let (digits, rest) = cut(b' ', body)?;
     let mode = mode_from(digits)?;
@@ -173,6 +184,7 @@ fn first_mode<'a>(body: &'a [u8]) -> Option<(Mode, &'a [u8])>
 }
 
 // The first entry, and what follows it.
+#[inline(always)]
 fn first_entry<'a>(body: &'a [u8]) -> Option<(EntryView<'a>, &'a [u8])>
     ensures { option_map (λ r. (entry_value r.0, r.1.now)) result ≡ entry_from body.now }
 {

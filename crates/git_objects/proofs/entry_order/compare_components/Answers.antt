@@ -10,9 +10,9 @@ pub returns-in-Equal : goal.returns-in-Equal
 returns-in-Equal c =
     c.compare_tails.ensures
     ∙ (λ i. slice_cmp nat_cmp (dir_key (take_rest c.args.a.now c.min-n.result i) c.args.a_dir) (dir_key (take_rest c.args.b.now c.min-n.result i) c.args.b_dir))
-    ∙ front_ties c.min-n.result c.args.a.now c.args.b.now c.args.a_dir c.args.b_dir (omega arith) (omega arith) (sym c.in-Equal.is ∙ c.cmp.ensures)
+    ∙ front_ties c.min-n.result c.args.a.now c.args.b.now c.args.a_dir c.args.b_dir (omega arith) (omega arith) (sym c.in-Equal.is ∙ c.compare_bytes.ensures)
 
 pub returns-in_default : goal.returns-in_default
 returns-in_default c =
-    c.cmp.ensures
-    ∙ front_decides c.min-n.result c.args.a.now c.args.b.now c.args.a_dir c.args.b_dir (omega arith) (omega arith) (λ e. c.in_default.not-Equal (c.cmp.ensures ∙ e))
+    c.compare_bytes.ensures
+    ∙ front_decides c.min-n.result c.args.a.now c.args.b.now c.args.a_dir c.args.b_dir (omega arith) (omega arith) (λ e. c.in_default.not-Equal (c.compare_bytes.ensures ∙ e))
