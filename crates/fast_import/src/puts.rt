@@ -30,7 +30,7 @@ pub(crate) fn put_object(store: &mut Store, kind: Kind, body: &[u8]) -> Result<N
     ensures err { IfErr result (IsPutFault (IsOnly kind body.now) store.new) }
     ensures store { IsGrownBy (IsOnly kind body.now) store.old store.new }
 {
-    match store.put_slice(kind, body) {
+    match store.put_fitting(kind, body) {
         Ok(name) => Ok(name),
         Err(PutError::Collision { name }) => Err(StreamFault::Collision { name }),
         Err(PutError::OutOfMemory) => Err(StreamFault::OutOfMemory),

@@ -1,6 +1,7 @@
 -- Commits of a store.
 use Rattle.std.proofs.Common.{◌≡◌, true, false, cond, ◌&&◌, ◌||◌, List, [], ◌∷◌, None, Some, refl, sym, ap, ◌∙◌, true≢false}
 use Rattle.std.specs.Cmp.{first_so, second_so}
+use Rattle.std.specs.declared.option.Option.{Option}
 use Rattle.std.specs.Option.{is_none, option_map_or}
 use Rattle.git_objects.specs.Paths.{Bytes, is_bytes}
 use Rattle.git_objects.specs.Commits.{Commit}
@@ -96,3 +97,14 @@ pub commit-read : (S : List Object) (n : Bytes) (o : Object) → IsStore S → h
 commit-read S n o s h e r =
     let held = stored-commit S n s h in
     let no : Some held.commit ≡ None = sym held.read ∙ ap commit_from (commit-told S n o s h e) ∙ r in cc
+
+-- the tree that is read of a stored commit's body is the commit's
+pub tree-told : (S : List Object) (n : Bytes) (o : Object) (t : Option Bytes) → IsStore S → has CommitKind S n ≡ true → Some o ≡ find_named S n → ((c : Commit) → commit_from o.body ≡ Some c → t ≡ Some c.tree) → (t ≡ None → ⊥) × ((u : Bytes) → t ≡ Some u → IsTreeOf S n u)
+tree-told S n o t s h e told =
+    let held = stored-commit S n s h in
+    let read : commit_from o.body ≡ Some held.commit = sym (ap commit_from (commit-told S n o s h e)) ∙ held.read in
+    let tree : t ≡ Some held.commit.tree = told held.commit read in (
+      (λ none. let no : Some held.commit.tree ≡ None = sym tree ∙ none in cc),
+      (λ u is. let same : u ≡ held.commit.tree = let f : Some u ≡ Some held.commit.tree = sym is ∙ tree in cc in
+          commit-tree S n u o held.commit s h e (sym read) same),
+    )

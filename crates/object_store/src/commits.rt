@@ -4,7 +4,7 @@ ghost use Rattle.object_store.specs.Objects.{has};
 ghost use Rattle.object_store.specs.StoredSnapshots.{IsTreeOf};
 
 use crate::Store;
-use git_objects::{CommitView, Kind, Name};
+use git_objects::{Kind, Name, tree_in_commit};
 
 /// The name of a commit's tree, which is in the store. Needs no memory.
 pub fn tree_of(store: &Store, commit: &Name) -> Name
@@ -13,9 +13,9 @@ pub fn tree_of(store: &Store, commit: &Name) -> Name
 {
     match store.get(commit) {
         None => unreachable!(),
-        Some(object) => match CommitView::of(object.body) {
+        Some(object) => match tree_in_commit(object.body) {
             None => unreachable!(),
-            Some(commit) => commit.tree(),
+            Some(tree) => tree,
         },
     }
 }

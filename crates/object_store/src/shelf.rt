@@ -305,26 +305,37 @@ impl<'a> Shelf<'a> {
         }
     }
 
-    /// What is said of a tree's body of which the caller knows that it is one and that its children are held: only its
-    /// name may be refused. The sizes are worked out where no object has the name.
-    pub(crate) fn judge_tree(&self, body: &[u8]) -> Result<Judged, PutError>
-        requires { of_body self.now Kind.Tree body.now None ≡ None }
-        ensures { MatchResult result
-            (IsJudged self.now Kind.Tree body.now)
-            (λ e. refusal self.now Kind.Tree body.now ≡ refusal_told e) }
+    // The sizes of what a body of that kind stands for, whose children are held.
+    fn fitting_stats(&self, kind: Kind, body: &[u8]) -> TreeStats
+        requires { of_body self.now kind body.now None ≡ None }
+        ensures { result ≡ sizes (body_flat self.now kind body.now) }
     {
-        let name = name_of(Kind::Tree, body);
-        match self.is_same(&name, Kind::Tree, body) {
+        match kind {
+            Kind::Tree => self.held_entries_stats(TreeView::of_canonical(body)),
+            Kind::Blob | Kind::Commit => NO_PATH,
+        }
+    }
+
+    /// What is said of a body of which the caller knows that it is one of that kind and that its children are held:
+    /// only its name may be refused. The sizes are worked out where no object has the name.
+    pub(crate) fn judge_fitting(&self, kind: Kind, body: &[u8]) -> Result<Judged, PutError>
+        requires { of_body self.now kind body.now None ≡ None }
+        ensures { MatchResult result
+            (IsJudged self.now kind body.now)
+            (λ e. refusal self.now kind body.now ≡ refusal_told e) }
+    {
+        let name = name_of(kind, body);
+        match self.is_same(&name, kind, body) {
             Some(true) => Ok(Judged::Held { name }),
             Some(false) => Err(PutError::Collision { name }),
             None => {
-                let stats = self.held_entries_stats(TreeView::of_canonical(body));
+                let stats = self.fitting_stats(kind, body);
                 Ok(Judged::New { name, stats })
             }
         }
     }
 
-    /// What `judge_tree` says of a tree's body with these entries, which aren't read from it.
+    /// What `judge_fitting` says of a tree's body with these entries, which aren't read from it.
     pub(crate) fn judge_listed(
         &self,
         entries: &[EntryView<'_>],

@@ -178,26 +178,26 @@ impl Store {
         }
     }
 
-    /// Takes a tree in as `put_slice` does, from a body of which the caller knows that it is one and that its children
-    /// are held: it isn't read again where it is held already.
-    pub fn put_tree(&mut self, body: &[u8]) -> Result<Name, PutError>
-        requires { of_body self.old Kind.Tree body.now None ≡ None }
-        ensures ok { IfOk result (λ n. (n.0 ≡ name Kind.Tree body.now) × (refusal self.old Kind.Tree body.now ≡ None)
-            × (self.new ≡ with_object self.old Kind.Tree body.now)) }
+    /// Takes an object in as `put_slice` does, from a body of which the caller knows that it is one of that kind and
+    /// that its children are held. A commit's body isn't read again, nor is a tree's that is held already.
+    pub fn put_fitting(&mut self, kind: Kind, body: &[u8]) -> Result<Name, PutError>
+        requires { of_body self.old kind body.now None ≡ None }
+        ensures ok { IfOk result (λ n. (n.0 ≡ name kind body.now) × (refusal self.old kind body.now ≡ None)
+            × (self.new ≡ with_object self.old kind body.now)) }
         ensures err { IfErr result (λ e. (self.new ≡ self.old)
-            × ((e ≡ PutError.OutOfMemory) ⊎ (refusal self.old Kind.Tree body.now ≡ refusal_told e))) }
+            × ((e ≡ PutError.OutOfMemory) ⊎ (refusal self.old kind body.now ≡ refusal_told e))) }
         ensures store { IsStore self.new }
     {
-        match self.shelf().judge_tree(body)? {
+        match self.shelf().judge_fitting(kind, body)? {
             Judged::Held { name } => Ok(name),
-            Judged::New { name, stats } => match self.add(Kind::Tree, name, body, stats) {
+            Judged::New { name, stats } => match self.add(kind, name, body, stats) {
                 Ok(()) => Ok(name),
                 Err(_) => Err(PutError::OutOfMemory),
             },
         }
     }
 
-    /// Takes a tree in as `put_tree` does, from its entries too: they aren't read from the body.
+    /// Takes a tree in as `put_fitting` does, from its entries too: they aren't read from the body.
     pub fn put_listed(&mut self, entries: &[EntryView<'_>], body: &[u8]) -> Result<Name, PutError>
         requires body { of_body self.old Kind.Tree body.now None ≡ None }
         requires entries { tree_entries body.now ≡ Some (map entry_value entries.now) }

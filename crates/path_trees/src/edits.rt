@@ -177,7 +177,7 @@ pub fn taken_in(store: &mut Store, body: &[u8]) -> Result<Name, TreeFault>
     ensures err { IfErr result (λ e. (store.new ≡ store.old) × IsRefused store.old body.now e) }
     ensures store { IsStore store.new }
 {
-    match store.put_tree(body) {
+    match store.put_fitting(Kind::Tree, body) {
         Ok(name) => Ok(name),
         Err(PutError::Collision { name }) => Err(TreeFault::Collision { name }),
         Err(PutError::OutOfMemory) => Err(TreeFault::OutOfMemory),
