@@ -1,16 +1,14 @@
 // Reading one directory.
-ghost use Rattle.std.specs.Prelude.{◌≡◌, map, IfOk, Some, is_some, true};
+ghost use Rattle.std.specs.Prelude.{◌≡◌, is_some, true};
 ghost use Rattle.git_objects.specs.Bodies.{tree_entries};
-ghost use Rattle.git_objects.specs.Views.{entry_value};
 ghost use Rattle.std.specs.Option.{option_and_then};
 ghost use Rattle.object_store.specs.Errors.{object_value};
 ghost use Rattle.object_store.specs.Objects.{IsStore};
-ghost use Rattle.path_trees.specs.Listed.{directory_of, entries_of, found_at, listed, listed_at};
+ghost use Rattle.path_trees.specs.Listed.{directory_of, entries_of, found_at, listed};
 
 use crate::Found;
-use git_objects::{EntryView, Kind, Mode, Name, TreeView};
+use git_objects::{Kind, Mode, Name, TreeView};
 use object_store::{ObjectRef, Store};
-use std::alloc::{AllocError, Global};
 
 /// The entries of an object of a store, unless it is no tree. Needs no memory.
 pub fn entries_in<'a>(object: ObjectRef<'a>) -> Option<TreeView<'a>>
@@ -73,41 +71,4 @@ pub fn directory_in(store: &Store, directory: &Name, component: &[u8]) -> Option
     } else {
         None
     }
-}
-
-// No entry of a tree's body has fewer bytes, and none has more beside its component.
-pub const ENTRY_BYTES: usize = 28;
-
-/// The entries of the tree of that name, one beside another; none where no tree has the name.
-pub fn listing<'a>(
-    alloc: Global,
-    store: &'a Store,
-    name: &Name,
-) -> Result<Vec<EntryView<'a>>, AllocError>
-    ensures entries { IfOk result (λ entries. map entry_value entries.items ≡ listed_at store.now (Some name.now.0)) }
-    ensures store { IsStore store.now }
-{
-    let Some(object) = store.get(name) else {
-        return Ok(Vec::new(alloc));
-    };
-    let room = object.body.len() / ENTRY_BYTES;
-    match entries_in(object) {
-        None => Ok(Vec::new(alloc)),
-        Some(view) => collected(alloc, view, room),
-    }
-}
-
-// The entries of a view, with room for so many.
-fn collected<'a>(
-    alloc: Global,
-    mut view: TreeView<'a>,
-    room: usize,
-) -> Result<Vec<EntryView<'a>>, AllocError>
-    ensures { IfOk result (λ entries. map entry_value entries.items ≡ view.entry) }
-{
-    let mut entries = Vec::with_capacity(alloc, room)?;
-    'view: while let Some(entry) = view.next() {
-        entries.push(entry)?;
-    }
-    Ok(entries)
 }

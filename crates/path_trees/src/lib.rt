@@ -14,11 +14,11 @@ mod rebuild;
 mod walk;
 
 pub use clash::first_clash;
-pub use directory::{entries_in, listing};
+pub use directory::entries_in;
 pub use edits::{put_at, remove_at, taken_in};
 pub use entries::{insert, taken_entries};
 pub use found::{Found, Leaf, TreeFault};
 pub use join::{JoinFault, join_apart, join_disjoint};
 pub use laws::together_law;
 pub use lookup::{entry_at, entry_in};
-pub use walk::Walk;
+pub use walk::{Walk, entries_at};

@@ -119,7 +119,7 @@ pub fn copied(alloc: Global, component: &[u8]) -> Result<Component, AllocError>
     Ok(Component::of(component.to_vec(alloc)?))
 }
 
-// The entries of the tree of that name.
+/// The entries of the tree of that name. Needs no memory.
 pub fn entries_at<'a>(store: &'a Store, name: &Name) -> TreeView<'a>
     requires { has Tree store.now name.now.0 ≡ true }
     ensures listed { listed store.now name.now.0 ≡ Some result }

@@ -1,8 +1,9 @@
 -- A child added to a directory.
-use Rattle.std.proofs.Common.{◌≡◌, ℕ, ◌+◌, ◌<◌, ◌≤◌, ◌≢◌, Bool, true, false, cond, ◌||◌, ◌==◌, List, [], ◌∷◌, length, Option, Some, None, refl, sym, ap, subst, ◌∙◌, arith, true≢false}
+use Rattle.std.proofs.Common.{◌≡◌, inl, inr, ℕ, ◌+◌, ◌<◌, ◌≤◌, ◌≢◌, Bool, true, false, cond, ◌||◌, ◌==◌, List, [], ◌∷◌, length, Option, Some, None, refl, sym, ap, subst, ◌∙◌, arith, true≢false}
 use Rattle.std.specs.Prelude.{slice_get, nat_lt}
 use Rattle.std.specs.declared.cmp.Ordering.TheVariants.{Less}
 use Rattle.std.specs.Ordering.{is_lt}
+use Rattle.std.proofs.lemmas.Bool.Decides.{eqb_tells}
 use Rattle.std.proofs.lemmas.Option.{slice_get_within}
 use Rattle.git_objects.specs.Paths.{Bytes, Path, same_bytes, is_component}
 use Rattle.object_store.specs.Objects.{Object}
@@ -12,17 +13,16 @@ use Rattle.stage_nodes.specs.declared.nodes.Nodes.{Nodes}
 use Rattle.stage_nodes.specs.declared.nodes.Content.{Content}
 use Rattle.stage_nodes.specs.declared.nodes.Content.TheVariants.{Held}
 use Rattle.stage_nodes.specs.declared.nodes.Link.TheVariants.{First, Next}
-use Rattle.stage_nodes.specs.Forests.{Forest, Nil, Bin, one, count, Reads, forest, target, is_link, sought, inserted, bytes_cmp, Beyond, IsSound, Sound}
+use Rattle.stage_nodes.specs.Forests.{Forest, Nil, Bin, one, count, Reads, target, is_link, sought, inserted, bytes_cmp, Beyond, IsSound, Sound}
 use Rattle.stage_nodes.specs.Frames.{Frame, plug, link_of, count_up, ReadsUp}
-use Rattle.stage_nodes.specs.Pools.{inside, spare, hanging, Walks, IsAdded, IsPutBefore}
-use Rattle.stage_nodes.specs.Directories.{any, has_component, IsDirectory, IsAddedTo}
+use Rattle.stage_nodes.specs.Pools.{inside, spare, hanging, IsAdded, IsPutBefore}
+use Rattle.stage_nodes.specs.Directories.{any, has_component, has_number, IsDirectory, IsAddedTo}
 use Rattle.stage_nodes.specs.Leaves.{leaf_in, leaf_below}
 use Rattle.path_trees.proofs.Gathering.{is_less}
 use Rattle.stage_nodes.proofs.Order.{less_trans, less_back}
 use Rattle.stage_nodes.proofs.Seeking.{inside_link}
 use Rattle.stage_nodes.proofs.Framing.{reads_kept, holder, target_up, count_plug, ReadsAll}
 use Rattle.stage_nodes.proofs.Pools.{own_count, one_most, forest_is, walk_is}
-use Rattle.stage_nodes.proofs.Freeing.{first_of}
 use Rattle.stage_nodes.proofs.Places.{IsFound, found_here}
 use Rattle.stage_nodes.proofs.Pointing.{IsBeside, pointed_all, pointed_beside, pointed_stay, next_stay, next_beside, next_before, next_up, base_written}
 
@@ -62,6 +62,13 @@ module _ (p : Content → Bool) (c : Bytes) (k : ℕ) (x : Content) (l : Forest)
         | false ↦ λ e. let less = less_back c d e apart.0 in (h, (less, beyond_far c d r less s.1), g, s)
       ] refl
 
+or_true : (b : Bool) → (b || true) ≡ true
+or_true true = refl
+or_true false = refl
+
+own_number : (k : ℕ) (F : Forest) → (k == k || has_number k F) ≡ true
+own_number k F = elim (eqb_tells k k) [ inl e ↦ ap (λ b. b || has_number k F) e.0 | inr e ↦ absurd (e.1 refl) ]
+
 has_more : (a b e : Bool) → (a || (b || e)) ≡ (b || (a || e))
 has_more true true e = refl
 has_more true false e = refl
@@ -74,6 +81,26 @@ has_inserted d c k x l (Bin j e y n r) =
     elim (is_lt (bytes_cmp e c)) as (λ t. has_component d (cond t (Bin j e y n (inserted c k x l r)) (Bin k c x l (Bin j e y n r))) ≡ (same_bytes d c || (same_bytes d e || has_component d r))) [
       | true ↦ ap (λ b. same_bytes d e || b) (has_inserted d c k x l r) ∙ has_more (same_bytes d e) (same_bytes d c) (has_component d r)
       | false ↦ refl
+    ]
+
+pub number_inserted : (c : Bytes) (k : ℕ) (x : Content) (l F : Forest) → has_number k (inserted c k x l F) ≡ true
+number_inserted c k x l Nil = own_number k Nil
+number_inserted c k x l (Bin j e y n r) =
+    elim (is_lt (bytes_cmp e c)) as (λ t. has_number k (cond t (Bin j e y n (inserted c k x l r)) (Bin k c x l (Bin j e y n r))) ≡ true) [
+      | true ↦ (λ i. k == j || number_inserted c k x l r i) ∙ or_true (k == j)
+      | false ↦ own_number k (Bin j e y n r)
+    ]
+
+kept_behind : (v : Bool) (m : ℕ) (r s : Forest) → (v || has_number m r) ≡ true → (has_number m r ≡ true → has_number m s ≡ true) → (v || has_number m s) ≡ true
+kept_behind true m r s h f = refl
+kept_behind false m r s h f = f h
+
+pub number_kept : (c : Bytes) (m k : ℕ) (x : Content) (l F : Forest) → has_number m F ≡ true → has_number m (inserted c k x l F) ≡ true
+number_kept c m k x l Nil h = absurd (true≢false (sym h))
+number_kept c m k x l (Bin j e y n r) h =
+    elim (is_lt (bytes_cmp e c)) as (λ t. has_number m (cond t (Bin j e y n (inserted c k x l r)) (Bin k c x l (Bin j e y n r))) ≡ true) [
+      | true ↦ kept_behind (m == j) m r (inserted c k x l r) h (number_kept c m k x l r)
+      | false ↦ (λ i. m == k || h i) ∙ or_true (m == k)
     ]
 
 -- what it adds
@@ -106,19 +133,7 @@ module _ (s t : Nodes) (b : ℕ) (c : Bytes) (f : Found) (K : Forest) (same : ha
   apart_t : (m : ℕ) → one (m == b) + count m K + one (m == k) + count m (spare t) ≤ inside t m
   apart_t m = omega (arith, ad.counts m, dir.apart m)
 
-  few_t : (m : ℕ) → count m K ≤ inside t m
-  few_t m = omega (arith, apart_t m)
-
-  first_t : target t.cells.items (First b) ≡ dir.node.first
-  first_t = first_of t.cells.items b dir.node there_t
-
-  hanging_t : hanging t (First b) ≡ K
-  hanging_t = ap (forest t.names.items t.cells.items) first_t ∙ forest_is t.names.items t.cells.items dir.node.first K kids_t few_t
-
-  pub walk_t : Walks t (target t.cells.items (First b))
-  walk_t = subst (λ (o : Option ℕ). Walks t o) (sym first_t) (walk_is t.names.items t.cells.items dir.node.first K kids_t few_t)
-
-  pub link_t : is_link t.cells.items (First b) ≡ true
+  link_t : is_link t.cells.items (First b) ≡ true
   link_t = inside_link t.names.items t.cells.items b (slice_get_within t.cells.items b dir.node there_t)
 
   pub number_t : is_link t.cells.items (Next k) ≡ true
@@ -137,8 +152,8 @@ module _ (s t : Nodes) (b : ℕ) (c : Bytes) (f : Found) (K : Forest) (same : ha
       top Nil = tt
       top (Bin i d x l r) = tt
 
-  pub link_is : sought c (First b) (hanging t (First b)) ≡ link_of b found.frames
-  link_is = ap (sought c (First b)) hanging_t ∙ sym found.link
+  pub link_is : sought c (First b) K ≡ link_of b found.frames
+  link_is = sym found.link
 
   pub link_there : is_link t.cells.items (link_of b found.frames) ≡ true
   link_there = by found.frames found.number found.here.reads_up
@@ -208,11 +223,10 @@ module _ (s t : Nodes) (b : ℕ) (c : Bytes) (f : Found) (K : Forest) (same : ha
         pointed_stay put.middle s' b up found.number (Some k) new next.pool around reads_new apart_u put.link_cells put.link_names put.link_free m n h
         (next_stay t put.middle k (target t.cells.items (link_of b up)) ad.node ad.there ad.pool (omega (arith, fresh)) put.next_cells put.next_names put.next_free m n a e)
 
-    pub is_added : IsAddedTo s s' b c f
+    pub is_added : IsAddedTo s s' b c f k
     is_added =
         let dd = subst (λ (F : Forest). IsDirectory s' b (inserted c k (Held f) Nil F)) (sym same) directory in
         record {
-          number = k;
           directory = dd;
           names = record { more = ad.names.more; front = ad.names.front ∙ sym (put.link_names ∙ put.next_names) };
           node = λ n h. kept_node dd.node dd.there n h;

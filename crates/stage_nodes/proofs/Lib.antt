@@ -8,6 +8,8 @@ pub mod Leaves
 pub mod Pools
 pub mod Freeing
 pub mod Pointing
+pub mod Starting
+pub mod Parting
 pub mod Inserting
 pub mod Expanding
 pub mod Opening

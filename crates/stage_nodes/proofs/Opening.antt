@@ -7,16 +7,14 @@ use Rattle.std.proofs.lemmas.Bool.Decides.{eqb_tells}
 use Rattle.git_objects.specs.Paths.{Bytes, Path}
 use Rattle.git_objects.specs.Trees.{at}
 use Rattle.git_objects.specs.declared.entry.Entry.{Entry}
-use Rattle.git_objects.specs.declared.kind.Kind.TheVariants.{Tree}
 use Rattle.git_objects.specs.declared.name.Name.{Name}
 use Rattle.git_objects.proofs.Basics.{and_both}
-use Rattle.object_store.specs.Objects.{Object, has, IsStore}
+use Rattle.object_store.specs.Objects.{Object}
 use Rattle.object_store.specs.Unfolding.{flat}
 use Rattle.object_store.proofs.Unfolding.{AreHeld}
-use Rattle.path_trees.specs.Listed.{listed_at}
 use Rattle.path_trees.proofs.Grown.{joined_in}
 use Rattle.path_trees.proofs.Levels.{at-joined_nil}
-use Rattle.path_trees.proofs.Trees.{AreGood, tree_listed}
+use Rattle.path_trees.proofs.Trees.{AreGood}
 use Rattle.stage_nodes.specs.declared.nodes.Node.{Node}
 use Rattle.stage_nodes.specs.declared.nodes.Nodes.{Nodes}
 use Rattle.stage_nodes.specs.declared.nodes.Content.TheVariants.{Open}
@@ -34,9 +32,6 @@ pub same_node : {o : Option Node} {a d : Node} → o ≡ Some a → o ≡ Some d
 same_node h g = cc
 
 -- ---- what a tree lists
-
-pub stored_entries : (S : List Object) (n : Bytes) → IsStore S → has Tree S n ≡ true → (es : List Entry) × (listed_at S (Some n) ≡ es) × AreGood S es × (flat S n ≡ joined_in S es)
-stored_entries S n s h = let r = tree_listed S n s h in (r.0, ap (λ o. unwrap_or o []) r.1, r.2, r.3)
 
 all_held : (S : List Object) (es : List Entry) → AreHeld S es → AllPass (is_held S) es
 all_held S [] h = tt

@@ -152,9 +152,9 @@ module _ (s s' : Nodes) (c : Bytes) (x : Content) (j : Option ℕ) (node : Node)
     | Some i ↦ λ f g. subst (IsAdded s s' c x j) (sym g) (added_free i (spare s) f refl pool.walk pool.chain pool.apart)
   ] refl e
 
--- ---- a component's bytes added
+-- ---- a component as a part of the bytes
 
-range_pushed : (xs ys : Bytes) (i n : ℕ) → i ≡ length xs → n ≡ length ys → Rattle.std.specs.Prelude.slice_range (xs ++ ys) i (i + n) ≡ ys
+pub range_pushed : (xs ys : Bytes) (i n : ℕ) → i ≡ length xs → n ≡ length ys → Rattle.std.specs.Prelude.slice_range (xs ++ ys) i (i + n) ≡ ys
 range_pushed xs ys i n e f =
     (λ j. Rattle.std.proofs.Common.take (count_back i n j) (Rattle.std.proofs.Common.drop (e j) (xs ++ ys)))
     ∙ ap (Rattle.std.proofs.Common.take n) (Rattle.std.proofs.Math.Seq.drop-append_seam xs ys)
@@ -163,18 +163,14 @@ range_pushed xs ys i n e f =
     count_back : (i n : ℕ) → Rattle.std.proofs.Common.◌-◌ (i + n) i ≡ n
     count_back i n = omega arith
 
-pub added_cell : (names names' c : Bytes) (node : Node) (x : Content) → names ++ c ≡ names' → node.at ≡ length names → node.len ≡ length c → node.content ≡ x → IsCell names' node c x
-added_cell names names' c node x e f g h = record {
-  within = omega (arith, ap length e, length-append names c);
-  component = ap (λ (b : Bytes). Rattle.std.specs.Prelude.slice_range b node.at (node.at + node.len)) (sym e) ∙ range_pushed names c node.at node.len f g;
-  content = h;
-}
-
-pub added_result : {E : Type 0} (s s' : Nodes) (c names : Bytes) (x : Content) (j : Option ℕ) (at_ len_ : ℕ) (r : Rattle.std.proofs.Common.Result ℕ E) → IsPool s → names ≡ s.names.items ++ c → s'.names.items ≡ names → at_ ≡ length s.names.items → len_ ≡ length c →
+pub part_result : {E : Type 0} (s s' : Nodes) (x : Content) (j : Option ℕ) (at_ len_ : ℕ) (r : Rattle.std.proofs.Common.Result ℕ E) → IsPool s → at_ + len_ ≤ length s.names.items → s'.names.items ≡ s.names.items →
     Rattle.std.proofs.Common.IfOk r (λ k. k ≡ place_number s.cells.items s.free) →
     Rattle.std.proofs.Common.OnOk r (s'.cells.items ≡ placed s.cells.items s.free (record { at = at_; len = len_; content = x; first = j; next = None })) →
-    Rattle.std.proofs.Common.OnOk r (s'.free ≡ free_after s.cells.items s.free) → Rattle.std.proofs.Common.IfOk r (IsAdded s s' c x j)
-added_result s s' c names x j at_ len_ (Rattle.std.proofs.Common.Ok k) pool e f g h number cells free =
+    Rattle.std.proofs.Common.OnOk r (s'.free ≡ free_after s.cells.items s.free) → Rattle.std.proofs.Common.IfOk r (IsAdded s s' (Rattle.std.specs.Prelude.slice_range s.names.items at_ (at_ + len_)) x j)
+part_result s s' x j at_ len_ (Rattle.std.proofs.Common.Ok k) pool w f number cells free =
     let node : Node = record { at = at_; len = len_; content = x; first = j; next = None } in
-    added s s' c x j node pool (record { more = c; front = sym (f ∙ e) }) (added_cell s.names.items s'.names.items c node x (sym (f ∙ e)) g h refl) refl refl cells free k number
-added_result s s' c names x j at_ len_ (Rattle.std.proofs.Common.Err e') pool e f g h number cells free = tt
+    added s s' (Rattle.std.specs.Prelude.slice_range s.names.items at_ (at_ + len_)) x j node pool
+    (record { more = []; front = Rattle.std.proofs.Common.append-nil s.names.items ∙ sym f })
+    (record { within = omega (arith, w, ap length f); component = ap (λ (b : Bytes). Rattle.std.specs.Prelude.slice_range b at_ (at_ + len_)) f; content = refl })
+    refl refl cells free k number
+part_result s s' x j at_ len_ (Rattle.std.proofs.Common.Err e) pool w f number cells free = tt

@@ -18,6 +18,11 @@ abbrev pub has_component : Bytes → Forest → Bool
 has_component c Nil = false
 has_component c (Bin k d x l r) = same_bytes c d || has_component c r
 
+-- whether a sibling has this number
+abbrev pub has_number : ℕ → Forest → Bool
+has_number m Nil = false
+has_number m (Bin k d x l r) = m == k || has_number m r
+
 -- the node of this number is a directory whose children are these
 pub record IsDirectory (s : Nodes) (b : ℕ) (K : Forest) : Type 0 where
   pub pool : IsPool s
@@ -28,12 +33,11 @@ pub record IsDirectory (s : Nodes) (b : ℕ) (K : Forest) : Type 0 where
   pub sound : Sound any K
   pub apart : (m : ℕ) → one (m == b) + count m K + count m (spare s) ≤ inside s m
 
--- A child was added to it.
-pub record IsAddedTo (s s' : Nodes) (b : ℕ) (c : Bytes) (f : Found) : Type 0 where
-  pub number : ℕ
-  pub directory : IsDirectory s' b (inserted c number (Held f) Nil (hanging s (First b)))
+-- A child of that number was added to it.
+pub record IsAddedTo (s s' : Nodes) (b : ℕ) (c : Bytes) (f : Found) (k : ℕ) : Type 0 where
+  pub directory : IsDirectory s' b (inserted c k (Held f) Nil (hanging s (First b)))
   pub names : IsKept s.names.items s'.names.items
   -- but for its first child the directory is as it was
   pub node : (n : Node) → slice_get s.cells.items b ≡ Some n → record directory.node { first = n.first } ≡ n
-  pub counts : (m : ℕ) → count m (inserted c number (Held f) Nil (hanging s (First b))) + count m (spare s') + inside s m ≡ count m (hanging s (First b)) + count m (spare s) + inside s' m
+  pub counts : (m : ℕ) → count m (inserted c k (Held f) Nil (hanging s (First b))) + count m (spare s') + inside s m ≡ count m (hanging s (First b)) + count m (spare s) + inside s' m
   pub stay : StayBut s s' (λ m. one (m == b) + count m (hanging s (First b)) + count m (spare s))

@@ -1,4 +1,5 @@
 -- A directory that a path goes through for the first time: its entries become nodes.
+use Rattle.std.specs.List.{All}
 use Rattle.std.specs.Prelude.{◌≡◌, ℕ, ◌+◌, ◌==◌, Bool, true, false, List, [], ◌∷◌, slice_get, Some, None}
 use Rattle.git_objects.specs.Paths.{Bytes, Path}
 use Rattle.git_objects.specs.Trees.{at}
@@ -11,12 +12,17 @@ use Rattle.object_store.specs.Unfolding.{flat, joined}
 use Rattle.path_trees.specs.Listed.{found}
 use Rattle.stage_nodes.specs.declared.nodes.Node.{Node}
 use Rattle.stage_nodes.specs.declared.nodes.Nodes.{Nodes}
+use Rattle.stage_nodes.specs.declared.nodes.Link.TheVariants.{First}
 use Rattle.stage_nodes.specs.declared.nodes.Content.{Content}
 use Rattle.stage_nodes.specs.declared.nodes.Content.TheVariants.{Held}
 use Rattle.stage_nodes.specs.Forests.{Forest, one, count, Sound}
-use Rattle.stage_nodes.specs.Pools.{IsKept, IsPool, StayBut, inside, spare}
-use Rattle.stage_nodes.specs.Directories.{IsDirectory, has_component}
+use Rattle.stage_nodes.specs.Pools.{IsKept, IsPool, StayBut, hanging, inside, spare}
+use Rattle.stage_nodes.specs.Directories.{IsDirectory, has_component, has_number}
 use Rattle.stage_nodes.specs.Leaves.{leaf_in, is_held}
+
+-- each of these numbers is that of a child of the directory
+abbrev pub AreChildren : Nodes → ℕ → List ℕ → Type 0
+AreChildren s b ks = All (λ k. has_number k (hanging s (First b)) ≡ true) ks
 
 -- each entry passes a test as a node's content
 abbrev pub AllPass : (Content → Bool) → List Entry → Type 0

@@ -1,26 +1,33 @@
 // Nodes in one vector, linked by their numbers.
-ghost use Rattle.std.specs.Prelude.{◌≡◌, ◌+◌, ◌<◌, ◌≤◌, true, false, length, map, slice_set, Some};
+ghost use Rattle.std.specs.Prelude.{◌≡◌, ◌++◌, ◌+◌, ◌<◌, ◌≤◌, true, false, length, slice_range, slice_set, Some};
 ghost use Rattle.std.specs.Prelude.{IfOk, IfSome, OnErr, OnOk};
 ghost use Rattle.std.specs.Ordering.{is_lt};
 ghost use Rattle.stage_nodes.specs.Forests.{IsWalk, bytes_cmp, forest, is_link, node_component, sought, target, weight};
-ghost use Rattle.git_objects.specs.Paths.{is_component, same_bytes};
+ghost use Rattle.git_objects.specs.Paths.{Bytes, is_component, same_bytes};
 ghost use Rattle.stage_nodes.specs.Closing.{CanClose, IsClosedAt};
 ghost use Rattle.stage_nodes.specs.Directories.{IsAddedTo, IsDirectory, has_component};
-ghost use Rattle.stage_nodes.specs.Expanding.{IsClosed, IsExpanded, IsFilling, IsPartly, IsWaste};
+ghost use Rattle.stage_nodes.specs.Expanding.{AreChildren, IsClosed, IsExpanded, IsFilling, IsPartly, IsWaste};
 ghost use Rattle.git_objects.specs.declared.kind.Kind.TheVariants.{Tree};
 ghost use Rattle.object_store.specs.Objects.{IsStore, has};
 ghost use Rattle.stage_nodes.specs.Forests.{Nil};
-ghost use Rattle.git_objects.specs.Entries.{AreEntries};
-ghost use Rattle.git_objects.specs.Views.{entry_value};
+ghost use Rattle.git_objects.specs.Bodies.{is_name};
+ghost use Rattle.git_objects.specs.Entries.{AreEntries, body_text};
+ghost use Rattle.std.specs.List.{list_all};
 ghost use Rattle.stage_nodes.specs.Frames.{pointed};
 ghost use Rattle.stage_nodes.specs.Pools.{CanFree, IsAdded, IsFreed, IsFreeing, IsPool, IsPutBefore, IsSame};
 ghost use Rattle.stage_nodes.specs.Pools.{free_after, hanging, place_number, placed};
 
-use git_objects::{EntryView, Mode, Name};
+use git_objects::{Mode, Name, TreeView, compare_bytes};
 use object_store::Store;
-use path_trees::{Found, listing};
+use path_trees::{Found, entries_at};
 use std::alloc::{AllocError, Global};
 use std::cmp::Ordering;
+
+// So many bytes of an entry stand behind its component: a zero byte and a name.
+const BEHIND_COMPONENT: usize = 21;
+
+// Room for so many children's numbers at first.
+const CHILDREN: usize = 64;
 
 /// What a node is.
 #[derive(Clone, Copy)]
@@ -31,8 +38,8 @@ pub enum Content {
     Open,
 }
 
-/// A directory or a leaf: its component, as a part of the bytes of all components, what it is, and the numbers of the
-/// first of its children and of its next sibling.
+/// A directory or a leaf: its component, as a part of the bytes of all nodes, what it is, and the numbers of the first
+/// of its children and of its next sibling.
 #[derive(Clone, Copy)]
 pub struct Node {
     pub at: usize,
@@ -49,8 +56,8 @@ pub enum Link {
     Next(usize),
 }
 
-/// The nodes, the bytes of their components, and the number of the first free node. The free nodes are linked as
-/// siblings.
+/// The nodes, the bytes that have their components as parts, and the number of the first free node. The free nodes are
+/// linked as siblings.
 #[derive(Drop)]
 pub struct Nodes {
     pub cells: Vec<Node>,
@@ -60,6 +67,7 @@ pub struct Nodes {
 
 impl Nodes {
     /// The number at a link.
+    #[inline(always)]
     pub fn target(&self, link: Link) -> Option<usize>
         requires { is_link self.now.cells.items link ≡ true }
         ensures { result ≡ target self.now.cells.items link }
@@ -71,13 +79,12 @@ impl Nodes {
     }
 
     /// Whether a node's component comes before another one by their bytes.
+    #[inline(always)]
     pub fn is_before(&self, node: Node, component: &[u8]) -> bool
         requires { node.at + node.len ≤ length self.now.names.items }
         ensures { result ≡ is_lt (bytes_cmp (node_component self.now.names.items node) component.now) }
     {
-        self.names[node.at..node.at + node.len]
-            .cmp(component)
-            .is_lt()
+        compare_bytes(&self.names[node.at..node.at + node.len], component).is_lt()
     }
 
     // Whether a node has a component.
@@ -89,6 +96,7 @@ impl Nodes {
     }
 
     // Where a component stands among the siblings from a link on: the link to the first that is not before it.
+    #[inline]
     pub(crate) fn seek(&self, start: Link, component: &[u8]) -> Link
         requires link { is_link self.now.cells.items start ≡ true }
         requires walk { IsWalk self.now.names.items self.now.cells.items (target self.now.cells.items start) }
@@ -108,6 +116,7 @@ impl Nodes {
     }
 
     /// Sets the number at a link.
+    #[inline(always)]
     pub fn point(&mut self, link: Link, number: Option<usize>)
         requires { is_link self.old.cells.items link ≡ true }
         ensures cells { self.new.cells.items ≡ pointed self.old.cells.items link number }
@@ -121,6 +130,7 @@ impl Nodes {
     }
 
     /// Keeps a node under a free number, or a new one where none is free.
+    #[inline(always)]
     pub fn place(&mut self, node: Node) -> Result<usize, AllocError>
         requires { IfSome self.old.free (λ k. k < length self.old.cells.items) }
         ensures number { IfOk result (λ k. k ≡ place_number self.old.cells.items self.old.free) }
@@ -144,6 +154,7 @@ impl Nodes {
     }
 
     /// Makes a node that no link reaches yet, with the children from a number on.
+    #[inline(always)]
     pub fn add(
         &mut self,
         component: &[u8],
@@ -156,9 +167,29 @@ impl Nodes {
     {
         let at = self.names.len();
         self.names.extend_from_slice(component)?;
+        self.add_part(at, component.len(), content, first)
+    }
+
+    // Makes a node that no link reaches yet, with the children from a number on. Its component is a part of the bytes
+    // of all nodes.
+    #[inline(always)]
+    fn add_part(
+        &mut self,
+        at: usize,
+        len: usize,
+        content: Content,
+        first: Option<usize>,
+    ) -> Result<usize, AllocError>
+        requires pool { IsPool self.old }
+        requires within { at + len ≤ length self.old.names.items }
+        ensures ok { IfOk result (IsAdded self.old self.new
+            (slice_range self.old.names.items at (at + len)) content first) }
+        ensures err { OnErr result (IsSame self.old self.new) }
+        ensures names { self.new.names ≡ self.old.names }
+    {
         let node = Node {
             at,
-            len: component.len(),
+            len,
             content,
             first,
             next: None,
@@ -179,6 +210,7 @@ impl Nodes {
     }
 
     // Gives a node without children back, or takes its first child from it to stand before it. What comes then.
+    #[inline(always)]
     fn free_one(&mut self, number: usize) -> Option<usize>
         requires { CanFree self.old (Some number) }
         ensures turn { IsFreeing self.old self.new (Some number) result }
@@ -202,6 +234,7 @@ impl Nodes {
     }
 
     // Puts a node at a link, before these siblings.
+    #[inline(always)]
     pub(crate) fn put_before(&mut self, link: Link, behind: Option<usize>, number: usize)
         requires link { is_link self.old.cells.items link ≡ true }
         requires number { is_link self.old.cells.items (Link.Next number) ≡ true }
@@ -211,24 +244,57 @@ impl Nodes {
         self.point(link, Some(number));
     }
 
-    // Adds a child to a directory that has none of this component.
+    // The link from which a component is looked for among a directory's children: behind the last of those given that
+    // stands before the component. The given ones behind that one are taken off, since no later component that comes
+    // behind them is looked for from them.
+    #[inline(always)]
+    fn start(&self, directory: usize, children: &mut Vec<usize>, component: &[u8]) -> Link
+        requires directory { IsDirectory self.now directory (hanging self.now (Link.First directory)) }
+        requires children { AreChildren self.now directory children.old.items }
+        ensures children { AreChildren self.now directory children.new.items }
+        ensures place { sought component.now result (hanging self.now result)
+            ≡ sought component.now (Link.First directory) (hanging self.now (Link.First directory)) }
+        ensures link { is_link self.now.cells.items result ≡ true }
+        ensures walk { IsWalk self.now.names.items self.now.cells.items (target self.now.cells.items result) }
+    {
+        'children: while !children.is_empty() {
+            let number = children[children.len() - 1];
+            if self.is_before(self.cells[number], component) {
+                return Link::Next(number);
+            }
+            children.pop();
+        }
+        Link::First(directory)
+    }
+
+    // Adds a child to a directory that has none of this component, and gives its number. The component is a part of the
+    // bytes of all nodes, and its place is looked for from the last of the given children that stands before it.
+    #[inline(always)]
     fn add_child(
         &mut self,
         directory: usize,
+        children: &mut Vec<usize>,
+        at: usize,
         component: &[u8],
         found: Found,
-    ) -> Result<(), AllocError>
+    ) -> Result<usize, AllocError>
         requires directory { IsDirectory self.old directory (hanging self.old (Link.First directory)) }
+        requires children { AreChildren self.old directory children.old.items }
         requires component { is_component component.now ≡ true }
         requires absent { has_component component.now (hanging self.old (Link.First directory)) ≡ false }
-        ensures ok { OnOk result (IsAddedTo self.old self.new directory component.now found) }
+        requires within { at + length component.now ≤ length self.old.names.items }
+        requires part { slice_range self.old.names.items at (at + length component.now) ≡ component.now }
+        ensures children { AreChildren self.old directory children.new.items }
+        ensures ok { IfOk result (λ k. IsAddedTo self.old self.new directory component.now found k) }
         ensures err { OnErr result (IsSame self.old self.new) }
+        ensures names { self.new.names.items ≡ self.old.names.items }
     {
-        let number = self.add(component, Content::Held(found), None)?;
-        let link = self.seek(Link::First(directory), component);
+        let start = self.start(directory, children, component);
+        let link = self.seek(start, component);
+        let number = self.add_part(at, component.len(), Content::Held(found), None)?;
         let behind = self.target(link);
         self.put_before(link, behind, number);
-        Ok(())
+        Ok(number)
     }
 
     /// Keeps another node under a number.
@@ -241,23 +307,53 @@ impl Nodes {
         self.cells[number] = node;
     }
 
-    // Adds these entries to a directory without children. They come in Git's order and are added from the last to the
-    // first, so that only a directory whose component is the beginning of another comes out of the siblings' order.
-    fn fill(&mut self, directory: usize, entries: Vec<EntryView<'_>>) -> Result<(), AllocError>
+    // Adds these entries to a directory without children. The bytes of all nodes end in those that spell the entries,
+    // of which the components are parts. Entries come in Git's order, so each stands behind the child that was added
+    // last, but for a directory whose component is the beginning of that child's.
+    #[inline(always)]
+    fn fill_parts(
+        &mut self,
+        alloc: Global,
+        directory: usize,
+        entries: TreeView<'_>,
+    ) -> Result<(), AllocError>
         requires directory { IsDirectory self.old directory Nil }
-        requires entries { AreEntries (map entry_value entries.items) }
-        ensures ok { OnOk result (IsFilling self.old self.new directory (map entry_value entries.entry.items)) }
+        requires entries { AreEntries entries }
+        requires names { list_all (λ e. is_name e.name.0) entries ≡ true }
+        requires bytes { (front : Bytes) × (self.old.names.items ≡ front ++ body_text entries) }
+        ensures ok { OnOk result (IsFilling self.old self.new directory entries.entry) }
         ensures err { OnErr result (IsPartly self.old self.new directory) }
     {
         let mut entries = entries;
-        'entries: while let Some(entry) = entries.pop() {
+        let mut children = Vec::with_capacity(alloc, CHILDREN)?;
+        'entries: while let Some(entry) = entries.next() {
             let found = Found {
                 mode: entry.mode,
                 name: entry.name,
             };
-            self.add_child(directory, entry.component, found)?;
+            let end = self.names.len() - entries.bytes().len() - BEHIND_COMPONENT;
+            let at = end - entry.component.len();
+            let number = self.add_child(directory, &mut children, at, entry.component, found)?;
+            children.push(number)?;
         }
         Ok(())
+    }
+
+    // Adds these entries to a directory without children.
+    fn fill(
+        &mut self,
+        alloc: Global,
+        directory: usize,
+        entries: TreeView<'_>,
+    ) -> Result<(), AllocError>
+        requires directory { IsDirectory self.old directory Nil }
+        requires entries { AreEntries entries }
+        requires names { list_all (λ e. is_name e.name.0) entries ≡ true }
+        ensures ok { OnOk result (IsFilling self.old self.new directory entries.entry) }
+        ensures err { OnErr result (IsPartly self.old self.new directory) }
+    {
+        self.names.extend_from_slice(entries.bytes())?;
+        self.fill_parts(alloc, directory, entries)
     }
 
     // Makes nodes of the entries of a directory that no path has gone through.
@@ -274,14 +370,14 @@ impl Nodes {
         ensures err { OnErr result (IsWaste self.old self.new) }
         ensures store { IsStore store.now }
     {
-        let entries = listing(alloc, store, name)?;
+        let entries = entries_at(store, name);
         let closed = self.cells[number];
         let opened = Node {
             content: Content::Open,
             ..closed
         };
         self.set(number, opened);
-        if self.fill(number, entries).is_err() {
+        if self.fill(alloc, number, entries).is_err() {
             let first = self.target(Link::First(number));
             self.set(number, closed);
             self.free_all(first);

@@ -13,8 +13,8 @@ use std::alloc::{AllocError, Global};
 // Room for the nodes of a few directories.
 const NODES: usize = 256;
 
-// Room for the bytes of their components.
-const NAMES: usize = 1024;
+// Room for the bytes of their entries.
+const NAMES: usize = 40 * NODES;
 
 impl Nodes {
     /// A root of that name, which no path has gone through.
