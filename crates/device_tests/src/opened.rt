@@ -23,13 +23,16 @@ pub(crate) fn new_journal(alloc: Global, failing: Vec<u64>) -> Option<Journal<Me
     Journal::create(alloc, MemDisk::new(alloc, Vec::new(alloc), failing)).ok()
 }
 
-// Adds an item.
+// Adds an item by its halves.
 pub(crate) fn append(journal: &mut Journal<MemDisk>, item: &[u8]) -> Result<(), KeepError>
     requires { IsOpen (λ (s : MemDiskState). Some (view_of s)) journal.old }
     ensures { IfOk result (λ _. IsOpen (λ (s : MemDiskState). Some (view_of s)) journal.new) }
 {
     match journal.count() {
-        Ok(count) if count < 9 && 0 < item.len() && item.len() < 999 => journal.append(item),
+        Ok(count) if count < 9 && 0 < item.len() && item.len() < 999 => {
+            let (front, back) = item.split_at(item.len() / 2);
+            journal.append_parts(&[front, back])
+        }
         _ => Err(KeepError::OutOfMemory),
     }
 }

@@ -30,7 +30,7 @@ fn joined(alloc: Global, first: &[u8], second: &[u8]) -> Result<Bytes, SinkError
     Ok(sink.into_bytes())
 }
 
-// Adds an item twice.
+// Adds an item twice, the second time as one part.
 fn add_twice<K: Keeper>(keeper: &mut K, item: &[u8]) -> Result<(), KeepError>
     requires is_open { K.is_open keeper.old }
     requires some { 0 < length item.now }
@@ -41,7 +41,7 @@ fn add_twice<K: Keeper>(keeper: &mut K, item: &[u8]) -> Result<(), KeepError>
     ensures cause { Counts (K.faults keeper.old) (K.faults keeper.new) (IsErrOf result KeepError.Failed) }
 {
     keeper.append(item)?;
-    keeper.append(item)?;
+    keeper.append_parts(&[item])?;
     Ok(())
 }
 

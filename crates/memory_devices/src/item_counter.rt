@@ -3,7 +3,7 @@ ghost use Rattle.std.specs.Prelude.{◌≡◌, ◌<◌, ◌≤◌, ◌+◌, ◌�
 ghost use Rattle.std.specs.Prelude.{take, drop, Option, None, Ok, IfOk, OnOk, IfSome, IsErr, IsErrOf, MatchResult, ⊤};
 ghost use Rattle.git_objects.specs.declared.limits.TheConstants.{ITEM_BYTES, ITEMS};
 ghost use Rattle.proj_io.specs.Counts.{Counts};
-ghost use Rattle.proj_io.specs.Items.{Stays, Gets, item_of};
+ghost use Rattle.proj_io.specs.Items.{Stays, Gets, item_of, joined};
 ghost use Rattle.proj_io.specs.Stops.{OnlyAdds, Nothing, Untold, IsPresent, IsBeforeOrAfter};
 ghost use Rattle.memory_devices.specs.Turns.{in_range};
 
@@ -30,6 +30,13 @@ impl ItemCounter {
         ensures { result ≡ 0 }
     {
         ItemCounter { number: 0 }
+    }
+
+    fn add_one(&mut self)
+        requires { self.old < ITEMS }
+        ensures { self.new ≡ self.old + 1 }
+    {
+        self.number += 1;
     }
 }
 
@@ -125,7 +132,31 @@ impl Keeper for ItemCounter {
         ensures calm { IsErrOf result KeepError.OutOfMemory → ◌≡◌ {A = ℕ} 0 0 }
         ensures done { result ≡ Ok tt }
     {
-        self.number += 1;
+        self.add_one();
+        Ok(())
+    }
+
+    fn append_parts(&mut self, parts: &[&[u8]]) -> Result<(), KeepError>
+        requires is_open { ⊤ }
+        requires some { 0 < length (joined parts.now) }
+        requires size { length (joined parts.now) ≤ ITEM_BYTES }
+        requires room { self.old < ITEMS }
+        ensures number { OnOk result (self.new ≡ self.old + 1) }
+        ensures items { OnOk result (Gets None None (joined parts.now)) }
+        ensures failed { IsErrOf result KeepError.Failed →
+            ((self.new ≡ self.old) × Stays None None)
+            ⊎ ((self.new ≡ self.old + 1) × Gets None None (joined parts.now)) }
+        ensures memory { IsErrOf result KeepError.OutOfMemory → (self.new ≡ self.old) × Stays None None }
+        ensures closed { IsErrOf result KeepError.Failed → ¬ ⊤ }
+        ensures is_open { MatchResult result (λ _. ⊤) (λ error. error ≡ KeepError.OutOfMemory → ⊤) }
+        ensures told { ⊥ ↔ ⊥ }
+        ensures stops { OnlyAdds 0 0 Untold Untold (IsBeforeOrAfter None (joined parts.now)) }
+        ensures stops_memory { IsErrOf result KeepError.OutOfMemory → OnlyAdds 0 0 Untold Untold (IsPresent None) }
+        ensures cause { Counts 0 0 (IsErrOf result KeepError.Failed) }
+        ensures calm { IsErrOf result KeepError.OutOfMemory → ◌≡◌ {A = ℕ} 0 0 }
+        ensures done { result ≡ Ok tt }
+    {
+        self.add_one();
         Ok(())
     }
 }

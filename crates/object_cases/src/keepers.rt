@@ -1,7 +1,7 @@
 // A keeper over one in memory that says wrong sizes.
 ghost use Rattle.std.specs.Prelude.{◌≡◌, ◌<◌, ◌≤◌, ◌+◌, ◌-◌, ◌^◌, ◌↔◌, ⊤, false, length, List, ℕ, Option, None};
 ghost use Rattle.proj_io.specs.Counts.{Counts, held, held_bound};
-ghost use Rattle.proj_io.specs.Items.{Gets, Stays, item_of};
+ghost use Rattle.proj_io.specs.Items.{Gets, Stays, item_of, joined};
 ghost use Rattle.proj_io.specs.Stops.{OnlyAdds, Nothing, Untold, IsPresent, IsBeforeOrAfter};
 
 use proj_io::{Failed, KeepError, Keeper, MemKeeper};
@@ -54,5 +54,9 @@ impl Keeper for Misjudging {
 
     fn append(&mut self, bytes: &[u8]) -> Result<(), KeepError> {
         self.inner.append(bytes)
+    }
+
+    fn append_parts(&mut self, parts: &[&[u8]]) -> Result<(), KeepError> {
+        self.inner.append_parts(parts)
     }
 }

@@ -3,7 +3,7 @@ ghost use Rattle.std.specs.Prelude.{◌≡◌, ◌<◌, ◌≤◌, ◌+◌, ◌-
 ghost use Rattle.std.specs.Prelude.{IfOk, OnOk, IfSome, IsErr, IsErrOf, IsSome, MatchResult};
 ghost use Rattle.git_objects.specs.declared.limits.TheConstants.{ITEM_BYTES, ITEMS};
 ghost use Rattle.proj_io.specs.Counts.{Counts};
-ghost use Rattle.proj_io.specs.Items.{Stays, Gets, item_of};
+ghost use Rattle.proj_io.specs.Items.{Stays, Gets, item_of, joined};
 ghost use Rattle.proj_io.specs.Stops.{OnlyAdds, Nothing, IsPresent, IsBeforeOrAfter};
 
 use crate::Failed;
@@ -104,6 +104,34 @@ pub trait Keeper {
         // A stop at any moment of the call leaves the items without the new one or with it.
         ensures stops { OnlyAdds (moment self.old) (moment self.new) (left_since self.old) (left_since self.new)
             (IsBeforeOrAfter (items self.old) bytes.now) }
+        ensures stops_memory { IsErrOf result KeepError.OutOfMemory →
+            OnlyAdds (moment self.old) (moment self.new) (left_since self.old) (left_since self.new)
+            (IsPresent (items self.old)) }
+        ensures cause { Counts (faults self.old) (faults self.new) (IsErrOf result KeepError.Failed) }
+        ensures calm { IsErrOf result KeepError.OutOfMemory → faults self.new ≡ faults self.old };
+
+    /// Adds an item behind the others whose bytes are those of these parts, one part behind another. It does what
+    /// `append` does of them, and needs no buffer of the item's size.
+    fn append_parts(&mut self, parts: &[&[u8]]) -> Result<(), KeepError>
+        requires is_open { is_open self.old }
+        requires some { 0 < length (joined parts.now) }
+        requires size { length (joined parts.now) ≤ ITEM_BYTES }
+        requires room { number self.old < ITEMS }
+        ensures number { OnOk result (number self.new ≡ number self.old + 1) }
+        ensures items { OnOk result (Gets (items self.old) (items self.new) (joined parts.now)) }
+        ensures failed { IsErrOf result KeepError.Failed →
+            ((number self.new ≡ number self.old) × Stays (items self.old) (items self.new))
+            ⊎ ((number self.new ≡ number self.old + 1) × Gets (items self.old) (items self.new) (joined parts.now)) }
+        ensures memory { IsErrOf result KeepError.OutOfMemory →
+            (number self.new ≡ number self.old) × Stays (items self.old) (items self.new) }
+        ensures closed { IsErrOf result KeepError.Failed → ¬ is_open self.new }
+        ensures is_open { MatchResult result
+            (λ _. is_open self.new)
+            (λ error. error ≡ KeepError.OutOfMemory → is_open self.new) }
+        ensures told { tells self.new ↔ tells self.old }
+        // A stop at any moment of the call leaves the items without the new one or with it.
+        ensures stops { OnlyAdds (moment self.old) (moment self.new) (left_since self.old) (left_since self.new)
+            (IsBeforeOrAfter (items self.old) (joined parts.now)) }
         ensures stops_memory { IsErrOf result KeepError.OutOfMemory →
             OnlyAdds (moment self.old) (moment self.new) (left_since self.old) (left_since self.new)
             (IsPresent (items self.old)) }

@@ -4,7 +4,7 @@ ghost use Rattle.std.specs.Prelude.{take, drop, All, find, true, false, Option, 
 ghost use Rattle.std.specs.Prelude.{IfSome, IsErr, IsErrOf, IsSome, MatchResult, ⊤, refl};
 ghost use Rattle.git_objects.specs.declared.limits.TheConstants.{ITEM_BYTES, ITEMS};
 ghost use Rattle.proj_io.specs.Counts.{Counts, held, held_bound, one_more};
-ghost use Rattle.proj_io.specs.Items.{Stays, Gets, item_of};
+ghost use Rattle.proj_io.specs.Items.{Stays, Gets, item_of, joined};
 ghost use Rattle.proj_io.specs.Kept.{entry_of, KeeperTurn, AppendTurn};
 ghost use Rattle.proj_io.specs.Stops.{OnlyAdds, Nothing, Untold, IsPresent, IsBeforeOrAfter};
 
@@ -234,6 +234,51 @@ impl Keeper for MemKeeper {
         self.broken = true;
         Err(KeepError::Failed)
     }
+
+    fn append_parts(&mut self, parts: &[&[u8]]) -> Result<(), KeepError>
+        requires is_open { self.old.broken ≡ false }
+        requires some { 0 < length (joined parts.now) }
+        requires size { length (joined parts.now) ≤ ITEM_BYTES }
+        requires room { length self.old.items < ITEMS }
+        ensures number { OnOk result (length self.new.items ≡ length self.old.items + 1) }
+        ensures items { OnOk result (Gets (Some self.old.items) (Some self.new.items) (joined parts.now)) }
+        ensures failed { IsErrOf result KeepError.Failed →
+            ((length self.new.items ≡ length self.old.items) × Stays (Some self.old.items) (Some self.new.items))
+            ⊎ ((length self.new.items ≡ length self.old.items + 1)
+            × Gets (Some self.old.items) (Some self.new.items) (joined parts.now)) }
+        ensures memory { IsErrOf result KeepError.OutOfMemory →
+            (length self.new.items ≡ length self.old.items) × Stays (Some self.old.items) (Some self.new.items) }
+        ensures closed { IsErrOf result KeepError.Failed → ¬ (self.new.broken ≡ false) }
+        ensures is_open { MatchResult result
+            (λ _. self.new.broken ≡ false)
+            (λ error. error ≡ KeepError.OutOfMemory → self.new.broken ≡ false) }
+        ensures told { ⊤ ↔ ⊤ }
+        ensures stops { OnlyAdds 0 0 Untold Untold (IsBeforeOrAfter (Some self.old.items) (joined parts.now)) }
+        ensures stops_memory { IsErrOf result KeepError.OutOfMemory →
+            OnlyAdds 0 0 Untold Untold (IsPresent (Some self.old.items)) }
+        ensures cause { Counts (held self.old.faults) (held self.new.faults) (IsErrOf result KeepError.Failed) }
+        ensures calm { IsErrOf result KeepError.OutOfMemory → held self.new.faults ≡ held self.old.faults }
+        ensures turn { AppendTurn self.old self.new (joined parts.now) result }
+    {
+        match join_parts(self.alloc, parts) {
+            Ok(bytes) => self.append(&bytes),
+            Err(_) => {
+                self.next_call();
+                Err(KeepError::OutOfMemory)
+            }
+        }
+    }
+}
+
+// These parts, one behind another.
+fn join_parts(alloc: Global, parts: &[&[u8]]) -> Result<Vec<u8>, AllocError>
+    ensures { IfOk result (λ bytes. bytes.items ≡ joined parts.now) }
+{
+    let mut bytes = Vec::new(alloc);
+    for part in parts {
+        bytes.extend_from_slice(part)?;
+    }
+    Ok(bytes)
 }
 
 // The entry for a call.

@@ -137,7 +137,7 @@ fit-push [] place fit small low = (small, low, tt)
 fit-push (p ∷ places) place fit small low = (fit.0, fit.1, fit-push places place fit.2 small low)
 
 -- the places after an append
-pub told_added : (end : ℕ) (item : List ℕ) (o p : Option DiskView) (places now : List Place) → StandsIn o end places → AddsItem end item o p
+told_added : (end : ℕ) (item : List ℕ) (o p : Option DiskView) (places now : List Place) → StandsIn o end places → AddsItem end item o p
     → now ≡ places ++ record { at = end + 5; size = length item } ∷ [] → StandsIn p (end + (5 + length item)) now
 told_added end item None p places now stands adds is = subst (λ (v : Option DiskView). StandsIn v (end + (5 + length item)) now) (sym adds) tt
 told_added end item (Some d) None places now stands adds is = absurd adds
@@ -148,6 +148,13 @@ told_added end item (Some d) (Some e) places now stands adds is =
       subst (λ (n : ℕ). StandsAt n (listed e.bytes) e) far adds.0,
       is ∙ (λ i. stands.1 i ++ record { at = at i; size = length item } ∷ []) ∙ sym (placed-push 8 items item) ∙ ap (placed 8) (sym adds.1),
     )
+
+-- the places after an append of an item whose size was worked out
+pub told_sized : (end size : ℕ) (item : List ℕ) (o p : Option DiskView) (places now : List Place) → size ≡ length item → StandsIn o end places → AddsItem end item o p
+    → now ≡ places ++ record { at = end + 5; size = size } ∷ [] → StandsIn p (end + (5 + size)) now
+told_sized end size item o p places now long stands adds is =
+    subst (λ (n : ℕ). StandsIn p (end + (5 + n)) now) (sym long)
+    (told_added end item o p places now stands adds (is ∙ ap (λ (n : ℕ). places ++ record { at = end + 5; size = n } ∷ []) long))
 
 -- what is added to the images is added to the lists
 pub lists_add : (before now : ℕ) (past since : ℕ → List ℕ → Type 0) (Kind : List ℕ → Type 0) (Lists : List (List ℕ) → Type 0)

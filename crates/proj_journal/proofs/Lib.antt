@@ -1,5 +1,6 @@
 mod Adding
 mod GateLemmas
+mod Gathered
 mod Keeping
 mod Making
 mod GateOpening

@@ -87,7 +87,7 @@ staged_stands end item items disk staged = record {
 }
 
 -- three writes and a sync stage the item
-puts_none : (at : ℕ) (piece : List ℕ) (o p : Option DiskView) → o ≡ None → Puts at piece o p → p ≡ None
+pub puts_none : (at : ℕ) (piece : List ℕ) (o p : Option DiskView) → o ≡ None → Puts at piece o p → p ≡ None
 puts_none at piece None p is puts = puts
 puts_none at piece (Some d) p is puts = cc
 

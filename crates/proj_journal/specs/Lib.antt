@@ -1,5 +1,6 @@
 pub mod Examples
 pub mod Gates
+pub mod Gathering
 pub mod Journals
 pub mod Rest
 pub mod Resting

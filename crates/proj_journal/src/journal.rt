@@ -10,6 +10,7 @@ ghost use Rattle.proj_disk.specs.Disks.{Elapses, front_at, stable};
 ghost use Rattle.proj_journal.specs.Settled.{settled_list};
 
 use crate::opening::{JournalError, find_places};
+use crate::parts::{buffer_for, joined_len};
 use crate::place::Place;
 use crate::records::{add_record, write_header};
 use proj_disk::Disk;
@@ -155,16 +156,24 @@ impl<D: Disk> Keeper for Journal<D> {
     }
 
     fn append(&mut self, bytes: &[u8]) -> Result<(), KeepError> {
+        self.append_parts(&[bytes])
+    }
+
+    fn append_parts(&mut self, parts: &[&[u8]]) -> Result<(), KeepError> {
+        let Ok(mut buffer) = buffer_for(*self.places.allocator(), parts) else {
+            return Err(KeepError::OutOfMemory);
+        };
+        let size = joined_len(parts) as u32;
         let place = Place {
             at: self.end + 5,
-            size: bytes.len() as u32,
+            size,
         };
         let Ok(()) = self.places.push(place) else {
             return Err(KeepError::OutOfMemory);
         };
-        match add_record(&mut self.disk, self.end, bytes) {
+        match add_record(&mut self.disk, self.end, &mut buffer, parts, size) {
             Ok(()) => {
-                self.end += 5 + bytes.len() as u64;
+                self.end += 5 + size as u64;
                 Ok(())
             }
             Err(SinkError::OutOfMemory) => {

@@ -5,6 +5,7 @@ mod gate;
 mod journal;
 mod laws;
 mod opening;
+mod parts;
 mod place;
 mod records;
 mod window;

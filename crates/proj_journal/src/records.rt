@@ -3,11 +3,13 @@ ghost use Rattle.std.specs.Prelude.{List, ℕ, [], ◌≡◌, ◌<◌, ◌≤◌
 ghost use Rattle.std.specs.Prelude.{IsErrOf};
 ghost use Rattle.git_objects.specs.declared.limits.TheConstants.{ITEM_BYTES, ITEMS};
 ghost use Rattle.proj_io.specs.Counts.{Counts};
+ghost use Rattle.proj_io.specs.Items.{joined};
 ghost use Rattle.proj_io.specs.Stops.{OnlyAdds};
 ghost use Rattle.proj_journal.specs.Spelling.{listed};
 ghost use Rattle.proj_journal.specs.Rest.{IsAtRest, IsEmptyList, KeepsRest, IsStaged, KeepsList, Puts, Stages};
 ghost use Rattle.proj_journal.specs.Rest.{AddsItem, MayAddItem, SpellsSame, SpellsOneMore};
 
+use crate::parts::write_parts;
 use proj_disk::Disk;
 use proj_io::SinkError;
 
@@ -26,7 +28,12 @@ pub(crate) fn write_header<D: Disk>(disk: &mut D) -> Result<(), SinkError>
 }
 
 // Writes a piece behind the gate at the end. A stop leaves the same list.
-fn write_behind<D: Disk>(disk: &mut D, end: u64, at: u64, piece: &[u8]) -> Result<(), SinkError>
+pub(crate) fn write_behind<D: Disk>(
+    disk: &mut D,
+    end: u64,
+    at: u64,
+    piece: &[u8],
+) -> Result<(), SinkError>
     requires rest { IsAtRest end (D.content disk.old) }
     requires behind { end < at }
     requires inside { IfSome (D.content disk.old) (λ view. at ≤ length view.bytes) }
@@ -45,13 +52,21 @@ fn write_behind<D: Disk>(disk: &mut D, end: u64, at: u64, piece: &[u8]) -> Resul
 }
 
 // Writes a record whose gate stays shut, and another shut gate behind it. A stop leaves the same list.
-pub(crate) fn stage<D: Disk>(disk: &mut D, end: u64, item: &[u8]) -> Result<(), SinkError>
+pub(crate) fn stage<D: Disk>(
+    disk: &mut D,
+    end: u64,
+    buffer: &mut Vec<u8>,
+    parts: &[&[u8]],
+    total: u32,
+) -> Result<(), SinkError>
     requires rest { IsAtRest end (D.content disk.old) }
     requires few { IfSome (D.content disk.old) (λ view. length (listed view.bytes) < ITEMS) }
-    requires some { 0 < length item.now }
-    requires size { length item.now ≤ ITEM_BYTES }
-    requires small { end + length item.now + 6 ≤ 2 ^ 50 }
-    ensures staged { OnOk result (Stages end item.now (D.content disk.old) (D.content disk.new)) }
+    requires some { 0 < length (joined parts.now) }
+    requires size { length (joined parts.now) ≤ ITEM_BYTES }
+    requires small { end + length (joined parts.now) + 6 ≤ 2 ^ 50 }
+    requires total { total ≡ length (joined parts.now) }
+    requires empty { buffer.old.items ≡ [] }
+    ensures staged { OnOk result (Stages end (joined parts.now) (D.content disk.old) (D.content disk.new)) }
     ensures memory { IsErrOf result SinkError.OutOfMemory → KeepsRest end (D.content disk.old) (D.content disk.new) }
     ensures list { KeepsList (D.content disk.old) (D.content disk.new) }
     ensures stops { OnlyAdds (D.moment disk.old) (D.moment disk.new) (D.left_since disk.old) (D.left_since disk.new)
@@ -60,10 +75,10 @@ pub(crate) fn stage<D: Disk>(disk: &mut D, end: u64, item: &[u8]) -> Result<(), 
     ensures calm { OnOk result (D.faults disk.new ≡ D.faults disk.old) }
     ensures calm_memory { IsErrOf result SinkError.OutOfMemory → D.faults disk.new ≡ D.faults disk.old }
 {
-    let size = (item.len() as u32).to_be_bytes();
+    let size = total.to_be_bytes();
     write_behind(disk, end, end + 1, &size)?;
-    write_behind(disk, end, end + 5, item)?;
-    write_behind(disk, end, end + 5 + item.len() as u64, &[0])?;
+    write_parts(disk, end, end + 5, buffer, parts)?;
+    write_behind(disk, end, end + 5 + total as u64, &[0])?;
     match disk.sync() {
         Ok(()) => Ok(()),
         Err(_) => Err(SinkError::Failed),
@@ -97,23 +112,31 @@ pub(crate) fn open_gate<D: Disk>(disk: &mut D, end: u64) -> Result<(), SinkError
 }
 
 // Adds a record. A stop leaves the list without the item or with it.
-pub(crate) fn add_record<D: Disk>(disk: &mut D, end: u64, item: &[u8]) -> Result<(), SinkError>
+pub(crate) fn add_record<D: Disk>(
+    disk: &mut D,
+    end: u64,
+    buffer: &mut Vec<u8>,
+    parts: &[&[u8]],
+    total: u32,
+) -> Result<(), SinkError>
     requires rest { IsAtRest end (D.content disk.old) }
     requires few { IfSome (D.content disk.old) (λ view. length (listed view.bytes) < ITEMS) }
-    requires some { 0 < length item.now }
-    requires size { length item.now ≤ ITEM_BYTES }
-    requires small { end + length item.now + 6 ≤ 2 ^ 50 }
-    ensures added { OnOk result (AddsItem end item.now (D.content disk.old) (D.content disk.new)) }
+    requires some { 0 < length (joined parts.now) }
+    requires size { length (joined parts.now) ≤ ITEM_BYTES }
+    requires small { end + length (joined parts.now) + 6 ≤ 2 ^ 50 }
+    requires total { total ≡ length (joined parts.now) }
+    requires empty { buffer.old.items ≡ [] }
+    ensures added { OnOk result (AddsItem end (joined parts.now) (D.content disk.old) (D.content disk.new)) }
     ensures memory { IsErrOf result SinkError.OutOfMemory → KeepsRest end (D.content disk.old) (D.content disk.new) }
-    ensures list { MayAddItem item.now (D.content disk.old) (D.content disk.new) }
+    ensures list { MayAddItem (joined parts.now) (D.content disk.old) (D.content disk.new) }
     ensures stops { OnlyAdds (D.moment disk.old) (D.moment disk.new) (D.left_since disk.old) (D.left_since disk.new)
-        (SpellsOneMore item.now (D.content disk.old)) }
+        (SpellsOneMore (joined parts.now) (D.content disk.old)) }
     ensures stops_memory { IsErrOf result SinkError.OutOfMemory →
         OnlyAdds (D.moment disk.old) (D.moment disk.new) (D.left_since disk.old) (D.left_since disk.new)
         (SpellsSame (D.content disk.old)) }
     ensures cause { Counts (D.faults disk.old) (D.faults disk.new) (IsErrOf result SinkError.Failed) }
     ensures calm_memory { IsErrOf result SinkError.OutOfMemory → D.faults disk.new ≡ D.faults disk.old }
 {
-    stage(disk, end, item)?;
+    stage(disk, end, buffer, parts, total)?;
     open_gate(disk, end)
 }

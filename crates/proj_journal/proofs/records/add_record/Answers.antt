@@ -1,4 +1,5 @@
 use Rattle.proj_journal.specs.Rest.{SpellsSame, SpellsOneMore}
+use Rattle.proj_io.specs.Items.{joined}
 use Rattle.proj_io.specs.Stops.{adds_on, adds_as}
 use Rattle.proj_journal.proofs.Adding.{stages_list, stages_staged, added_from, may_from, one_more_back, same_one_more, rest_from}
 use Rattle.proj_journal.proofs.Writing.{on_ok, spells_back}
@@ -9,21 +10,21 @@ returns-clause-added g c =
     let o = g.D.Disk.content c.args.disk.now in
     let p = g.D.Disk.content c.stage.new.disk in
     let stages = c.in_ok-stage.ensures.staged in
-    on_ok _ _ c.open_gate.result (λ added. added_from c.args.end c.args.item.now o p _ (stages_list c.args.end c.args.item.now o p stages) added) (c.open_gate.ensures.opened c.args.item.now (stages_staged c.args.end c.args.item.now o p stages))
+    on_ok _ _ c.open_gate.result (λ added. added_from c.args.end (joined c.args.parts.now) o p _ (stages_list c.args.end (joined c.args.parts.now) o p stages) added) (c.open_gate.ensures.opened (joined c.args.parts.now) (stages_staged c.args.end (joined c.args.parts.now) o p stages))
 
 pub returns-clause-memory : goal.returns-clause-memory
-returns-clause-memory g c memory = rest_from c.args.end c.args.item.now _ (g.D.Disk.content c.stage.new.disk) _ c.in_ok-stage.ensures.staged (c.open_gate.ensures.memory memory)
+returns-clause-memory g c memory = rest_from c.args.end (joined c.args.parts.now) _ (g.D.Disk.content c.stage.new.disk) _ c.in_ok-stage.ensures.staged (c.open_gate.ensures.memory memory)
 
 pub returns-clause-list : goal.returns-clause-list
 returns-clause-list g c =
     let o = g.D.Disk.content c.args.disk.now in
     let p = g.D.Disk.content c.stage.new.disk in
     let stages = c.in_ok-stage.ensures.staged in
-    may_from c.args.end c.args.item.now o p _ (stages_list c.args.end c.args.item.now o p stages) (c.open_gate.ensures.list c.args.item.now (stages_staged c.args.end c.args.item.now o p stages))
+    may_from c.args.end (joined c.args.parts.now) o p _ (stages_list c.args.end (joined c.args.parts.now) o p stages) (c.open_gate.ensures.list (joined c.args.parts.now) (stages_staged c.args.end (joined c.args.parts.now) o p stages))
 
 pub returns-clause-stops : goal.returns-clause-stops
 returns-clause-stops g c =
-    let item = c.args.item.now in
+    let item = (joined c.args.parts.now) in
     let o = g.D.Disk.content c.args.disk.now in
     let p = g.D.Disk.content c.stage.new.disk in
     let stages = c.in_ok-stage.ensures.staged in
@@ -34,7 +35,7 @@ returns-clause-stops g c =
 
 pub returns-clause-stops_memory : goal.returns-clause-stops_memory
 returns-clause-stops_memory g c memory =
-    let item = c.args.item.now in
+    let item = (joined c.args.parts.now) in
     let o = g.D.Disk.content c.args.disk.now in
     let p = g.D.Disk.content c.stage.new.disk in
     let stages = c.in_ok-stage.ensures.staged in
