@@ -36,3 +36,4 @@ pub mod KeptRead
 pub mod KeptHeld
 pub mod ItemSteps
 pub mod Gathering
+pub mod Weaving

@@ -1,14 +1,18 @@
 -- What is worked out before an item is written.
-use Rattle.std.specs.Prelude.{ℕ, ◌+◌, List, [], ◌∷◌, ◌++◌, nat_le, if◌then◌else◌, map, Option, Some, None}
+use Rattle.std.specs.Prelude.{ℕ, ◌+◌, List, [], ◌∷◌, ◌++◌, length, nat_le, if◌then◌else◌, map, Option, Some, None}
+use Rattle.std.specs.Int.{to_be_bytes, w32}
+use Rattle.std.specs.List.{flat_map}
 use Rattle.std.specs.Option.{is_some, option_to_list, unwrap_or}
 use Rattle.git_objects.specs.declared.limits.TheConstants.{COMMITS, OBJECTS, ITEM_BYTES, ITEMS, STORE_BYTES}
 use Rattle.git_objects.specs.Paths.{Bytes}
 use Rattle.git_objects.specs.Parts.{name_bytes}
+use Rattle.git_objects.specs.Refs.{Refs}
 use Rattle.git_objects.specs.declared.name.Name.{Name}
 use Rattle.git_objects.specs.declared.quantity.Quantity.{Quantity}
 use Rattle.git_objects.specs.declared.quantity.Quantity.TheVariants as limits
 use Rattle.object_store.specs.Objects.{Object, find_named}
 use Rattle.state_items.specs.Changes.{or_else}
+use Rattle.state_items.specs.Items.{kind_byte, ref_text}
 
 -- the objects of these names
 abbrev pub objects_named : List Object → List Bytes → List Object
@@ -30,3 +34,12 @@ first_passed commits objects item number size =
     (or_else (is_some item) limits.Item
     (or_else (nat_le (number + 1) ITEMS) limits.Items
     (or_else (nat_le (size + unwrap_or item 0) STORE_BYTES) limits.Store None))))
+
+-- what stands before the body of an object: its kind and its length
+abbrev pub object_head : Object → Bytes
+object_head o = kind_byte o.kind ∷ to_be_bytes w32 (length o.body)
+
+-- the bytes of an item but for the bodies of its objects
+unfoldable pub heads_text : List Object → Refs → Bytes
+heads_text objects refs =
+    1 ∷ 1 ∷ (to_be_bytes w32 (length objects) ++ flat_map object_head objects ++ to_be_bytes w32 (length refs) ++ flat_map ref_text refs)

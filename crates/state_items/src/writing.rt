@@ -1,8 +1,9 @@
 // Writing items.
-ghost use Rattle.std.specs.Prelude.{◌≡◌, ◌≤◌, ◌<◌, ◌^◌, ◌+◌, ◌++◌, None, filter, length, map, nat_le};
+ghost use Rattle.std.specs.Prelude.{◌≡◌, ◌≤◌, ◌<◌, ◌^◌, ◌+◌, ◌*◌, ◌++◌, None, filter, length, map, nat_le};
 ghost use Rattle.std.specs.Prelude.{IfOk, List, OnOk, ℕ};
 ghost use Rattle.std.specs.Int.{to_be_bytes, w32};
 ghost use Rattle.std.specs.List.{flat_map};
+ghost use Rattle.git_objects.specs.Refs.{Refs};
 ghost use Rattle.git_objects.specs.declared.limits.TheConstants.{ITEMS, STORE_BYTES};
 ghost use Rattle.object_store.specs.Errors.{object_value};
 ghost use Rattle.object_store.specs.Fits.{is_commit};
@@ -13,7 +14,7 @@ ghost use Rattle.commit_map.specs.Shown.{entry_value, entry_values};
 ghost use Rattle.state_items.specs.Changes.{or_else, passed_by_item, passed_by_objects};
 ghost use Rattle.state_items.specs.Items.{change_text, entry_text, kept_text, kind_byte};
 ghost use Rattle.state_items.specs.Items.{object_text, ref_text, rule_text};
-ghost use Rattle.state_items.specs.Writings.{first_passed, found, sized};
+ghost use Rattle.state_items.specs.Writings.{first_passed, found, heads_text, object_head, sized};
 
 use commit_map::{Rule, Shown};
 use git_objects::limits::{COMMITS, ITEM_BYTES, ITEMS, OBJECTS, STORE_BYTES};
@@ -271,6 +272,71 @@ pub fn change_item(
     write_number(&mut text, refs.len())?;
     write_refs(&mut text, refs)?;
     Ok(text)
+}
+
+// Writes what stands before the body of an object: its kind and its length.
+fn write_head(text: &mut Vec<u8>, object: &ObjectRef<'_>) -> Result<(), AllocError>
+    requires { length (object_text (object_value object.now)) ≤ 2 ^ 29 }
+    ensures { OnOk result (text.new.items ≡ text.old.items ++ object_head (object_value object.now)) }
+{
+    text.push(kind_byte(object.kind))?;
+    text.extend_from_slice(&(object.body.len() as u32).to_be_bytes())?;
+    Ok(())
+}
+
+// Writes what stands before the bodies of these objects.
+fn write_heads(text: &mut Vec<u8>, objects: &[ObjectRef<'_>]) -> Result<(), AllocError>
+    requires { length (flat_map object_text (map object_value objects.now)) ≤ 2 ^ 29 }
+    ensures { OnOk result (text.new.items ≡ text.old.items ++ flat_map object_head (map object_value objects.now)) }
+{
+    for object in objects {
+        write_head(text, object)?;
+    }
+    Ok(())
+}
+
+/// The item of these objects and refs but for the objects' bodies: six bytes, five for each object, and then the refs.
+#[tactic(auto, unfolding(crate::specs::Items::change_text, crate::specs::Writings::heads_text))]
+pub fn change_heads(
+    alloc: Global,
+    objects: &[ObjectRef<'_>],
+    refs: &[(RefName, Name)],
+) -> Result<Vec<u8>, AllocError>
+    requires size { length (change_text (map object_value objects.now) (pairs refs.now)) ≤ 2 ^ 29 }
+    ensures heads { IfOk result (λ heads. heads.items ≡ heads_text (map object_value objects.now) (pairs refs.now)) }
+    ensures room { IfOk result (λ heads. 6 + 5 * length objects.now ≤ length heads.items) }
+{
+    let mut text = Vec::new(alloc);
+    text.reserve(add_refs(refs, 10 + 5 * objects.len()).unwrap_or(0))?;
+    text.extend_from_slice(&[1, 1])?;
+    write_number(&mut text, objects.len())?;
+    write_heads(&mut text, objects)?;
+    write_number(&mut text, refs.len())?;
+    write_refs(&mut text, refs)?;
+    Ok(text)
+}
+
+/// The item of which these are the heads, in parts: each body is lent between two parts of the heads.
+pub fn change_parts<'a>(
+    alloc: Global,
+    heads: &'a [u8],
+    objects: &[ObjectRef<'a>],
+) -> Result<Vec<&'a [u8]>, AllocError>
+    requires room { 6 + 5 * length objects.now ≤ length heads.now }
+    ensures { (refs : Refs) → heads.now ≡ heads_text (map object_value objects.now) refs → IfOk result
+        (λ parts. flat_map (λ part. part.now) parts.items ≡ change_text (map object_value objects.now) refs) }
+{
+    let mut parts = Vec::with_capacity(alloc, 2 * objects.len() + 2)?;
+    parts.push(&heads[..6])?;
+    let mut rest = &heads[6..];
+    for object in objects {
+        let (head, behind) = rest.split_at(5);
+        parts.push(head)?;
+        parts.push(object.body)?;
+        rest = behind;
+    }
+    parts.push(rest)?;
+    Ok(parts)
 }
 
 // Writes an original with its projection, if it has one.

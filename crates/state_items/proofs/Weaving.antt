@@ -1,0 +1,60 @@
+-- An item in parts: bodies between parts of its heads.
+use Rattle.std.proofs.Common.{◌≡◌, ◌≤◌, ◌+◌, ◌*◌, ℕ, zero, suc, List, [], ◌∷◌, ◌++◌, length, take, drop, refl, sym, ap, ◌∙◌, arith, append_assoc, length-append}
+use Rattle.std.specs.Int.{to_be_bytes, w32}
+use Rattle.std.specs.List.{flat_map}
+use Rattle.git_objects.specs.Paths.{Bytes}
+use Rattle.git_objects.specs.Refs.{Refs}
+use Rattle.object_store.specs.Objects.{Object}
+use Rattle.state_items.specs.Items.{change_text, object_text, ref_text}
+use Rattle.state_items.specs.Writings.{heads_text, object_head}
+
+-- each body behind the next five bytes of the heads, and then what is left of these
+abbrev pub woven : List Object → Bytes → Bytes
+woven [] heads = heads
+woven (o ∷ os) heads = take 5 heads ++ (o.body ++ woven os (drop 5 heads))
+
+woven-heads : (os : List Object) (tail : Bytes) → woven os (flat_map object_head os ++ tail) ≡ flat_map object_text os ++ tail
+woven-heads [] tail = refl
+woven-heads (o ∷ os) tail =
+    ap (λ (t : Bytes). object_head o ++ t) (ap (λ (t : Bytes). o.body ++ t) (woven-heads os tail) ∙ sym (append_assoc o.body (flat_map object_text os) tail))
+
+pub woven-item : (os : List Object) (rs : Refs) (heads : Bytes) → heads ≡ heads_text os rs → take 6 heads ++ woven os (drop 6 heads) ≡ change_text os rs
+unfolding change_text heads_text
+woven-item os rs heads is =
+    let count = to_be_bytes w32 (length os) in
+    let number = to_be_bytes w32 (length rs) in
+    let last = flat_map ref_text rs in
+    let tail = number ++ last in
+    let front : Bytes = 1 ∷ 1 ∷ count in
+    let split : heads ≡ front ++ (flat_map object_head os ++ tail) =
+    is ∙ ap (λ (t : Bytes). 1 ∷ 1 ∷ t) (append_assoc (count ++ flat_map object_head os) number last ∙ append_assoc count (flat_map object_head os) tail) in
+    ap (λ (t : Bytes). take 6 t ++ woven os (drop 6 t)) split
+    ∙ ap (λ (t : Bytes). front ++ t) (woven-heads os tail)
+    ∙ ap (λ (t : Bytes). 1 ∷ 1 ∷ t) (sym (append_assoc (count ++ flat_map object_text os) number last ∙ append_assoc count (flat_map object_text os) tail))
+
+-- nothing stands behind the end of a list
+pub none_left : {X : Type 0} (xs : List X) (i : ℕ) → length xs ≤ i → drop i xs ≡ []
+none_left [] zero le = refl
+none_left [] (suc i) le = refl
+none_left (x ∷ xs) zero le = absurd (omega arith)
+none_left (x ∷ xs) (suc i) le = none_left xs i (omega arith)
+
+-- ---- lengths
+
+five-each : (os : List Object) → 5 * length os ≤ length (flat_map object_text os)
+five-each [] = omega arith
+five-each (o ∷ os) = omega (arith, five-each os, length-append (object_text o) (flat_map object_text os))
+
+-- an item has ten bytes, and five for each object
+pub item-five : (os : List Object) (rs : Refs) → 10 + 5 * length os ≤ length (change_text os rs)
+unfolding change_text
+item-five os rs =
+    let a = to_be_bytes w32 (length os) in
+    let b = flat_map object_text os in
+    let c = to_be_bytes w32 (length rs) in
+    let d = flat_map ref_text rs in
+    omega (arith, five-each os, length-append (a ++ b ++ c) d, length-append (a ++ b) c, length-append a b)
+
+pub five-heads : (os : List Object) → 5 * length os ≡ length (flat_map object_head os)
+five-heads [] = refl
+five-heads (o ∷ os) = omega (arith, five-heads os, length-append (object_head o) (flat_map object_head os))
