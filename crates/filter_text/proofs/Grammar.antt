@@ -1,6 +1,7 @@
 -- What is read of a filter text is spelled so, and what is spelled so is read.
 use Rattle.std.proofs.Common.{◌≡◌, ℕ, Bool, true, false, cond, ◌||◌, [], ◌∷◌, ◌++◌, drop, Option, Some, None, refl, sym, ap, ◌∙◌, eqb, append_assoc, append-nil}
 use Rattle.std.specs.Option.{option_map, option_and_then}
+use Rattle.std.proofs.lemmas.Bool.{or_right}
 use Rattle.git_objects.specs.Paths.{Bytes, Path}
 use Rattle.filter_text.specs.Filters.{Filter, Filters, sub, onto, dir, file, exclude, join, workspace, no_more, only}
 use Rattle.filter_text.specs.Texts.{Read, begins, kept_name_at, target_at}
@@ -63,11 +64,7 @@ closing : {h : Bytes} {c : Bool} → IsGap h c → (r : Bytes) → list_at (h ++
 closing {h} g r = list_step (h ++ 93 ∷ r) ∙ ap (λ x. inner x.1) (gap-read g false (93 ∷ r) refl)
 
 closing_goes_on : {h : Bytes} {c : Bool} → IsGap h c → (r : Bytes) → goes_on (h ++ 93 ∷ r) ≡ true
-closing_goes_on {h} {c} g r = ap (λ x. x.0 || begins 93 x.1) (gap-read g false (93 ∷ r) refl) ∙ or_true c
-  where
-    or_true : (b : Bool) → (b || true) ≡ true
-    or_true true = refl
-    or_true false = refl
+closing_goes_on {h} {c} g r = ap (λ x. x.0 || begins 93 x.1) (gap-read g false (93 ∷ r) refl) ∙ or_right c true refl
 
 module _ (w : Bytes) (fs : Filters) (r : Bytes) (ih : list_at (w ++ 93 ∷ r) ≡ Some (fs, r)) where
   bracket_read : list_at ((w ++ 93 ∷ []) ++ r) ≡ Some (fs, r)

@@ -137,10 +137,6 @@ comparable_rests : (p r s : Path) → comparable (p ++ r) (p ++ s) ≡ comparabl
 comparable_rests [] r s = refl
 comparable_rests (c ∷ p) r s = ap (λ b. (b && is_prefix (p ++ r) (p ++ s)) || (b && is_prefix (p ++ s) (p ++ r))) (same_bytes-self c) ∙ comparable_rests p r s
 
-or_true : (b : Bool) → (b || true) ≡ true
-or_true true = refl
-or_true false = refl
-
 comparable_front : (p r q : Path) → comparable (p ++ r) q ≡ true → comparable p q ≡ true
 comparable_front [] r q h = refl
 comparable_front (c ∷ p) r [] h = refl

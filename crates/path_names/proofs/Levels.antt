@@ -15,12 +15,7 @@ use Rattle.std.proofs.lemmas.Bool.{not-true, ltb-true, ltb-false, le-ltb, lt-ltb
 use Rattle.std.proofs.lemmas.List.{drop_all}
 use Rattle.git_objects.specs.Paths.{Bytes, Path, key, path_cmp, is_path, before}
 use Rattle.git_objects.proofs.Basics.{plain}
-use Rattle.git_objects.proofs.Texts.{text_order}
-
-then_assoc : (a b c : Ordering) → ordering_then a (ordering_then b c) ≡ ordering_then (ordering_then a b) c
-then_assoc Less b c = refl
-then_assoc Equal b c = refl
-then_assoc Greater b c = refl
+use Rattle.git_objects.proofs.Texts.{text_order, then_assoc}
 
 decided : (o a : Ordering) → o ≢ Equal → ordering_then o a ≡ o
 decided Less a h = refl

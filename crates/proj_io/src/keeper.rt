@@ -111,7 +111,7 @@ pub trait Keeper {
         ensures calm { IsErrOf result KeepError.OutOfMemory → faults self.new ≡ faults self.old };
 
     /// Adds an item behind the others whose bytes are those of these parts, one part behind another. It does what
-    /// `append` does of them, and needs no buffer of the item's size.
+    /// `append` does of them; a keeper that writes them as they come needs no buffer of the item's size.
     fn append_parts(&mut self, parts: &[&[u8]]) -> Result<(), KeepError>
         requires is_open { is_open self.old }
         requires some { 0 < length (joined parts.now) }

@@ -3,6 +3,7 @@ use Rattle.std.proofs.Common.{◌≡◌, inl, inr, ℕ, ◌+◌, ◌<◌, ◌≤
 use Rattle.std.specs.Prelude.{slice_get, nat_lt}
 use Rattle.std.specs.declared.cmp.Ordering.TheVariants.{Less}
 use Rattle.std.specs.Ordering.{is_lt}
+use Rattle.std.proofs.lemmas.Bool.{or_right}
 use Rattle.std.proofs.lemmas.Bool.Decides.{eqb_tells}
 use Rattle.std.proofs.lemmas.Option.{slice_get_within}
 use Rattle.git_objects.specs.Paths.{Bytes, Path, same_bytes, is_component}
@@ -62,10 +63,6 @@ module _ (p : Content → Bool) (c : Bytes) (k : ℕ) (x : Content) (l : Forest)
         | false ↦ λ e. let less = less_back c d e apart.0 in (h, (less, beyond_far c d r less s.1), g, s)
       ] refl
 
-or_true : (b : Bool) → (b || true) ≡ true
-or_true true = refl
-or_true false = refl
-
 own_number : (k : ℕ) (F : Forest) → (k == k || has_number k F) ≡ true
 own_number k F = elim (eqb_tells k k) [ inl e ↦ ap (λ b. b || has_number k F) e.0 | inr e ↦ absurd (e.1 refl) ]
 
@@ -87,7 +84,7 @@ pub number_inserted : (c : Bytes) (k : ℕ) (x : Content) (l F : Forest) → has
 number_inserted c k x l Nil = own_number k Nil
 number_inserted c k x l (Bin j e y n r) =
     elim (is_lt (bytes_cmp e c)) as (λ t. has_number k (cond t (Bin j e y n (inserted c k x l r)) (Bin k c x l (Bin j e y n r))) ≡ true) [
-      | true ↦ (λ i. k == j || number_inserted c k x l r i) ∙ or_true (k == j)
+      | true ↦ (λ i. k == j || number_inserted c k x l r i) ∙ or_right (k == j) true refl
       | false ↦ own_number k (Bin j e y n r)
     ]
 
@@ -100,7 +97,7 @@ number_kept c m k x l Nil h = absurd (true≢false (sym h))
 number_kept c m k x l (Bin j e y n r) h =
     elim (is_lt (bytes_cmp e c)) as (λ t. has_number m (cond t (Bin j e y n (inserted c k x l r)) (Bin k c x l (Bin j e y n r))) ≡ true) [
       | true ↦ kept_behind (m == j) m r (inserted c k x l r) h (number_kept c m k x l r)
-      | false ↦ (λ i. m == k || h i) ∙ or_true (m == k)
+      | false ↦ (λ i. m == k || h i) ∙ or_right (m == k) true refl
     ]
 
 -- what it adds

@@ -244,9 +244,9 @@ impl Nodes {
         self.point(link, Some(number));
     }
 
-    // The link from which a component is looked for among a directory's children: behind the last of those given that
-    // stands before the component. The given ones behind that one are taken off, since no later component that comes
-    // behind them is looked for from them.
+    // The link from which a component is looked for among a directory's children: that of the last given child that
+    // stands before the component, or the directory's first link. Given children that don't stand before it are taken
+    // off.
     #[inline(always)]
     fn start(&self, directory: usize, children: &mut Vec<usize>, component: &[u8]) -> Link
         requires directory { IsDirectory self.now directory (hanging self.now (Link.First directory)) }
@@ -308,8 +308,8 @@ impl Nodes {
     }
 
     // Adds these entries to a directory without children. The bytes of all nodes end in those that spell the entries,
-    // of which the components are parts. Entries come in Git's order, so each stands behind the child that was added
-    // last, but for a directory whose component is the beginning of that child's.
+    // of which the components are parts. Entries come in Git's order, where a directory stands as if a slash were its
+    // last byte; so each child's place is behind the one added before it, or a little before that one.
     #[inline(always)]
     fn fill_parts(
         &mut self,

@@ -1,12 +1,9 @@
 -- Two paths compared component by component.
 use Rattle.std.proofs.Common.{◌≡◌, ℕ, ◌+◌, ◌<◌, ◌≤◌, Bool, true, false, ◌||◌, ◌&&◌, [], ◌∷◌, length, min, drop, get_or, refl, sym, ap, ◌∙◌, arith, not, true≢false}
+use Rattle.std.proofs.lemmas.Bool.{or_right}
 use Rattle.std.proofs.lemmas.List.{drop_more}
 use Rattle.git_objects.specs.Paths.{Bytes, Path, comparable, is_prefix, same_bytes}
 use Rattle.git_objects.proofs.Basics.{same_bytes-back}
-
-or_true : (b : Bool) → (b || true) ≡ true
-or_true true = refl
-or_true false = refl
 
 module _ (a b : Path) (i : ℕ) (c d : Bytes) (in_a : i < length a) (in_b : i < length b) (at_a : c ≡ get_or a i c) (at_b : d ≡ get_or b i d) where
   left_a : drop i a ≡ c ∷ drop (i + 1) a
@@ -29,7 +26,7 @@ one_ended a b i h = by (drop i a) (drop i b) refl refl
   where
     by : (p q : Path) → drop i a ≡ p → drop i b ≡ q → true ≡ comparable (drop i a) (drop i b)
     by [] q e f = sym (ap (λ (v : Path). comparable v (drop i b)) e)
-    by (c ∷ p) [] e f = sym (ap (comparable (drop i a)) f ∙ or_true (is_prefix (drop i a) []))
+    by (c ∷ p) [] e f = sym (ap (comparable (drop i a)) f ∙ or_right (is_prefix (drop i a) []) true refl)
     by (c ∷ p) (d ∷ q) e f =
         absurd (omega (arith, h, ap length e, ap length f, Rattle.std.proofs.lemmas.List.length-drop i a, Rattle.std.proofs.lemmas.List.length-drop i b))
 
