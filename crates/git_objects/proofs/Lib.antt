@@ -7,6 +7,7 @@ pub mod IdentSpelling
 pub mod Neighbours
 pub mod TreeReading
 pub mod TreeViews
+pub mod SharedFronts
 pub mod CommitReading
 pub mod CommitViews
 pub mod Maps

@@ -73,7 +73,7 @@ mode-32 Dir = refl
 
 -- ---- one entry
 
-line-rest : (m : Mode) (c n r : Bytes) → line m c n ++ r ≡ mode_text m ++ 32 ∷ (c ++ 0 ∷ (n ++ r))
+pub line-rest : (m : Mode) (c n r : Bytes) → line m c n ++ r ≡ mode_text m ++ 32 ∷ (c ++ 0 ∷ (n ++ r))
 unfolding line
 line-rest m c n r = simp append_assoc
 

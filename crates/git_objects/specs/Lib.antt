@@ -14,6 +14,7 @@ pub mod CommitBodies
 pub mod Neighbours
 pub mod ParentLines
 pub mod Views
+pub mod SharedFronts
 pub mod Laws
 pub mod TreeLaws
 pub mod Rows

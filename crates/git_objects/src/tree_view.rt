@@ -1,6 +1,6 @@
 // What a tree's body lists, seen in place.
 ghost use Rattle.std.specs.Prelude.{◌≡◌, ◌≢◌, List, Some, None, IfSome, ◌∷◌, ◌++◌, [], drop, is_some};
-ghost use Rattle.std.specs.Prelude.{slice_get, true, false};
+ghost use Rattle.std.specs.Prelude.{◌<◌, ◌≤◌, length, take, slice_get, true, false};
 ghost use Rattle.std.specs.Option.{ForSome};
 ghost use Rattle.std.specs.Option.{option_map};
 ghost use Rattle.std.specs.Ordering.{is_lt};
@@ -9,6 +9,7 @@ ghost use Rattle.git_objects.specs.Bodies.{entry_from, first_mode, mode_from, ta
 ghost use Rattle.git_objects.specs.Paths.{Bytes};
 ghost use Rattle.git_objects.specs.Neighbours.{before_dir, fits_before, is_alone, spelled_entries, stands};
 ghost use Rattle.git_objects.specs.Views.{entry_value};
+ghost use Rattle.git_objects.specs.SharedFronts.{SharesFront};
 ghost use Rattle.git_objects.specs.declared.entry.Entry.{Entry};
 
 use crate::entry_order::compare_components;
@@ -104,12 +105,19 @@ impl<'a> TreeView<'a> {
         ensures same { (es : List Entry) × (self.old ≡ es ++ self.new) × (other.old ≡ es ++ other.new) }
         ensures apart { (e : Entry) → slice_get self.new 0 ≡ Some e → slice_get other.new 0 ≢ Some e }
     {
-        if self.rest == other.rest {
-            self.rest = &[];
-            other.rest = &[];
-            return;
-        }
+        self.pass_front(other);
         'entries: while self.pass_first(other) {}
+    }
+
+    // Passes by the entries whose lines end within the groups of bytes that both bodies share at their front.
+    #[inline(always)]
+    fn pass_front(&mut self, other: &mut TreeView<'_>)
+        ensures { (es : List Entry) × (self.old ≡ es ++ self.new) × (other.old ≡ es ++ other.new) }
+    {
+        let front = common_front(self.rest, other.rest);
+        let (rest, other_rest) = after_lines(self.rest, other.rest, front);
+        self.rest = rest;
+        other.rest = other_rest;
     }
 
     // Passes by the first entry, where the other view has it first, too.
@@ -204,6 +212,83 @@ fn after_same<'a, 'b>(a: &'a [u8], b: &'b [u8]) -> Option<(&'a [u8], &'b [u8])>
     let line = &a[..a.len() - after.len()];
     let other_after = b.strip_prefix(line)?;
     Some((after, other_after))
+}
+
+// What follows the first group of bytes of each of two texts, where both begin with the same one.
+#[inline(always)]
+fn after_group<'a, 'b>(a: &'a [u8], b: &'b [u8]) -> Option<(&'a [u8], &'b [u8])>
+    ensures { IfSome result (λ r. (take 8 a.now ≡ take 8 b.now) × (8 ≤ length a.now) × (8 ≤ length b.now) ×
+        (r.0.now ≡ drop 8 a.now) × (r.1.now ≡ drop 8 b.now)) }
+{
+    let (first, rest) = a.split_first_chunk::<8>()?;
+    let (other_first, other_rest) = b.split_first_chunk::<8>()?;
+    if first == other_first {
+        Some((rest, other_rest))
+    } else {
+        None
+    }
+}
+
+// How many bytes the groups take that two texts share at their front.
+#[inline(always)]
+fn common_front(a: &[u8], b: &[u8]) -> usize
+    ensures first { result ≤ length a.now }
+    ensures second { result ≤ length b.now }
+    ensures same { take result a.now ≡ take result b.now }
+{
+    let mut front = 0;
+    let mut a_rest = a;
+    let mut b_rest = b;
+    'groups: while let Some((a_after, b_after)) = after_group(a_rest, b_rest) {
+        front += 8;
+        a_rest = a_after;
+        b_rest = b_after;
+    }
+    front
+}
+
+// How many bytes the first entry takes, where it ends within so many. No mode has a zero byte, so the first one ends
+// the component; the shortest mode and its space take six bytes, and such an entry takes 27 or more.
+#[inline(always)]
+fn line_within(body: &[u8], front: usize) -> Option<usize>
+    requires { front ≤ length body.now }
+    ensures size { IfSome result (λ n. (0 < n) × (n ≤ front)) }
+    ensures line { IfSome result (λ n. (e : Entry) (r : Bytes) → entry_from body.now ≡ Some (e, r) →
+        r ≡ drop n body.now) }
+{
+    if front < 27 {
+        return None;
+    }
+    let (_, text) = body.split_at(6);
+    let (_, behind) = cut(0, text)?;
+    let line = body.len() - behind.len() + 20;
+    if line > front {
+        return None;
+    }
+    Some(line)
+}
+
+// What follows the entries that end within a front that two bodies share.
+#[inline(always)]
+fn after_lines<'a, 'b>(a: &'a [u8], b: &'b [u8], front: usize) -> (&'a [u8], &'b [u8])
+    requires first { front ≤ length a.now }
+    requires second { front ≤ length b.now }
+    requires same { take front a.now ≡ take front b.now }
+    requires a_body { is_some (tree_entries a.now) ≡ true }
+    requires b_body { is_some (tree_entries b.now) ≡ true }
+    ensures { SharesFront a.now b.now result.0.now result.1.now }
+{
+    let mut rest = a;
+    let mut other_rest = b;
+    let mut left = front;
+    'lines: while let Some(line) = line_within(rest, left) {
+        let (_, after) = rest.split_at(line);
+        let (_, other_after) = other_rest.split_at(line);
+        rest = after;
+        other_rest = other_after;
+        left -= line;
+    }
+    (rest, other_rest)
 }
 
 // Whether an entry stands before another.
