@@ -1,20 +1,20 @@
 // Names of objects.
-ghost use Rattle.std.specs.Prelude.{true, ◌≡◌, ◌↔◌, ◌∷◌, [], IsSome, IsTrue, length, replicate, take};
+ghost use Rattle.std.specs.Prelude.{true, ◌≡◌, ◌↔◌, ◌≤◌, ◌∷◌, ◌++◌, [], IsSome, IsTrue, drop, length, replicate, take};
 ghost use Rattle.std.proofs.Common.{rules};
 ghost use Rattle.std.specs.Cmp.Rules.{hashing};
 ghost use Rattle.std.specs.List.{AllPass};
 ghost use Rattle.std.specs.Option.{option_map};
 ghost use Rattle.hex.specs.Hex.{is_hex_digit};
 ghost use Rattle.git_objects.specs.Paths.{is_bytes};
-ghost use Rattle.git_objects.specs.Names.{name};
+ghost use Rattle.std.specs.Fmt.{decimal};
+ghost use Rattle.git_objects.specs.Names.{kind_word, name};
 ghost use Rattle.git_objects.specs.Commits.{hex};
 ghost use Rattle.git_objects.specs.Bodies.{is_name};
 ghost use Rattle.git_objects.specs.CommitBodies.{digits_name};
 ghost use Rattle.git_objects.specs.Parts.{name_bytes};
 
 use crate::Kind;
-use crate::kind::word;
-use itoa::Buffer;
+use itoa::write_digits;
 use sha1::Sha1;
 use std::hash::{Hash, Hasher};
 
@@ -80,17 +80,47 @@ pub fn digits(bytes: &[u8]) -> [u8; 40]
     digits
 }
 
+// A header takes as many bytes at most: `commit `, 20 digits and the zero byte.
+const HEADER_BYTES: usize = 28;
+
+// Writes a word so that it ends at `end`, and returns where it starts.
+#[inline(always)]
+fn put_before(word: &[u8], buffer: &mut [u8], end: usize) -> usize
+    requires word { length word.now ≤ end }
+    requires end { end ≤ length buffer.old }
+    ensures start { result ≤ length buffer.old }
+    ensures written { drop result buffer.new ≡ word.now ++ drop end buffer.old }
+{
+    let start = end - word.len();
+    buffer[start..end].copy_from_slice(word);
+    start
+}
+
+// Writes the header of an object of that kind and length at the end of a buffer, and returns where it starts.
+#[inline(always)]
+fn put_header(kind: Kind, len: u64, buffer: &mut [u8]) -> usize
+    requires { buffer.old ≡ replicate 28 0 }
+    ensures start { result ≤ length buffer.new }
+    ensures written { drop result buffer.new ≡ kind_word kind ++ (32 ∷ []) ++ decimal len ++ (0 ∷ []) }
+{
+    let digits = write_digits(len, buffer, HEADER_BYTES - 1);
+    match kind {
+        Kind::Blob => put_before(b"blob ", buffer, digits),
+        Kind::Tree => put_before(b"tree ", buffer, digits),
+        Kind::Commit => put_before(b"commit ", buffer, digits),
+    }
+}
+
 /// The name of an object of that kind with that body: the SHA-1 of the kind, a space, the body's length in decimal, a
 /// zero byte and the body (Git object format, FIPS 180-4).
 pub fn name_of(kind: Kind, body: &[u8]) -> Name
     ensures { result.0 ≡ name kind body.now }
 {
-    let mut buffer = Buffer::new();
+    let mut buffer = [0u8; HEADER_BYTES];
+    let start = put_header(kind, body.len() as u64, &mut buffer);
+    let (_, header) = buffer.split_at(start);
     let mut hasher = Sha1::new();
-    hasher.update(word(kind));
-    hasher.update(b" ");
-    hasher.update(buffer.format(body.len()).as_bytes());
-    hasher.update(b"\0");
+    hasher.update(header);
     hasher.update(body);
     Name(hasher.finalize())
 }
