@@ -9,6 +9,7 @@ pub mod TreeReading
 pub mod TreeViews
 pub mod SharedFronts
 pub mod CommitReading
+pub mod LowerDigits
 pub mod CommitViews
 pub mod Maps
 pub mod Pointwise

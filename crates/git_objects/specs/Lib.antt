@@ -11,6 +11,7 @@ pub mod Entries
 pub mod Parts
 pub mod Bodies
 pub mod CommitBodies
+pub mod LowerDigits
 pub mod Neighbours
 pub mod ParentLines
 pub mod Views

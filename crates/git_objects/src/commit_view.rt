@@ -1,11 +1,14 @@
 // What a commit's body says, seen in place.
-ghost use Rattle.std.specs.Prelude.{◌≡◌, ◌≤◌, true, None, Some, IfSome, IfNone, length, slice_get};
+ghost use Rattle.std.specs.Prelude.{◌≡◌, ◌<◌, ◌≤◌, true, false, None, Some, IfSome, IfNone, length};
+ghost use Rattle.std.specs.Prelude.{slice_get, slice_index};
 ghost use Rattle.std.specs.List.{list_all};
 ghost use Rattle.std.specs.Option.{option_map};
+ghost use Rattle.hex.specs.Hex.{lower_digits};
 ghost use Rattle.git_objects.specs.Bodies.{is_name};
 ghost use Rattle.git_objects.specs.Commits.{Commit};
 ghost use Rattle.git_objects.specs.CommitBodies.{commit_from, field_from, ident_field, is_parent, letter_from};
 ghost use Rattle.git_objects.specs.CommitBodies.{lower_name, name_field, rest_from, strip};
+ghost use Rattle.git_objects.specs.LowerDigits.{is_lower};
 ghost use Rattle.git_objects.specs.ParentLines.{parents_at, with_parents};
 ghost use Rattle.git_objects.specs.Parts.{name_bytes};
 ghost use Rattle.git_objects.specs.Views.{letter_value};
@@ -139,16 +142,42 @@ fn field<'a>(word: &[u8], text: &'a [u8]) -> Option<(&'a [u8], &'a [u8])>
     cut(b'\n', rest)
 }
 
+// The value of a digit. Git writes no upper-case letter.
+#[inline(always)]
+fn lower_digit(digit: u8) -> Option<u8>
+    ensures none { IfNone result (is_lower digit ≡ false) }
+    ensures value { IfSome result (λ v. (v < 16) × (slice_index lower_digits v ≡ digit)) }
+{
+    if 48 <= digit && digit <= 57 {
+        return Some(digit - 48);
+    }
+    if 97 <= digit && digit <= 102 {
+        return Some(digit - 97 + 10);
+    }
+    None
+}
+
 // The name that 40 lower-case digits write.
 fn lower_name(text: &[u8]) -> Option<Name>
     ensures { option_map name_bytes result ≡ lower_name text.now }
 {
-    let name = Name::from_hex(text)?;
-    if name.hex().as_slice() == text {
-        Some(name)
-    } else {
-        None
+    if text.len() != 40 {
+        return None;
     }
+    let mut bytes = [0u8; 20];
+    'pairs: for i in 0..20 {
+        let Some(high) = lower_digit(text[2 * i]) else {
+            return None;
+        };
+        let Some(low) = lower_digit(text[2 * i + 1]) else {
+            return None;
+        };
+        bytes[i] = high * 16 + low;
+    }
+    // The proof learns from this read that each byte is below 256.
+    let name = Name(bytes);
+    let _bytes = name.bytes();
+    Some(name)
 }
 
 fn name_field<'a>(word: &[u8], text: &'a [u8]) -> Option<(Name, &'a [u8])>

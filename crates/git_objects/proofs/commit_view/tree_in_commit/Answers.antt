@@ -1,4 +1,4 @@
-use Rattle.std.proofs.Common.{◌≡◌, ◌∙◌, sym, ap, None, Some}
+use Rattle.std.proofs.Common.{◌∙◌, sym, ap, None}
 use Rattle.std.specs.Option.{option_map}
 use Rattle.git_objects.specs.Parts.{name_bytes}
 use Rattle.git_objects.proofs.CommitViews.{tree_first}
