@@ -1,10 +1,19 @@
 -- The entries of a directory's children, put one after another into Git's order.
-use Rattle.std.proofs.Common.{◌≡◌, ℕ, true, false, cond, List, [], ◌∷◌, get_or, Some, None, refl, sym, ap, subst, ◌∙◌}
-use Rattle.git_objects.specs.Paths.{Bytes, same_bytes}
-use Rattle.git_objects.specs.Entries.{AreEntries}
+use Rattle.std.proofs.Common.{◌≡◌, ℕ, zero, suc, ◌<◌, ◌≤◌, Bool, true, false, cond, List, [], ◌∷◌, ◌++◌, ◌-◌, map, length, get_or, Some, None, refl, sym, ap, subst, ◌∙◌, arith}
+use Rattle.std.specs.declared.cmp.Ordering.{Ordering}
+use Rattle.std.specs.declared.cmp.Ordering.TheVariants.{Less, Equal, Greater}
+use Rattle.std.specs.Ordering.{is_lt, nat_cmp, ordering_reverse, ordering_then}
+use Rattle.std.specs.Cmp.{nat_cmp_total}
+use Rattle.std.specs.Cmp.Lexicographic.{slice_cmp}
+use Rattle.git_objects.specs.Lists.{Each}
+use Rattle.git_objects.specs.Paths.{Bytes}
+use Rattle.git_objects.specs.Entries.{AreEntries, dir_key}
 use Rattle.git_objects.specs.declared.entry.Entry.{Entry}
-use Rattle.path_trees.specs.Listed.{changed, dropped, inserted, named}
+use Rattle.git_objects.specs.Views.{entry_value}
+use Rattle.git_objects.specs.declared.tree_view.EntryView.{EntryView}
+use Rattle.path_trees.specs.Listed.{is_before, changed, dropped, inserted, named}
 use Rattle.path_trees.specs.declared.found.Found.{Found}
+use Rattle.path_trees.proofs.Gathering.{added_behind, seen_at, seen_long, stops}
 use Rattle.path_trees.proofs.Listings.{Away, entries-changed, each-changed}
 use Rattle.stage_nodes.specs.declared.nodes.Node.{Node}
 use Rattle.stage_nodes.specs.declared.nodes.Nodes.{Nodes}
@@ -12,7 +21,7 @@ use Rattle.stage_nodes.specs.declared.nodes.Content.{Content}
 use Rattle.stage_nodes.specs.declared.nodes.Content.TheVariants.{Held, Open}
 use Rattle.stage_nodes.specs.declared.nodes.Link.{Link}
 use Rattle.stage_nodes.specs.declared.nodes.Link.TheVariants.{First, Next}
-use Rattle.stage_nodes.specs.Forests.{Forest, Nil, Bin, forest, is_link, node_component, target, Beyond, Sound}
+use Rattle.stage_nodes.specs.Forests.{Forest, Nil, Bin, bytes_cmp, forest, is_link, node_component, target, Beyond, Sound}
 use Rattle.stage_nodes.specs.Pools.{Walks, hanging}
 use Rattle.stage_nodes.specs.Directories.{any}
 use Rattle.stage_nodes.specs.Closing.{AreTips, HasTips, gathered}
@@ -23,18 +32,60 @@ dropped_none : (c : Bytes) (es : List Entry) → Away c es → dropped c es ≡ 
 dropped_none c [] h = refl
 dropped_none c (e ∷ es) h = ap (λ b. cond b (dropped c es) (e ∷ dropped c es)) h.0 ∙ ap (λ x. e ∷ x) (dropped_none c es h.1)
 
--- no sibling has a component that is listed
+-- what is listed comes before a component by its bytes
+abbrev pub AllLess : Bytes → List Entry → Type 0
+AllLess c es = Each (λ e. bytes_cmp e.component c ≡ Less) es
+
+away : (c : Bytes) (es : List Entry) → AllLess c es → Away c es
+away c [] h = tt
+away c (e ∷ es) h = (less_apart_back e.component c h.0, away c es h.1)
+
+pub less_at : (c : Bytes) (es : List Entry) (i : ℕ) (e : Entry) → AllLess c es → i < length es → e ≡ get_or es i e → bytes_cmp e.component c ≡ Less
+less_at c [] i e h l r = absurd (omega arith)
+less_at c (d ∷ es) zero e h l r = ap (λ (x : Entry). bytes_cmp x.component c) r ∙ h.0
+less_at c (d ∷ es) (suc i) e h l r = less_at c es i e h.1 (omega arith) r
+
+-- and so before each sibling
 abbrev pub AreFresh : List Entry → Forest → Type 0
 AreFresh es Nil = Unit
-AreFresh es (Bin k c x l r) = Away c es × AreFresh es r
+AreFresh es (Bin k c x l r) = AllLess c es × AreFresh es r
 
 fresh_next : (c : Bytes) (f : Found) (es : List Entry) (F : Forest) → Beyond c F → AreFresh es F → AreFresh (changed c (Some f) es) F
 fresh_next c f es Nil b h = tt
-fresh_next c f es (Bin k d x l r) b h = (each-changed (λ e. same_bytes d e.component ≡ false) c (Some f) es (less_apart_back c d b.0) h.0, fresh_next c f es r b.1 h.1)
+fresh_next c f es (Bin k d x l r) b h = (each-changed (λ e. bytes_cmp e.component d ≡ Less) c (Some f) es b.0 h.0, fresh_next c f es r b.1 h.1)
 
 all_fresh : (F : Forest) → AreFresh [] F
 all_fresh Nil = tt
 all_fresh (Bin k c x l r) = (tt, all_fresh r)
+
+-- ---- an entry that stands behind another by its bytes, in Git's order
+
+key_first : (x : ℕ) (a : Bytes) (v : Bool) → dir_key (x ∷ a) v ≡ x ∷ dir_key a v
+key_first x a true = refl
+key_first x a false = refl
+
+then_not : (o p q r : Ordering) → p ≡ ordering_reverse o → ordering_then o r ≡ Less → (r ≡ Less → is_lt q ≡ false) → is_lt (ordering_then p q) ≡ false
+then_not Less p q r e h g = ap (λ (t : Ordering). is_lt (ordering_then t q)) e
+then_not Equal p q r e h g = ap (λ (t : Ordering). is_lt (ordering_then t q)) e ∙ g h
+then_not Greater p q r e h g = absurd cc
+
+-- it stands behind a file, and behind a directory whose component is as long
+pub keys_kept : (a c : Bytes) (v w : Bool) → (v ≡ true → length c ≤ length a) → bytes_cmp a c ≡ Less → is_lt (slice_cmp nat_cmp (dir_key c w) (dir_key a v)) ≡ false
+keys_kept [] [] v w g h = absurd cc
+keys_kept [] (y ∷ c) true w g h = absurd (omega (arith, g refl))
+keys_kept [] (y ∷ c) false w g h = ap (λ (k : Bytes). is_lt (slice_cmp nat_cmp k [])) (key_first y c w)
+keys_kept (x ∷ a) [] v w g h = absurd cc
+keys_kept (x ∷ a) (y ∷ c) v w g h =
+    (λ i. is_lt (slice_cmp nat_cmp (key_first y c w i) (key_first x a v i)))
+    ∙ then_not (nat_cmp x y) (nat_cmp y x) (slice_cmp nat_cmp (dir_key c w) (dir_key a v)) (bytes_cmp a c) (nat_cmp_total.antisymm y x) h (keys_kept a c v w (λ e. omega (arith, g e)))
+
+-- one that is added last
+pub added_last : (views : List EntryView) (a : EntryView) (long : ℕ) (last : EntryView) → long ≡ length views → 0 < long → last ≡ get_or views (long - 1) last
+    → AreEntries (map entry_value views) → is_before (entry_value a) (entry_value last) ≡ false → map entry_value (views ++ a ∷ []) ≡ inserted (entry_value a) (map entry_value views)
+added_last views a long last l p r h b =
+    Rattle.std.proofs.lemmas.List.map-append entry_value views (a ∷ [])
+    ∙ added_behind (entry_value a) (map entry_value views) long (l ∙ sym (seen_long views)) h
+    (stops (entry_value a) (map entry_value views) (long - 1) long (entry_value last) (omega arith) (omega (arith, seen_long views)) (seen_at views (long - 1) last r) b)
 
 -- the entries so far, and the siblings that are left
 pub record IsGathering (s : Nodes) (d : ℕ) (es : List Entry) (link : Link) : Type 0 where
@@ -75,8 +126,11 @@ module _ (s : Nodes) (d : ℕ) (es : List Entry) (link : Link) (g : IsGathering 
     fresh_here : AreFresh es (Bin k c (Held f) l r)
     fresh_here = subst (AreFresh es) here g.fresh
 
+    pub less_here : AllLess c es
+    less_here = fresh_here.0
+
     new : changed c (Some f) es ≡ inserted (named c f) es
-    new = ap (inserted (named c f)) (dropped_none c es fresh_here.0)
+    new = ap (inserted (named c f)) (dropped_none c es (away c es fresh_here.0))
 
     pub gathering_next : IsGathering s d (inserted (named c f) es) (Next k)
     gathering_next = subst (λ (x : List Entry). IsGathering s d x (Next k)) new (record {

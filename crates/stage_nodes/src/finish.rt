@@ -12,7 +12,11 @@ ghost use Rattle.path_trees.specs.declared.found.TreeFault.TheVariants.{OutOfMem
 ghost use Rattle.stage_nodes.specs.Closing.{HasTips, IsDeepest, IsStoredAt, IsStoring, IsStoringFault, IsTurn};
 ghost use Rattle.stage_nodes.specs.Closing.{IsTurned, children_body, gathered};
 ghost use Rattle.stage_nodes.specs.Directories.{any};
-ghost use Rattle.stage_nodes.specs.Forests.{node_component};
+ghost use Rattle.std.specs.Prelude.{true, false};
+ghost use Rattle.std.specs.declared.cmp.Ordering.TheVariants.{Less};
+ghost use Rattle.path_trees.specs.Listed.{is_before, named};
+ghost use Rattle.path_trees.specs.declared.found.Found.{Found};
+ghost use Rattle.stage_nodes.specs.Forests.{bytes_cmp, node_component};
 ghost use Rattle.stage_nodes.specs.Leaves.{is_held};
 ghost use Rattle.stage_nodes.specs.Pools.{hanging};
 ghost use Rattle.stage_nodes.specs.Ways.{IsOpen};
@@ -22,6 +26,16 @@ use git_objects::{EntryView, Name};
 use object_store::Store;
 use path_trees::{TreeFault, insert, taken_entries};
 use std::alloc::{AllocError, Global};
+
+// Whether a component that stands behind an entry by its bytes does so in Git's order, whatever it has. A longer one
+// may stand before a directory, which is compared as if it ended in `/`.
+#[inline(always)]
+fn keeps_order(entry: &EntryView<'_>, component: &[u8]) -> bool
+    ensures { result ≡ true → bytes_cmp entry.now.component.now component.now ≡ Less → (f : Found)
+        → is_before (named component.now f) (entry_value entry.now) ≡ false }
+{
+    !entry.mode.is_dir() || component.len() <= entry.component.len()
+}
 
 impl Nodes {
     // A node's component.
@@ -58,12 +72,18 @@ impl Nodes {
             match node.content {
                 Content::Open => unreachable!(),
                 Content::Held(found) => {
+                    let component = self.component(node);
                     let entry = EntryView {
                         mode: found.mode,
-                        component: self.component(node),
+                        component,
                         name: found.name,
                     };
-                    insert(&mut entries, entry)?;
+                    let len = entries.len();
+                    if len > 0 && keeps_order(&entries[len - 1], component) {
+                        entries.push(entry)?;
+                    } else {
+                        insert(&mut entries, entry)?;
+                    }
                 }
             }
             link = Link::Next(number);
