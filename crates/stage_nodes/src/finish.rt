@@ -53,7 +53,7 @@ impl Nodes {
         let mut room = 0usize;
         let mut link = Link::First(directory);
         'children: while let Some(number) = self.target(link) {
-            room = room.saturating_add(1);
+            room = room.wrapping_add(1);
             link = Link::Next(number);
         }
         room
