@@ -1,5 +1,7 @@
 // The open directories stored and closed, the deepest first.
 ghost use Rattle.std.specs.Prelude.{◌≡◌, ◌+◌, ◌≤◌, [], length, map, IfOk, IfErr, OnOk, List};
+ghost use Rattle.std.specs.Prelude.{true, false};
+ghost use Rattle.std.specs.declared.cmp.Ordering.TheVariants.{Less};
 ghost use Rattle.git_objects.specs.Names.{name};
 ghost use Rattle.git_objects.specs.Views.{entry_value};
 ghost use Rattle.git_objects.specs.declared.kind.Kind.TheVariants.{Tree};
@@ -8,14 +10,12 @@ ghost use Rattle.object_store.specs.Objects.{IsStore, Object};
 ghost use Rattle.object_store.specs.Unfolding.{StandsFor};
 ghost use Rattle.stage_nodes.specs.Branches.{Stands};
 ghost use Rattle.path_trees.specs.Levels.{IsRefused, IsTaken};
+ghost use Rattle.path_trees.specs.Listed.{is_before, named};
+ghost use Rattle.path_trees.specs.declared.found.Found.{Found};
 ghost use Rattle.path_trees.specs.declared.found.TreeFault.TheVariants.{OutOfMemory};
 ghost use Rattle.stage_nodes.specs.Closing.{HasTips, IsDeepest, IsStoredAt, IsStoring, IsStoringFault, IsTurn};
 ghost use Rattle.stage_nodes.specs.Closing.{IsTurned, children_body, gathered};
 ghost use Rattle.stage_nodes.specs.Directories.{any};
-ghost use Rattle.std.specs.Prelude.{true, false};
-ghost use Rattle.std.specs.declared.cmp.Ordering.TheVariants.{Less};
-ghost use Rattle.path_trees.specs.Listed.{is_before, named};
-ghost use Rattle.path_trees.specs.declared.found.Found.{Found};
 ghost use Rattle.stage_nodes.specs.Forests.{bytes_cmp, node_component};
 ghost use Rattle.stage_nodes.specs.Leaves.{is_held};
 ghost use Rattle.stage_nodes.specs.Pools.{hanging};
