@@ -1,13 +1,9 @@
 -- The entries of a directory's children, put one after another into Git's order.
-use Rattle.std.proofs.Common.{◌≡◌, ℕ, zero, suc, ◌<◌, ◌≤◌, Bool, true, false, cond, List, [], ◌∷◌, ◌++◌, ◌-◌, map, length, get_or, Some, None, refl, sym, ap, subst, ◌∙◌, arith}
-use Rattle.std.specs.declared.cmp.Ordering.{Ordering}
-use Rattle.std.specs.declared.cmp.Ordering.TheVariants.{Less, Equal, Greater}
-use Rattle.std.specs.Ordering.{is_lt, nat_cmp, ordering_reverse, ordering_then}
-use Rattle.std.specs.Cmp.{nat_cmp_total}
-use Rattle.std.specs.Cmp.Lexicographic.{slice_cmp}
+use Rattle.std.proofs.Common.{◌≡◌, ℕ, zero, suc, ◌<◌, true, false, cond, List, [], ◌∷◌, ◌++◌, ◌-◌, map, length, get_or, Some, None, refl, sym, ap, subst, ◌∙◌, arith}
+use Rattle.std.specs.declared.cmp.Ordering.TheVariants.{Less}
 use Rattle.git_objects.specs.Lists.{Each}
 use Rattle.git_objects.specs.Paths.{Bytes}
-use Rattle.git_objects.specs.Entries.{AreEntries, dir_key}
+use Rattle.git_objects.specs.Entries.{AreEntries}
 use Rattle.git_objects.specs.declared.entry.Entry.{Entry}
 use Rattle.git_objects.specs.Views.{entry_value}
 use Rattle.git_objects.specs.declared.tree_view.EntryView.{EntryView}
@@ -58,28 +54,8 @@ all_fresh : (F : Forest) → AreFresh [] F
 all_fresh Nil = tt
 all_fresh (Bin k c x l r) = (tt, all_fresh r)
 
--- ---- an entry that stands behind another by its bytes, in Git's order
+-- ---- an entry that is added last
 
-key_first : (x : ℕ) (a : Bytes) (v : Bool) → dir_key (x ∷ a) v ≡ x ∷ dir_key a v
-key_first x a true = refl
-key_first x a false = refl
-
-then_not : (o p q r : Ordering) → p ≡ ordering_reverse o → ordering_then o r ≡ Less → (r ≡ Less → is_lt q ≡ false) → is_lt (ordering_then p q) ≡ false
-then_not Less p q r e h g = ap (λ (t : Ordering). is_lt (ordering_then t q)) e
-then_not Equal p q r e h g = ap (λ (t : Ordering). is_lt (ordering_then t q)) e ∙ g h
-then_not Greater p q r e h g = absurd cc
-
--- it stands behind a file, and behind a directory whose component is as long
-pub keys_kept : (a c : Bytes) (v w : Bool) → (v ≡ true → length c ≤ length a) → bytes_cmp a c ≡ Less → is_lt (slice_cmp nat_cmp (dir_key c w) (dir_key a v)) ≡ false
-keys_kept [] [] v w g h = absurd cc
-keys_kept [] (y ∷ c) true w g h = absurd (omega (arith, g refl))
-keys_kept [] (y ∷ c) false w g h = ap (λ (k : Bytes). is_lt (slice_cmp nat_cmp k [])) (key_first y c w)
-keys_kept (x ∷ a) [] v w g h = absurd cc
-keys_kept (x ∷ a) (y ∷ c) v w g h =
-    (λ i. is_lt (slice_cmp nat_cmp (key_first y c w i) (key_first x a v i)))
-    ∙ then_not (nat_cmp x y) (nat_cmp y x) (slice_cmp nat_cmp (dir_key c w) (dir_key a v)) (bytes_cmp a c) (nat_cmp_total.antisymm y x) h (keys_kept a c v w (λ e. omega (arith, g e)))
-
--- one that is added last
 pub added_last : (views : List EntryView) (a : EntryView) (long : ℕ) (last : EntryView) → long ≡ length views → 0 < long → last ≡ get_or views (long - 1) last
     → AreEntries (map entry_value views) → is_before (entry_value a) (entry_value last) ≡ false → map entry_value (views ++ a ∷ []) ≡ inserted (entry_value a) (map entry_value views)
 added_last views a long last l p r h b =

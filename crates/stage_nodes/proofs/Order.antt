@@ -1,11 +1,13 @@
 -- The order of components' bytes.
-use Rattle.std.proofs.Common.{◌≡◌, Bool, true, false, refl, sym, ap, ◌∙◌, true≢false}
+use Rattle.std.proofs.Common.{◌≡◌, ℕ, ◌≤◌, Bool, true, false, [], ◌∷◌, length, refl, sym, ap, ◌∙◌, arith, true≢false}
 use Rattle.std.specs.declared.cmp.Ordering.{Ordering}
 use Rattle.std.specs.declared.cmp.Ordering.TheVariants.{Less, Equal, Greater}
-use Rattle.std.specs.Ordering.{ordering_reverse, is_lt}
-use Rattle.std.specs.Cmp.Lexicographic.{bytes_decides, nat_list_cmp_total}
+use Rattle.std.specs.Ordering.{nat_cmp, ordering_reverse, ordering_then, is_lt}
+use Rattle.std.specs.Cmp.{nat_cmp_total}
+use Rattle.std.specs.Cmp.Lexicographic.{bytes_decides, nat_list_cmp_total, slice_cmp}
 use Rattle.std.specs.FinMap.{slice_cmp-IsAntisymmetric, nat_cmp-IsAntisymmetric}
 use Rattle.git_objects.specs.Paths.{Bytes, same_bytes}
+use Rattle.git_objects.specs.Entries.{dir_key}
 use Rattle.git_objects.proofs.Basics.{same_bytes-back}
 use Rattle.stage_nodes.specs.Forests.{bytes_cmp}
 
@@ -43,3 +45,34 @@ pub less_back : (c d : Bytes) → is_lt (bytes_cmp d c) ≡ false → same_bytes
 less_back c d h s =
     nat_list_cmp_total.antisymm c d
     ∙ other_order (bytes_cmp d c) h (λ e. true≢false (sym ((bytes_decides c d).1 (sym (slice_cmp-IsAntisymmetric nat_cmp-IsAntisymmetric _ _ e))) ∙ s))
+
+-- ---- what stands behind another component by its bytes, in Git's order
+
+key_first : (x : ℕ) (a : Bytes) (v : Bool) → dir_key (x ∷ a) v ≡ x ∷ dir_key a v
+key_first x a true = refl
+key_first x a false = refl
+
+then_not : (o p q r : Ordering) → p ≡ ordering_reverse o → ordering_then o r ≡ Less → (r ≡ Less → is_lt q ≡ false) → is_lt (ordering_then p q) ≡ false
+then_not Less p q r e h g = ap (λ (t : Ordering). is_lt (ordering_then t q)) e
+then_not Equal p q r e h g = ap (λ (t : Ordering). is_lt (ordering_then t q)) e ∙ g h
+then_not Greater p q r e h g = absurd cc
+
+-- it stands behind a file, and behind a directory whose component is as long
+pub keys_kept : (a c : Bytes) (v w : Bool) → (v ≡ true → length c ≤ length a) → bytes_cmp a c ≡ Less → is_lt (slice_cmp nat_cmp (dir_key c w) (dir_key a v)) ≡ false
+keys_kept [] [] v w g h = absurd cc
+keys_kept [] (y ∷ c) true w g h = absurd (omega (arith, g refl))
+keys_kept [] (y ∷ c) false w g h = ap (λ (k : Bytes). is_lt (slice_cmp nat_cmp k [])) (key_first y c w)
+keys_kept (x ∷ a) [] v w g h = absurd cc
+keys_kept (x ∷ a) (y ∷ c) v w g h =
+    (λ i. is_lt (slice_cmp nat_cmp (key_first y c w i) (key_first x a v i)))
+    ∙ then_not (nat_cmp x y) (nat_cmp y x) (slice_cmp nat_cmp (dir_key c w) (dir_key a v)) (bytes_cmp a c) (nat_cmp_total.antisymm y x) h (keys_kept a c v w (λ e. omega (arith, g e)))
+
+-- and the other way: what stands behind it in Git's order, by its bytes. It does where it is a file, and where its
+-- component is as long
+pub bytes_kept : (a c : Bytes) (v w : Bool) → (w ≡ true → length a ≤ length c) → slice_cmp nat_cmp (dir_key a v) (dir_key c w) ≡ Less → same_bytes a c ≡ false → bytes_cmp a c ≡ Less
+bytes_kept a c v w g h n = less_back a c (by (bytes_cmp c a) refl) n
+  where
+    by : (o : Ordering) → bytes_cmp c a ≡ o → is_lt (bytes_cmp c a) ≡ false
+    by Less e = absurd (true≢false (sym (ap is_lt h) ∙ keys_kept c a w v g e))
+    by Equal e = ap is_lt e
+    by Greater e = ap is_lt e

@@ -1,6 +1,7 @@
 -- A directory that a path goes through for the first time: its entries become nodes.
 use Rattle.std.specs.List.{All}
-use Rattle.std.specs.Prelude.{◌≡◌, ℕ, ◌+◌, ◌==◌, Bool, true, false, List, [], ◌∷◌, slice_get, Some, None}
+use Rattle.std.specs.Prelude.{◌≡◌, ℕ, ◌+◌, ◌-◌, ◌<◌, ◌==◌, Bool, true, false, List, [], ◌∷◌, length, get_or, slice_get, Some, None}
+use Rattle.std.specs.declared.cmp.Ordering.TheVariants.{Less}
 use Rattle.git_objects.specs.Paths.{Bytes, Path}
 use Rattle.git_objects.specs.Trees.{at}
 use Rattle.git_objects.specs.declared.entry.Entry.{Entry}
@@ -15,7 +16,7 @@ use Rattle.stage_nodes.specs.declared.nodes.Nodes.{Nodes}
 use Rattle.stage_nodes.specs.declared.nodes.Link.TheVariants.{First}
 use Rattle.stage_nodes.specs.declared.nodes.Content.{Content}
 use Rattle.stage_nodes.specs.declared.nodes.Content.TheVariants.{Held}
-use Rattle.stage_nodes.specs.Forests.{Forest, one, count, Sound}
+use Rattle.stage_nodes.specs.Forests.{Forest, one, count, bytes_cmp, node_component, Sound}
 use Rattle.stage_nodes.specs.Pools.{IsKept, IsPool, StayBut, hanging, inside, spare}
 use Rattle.stage_nodes.specs.Directories.{IsDirectory, has_component, has_number}
 use Rattle.stage_nodes.specs.Leaves.{leaf_in, is_held}
@@ -23,6 +24,10 @@ use Rattle.stage_nodes.specs.Leaves.{leaf_in, is_held}
 -- each of these numbers is that of a child of the directory
 abbrev pub AreChildren : Nodes → ℕ → List ℕ → Type 0
 AreChildren s b ks = All (λ k. has_number k (hanging s (First b)) ≡ true) ks
+
+-- the last of these numbers is that of a node whose component comes before this one
+abbrev pub IsLastBefore : Nodes → List ℕ → Bytes → Type 0
+IsLastBefore s ks c = (k : ℕ) (n : Node) → 0 < length ks → k ≡ get_or ks (length ks - 1) k → slice_get s.cells.items k ≡ Some n → bytes_cmp (node_component s.names.items n) c ≡ Less
 
 -- each entry passes a test as a node's content
 abbrev pub AllPass : (Content → Bool) → List Entry → Type 0

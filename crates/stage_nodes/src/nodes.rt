@@ -6,18 +6,19 @@ ghost use Rattle.stage_nodes.specs.Forests.{IsWalk, bytes_cmp, forest, is_link, 
 ghost use Rattle.git_objects.specs.Paths.{Bytes, is_component, same_bytes};
 ghost use Rattle.stage_nodes.specs.Closing.{CanClose, IsClosedAt};
 ghost use Rattle.stage_nodes.specs.Directories.{IsAddedTo, IsDirectory, has_component};
-ghost use Rattle.stage_nodes.specs.Expanding.{AreChildren, IsClosed, IsExpanded, IsFilling, IsPartly, IsWaste};
+ghost use Rattle.stage_nodes.specs.Expanding.{AreChildren, IsClosed, IsExpanded, IsFilling, IsLastBefore, IsPartly};
+ghost use Rattle.stage_nodes.specs.Expanding.{IsWaste};
 ghost use Rattle.git_objects.specs.declared.kind.Kind.TheVariants.{Tree};
 ghost use Rattle.object_store.specs.Objects.{IsStore, has};
 ghost use Rattle.stage_nodes.specs.Forests.{Nil};
 ghost use Rattle.git_objects.specs.Bodies.{is_name};
-ghost use Rattle.git_objects.specs.Entries.{AreEntries, body_text};
+ghost use Rattle.git_objects.specs.Entries.{AreEntries, body_text, is_dir};
 ghost use Rattle.std.specs.List.{list_all};
 ghost use Rattle.stage_nodes.specs.Frames.{pointed};
 ghost use Rattle.stage_nodes.specs.Pools.{CanFree, IsAdded, IsFreed, IsFreeing, IsPool, IsPutBefore, IsSame};
 ghost use Rattle.stage_nodes.specs.Pools.{free_after, hanging, place_number, placed};
 
-use git_objects::{Mode, Name, TreeView, compare_bytes};
+use git_objects::{EntryView, Mode, Name, TreeView, compare_bytes};
 use object_store::Store;
 use path_trees::{Found, entries_at};
 use std::alloc::{AllocError, Global};
@@ -63,6 +64,16 @@ pub struct Nodes {
     pub cells: Vec<Node>,
     pub names: Vec<u8>,
     pub free: Option<usize>,
+}
+
+// Whether an entry that stands behind another one in Git's order does so by the bytes of their components, where the
+// other one's has so many. A directory with a shorter one may not: it is compared as if it ended in `/`, so its
+// component may be the beginning of the other one's.
+#[inline(always)]
+fn keeps_behind(entry: &EntryView<'_>, len: usize) -> bool
+    ensures { result ≡ true → is_dir entry.now.mode ≡ true → len ≤ length entry.now.component.now }
+{
+    !entry.mode.is_dir() || len <= entry.component.len()
 }
 
 impl Nodes {
@@ -246,17 +257,27 @@ impl Nodes {
 
     // The link from which a component is looked for among a directory's children: that of the last given child that
     // stands before the component, or the directory's first link. Given children that don't stand before it are taken
-    // off.
+    // off. Where the component is known to stand behind the last one, nothing is compared.
     #[inline(always)]
-    fn start(&self, directory: usize, children: &mut Vec<usize>, component: &[u8]) -> Link
+    fn start(
+        &self,
+        directory: usize,
+        children: &mut Vec<usize>,
+        component: &[u8],
+        is_behind: bool,
+    ) -> Link
         requires directory { IsDirectory self.now directory (hanging self.now (Link.First directory)) }
         requires children { AreChildren self.now directory children.old.items }
+        requires last { is_behind ≡ true → IsLastBefore self.now children.old.items component.now }
         ensures children { AreChildren self.now directory children.new.items }
         ensures place { sought component.now result (hanging self.now result)
             ≡ sought component.now (Link.First directory) (hanging self.now (Link.First directory)) }
         ensures link { is_link self.now.cells.items result ≡ true }
         ensures walk { IsWalk self.now.names.items self.now.cells.items (target self.now.cells.items result) }
     {
+        if is_behind && !children.is_empty() {
+            return Link::Next(children[children.len() - 1]);
+        }
         'children: while !children.is_empty() {
             let number = children[children.len() - 1];
             if self.is_before(self.cells[number], component) {
@@ -268,7 +289,8 @@ impl Nodes {
     }
 
     // Adds a child to a directory that has none of this component, and gives its number. The component is a part of the
-    // bytes of all nodes, and its place is looked for from the last of the given children that stands before it.
+    // bytes of all nodes, and its place is looked for from the last of the given children that stands before it. It may
+    // be known to stand behind the very last.
     #[inline(always)]
     fn add_child(
         &mut self,
@@ -277,9 +299,11 @@ impl Nodes {
         at: usize,
         component: &[u8],
         found: Found,
+        is_behind: bool,
     ) -> Result<usize, AllocError>
         requires directory { IsDirectory self.old directory (hanging self.old (Link.First directory)) }
         requires children { AreChildren self.old directory children.old.items }
+        requires last { is_behind ≡ true → IsLastBefore self.old children.old.items component.now }
         requires component { is_component component.now ≡ true }
         requires absent { has_component component.now (hanging self.old (Link.First directory)) ≡ false }
         requires within { at + length component.now ≤ length self.old.names.items }
@@ -289,7 +313,7 @@ impl Nodes {
         ensures err { OnErr result (IsSame self.old self.new) }
         ensures names { self.new.names.items ≡ self.old.names.items }
     {
-        let start = self.start(directory, children, component);
+        let start = self.start(directory, children, component, is_behind);
         let link = self.seek(start, component);
         let number = self.add_part(at, component.len(), Content::Held(found), None)?;
         let behind = self.target(link);
@@ -326,15 +350,26 @@ impl Nodes {
     {
         let mut entries = entries;
         let mut children = Vec::with_capacity(alloc, CHILDREN)?;
+        let mut last_len = 0;
         'entries: while let Some(entry) = entries.next() {
             let found = Found {
                 mode: entry.mode,
                 name: entry.name,
             };
             let end = self.names.len() - entries.bytes().len() - BEHIND_COMPONENT;
-            let at = end - entry.component.len();
-            let number = self.add_child(directory, &mut children, at, entry.component, found)?;
+            let len = entry.component.len();
+            let at = end - len;
+            let is_behind = keeps_behind(&entry, last_len);
+            let number = self.add_child(
+                directory,
+                &mut children,
+                at,
+                entry.component,
+                found,
+                is_behind,
+            )?;
             children.push(number)?;
+            last_len = len;
         }
         Ok(())
     }

@@ -1,6 +1,6 @@
 use Rattle.std.proofs.Common.{◌≡◌, ◌≤◌, length, false, sym, ◌∙◌, arith, true≢false}
 use Rattle.git_objects.specs.Entries.{is_dir}
-use Rattle.stage_nodes.proofs.ChildEntries.{keys_kept}
+use Rattle.stage_nodes.proofs.Order.{keys_kept}
 use Rattle.stage_nodes.proofs.finish.keeps_order.Goals as goal
 
 pub returns-then-not-is_dir : goal.returns-then-not-is_dir

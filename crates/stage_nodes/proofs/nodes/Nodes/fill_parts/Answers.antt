@@ -1,4 +1,4 @@
-use Rattle.std.proofs.Common.{◌≡◌, ◌+◌, ◌-◌, ℕ, true, List, [], ◌∷◌, ◌++◌, length, refl, sym, ap, subst, append_assoc, ◌∙◌, arith}
+use Rattle.std.proofs.Common.{inl, inr, ◌≡◌, ◌+◌, ◌-◌, ℕ, true, List, [], ◌∷◌, ◌++◌, length, refl, sym, ap, subst, append_assoc, ◌∙◌, arith}
 use Rattle.std.specs.Prelude.{slice_range}
 use Rattle.std.specs.List.{list_all}
 use Rattle.git_objects.specs.Views.{entry_value}
@@ -12,11 +12,13 @@ use Rattle.stage_nodes.specs.Directories.{has_number}
 use Rattle.stage_nodes.specs.Expanding.{AreChildren}
 use Rattle.stage_nodes.specs.Pools.{hanging}
 use Rattle.stage_nodes.proofs.Parting.{first_is, long_name, part_of}
+use Rattle.path_trees.specs.Listed.{found}
+use Rattle.stage_nodes.proofs.Starting.{added_is_last, last_before}
 use Rattle.stage_nodes.proofs.Expanding.{nothing_filled, entry_absent, entry_directory, entry_valid, children_more, one_filled, same_filled}
 use Rattle.stage_nodes.proofs.nodes.Nodes.fill_parts.Goals as goal
 
 pub entries-init : goal.entries-init
-entries-init c = record { done = []; whole = refl; filling = nothing_filled c.args.self.now c.args.directory c.requires.directory; front = c.requires.bytes.0; left = c.requires.bytes.1; children = All-same (λ k. has_number k (hanging c.args.self.now (First c.args.directory)) ≡ true) c.in_ok-children.children.items [] c.in_ok-children.ensures.items (All-nil (λ k. has_number k (hanging c.args.self.now (First c.args.directory)) ≡ true)) }
+entries-init c = record { done = []; whole = refl; filling = nothing_filled c.args.self.now c.args.directory c.requires.directory; front = c.requires.bytes.0; left = c.requires.bytes.1; children = All-same (λ k. has_number k (hanging c.args.self.now (First c.args.directory)) ≡ true) c.in_ok-children.children.items [] c.in_ok-children.ensures.items (All-nil (λ k. has_number k (hanging c.args.self.now (First c.args.directory)) ≡ true)); last = inl c.in_ok-children.ensures.items }
 
 pub add_child-requires-clause-directory : goal.add_child-requires-clause-directory
 add_child-requires-clause-directory c =
@@ -27,6 +29,13 @@ add_child-requires-clause-directory c =
 
 pub add_child-requires-clause-children : goal.add_child-requires-clause-children
 add_child-requires-clause-children c = c.entries.invariant.children
+
+pub add_child-requires-clause-last : goal.add_child-requires-clause-last
+add_child-requires-clause-last c = λ h.
+    let first = first_is c.entries.entries c.next.new.self (entry_value c.in-Some.entry) c.in-Some.ensures.entry c.in-Some.ensures.rest in
+    let whole = ap (λ (es : List Entry). c.entries.invariant.done ++ es) (sym first) ∙ c.entries.invariant.whole in
+    let valid = subst AreEntries (sym whole) c.requires.entries in
+    last_before c.entries.self c.entries.invariant.done c.next.new.self (entry_value c.in-Some.entry) c.entries.children.items c.entries.last_len c.entries.invariant.last valid (c.keeps_behind-is_behind.ensures h)
 
 pub add_child-requires-clause-component : goal.add_child-requires-clause-component
 add_child-requires-clause-component c =
@@ -93,6 +102,7 @@ entries-preserved c =
       front = part.front;
       left = c.add_child.ensures.names ∙ part.left;
       children = subst (λ (ks : List ℕ). AreChildren c.add_child.new.self c.args.directory ks) (sym c.in_ok-push.ensures.items) (children_more c.args.self.now c.entries.self c.add_child.new.self c.args.directory (entry_value c.in-Some.entry) c.entries.invariant.done c.next.new.self c.entries.invariant.filling valid c.in_ok-number.number c.in_ok-number.ensures.ok c.add_child.new.children.items c.add_child.ensures.children);
+      last = inr (added_is_last c.entries.self c.add_child.new.self c.args.directory (found (entry_value c.in-Some.entry)) c.in_ok-number.number c.entries.invariant.done (entry_value c.in-Some.entry) _ c.add_child.new.children.items (length c.in-Some.entry.component.now) c.in_ok-number.ensures.ok c.in_ok-push.ensures.items refl);
     }
 
 pub returns-in_err-number-clause-err : goal.returns-in_err-number-clause-err
