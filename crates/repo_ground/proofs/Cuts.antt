@@ -1,6 +1,8 @@
 -- A state from which what was entered last is taken off again.
-use Rattle.std.proofs.Common.{◌≡◌, ◌≤◌, ◌+◌, ◌<◌, inl, inr, ℕ, zero, suc, List, [], ◌∷◌, ◌++◌, length, map, take, Option, Some, None, refl, sym, ap, subst, ◌∙◌, arith, length-append}
-use Rattle.std.specs.Prelude.{sum_by}
+use Rattle.std.proofs.Common.{◌≡◌, ◌≤◌, ◌+◌, ◌<◌, inl, inr, ℕ, zero, suc, List, [], ◌∷◌, ◌++◌, length, map, take, Option, Some, None, refl, sym, ap, subst, ◌∙◌, arith, length-append, true≢false}
+use Rattle.std.specs.Prelude.{Bool, true, false, Result, Ok, Err, MatchResult}
+use Rattle.std.specs.Result.{IsErrAnd, IsErrOf}
+use Rattle.proj_io.specs.Uses.{IsUsed}
 use Rattle.git_objects.specs.Paths.{Bytes}
 use Rattle.object_store.specs.Objects.{Object}
 use Rattle.git_objects.specs.Refs.{Refs}
@@ -9,10 +11,14 @@ use Rattle.state_items.specs.Changes.{NoPlan, Plan, passed, plan_items, plan_of}
 use Rattle.state_items.specs.Items.{Held}
 use Rattle.proj_io.specs.declared.keeper.KeepError.{KeepError}
 use Rattle.proj_io.specs.declared.keeper.KeepError.TheVariants.{Failed, OutOfMemory as NoMemory}
-use Rattle.repo_ground.specs.Changes.{IsCommitted, IsRefused, IsStopOf, keep_error}
+use Rattle.repo_ground.specs.Changes.{Appends, GetsItems, IsCommitted, IsRefusal, IsRefused, IsStopOf, KeepsItems, keep_error, keep_error_result}
+use Rattle.proj_io.specs.Views.{KeeperView}
+use Rattle.repo_ground.proofs.ItemRuns.{stays-self}
+use Rattle.repo_ground.specs.declared.commit.CommitError.{CommitError}
+use Rattle.repo_ground.specs.declared.commit.CommitError.TheVariants.{StoreFault, Limit, OutOfMemory}
 use Rattle.state_items.proofs.Lengths.{item-some}
 use Rattle.repo_ground.specs.Contents.{Contents, Spells, room_in}
-use Rattle.repo_ground.specs.Drafting.{HasMore, IsDraft, cut_to}
+use Rattle.repo_ground.specs.Drafting.{Adds, HasMore, IsDraft, IsNoDraft, cut_to, with_draft}
 use Rattle.repo_ground.specs.Entering.{IsFront}
 use Rattle.repo_ground.specs.declared.draft.Draft.{Draft}
 
@@ -43,12 +49,9 @@ cut-same names blobs commits s after a b d h =
       names = front-back names s.names after.names a h.names i;
     })
 
--- the state with the refs of a draft and one item more
-abbrev pub with_draft : Contents → Draft → ℕ → Contents
-with_draft s d n = record s { refs = d.refs; number = s.number + 1; size = s.size + n }
-
-pub draft-committed : (h : Held) (p : Plan) (s after : Contents) (d : Draft) (n : ℕ) → HasMore s after → IsDraft h p s after d → n ≡ length d.item.items → IsCommitted h p s (with_draft after d n)
-draft-committed h p s after d n m w e = record {
+-- a draft that is taken up
+pub draft-committed : (h : Held) (p : Plan) (s after : Contents) (d : Draft) → HasMore s after → IsDraft h p s after d → IsCommitted h p s (with_draft after d)
+draft-committed h p s after d m w = record {
   within = w.fits;
   spells = record {
     store = w.spells.store;
@@ -64,12 +67,8 @@ draft-committed h p s after d n m w e = record {
     few = w.spells.few;
     rule = w.spells.rule;
   };
-  number = ap (λ (x : Contents). x.number + 1) m.same ∙ ap (λ (xs : List Bytes). s.number + length xs) (sym w.item);
-  size =
-      ap (λ (x : Contents). x.size + n) m.same
-      ∙ ap (λ (k : ℕ). s.size + k) e
-      ∙ (let q : s.size + length d.item.items ≡ s.size + sum_by length (d.item.items ∷ []) = omega arith in q)
-      ∙ ap (λ (xs : List Bytes). s.size + sum_by length xs) (sym w.item);
+  number = ap (λ (x : Contents). x.number + 1) m.same ∙ ap (λ (k : ℕ). s.number + k) (sym w.one);
+  size = ap (λ (x : Contents). x.size + d.size) m.same ∙ ap (λ (k : ℕ). s.size + k) w.size;
   store = ap (λ (x : Contents). x.basis.store) m.same;
   tables = ap (λ (x : Contents). x.basis.tables) m.same;
   memo = ap (λ (x : Contents). x.basis.memo) m.same;
@@ -101,13 +100,82 @@ stop-is h s p item None list a b q = tt
 stop-is h s p item (Some all) list a b (inl e) = inl e
 stop-is h s p item (Some all) list a b (inr e) = inr (a, e ∙ ap (λ (xs : List Bytes). all ++ xs) (sym b))
 
--- why the keeper's failure refuses the plan
-pub refused-is : (h : Held) (p : Plan) (s after last : Contents) (d : Draft) (e : KeepError) → IsDraft h p s after d → last ≡ s → IsRefused h p s last (keep_error e)
-refused-is h p s after last d Failed w f = (λ q. some-none (sym w.item ∙ q), w.fits)
+-- why the keeper's failure leaves no draft
+pub fault-is : (h : Held) (s : Contents) (p : Plan) (item : Bytes) (e : KeepError) → passed h (room_in s) p ≡ None → plan_items p ≡ item ∷ [] → IsNoDraft h p s (keep_error e)
+fault-is h s p item Failed a b = (λ q. some-none (sym b ∙ q), a)
   where
-    some-none : d.item.items ∷ [] ≡ [] → ⊥
+    some-none : item ∷ [] ≡ [] → ⊥
     some-none q = cc
-refused-is h p s after last d NoMemory w f = f
+fault-is h s p item NoMemory a b = tt
+
+-- without a draft, the state as it was is a refusal's
+pub refused-is : (h : Held) (p : Plan) (s last : Contents) (e : CommitError) → IsNoDraft h p s e → last ≡ s → IsRefused h p s last e
+refused-is h p s last StoreFault w f = w
+refused-is h p s last (Limit q) w f = (f, w)
+refused-is h p s last OutOfMemory w f = f
+
+-- what the keeper got, where the plan has one item
+pub appends-is : (p : Plan) (item : Bytes) (before after : KeeperView) (r : Result (Unit {0}) KeepError) → plan_items p ≡ item ∷ [] → Adds item before after r → Appends p before after (keep_error_result r)
+appends-is p item before after (Ok u) e w = subst (λ (items : List Bytes). GetsItems items before after) (sym e) w
+appends-is p item before after (Err Failed) e (inl w) = inl w
+appends-is p item before after (Err Failed) e (inr w) = inr (subst (λ (items : List Bytes). GetsItems items before after) (sym e) w)
+appends-is p item before after (Err NoMemory) e w = w
+
+-- without a call, the keeper has what it had
+pub keeps-same : (k : KeeperView) → KeepsItems k k
+keeps-same k = (refl, stays-self k.items)
+
+-- want of memory, as it is told
+pub no-memory : {A : Type 0} (r : Result A CommitError) → IsErrAnd r (λ e. e ≡ OutOfMemory) → r ≡ Err OutOfMemory
+no-memory (Ok x) w = absurd w
+no-memory (Err e) w = ap Err w
+
+-- what holds of want of memory
+pub memory-is : {A : Type 0} (r : Result A CommitError) (P : A → Type 0) (Q : CommitError → Type 0) → r ≡ Err OutOfMemory → Q OutOfMemory → MatchResult r P Q
+memory-is {A = A} r P Q e q = subst (λ (x : Result A CommitError). MatchResult x P Q) (sym e) q
+
+-- the same error of another call
+abbrev pub again : {A B : Type 0} → Result A CommitError → Result B CommitError
+again (Ok x) = Err OutOfMemory
+again (Err e) = Err e
+
+abbrev is-fault : {A : Type 0} → Result A CommitError → Bool
+is-fault (Ok x) = false
+is-fault (Err StoreFault) = true
+is-fault (Err (Limit q)) = false
+is-fault (Err OutOfMemory) = false
+
+pub memory-fault : {A : Type 0} (r : Result A CommitError) → r ≡ Err OutOfMemory → r ≡ Err StoreFault → ⊥
+memory-fault r a b = true≢false (sym (ap is-fault b) ∙ ap is-fault a)
+
+-- a keeper that wasn't called, where no fault of it is told
+pub unused : {K : Type 0} (faults : K → ℕ) (opens tells : K → Type 0) (k : K) (F : Type 0) → opens k → (F → ⊥) → IsUsed faults opens tells k k F
+unused faults opens tells k F may never = record {
+  is_open = λ _. may;
+  told = (λ t. t, λ t. t);
+  cause = record { later = omega arith; rose = λ f. absurd (never f) };
+}
+
+-- a fault of the keeper by another name
+pub used-as : {K : Type 0} (faults : K → ℕ) (opens tells : K → Type 0) (a b : K) (F G : Type 0) → (F → G) → (G → F) → IsUsed faults opens tells a b F → IsUsed faults opens tells a b G
+used-as faults opens tells a b F G to back w = record {
+  is_open = λ never. w.is_open (λ f. never (to f));
+  told = w.told;
+  cause = record { later = w.cause.later; rose = λ g. w.cause.rose (back g) };
+}
+
+pub told-fault : {A B : Type 0} (e : KeepError) → IsErrOf {T = A} (Err e) Failed → IsErrOf {T = B} (Err (keep_error e)) StoreFault
+told-fault Failed q = refl
+told-fault NoMemory q = cc
+
+pub kept-fault : {A B : Type 0} (e : KeepError) → IsErrOf {T = B} (Err (keep_error e)) StoreFault → IsErrOf {T = A} (Err e) Failed
+kept-fault Failed q = refl
+kept-fault NoMemory q = cc
+
+-- the keeper refuses by want of memory alone
+pub refusal-memory : (e : KeepError) → IsRefusal (Err (keep_error e)) → e ≡ NoMemory
+refusal-memory Failed q = absurd q
+refusal-memory NoMemory q = refl
 
 first : List Bytes → Bytes
 first [] = []

@@ -1,6 +1,6 @@
 -- What a batch brings, as it is held and entered.
-use Rattle.std.proofs.Common.{◌≡◌, ◌+◌, ℕ, suc, Bool, true, false, cond, ◌&&◌, List, [], ◌∷◌, ◌++◌, length, map, filter, reverse, drop, Option, Some, None, Err, refl, sym, ap, subst, ◌∙◌, arith, true≢false}
-use Rattle.std.specs.Prelude.{nat_le}
+use Rattle.std.proofs.Common.{◌≡◌, ◌<◌, ◌≤◌, ◌+◌, ℕ, suc, Bool, true, false, cond, ◌&&◌, List, [], ◌∷◌, ◌++◌, length, map, filter, reverse, drop, Option, Some, None, Ok, Err, refl, sym, ap, subst, ◌∙◌, arith, true≢false}
+use Rattle.std.specs.Prelude.{nat_le, sum_by}
 use Rattle.std.specs.Cmp.{first_so}
 use Rattle.std.proofs.Math.Seq.{drop-append_seam}
 use Rattle.std.proofs.lemmas.List.{map-append, reverse-append, reverse-reverse}
@@ -10,7 +10,7 @@ use Rattle.git_objects.specs.Paths.{Bytes, is_nil}
 use Rattle.git_objects.specs.Parts.{name_bytes}
 use Rattle.git_objects.specs.Refs.{Refs}
 use Rattle.git_objects.specs.Snapshots.{Snapshot}
-use Rattle.git_objects.specs.declared.limits.TheConstants.{COMMITS, OBJECTS}
+use Rattle.git_objects.specs.declared.limits.TheConstants.{COMMITS, OBJECTS, STORE_BYTES}
 use Rattle.git_objects.specs.declared.name.Name.{Name}
 use Rattle.git_objects.specs.declared.quantity.Quantity.{Quantity}
 use Rattle.git_objects.specs.declared.quantity.Quantity.TheVariants as limits
@@ -35,7 +35,7 @@ use Rattle.state_items.proofs.Naming.{names-number}
 use Rattle.state_items.proofs.TreeParts.{all-each}
 use Rattle.repo_ground.specs.Changes.{AreNamedIn, IsBatchOf, batch_plan, settings_of}
 use Rattle.repo_ground.specs.Contents.{Contents, Spells, room_in}
-use Rattle.repo_ground.specs.Drafting.{HasMore, IsDraft, IsItemOf, IsNoDraft, passed_with}
+use Rattle.repo_ground.specs.Drafting.{HasMore, IsDraft, IsNoDraft, IsSizeOf, passed_with}
 use Rattle.repo_ground.specs.Entering.{IsFront, with_all}
 use Rattle.state_items.specs.Growing.{grown}
 use Rattle.state_items.proofs.Growing.{grown-fresh}
@@ -52,7 +52,8 @@ use Rattle.repo_ground.proofs.Grows.{named-in}
 use Rattle.repo_ground.proofs.MovedRefs.{moves-same, heads-after, heads-distinct, heads-sorted}
 use Rattle.repo_ground.proofs.RowsBehind.{rows-behind}
 use Rattle.repo_ground.proofs.RowsGround.{rows_ground}
-use Rattle.repo_ground.proofs.Rules.{commits-number}
+use Rattle.repo_ground.proofs.Rules.{MayAppend, commits-number, may-append}
+use Rattle.repo_ground.proofs.Cuts.{change-some}
 
 -- ---- numbers
 
@@ -244,28 +245,68 @@ module _ (h : Held) (s : Contents) (b : Batch) (blobs : List Bytes) (cs : List S
     pub nothing-new : (old : List Name) → new ≡ old ++ names → (is_nil names && is_nil rs) ≡ true → (batch_plan h b blobs cs ≡ NoPlan) × (new ≡ old)
     nothing-new old f e = (no-plan (sym says ∙ e), f ∙ ap (λ (t : List Name). old ++ t) (nil-none names (first_so (is_nil names) _ e)) ∙ append-none old)
 
-    -- the limits and the item, as they were worked out
+    -- the item, as it was worked out
+    pub item-is : batch_plan h b blobs cs ≡ ChangePlan fs ms → plan_items (batch_plan h b blobs cs) ≡ change_text (found S names) rs ∷ []
+    item-is e = ap plan_items e ∙ ap (λ (t : Bytes). t ∷ []) (sym (λ i. change_text (n.fresh.found i) (refs-are i)))
+
+    -- the limits, as they were worked out
     pub passed-is : (text : Bytes) → batch_plan h b blobs cs ≡ ChangePlan fs ms → text ≡ change_text (found S names) rs
         → passed h (room_in s) (batch_plan h b blobs cs) ≡ passed_with (reverse fs ++ H) s.number s.size text
     passed-is text e f =
         ap (passed h (room_in s)) e
         ∙ ap (λ (x : Bytes). passed_with (reverse fs ++ H) s.number s.size x) (sym (f ∙ (λ i. change_text (n.fresh.found i) (refs-are i))))
 
-    pub no-draft-is : (e : CommitError) → batch_plan h b blobs cs ≡ ChangePlan fs ms → IsItemOf (passed_with (reverse fs ++ H) s.number s.size (change_text (found S names) rs)) (change_text (found S names) rs) (Err e)
+    pub no-draft-is : (e : CommitError) → batch_plan h b blobs cs ≡ ChangePlan fs ms → IsSizeOf (passed_with (reverse fs ++ H) s.number s.size (change_text (found S names) rs)) (change_text (found S names) rs) (Err e)
         → IsNoDraft h (batch_plan h b blobs cs) s e
-    no-draft-is StoreFault e made = made
+    no-draft-is StoreFault e made = absurd made
     no-draft-is (Limit q) e made = passed-is (change_text (found S names) rs) e refl ∙ made
     no-draft-is OutOfMemory e made = tt
 
     pub draft-is : (known : List Name) (graph : List Row) (d : Draft) → IsGround s.basis → AreHeld (reverse fs ++ H) new graph known → batch_plan h b blobs cs ≡ ChangePlan fs ms
-        → passed_with (reverse fs ++ H) s.number s.size (change_text (found S names) rs) ≡ None → d.item.items ≡ change_text (found S names) rs → d.refs ≡ with_heads s.refs rs
+        → passed_with (reverse fs ++ H) s.number s.size (change_text (found S names) rs) ≡ None → d.size ≡ length (change_text (found S names) rs) → d.refs ≡ with_heads s.refs rs
         → IsDraft h (batch_plan h b blobs cs) s (record s { basis = record s.basis { graph = graph }; blobs = map name_bytes known; names = map name_bytes new }) d
-    draft-is known graph d g a e fits item refs = record {
+    draft-is known graph d g a e fits size refs = record {
       fits = passed-is (change_text (found S names) rs) e refl ∙ fits;
-      item = ap plan_items e ∙ ap (λ (t : Bytes). t ∷ []) (sym (item ∙ (λ i. change_text (n.fresh.found i) (refs-are i))));
+      one = ap length (item-is e);
+      room =
+          let may = may-append (reverse fs ++ H) (room_in s) (change_text (found S names) rs) fits in
+          (may.items, subst (λ (k : ℕ). s.size + k ≤ STORE_BYTES) (sym size) may.store);
+      size =
+          size
+          ∙ (let q : length (change_text (found S names) rs) ≡ sum_by length (change_text (found S names) rs ∷ []) = omega arith in q)
+          ∙ ap (sum_by length) (sym (item-is e));
       spells =
           subst (λ (p : Plan). Spells (held_after h p) (record s { basis = record s.basis { graph = graph }; refs = d.refs; blobs = map name_bytes known; names = map name_bytes new })) (sym e)
           (subst (λ (r : Refs). Spells (held_after h (ChangePlan fs ms)) (record s { basis = record s.basis { graph = graph }; refs = r; blobs = map name_bytes known; names = map name_bytes new }))
           (sym (refs ∙ ap (with_heads s.refs) refs-are)) (spells-after names new known graph e n a));
       ground = ground-after names new known graph g n a;
     }
+
+-- ---- what is appended
+
+-- a batch's item, which passes no limit
+pub record IsItem (h : Held) (s : Contents) (b : Batch) (blobs : List Bytes) (cs : List Snapshot) (text : Bytes) : Type 0 where
+  pub fits : passed h (room_in s) (batch_plan h b blobs cs) ≡ None
+  pub item : plan_items (batch_plan h b blobs cs) ≡ text ∷ []
+  pub some : 0 < length text
+  pub may : MayAppend (room_in s) text
+
+module _ (h : Held) (s : Contents) (b : Batch) (blobs : List Bytes) (cs : List Snapshot) (w : IsBatchOf h s b blobs cs) (t : IsStore s.basis.store) (old new names : List Name) where
+  abbrev T : List Object
+  T = reverse (fresh h.objects (objects_of blobs cs)) ++ h.objects
+
+  pub item-of : s.names ≡ map name_bytes old → (IsReady s.basis.store old (objects_of blobs cs) → IsStep s.basis.store old new (objects_of blobs cs) []) → Extends old new → names ≡ drop (length old) new
+      → (read : List Object) (rs : Refs) (size : ℕ) → read ≡ found s.basis.store names → rs ≡ filter (moves_in s.refs) (settings_of b) → (is_nil names && is_nil rs) ≡ false
+      → ((all : List Object) → length s.basis.graph + length (filter is_commit read) ≡ length (filter is_commit all) → length new ≡ length all → IsSizeOf (passed_with all s.number s.size (change_text read rs)) (change_text read rs) (Ok size))
+      → IsItem h s b blobs cs (change_text read rs)
+  item-of own step ext en read rs size re me some sized =
+      let n = news-of h s b blobs cs w t old new names own step ext en in
+      let plan = something-new h s b blobs cs w t names new n rs me some in
+      let made = sized T (ap (λ (xs : List Object). length s.basis.graph + length (filter is_commit xs)) re ∙ n.commits) n.objects in
+      let item : plan_items (batch_plan h b blobs cs) ≡ change_text read rs ∷ [] = item-is h s b blobs cs w t names new n rs me plan ∙ ap (λ (xs : List Object). change_text xs rs ∷ []) (sym re) in
+      record {
+        fits = passed-is h s b blobs cs w t names new n rs me (change_text read rs) plan (ap (λ (xs : List Object). change_text xs rs) re) ∙ made.0;
+        item = item;
+        some = change-some (fresh h.objects (objects_of blobs cs)) (moved h.refs (settings_of b)) (change_text read rs) item;
+        may = may-append T (room_in s) (change_text read rs) made.0;
+      }

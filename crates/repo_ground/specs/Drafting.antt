@@ -1,12 +1,17 @@
--- What is worked out before an item is appended.
-use Rattle.std.specs.Prelude.{◌≡◌, ⊤, List, [], ◌∷◌, ℕ, take, Option, None, Some, Result, Ok, Err}
+-- What is worked out for an item, and what is said of appending it.
+use Rattle.std.specs.Prelude.{◌≡◌, ◌≢◌, ◌⊎◌, ◌+◌, ◌<◌, ◌≤◌, ⊤, List, [], ◌∷◌, ℕ, length, sum_by, take, Option, None, Some, Result, Ok, Err}
 use Rattle.git_objects.specs.Paths.{Bytes}
+use Rattle.git_objects.specs.declared.limits.TheConstants.{ITEMS, STORE_BYTES}
 use Rattle.git_objects.specs.declared.quantity.Quantity.{Quantity}
 use Rattle.object_store.specs.Objects.{Object}
+use Rattle.proj_io.specs.Views.{KeeperView}
+use Rattle.proj_io.specs.declared.keeper.KeepError.{KeepError}
+use Rattle.proj_io.specs.declared.keeper.KeepError.TheVariants.{Failed, OutOfMemory as NoMemory}
 use Rattle.state_items.specs.Changes.{passed_by_item, passed_by_objects}
 use Rattle.projection_ground.specs.Grounds.{IsGround}
 use Rattle.state_items.specs.Changes.{NoPlan, Plan, held_after, passed, plan_items}
 use Rattle.state_items.specs.Items.{Held}
+use Rattle.repo_ground.specs.Changes.{GetsItems, KeepsItems}
 use Rattle.repo_ground.specs.Contents.{Contents, Spells, room_in}
 use Rattle.repo_ground.specs.Entering.{IsFront}
 use Rattle.repo_ground.specs.declared.commit.CommitError.{CommitError}
@@ -17,12 +22,18 @@ use Rattle.repo_ground.specs.declared.commit.CommitError.TheVariants.{StoreFault
 abbrev pub passed_with : List Object → ℕ → ℕ → Bytes → Option Quantity
 passed_with S number size text = passed_by_objects S (passed_by_item (record { number = number; size = size }) text)
 
--- an item's bytes where no limit is passed, or the limit that is passed first, or want of memory
-abbrev pub IsItemOf : Option Quantity → Bytes → Result Bytes CommitError → Type 0
-IsItemOf passed text (Ok item) = (passed ≡ None) × (item ≡ text)
-IsItemOf passed text (Err StoreFault) = ⊥
-IsItemOf passed text (Err (Limit q)) = passed ≡ Some q
-IsItemOf passed text (Err OutOfMemory) = ⊤
+-- an item's length where no limit is passed, or the limit that is passed first, or want of memory
+abbrev pub IsSizeOf : Option Quantity → Bytes → Result ℕ CommitError → Type 0
+IsSizeOf passed text (Ok size) = (passed ≡ None) × (size ≡ length text)
+IsSizeOf passed text (Err StoreFault) = ⊥
+IsSizeOf passed text (Err (Limit q)) = passed ≡ Some q
+IsSizeOf passed text (Err OutOfMemory) = ⊤
+
+-- it gets an item of these bytes; after a fault it may have it or not
+abbrev pub Adds : Bytes → KeeperView → KeeperView → Result (Unit {0}) KeepError → Type 0
+Adds text before after (Ok _) = GetsItems (text ∷ []) before after
+Adds text before after (Err Failed) = KeepsItems before after ⊎ GetsItems (text ∷ []) before after
+Adds text before after (Err NoMemory) = KeepsItems before after
 
 -- names, blobs and commits behind those that were there; all else is as it was
 pub record HasMore (before after : Contents) : Type 0 where
@@ -43,20 +54,31 @@ cut_to names blobs commits s = record s {
   names = take names s.names;
 }
 
--- a plan's item, which passes no limit, and the refs of the state that has what the plan says
+-- the length of a plan's one item, which passes no limit, and the refs of the state that has what the plan says
 pub record IsDraft (h : Held) (p : Plan) (before after : Contents) (d : Draft) : Type 0 where
   pub fits : passed h (room_in before) p ≡ None
-  pub item : plan_items p ≡ d.item.items ∷ []
+  pub one : length (plan_items p) ≡ 1
+  pub size : d.size ≡ sum_by length (plan_items p)
+  pub room : (after.number < ITEMS) × (after.size + d.size ≤ STORE_BYTES)
   pub spells : Spells (held_after h p) (record after { refs = d.refs })
   pub ground : IsGround after.basis
+
+-- the state with the refs of a draft and one item more
+abbrev pub with_draft : Contents → Draft → Contents
+with_draft s d = record s { refs = d.refs; number = s.number + 1; size = s.size + d.size }
 
 -- the same, or nothing where the plan has no item
 abbrev pub IsDraftOrNot : Held → Plan → Contents → Contents → Option Draft → Type 0
 IsDraftOrNot h p before after None = (p ≡ NoPlan) × (after ≡ before)
 IsDraftOrNot h p before after (Some d) = IsDraft h p before after d
 
--- why there is no draft: the first limit that is passed, or want of memory
+-- why there is no draft: a fault of the keeper, which was given the plan's item; the first limit that is passed; or want of memory
 abbrev pub IsNoDraft : Held → Plan → Contents → CommitError → Type 0
-IsNoDraft h p before StoreFault = ⊥
+IsNoDraft h p before StoreFault = (plan_items p ≢ []) × (passed h (room_in before) p ≡ None)
 IsNoDraft h p before (Limit q) = passed h (room_in before) p ≡ Some q
 IsNoDraft h p before OutOfMemory = ⊤
+
+-- whether a draft was made or why not, without what it is
+abbrev pub outcome : Result (Option Draft) CommitError → Result (Unit {0}) CommitError
+outcome (Ok d) = Ok tt
+outcome (Err e) = Err e

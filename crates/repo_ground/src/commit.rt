@@ -1,18 +1,19 @@
 // Committing what a command brings.
-ghost use Rattle.std.specs.Prelude.{◌≡◌, ◌≤◌, List, length, IsErrOf, MatchResult};
+ghost use Rattle.std.specs.Prelude.{◌≡◌, ◌≤◌, ◌<◌, ◌+◌, List, length, IsErrOf, MatchResult};
 ghost use Rattle.git_objects.specs.Paths.{Bytes};
+ghost use Rattle.git_objects.specs.declared.limits.TheConstants.{ITEMS, STORE_BYTES};
 ghost use Rattle.git_objects.specs.Snapshots.{Snapshot};
 ghost use Rattle.projection_ground.specs.Grounds.{IsGround};
 ghost use Rattle.proj_io.specs.Stops.{OnlyAdds, IsPresent};
 ghost use Rattle.proj_io.specs.Uses.{IsUsed};
 ghost use Rattle.proj_io.specs.Views.{keeper_view};
 ghost use Rattle.state_items.specs.Items.{Held};
-ghost use Rattle.repo_ground.specs.Drafting.{HasMore, cut_to, IsDraftOrNot, IsNoDraft};
+ghost use Rattle.repo_ground.specs.Drafting.{HasMore, cut_to, IsDraftOrNot, IsNoDraft, outcome, with_draft};
 ghost use Rattle.repo_ground.specs.Changes.{Appends, IsBatchOf, batch_plan};
 ghost use Rattle.repo_ground.specs.Changes.{IsCommitted, IsRefusal, IsRefused, IsStopOf};
 
 use crate::State;
-use crate::draft::{Draft, Meter, is_nothing, item_within, names_from};
+use crate::draft::{Draft, Meter, append_change, is_nothing, names_from, size_within};
 use crate::enter::enter;
 use crate::holding::hold_batch;
 use crate::moved::{moved, with_moved};
@@ -69,7 +70,8 @@ impl State {
     /// each after what it names and these in the order of its body, and the commit; and the refs whose commit
     /// changes, in byte order. A batch that changes nothing appends nothing.
     ///
-    /// All memory is taken before the item is appended.
+    /// The keeper gets the item in parts, and bodies aren't copied for it. All memory but the keeper's own is taken
+    /// before.
     pub fn commit<K: Keeper>(&mut self, keeper: &mut K, batch: Batch) -> Result<(), CommitError>
         requires open { K.is_open keeper.old × (self.old.number ≡ K.number keeper.old) }
         requires ground { IsGround self.old.basis }
@@ -94,24 +96,16 @@ impl State {
             (IsErrOf result CommitError.StoreFault) }
     {
         let mark = self.mark();
-        match self.prepare(&batch) {
+        match self.append_batch(keeper, &batch) {
             Err(error) => {
                 self.cut_back(mark);
                 Err(error)
             }
             Ok(None) => Ok(()),
-            Ok(Some(draft)) => match keeper.append(&draft.item) {
-                Err(error) => {
-                    self.cut_back(mark);
-                    Err(keep_error(error))
-                }
-                Ok(()) => {
-                    self.number += 1;
-                    self.size += draft.item.len() as u64;
-                    self.refs = draft.refs;
-                    Ok(())
-                }
-            },
+            Ok(Some(draft)) => {
+                self.settle(draft);
+                Ok(())
+            }
         }
     }
 
@@ -137,9 +131,25 @@ impl State {
         self.ground.graph.truncate(mark.commits);
     }
 
-    // Holds and enters what the batch brings, and works out its item and the refs behind it. None: nothing is new.
-    // After an error some of it may be held and entered.
-    fn prepare(&mut self, batch: &Batch) -> Result<Option<Draft>, CommitError>
+    // Counts the item that was appended, and takes up the refs behind it.
+    fn settle(&mut self, draft: Draft)
+        requires number { self.old.number < ITEMS }
+        requires size { self.old.size + draft.size ≤ STORE_BYTES }
+        ensures { self.new ≡ with_draft self.old draft }
+    {
+        self.number += 1;
+        self.size += draft.size as u64;
+        self.refs = draft.refs;
+    }
+
+    // Holds and enters what the batch brings, appends its item, and gives the item's length and the refs behind it.
+    // None: nothing is new, and nothing is appended. After an error some of the batch may be held and entered.
+    fn append_batch<K: Keeper>(
+        &mut self,
+        keeper: &mut K,
+        batch: &Batch,
+    ) -> Result<Option<Draft>, CommitError>
+        requires open { K.is_open keeper.old × (self.old.number ≡ K.number keeper.old) }
         requires ground { IsGround self.old.basis }
         requires batch { (h : Held) × (blobs : List Bytes) × (cs : List Snapshot) ×
             IsBatchOf h self.old batch.now blobs cs }
@@ -147,6 +157,17 @@ impl State {
             IsBatchOf h self.old batch.now blobs cs → let p = batch_plan h batch.now blobs cs in MatchResult result
             (λ d. IsDraftOrNot h p self.old self.new d) (λ e. IsNoDraft h p self.old e) }
         ensures more { HasMore self.old self.new }
+        ensures items { let seen = keeper_view K.items K.number K.faults in
+            let adds = OnlyAdds (K.moment keeper.old) (K.moment keeper.new) (K.left_since keeper.old)
+            (K.left_since keeper.new) in
+            (h : Held) (blobs : List Bytes) (cs : List Snapshot) → IsBatchOf h self.old batch.now blobs cs →
+            let p = batch_plan h batch.now blobs cs in
+            Appends p (seen keeper.old) (seen keeper.new) (outcome result)
+            × adds (IsStopOf h self.old p (K.items keeper.old)) }
+        ensures refused { IsRefusal (outcome result) → OnlyAdds (K.moment keeper.old) (K.moment keeper.new)
+            (K.left_since keeper.old) (K.left_since keeper.new) (IsPresent (K.items keeper.old)) }
+        ensures used { IsUsed K.faults K.is_open K.tells keeper.old keeper.new
+            (IsErrOf result CommitError.StoreFault) }
     {
         let before = self.held.len();
         hold_batch(self.alloc, &self.ground.store, &mut self.held, batch)?;
@@ -162,13 +183,16 @@ impl State {
             size: self.size,
         };
         let objects = found_objects(self.alloc, &self.ground.store, names)?;
-        let item = match item_within(self.alloc, &objects, &moved, meter) {
+        let size = match size_within(&objects, &moved, meter) {
             Err(error) => return Err(error),
-            Ok(item) => item,
+            Ok(size) => size,
         };
         let refs = with_moved(self.alloc, &self.refs, &moved)?;
         let graph = &mut self.ground.graph;
         enter(self.alloc, graph, &mut self.blobs, names, &objects)?;
-        Ok(Some(Draft { item, refs }))
+        match append_change(self.alloc, keeper, &objects, &moved) {
+            Err(error) => Err(keep_error(error)),
+            Ok(()) => Ok(Some(Draft { size, refs })),
+        }
     }
 }

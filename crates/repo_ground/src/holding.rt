@@ -74,6 +74,14 @@ fn hold_blobs(held: &mut IndexSet<Name>, names: &[Name]) -> Result<(), AllocErro
     Ok(())
 }
 
+// Makes room for the names of the store's objects that aren't held, so that a table of many names isn't made anew by
+// steps.
+fn make_room(store: &Store, held: &mut IndexSet<Name>) -> Result<(), AllocError>
+    ensures { held.new.keys ≡ held.old.keys }
+{
+    held.reserve(store.len().saturating_sub(held.len()))
+}
+
 /// Holds the objects that a batch brings, each after what it names, behind those that are held.
 pub(crate) fn hold_batch(
     alloc: Global,
@@ -88,6 +96,7 @@ pub(crate) fn hold_batch(
         IsStep S held.old.keys held.new.keys (objects_of blobs cs) []) }
     ensures extends { Extends held.old.keys held.new.keys }
 {
+    make_room(store, held)?;
     hold_blobs(held, &batch.blobs)?;
     hold_commits(alloc, store, held, &batch.commits)
 }

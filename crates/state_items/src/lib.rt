@@ -21,6 +21,6 @@ pub use laws::{
 pub use objects::parent_places;
 pub use reading::{Loaded, Reading};
 pub use writing::{
-    add_size, change_heads, change_item, change_parts, change_size, count_commits, first_passed,
-    found_objects, kept_item, rule_item,
+    add_size, change_heads, change_parts, change_size, count_commits, first_passed, found_objects,
+    kept_item, rule_item,
 };

@@ -200,28 +200,6 @@ fn kind_byte(kind: Kind) -> u8
     }
 }
 
-// Writes an object: its kind, its length and its body.
-fn write_object(text: &mut Vec<u8>, object: &ObjectRef<'_>) -> Result<(), AllocError>
-    requires { length (object_text (object_value object.now)) ≤ 2 ^ 29 }
-    ensures { OnOk result (text.new.items ≡ text.old.items ++ object_text (object_value object.now)) }
-{
-    text.push(kind_byte(object.kind))?;
-    text.extend_from_slice(&(object.body.len() as u32).to_be_bytes())?;
-    text.extend_from_slice(object.body)?;
-    Ok(())
-}
-
-// Writes these objects.
-fn write_objects(text: &mut Vec<u8>, objects: &[ObjectRef<'_>]) -> Result<(), AllocError>
-    requires { length (flat_map object_text (map object_value objects.now)) ≤ 2 ^ 29 }
-    ensures { OnOk result (text.new.items ≡ text.old.items ++ flat_map object_text (map object_value objects.now)) }
-{
-    for object in objects {
-        write_object(text, object)?;
-    }
-    Ok(())
-}
-
 // Writes a ref: its length, itself, and its commit's name.
 fn write_ref(text: &mut Vec<u8>, entry: &(RefName, Name)) -> Result<(), AllocError>
     ensures { OnOk result (text.new.items ≡ text.old.items ++ ref_text (pair entry.now)) }
@@ -250,28 +228,6 @@ fn write_number(text: &mut Vec<u8>, n: usize) -> Result<(), AllocError>
     ensures { OnOk result (text.new.items ≡ text.old.items ++ to_be_bytes w32 n) }
 {
     text.extend_from_slice(&(n as u32).to_be_bytes())
-}
-
-/// The item of these objects and refs. `size` is its length in bytes, of which it is made at once: each body is copied
-/// once.
-#[tactic(auto, unfolding(crate::specs::Items::change_text))]
-pub fn change_item(
-    alloc: Global,
-    objects: &[ObjectRef<'_>],
-    refs: &[(RefName, Name)],
-    size: usize,
-) -> Result<Vec<u8>, AllocError>
-    requires size { length (change_text (map object_value objects.now) (pairs refs.now)) ≤ 2 ^ 29 }
-    ensures { IfOk result (λ item. item.items ≡ change_text (map object_value objects.now) (pairs refs.now)) }
-{
-    let mut text = Vec::new(alloc);
-    text.reserve(size)?;
-    text.extend_from_slice(&[1, 1])?;
-    write_number(&mut text, objects.len())?;
-    write_objects(&mut text, objects)?;
-    write_number(&mut text, refs.len())?;
-    write_refs(&mut text, refs)?;
-    Ok(text)
 }
 
 // Writes what stands before the body of an object: its kind and its length.
@@ -317,10 +273,10 @@ pub fn change_heads(
 }
 
 /// The item of which these are the heads, in parts: each body is lent between two parts of the heads.
-pub fn change_parts<'a>(
+pub fn change_parts<'a, 'b>(
     alloc: Global,
     heads: &'a [u8],
-    objects: &[ObjectRef<'a>],
+    objects: &'a [ObjectRef<'b>],
 ) -> Result<Vec<&'a [u8]>, AllocError>
     requires room { 6 + 5 * length objects.now ≤ length heads.now }
     ensures { (refs : Refs) → heads.now ≡ heads_text (map object_value objects.now) refs → IfOk result
