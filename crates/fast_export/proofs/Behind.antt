@@ -15,9 +15,9 @@ use Rattle.git_objects.specs.declared.kind.Kind.TheVariants.{Blob, Tree}
 use Rattle.git_objects.specs.declared.mode.Mode.{Mode}
 use Rattle.git_objects.specs.declared.mode.Mode.TheVariants.{File, Exec, Link, Module, Dir}
 use Rattle.git_objects.specs.declared.name.Name.{Name}
+use Rattle.git_objects.proofs.SharedFronts.{listed}
 use Rattle.object_store.specs.Objects.{Object, IsStore, body_of, find_named, has, has_child}
 use Rattle.object_store.specs.Unfolding.{below, entry_flat, flat, joined, node_of}
-use Rattle.object_store.proofs.Children.{listed}
 use Rattle.object_store.proofs.FlatParts.{flat-unfolds}
 use Rattle.object_store.proofs.Parts.{find-has}
 use Rattle.path_names.specs.Quoting.{quote}

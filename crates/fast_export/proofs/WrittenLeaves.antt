@@ -10,10 +10,11 @@ use Rattle.git_objects.specs.Trees.{Leaf, Flat}
 use Rattle.git_objects.specs.declared.entry.Entry.{Entry}
 use Rattle.git_objects.specs.declared.kind.Kind.TheVariants.{Blob, Tree}
 use Rattle.git_objects.specs.declared.name.Name.{Name}
+use Rattle.git_objects.proofs.SharedFronts.{listed}
 use Rattle.indexmap.specs.IndexMap.{insert_entry}
 use Rattle.object_store.specs.Objects.{Object, HasChildren, IsStore, body_of, has, has_child}
 use Rattle.object_store.specs.Unfolding.{entry_flat, flat}
-use Rattle.object_store.proofs.Children.{first-child, listed, tree-children}
+use Rattle.object_store.proofs.Children.{first-child, tree-children}
 use Rattle.object_store.proofs.FlatParts.{flat-unfolds}
 use Rattle.path_trees.specs.Walked.{Walked, leaf_of}
 use Rattle.path_trees.specs.declared.found.Leaf.{Leaf as FoundLeaf}

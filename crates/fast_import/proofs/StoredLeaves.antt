@@ -9,10 +9,11 @@ use Rattle.git_objects.specs.declared.entry.Entry.{Entry}
 use Rattle.git_objects.specs.declared.kind.Kind.TheVariants.{Blob, Tree}
 use Rattle.git_objects.specs.declared.mode.Mode.{Mode}
 use Rattle.git_objects.specs.declared.mode.Mode.TheVariants.{File, Exec, Link, Module, Dir}
+use Rattle.git_objects.proofs.SharedFronts.{listed}
 use Rattle.object_store.specs.Objects.{Object, IsStore, body_of, has, has_child, is_named, HasChildren}
 use Rattle.object_store.specs.Unfolding.{flat, below, joined, node_of}
 use Rattle.object_store.proofs.Held.{body_named}
-use Rattle.object_store.proofs.Children.{older-has, object-children, listed}
+use Rattle.object_store.proofs.Children.{older-has, object-children}
 use Rattle.path_trees.specs.Walked.{leaf_of}
 
 -- a blob's leaf is that of a blob of the store, under this blob's name

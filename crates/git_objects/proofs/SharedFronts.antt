@@ -48,7 +48,8 @@ cut_shorter n b u v k =
 
 -- ---- an entry that ends within the front
 
-abbrev listed : Bytes → List Entry
+-- the entries of a tree's bytes, none where they are no tree's
+abbrev pub listed : Bytes → List Entry
 listed b = unwrap_or (tree_entries b) []
 
 -- n bytes are passed, which spell one entry

@@ -66,6 +66,9 @@ fn add_letter(body: &mut Vec<u8>, parts: &CommitParts) -> Result<(), AllocError>
     Ok(())
 }
 
+// Room for most commits with a short message, which then take memory once.
+const USUAL_BYTES: usize = 400;
+
 /// The body of a commit (Git object format): the lines of the tree, of each parent, of the author and of the
 /// committer, an empty line and the message.
 pub fn encode_commit(alloc: Global, parts: &CommitParts) -> Result<Vec<u8>, AllocError>
@@ -73,7 +76,7 @@ pub fn encode_commit(alloc: Global, parts: &CommitParts) -> Result<Vec<u8>, Allo
     ensures body { IfOk result (λ body. body.items ≡ commit_body (commit_of parts.now)) }
     ensures read_back { IfOk result (λ body. commit_from body.items ≡ Some (commit_of parts.now)) }
 {
-    let mut body = Vec::new(alloc);
+    let mut body = Vec::with_capacity(alloc, USUAL_BYTES)?;
     add_name(&mut body, b"tree", &parts.tree)?;
     add_parents(&mut body, &parts.parents)?;
     add_letter(&mut body, parts)?;

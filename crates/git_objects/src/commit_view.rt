@@ -142,19 +142,16 @@ fn field<'a>(word: &[u8], text: &'a [u8]) -> Option<(&'a [u8], &'a [u8])>
     cut(b'\n', rest)
 }
 
-// The value of a digit. Git writes no upper-case letter.
+// The value of a digit. Git writes no upper-case letter. Digits of names are as if drawn at random, so no branch tells
+// numbers from letters.
 #[inline(always)]
 fn lower_digit(digit: u8) -> Option<u8>
     ensures none { IfNone result (is_lower digit ≡ false) }
     ensures value { IfSome result (λ v. (v < 16) × (slice_index lower_digits v ≡ digit)) }
 {
-    if 48 <= digit && digit <= 57 {
-        return Some(digit - 48);
-    }
-    if 97 <= digit && digit <= 102 {
-        return Some(digit - 97 + 10);
-    }
-    None
+    let (zero, most) = if digit < 97 { (48, 9) } else { (87, 15) };
+    let value = digit.wrapping_sub(zero);
+    if value <= most { Some(value) } else { None }
 }
 
 // The name that 40 lower-case digits write.

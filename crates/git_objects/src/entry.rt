@@ -1,5 +1,5 @@
 // The entries of trees.
-ghost use Rattle.std.specs.Prelude.{◌≡◌, ◌++◌, true, IfOk, OnOk};
+ghost use Rattle.std.specs.Prelude.{◌≡◌, ◌++◌, ◌∷◌, true, IfOk, OnOk};
 ghost use Rattle.git_objects.specs.Entries.{AreEntries, body_text};
 ghost use Rattle.git_objects.specs.Names.{line};
 ghost use Rattle.git_objects.specs.Bodies.{is_name, tree_entries};
@@ -38,7 +38,7 @@ pub fn add_entry(
 ) -> Result<(), AllocError>
     ensures { OnOk result (body.new.items ≡ body.old.items ++ line mode component.now name.now.0) }
 {
-    add_line(body, mode, component, name.bytes())
+    add_line(body, mode, component, name)
 }
 
 // What entries spell, in whatever order.
@@ -49,22 +49,29 @@ pub fn spell(alloc: Global, entries: &[Entry]) -> Result<Vec<u8>, AllocError>
 {
     let mut body = Vec::new(alloc);
     for entry in entries {
-        add_line(
-            &mut body,
-            entry.mode,
-            entry.component.bytes(),
-            entry.name.bytes(),
-        )?;
+        add_line(&mut body, entry.mode, entry.component.bytes(), &entry.name)?;
     }
     Ok(body)
 }
 
-// Adds one entry, with the bytes of its name. The digits and the space are one append of constant length, which is
-// fast.
+// A zero byte and the bytes of a name.
+#[inline(always)]
+fn behind_component(name: &Name) -> [u8; 21]
+    ensures bytes { result ≡ 0 ∷ name.now.0 }
+    ensures name { is_name name.now.0 ≡ true }
+{
+    let mut bytes = [0u8; 21];
+    bytes[1..].copy_from_slice(name.bytes());
+    bytes
+}
+
+// Adds one entry. The digits and the space are one append of constant length, which is fast, and so are the zero byte
+// and the name.
 #[inline(always)]
 #[tactic(auto, unfolding(crate::specs::Names::line))]
-fn add_line(body: &mut Vec<u8>, mode: Mode, component: &[u8], name: &[u8]) -> Result<(), AllocError>
-    ensures { OnOk result (body.new.items ≡ body.old.items ++ line mode component.now name.now) }
+fn add_line(body: &mut Vec<u8>, mode: Mode, component: &[u8], name: &Name) -> Result<(), AllocError>
+    ensures line { OnOk result (body.new.items ≡ body.old.items ++ line mode component.now name.now.0) }
+    ensures name { OnOk result (is_name name.now.0 ≡ true) }
 {
     match mode {
         Mode::File => body.extend_from_slice(b"100644 ")?,
@@ -74,7 +81,6 @@ fn add_line(body: &mut Vec<u8>, mode: Mode, component: &[u8], name: &[u8]) -> Re
         Mode::Dir => body.extend_from_slice(b"40000 ")?,
     }
     body.extend_from_slice(component)?;
-    body.push(0)?;
-    body.extend_from_slice(name)?;
+    body.extend_from_slice(&behind_component(name))?;
     Ok(())
 }

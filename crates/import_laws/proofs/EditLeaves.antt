@@ -22,11 +22,11 @@ use Rattle.object_store.proofs.Held.{named_kind}
 use Rattle.object_store.proofs.Unfolding.{unfolding_law}
 use Rattle.path_trees.proofs.Grown.{body-above}
 use Rattle.git_objects.specs.Snapshots.{Snapshot}
+use Rattle.git_objects.proofs.SharedFronts.{listed}
 use Rattle.object_store.specs.StoredSnapshots.{blob_in, blobs_in, snapshot_of, snapshots_in}
 use Rattle.object_store.specs.TreeObjects.{leaf_objects}
 use Rattle.object_store.proofs.FlatParts.{entries_map}
 use Rattle.object_store.proofs.StoredCommits.{commit-held}
-use Rattle.object_store.proofs.Children.{listed}
 use Rattle.object_store.proofs.Children.{object-children}
 use Rattle.state_items.specs.Imported.{has_leaves}
 use Rattle.state_items.proofs.Bringing.{any-back}

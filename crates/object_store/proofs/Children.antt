@@ -10,6 +10,7 @@ use Rattle.git_objects.specs.declared.kind.Kind.{Kind}
 use Rattle.git_objects.specs.declared.kind.Kind.TheVariants.{Blob, Tree}
 use Rattle.git_objects.specs.declared.mode.Mode.{Mode}
 use Rattle.git_objects.specs.declared.mode.Mode.TheVariants.{File, Exec, Link, Module, Dir}
+use Rattle.git_objects.proofs.SharedFronts.{listed}
 use Rattle.object_store.specs.Objects.{Object, same_kind, is_named, find_named, has, has_child, body_of, missing_entry, is_body, IsStore, HasChildren}
 use Rattle.object_store.proofs.Held.{named_kind, tree_held, not_named}
 use denote.Enum.Bare.{sameb}
@@ -24,9 +25,6 @@ children-held S (e ∷ es) h =
       | true ↦ λ k l. (k, children-held S es l)
       | false ↦ λ k l. absurd (true≢false (sym l))
     ] refl h
-
-abbrev pub listed : Bytes → List Entry
-listed b = unwrap_or (tree_entries b) []
 
 body-children : (S : List Object) (b : Bytes) → is_body S Tree b ≡ true → HasChildren S (listed b)
 body-children S b h =

@@ -7,12 +7,13 @@ use Rattle.git_objects.specs.declared.entry.Entry.{Entry}
 use Rattle.git_objects.specs.declared.kind.Kind.TheVariants.{Blob, Tree}
 use Rattle.git_objects.specs.declared.mode.Mode.{Mode}
 use Rattle.git_objects.specs.declared.mode.Mode.TheVariants.{File, Exec, Link, Module, Dir}
+use Rattle.git_objects.proofs.SharedFronts.{listed}
 use Rattle.object_store.specs.Objects.{Object, is_named, has, has_child, body_of, IsStore, HasChildren}
 use Rattle.object_store.specs.Unfolding.{below, joined, flat, node_of}
 use Rattle.object_store.proofs.Held.{not_named}
 use Rattle.object_store.proofs.Unfolding.{growing_law}
 use Rattle.object_store.proofs.Parts.{AreIn, part-has}
-use Rattle.object_store.proofs.Children.{listed, object-children, tree-children}
+use Rattle.object_store.proofs.Children.{object-children, tree-children}
 
 abbrev pub part : List Object → Mode → Bytes → Bytes → Flat
 part S m n c = below c (rests (node_of (body_of Blob S) (flat S) m n))

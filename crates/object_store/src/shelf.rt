@@ -102,6 +102,26 @@ impl<'a> Shelf<'a> {
         }
     }
 
+    /// What `get` gives. The object that arrived with this number is looked at first, and the number of the one behind
+    /// the object that is found is left there.
+    pub(crate) fn get_near(&self, near: &mut usize, name: &Name) -> Option<ObjectRef<'a>>
+        ensures { option_map object_value result ≡ find_named self.now name.now.0 }
+    {
+        if let Some((key, place)) = self.places.get_index(*near) {
+            if key == name {
+                *near = near.wrapping_add(1);
+                return Some(lend(self.arena, *place));
+            }
+        }
+        match self.places.get_full(name) {
+            None => None,
+            Some((number, _, place)) => {
+                *near = number.wrapping_add(1);
+                Some(lend(self.arena, *place))
+            }
+        }
+    }
+
     /// How large the tree of that name is. It was worked out when the tree was put, and takes no memory.
     pub(crate) fn stats(&self, name: &Name) -> Option<TreeStats>
         ensures { result ≡ stats_of self.now name.now.0 }

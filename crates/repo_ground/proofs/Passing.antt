@@ -9,8 +9,9 @@ use Rattle.git_objects.specs.Bodies.{tree_entries}
 use Rattle.git_objects.specs.declared.entry.Entry.{Entry}
 use Rattle.git_objects.specs.declared.kind.Kind.TheVariants.{Blob, Tree}
 use Rattle.git_objects.specs.declared.name.Name.{Name}
+use Rattle.git_objects.proofs.SharedFronts.{listed}
 use Rattle.object_store.specs.Objects.{Object, IsStore, HasChildren, body_of, find_named, has, has_name}
-use Rattle.object_store.proofs.Children.{listed, tree-children}
+use Rattle.object_store.proofs.Children.{tree-children}
 use Rattle.object_store.proofs.Parts.{part-has, part-kind}
 use Rattle.path_trees.proofs.Grown.{child-above}
 use Rattle.state_items.specs.Writings.{objects_named as named}

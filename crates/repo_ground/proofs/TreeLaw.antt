@@ -12,6 +12,7 @@ use Rattle.git_objects.specs.declared.kind.Kind.TheVariants.{Blob, Tree}
 use Rattle.git_objects.specs.declared.mode.Mode.{Mode}
 use Rattle.git_objects.specs.declared.mode.Mode.TheVariants.{File, Exec, Link, Module, Dir}
 use Rattle.git_objects.proofs.TreeReading.{tree_law}
+use Rattle.git_objects.proofs.SharedFronts.{listed}
 use Rattle.object_store.specs.Objects.{Object, is_named, has, has_child, body_of, is_body, IsStore, HasChildren}
 use Rattle.object_store.specs.Unfolding.{below, joined, flat}
 use Rattle.object_store.proofs.Listings.{AreItems, join}
@@ -20,7 +21,7 @@ use Rattle.object_store.proofs.Held.{named_kind, tree_held}
 use Rattle.object_store.proofs.Unfolding.{IsFull, entries_held, flat_good, items, items_good, joined-join, node}
 use Rattle.repo_ground.specs.StoredObjects.{child_steps, entries_steps, itself, stored_objects, tree_steps}
 use Rattle.object_store.specs.TreeObjects.{objects_at, objects_within, tree_objects}
-use Rattle.object_store.proofs.Children.{children-held, listed}
+use Rattle.object_store.proofs.Children.{children-held}
 
 -- ---- depths
 

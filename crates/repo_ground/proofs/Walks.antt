@@ -18,13 +18,14 @@ use Rattle.repo_ground.specs.declared.walk.Child.{Child}
 use Rattle.repo_ground.specs.declared.walk.Frame.{Frame}
 use Rattle.git_objects.specs.Parts.{name_bytes}
 use Rattle.git_objects.specs.declared.name.Name.{Name}
+use Rattle.git_objects.proofs.SharedFronts.{listed}
 use Rattle.state_items.specs.Growing.{grown}
 use Rattle.repo_ground.specs.Growing.{AreFed, held_of, IsReady, IsStep}
 use Rattle.repo_ground.specs.StoredObjects.{AreOpen, IsOpen, child_steps, listed_steps, tree_steps, entries_steps, frame_steps, frames_steps, next_steps, itself, stored_objects, tree_at}
 use Rattle.state_items.proofs.Growing.{AreKnown, grown-append}
 use Rattle.repo_ground.proofs.Grows.{grown-known, named-in, fed-back}
 use Rattle.object_store.proofs.Parts.{AreIn, found-has, part-has, part-kind}
-use Rattle.object_store.proofs.Children.{tree-children, listed, older-has, object-children}
+use Rattle.object_store.proofs.Children.{tree-children, older-has, object-children}
 
 -- ---- children that are held
 

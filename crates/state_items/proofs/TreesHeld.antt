@@ -17,6 +17,7 @@ use Rattle.git_objects.proofs.Tops.{entries, entry_of, mode_at, name_at}
 use Rattle.git_objects.proofs.Tops as tops_of
 use Rattle.git_objects.proofs.TreeReading.{spelled_law}
 use Rattle.git_objects.proofs.Under.{at-under, at-under_nil, under-tree}
+use Rattle.git_objects.proofs.SharedFronts.{listed}
 use Rattle.object_store.specs.Objects.{Object, IsStore, body_of, has, object_name}
 use Rattle.object_store.specs.Unfolding.{flat}
 use Rattle.object_store.proofs.Unfolding.{node, unfolding_law}
@@ -25,7 +26,6 @@ use Rattle.path_trees.proofs.Grown.{joined_in}
 use Rattle.path_trees.proofs.Levels.{at-joined, at-joined_nil, rests_of}
 use Rattle.object_store.specs.TreeObjects.{leaf_objects, objects_at, objects_within}
 use Rattle.object_store.proofs.FlatParts.{flat-unfolds}
-use Rattle.object_store.proofs.Children.{listed}
 
 -- ---- parts of lists
 

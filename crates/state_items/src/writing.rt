@@ -35,7 +35,8 @@ pub fn add_size(size: usize, more: usize) -> Option<usize>
     }
 }
 
-/// The objects of these names that are in the store, each looked up once.
+/// The objects of these names that are in the store, each looked up once. Names that stand in the order in which their
+/// objects arrived are looked up faster.
 pub fn found_objects<'a>(
     alloc: Global,
     store: &'a Store,
@@ -44,8 +45,9 @@ pub fn found_objects<'a>(
     ensures { IfOk result (λ v. map object_value v.items ≡ found store.now names.now) }
 {
     let mut objects = Vec::with_capacity(alloc, names.len())?;
+    let mut near = 0;
     for name in names {
-        if let Some(object) = store.get(name) {
+        if let Some(object) = store.get_near(&mut near, name) {
             objects.push(object)?;
         }
     }

@@ -12,8 +12,8 @@ use Rattle.git_objects.proofs.commit.encode_commit.Goals.{In_ok-add_letter}
 
 spelled : (c : In_ok-add_letter) → c.add_letter.new.body.items ≡ commit_body (commit_of c.args.parts.now)
 spelled c =
-    commit_joined c.new-body.result.items c.add_name.new.body.items c.add_parents.new.body.items _ c.args.parts.now.tree.0 (map name_bytes c.args.parts.now.parents.items) (commit_of c.args.parts.now).letter
-    c.new-body.ensures.items
+    commit_joined c.in_ok-body.body.items c.add_name.new.body.items c.add_parents.new.body.items _ c.args.parts.now.tree.0 (map name_bytes c.args.parts.now.parents.items) (commit_of c.args.parts.now).letter
+    c.in_ok-body.ensures.items
     c.in_ok-add_name.ensures.body
     (c.in_ok-add_parents.ensures.body ∙ ap (λ ps. c.add_name.new.body.items ++ parent_lines (map name_bytes ps) []) c.deref.ensures.value)
     c.in_ok-add_letter.ensures.letter

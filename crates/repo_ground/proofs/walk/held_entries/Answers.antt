@@ -2,9 +2,10 @@ use Rattle.std.proofs.Common.{List, [], sym, ap, subst, ◌∙◌}
 use Rattle.std.specs.Option.{unwrap_or}
 use Rattle.git_objects.specs.Bodies.{tree_entries}
 use Rattle.git_objects.specs.declared.entry.Entry.{Entry}
+use Rattle.git_objects.proofs.SharedFronts.{listed}
 use Rattle.object_store.specs.Errors.{object_value}
 use Rattle.object_store.specs.Objects.{HasChildren}
-use Rattle.object_store.proofs.Children.{listed, tree-found, tree-read}
+use Rattle.object_store.proofs.Children.{tree-found, tree-read}
 use Rattle.state_items.proofs.Naming.{name-known}
 use Rattle.repo_ground.specs.Growing.{held_of}
 use Rattle.repo_ground.proofs.Passing.{held-listed, some-read}

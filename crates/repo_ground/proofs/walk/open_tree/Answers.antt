@@ -4,6 +4,7 @@ use Rattle.std.specs.Option.{unwrap_or}
 use Rattle.git_objects.specs.Bodies.{tree_entries}
 use Rattle.git_objects.specs.declared.entry.Entry.{Entry}
 use Rattle.git_objects.specs.declared.kind.Kind.TheVariants.{Tree}
+use Rattle.git_objects.proofs.SharedFronts.{listed}
 use Rattle.object_store.specs.Errors.{object_value}
 use Rattle.object_store.proofs.Finding.{has-found, kind_test}
 use Rattle.repo_ground.specs.Growing.{held_of}
@@ -14,7 +15,7 @@ use Rattle.state_items.proofs.Naming.{name-known}
 use Rattle.repo_ground.specs.Beside.{AreBeside}
 use Rattle.repo_ground.proofs.Passing.{beside-push, some-read}
 use Rattle.repo_ground.proofs.Walks.{absent-step, frames-open, open-push, same-step, skip-step}
-use Rattle.object_store.proofs.Children.{listed, tree-children, tree-found, tree-read}
+use Rattle.object_store.proofs.Children.{tree-children, tree-found, tree-read}
 use Rattle.repo_ground.proofs.walk.open_tree.Goals as goal
 
 pub returns-then-contains-clause-step : goal.returns-then-contains-clause-step
