@@ -78,7 +78,8 @@ pub(crate) fn size_within(
     }
 }
 
-/// Appends the item of these objects and refs, whose bodies aren't copied for it. All memory is taken before.
+/// Appends the item of these objects and refs, whose bodies aren't copied for it. All memory but the keeper's own is
+/// taken before.
 pub(crate) fn append_change<K: Keeper>(
     alloc: Global,
     keeper: &mut K,
