@@ -149,6 +149,7 @@ impl<'a> Shelf<'a> {
     }
 
     // The sizes of a directory behind its component. None: no tree with a body is held under the name.
+    #[inline(always)]
     fn dir_stats(&self, component: &[u8], name: &Name) -> Option<TreeStats>
         ensures held { is_some result ≡ has_child self.now Mode.Dir name.now.0 }
         ensures sizes { IfSome result (λ s. s ≡ sizes (below component.now (flat self.now name.now.0))) }
@@ -189,6 +190,7 @@ impl<'a> Shelf<'a> {
     }
 
     // The sizes of what an entry adds whose child is held.
+    #[inline(always)]
     fn held_entry_stats(&self, entry: &EntryView<'_>) -> TreeStats
         requires { has_child self.now entry.now.mode entry.now.name.0 ≡ true }
         ensures { result ≡ sizes (entry_flat self.now (entry_value entry.now)) }
