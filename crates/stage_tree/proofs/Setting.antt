@@ -1,5 +1,5 @@
 -- A leaf set in a stage.
-use Rattle.std.proofs.Common.{◌≡◌, ℕ, suc, ◌+◌, ◌<◌, ◌≤◌, ◌⊎◌, inl, inr, Bool, true, false, not, List, [], ◌∷◌, ◌++◌, length, Result, Ok, Err, Option, Some, None, IfSome, refl, sym, ap, subst, ◌∙◌, arith}
+use Rattle.std.proofs.Common.{◌≡◌, ℕ, suc, ◌+◌, ◌-◌, ◌<◌, ◌≤◌, ◌⊎◌, inl, inr, Bool, true, false, not, List, [], ◌∷◌, ◌++◌, length, Result, Ok, Err, Option, Some, None, IfSome, refl, sym, ap, subst, ◌∙◌, arith}
 use Rattle.std.specs.Prelude.{nat_le, IsOkAnd, if◌then◌else◌}
 use Rattle.std.specs.List.{list_all}
 use Rattle.std.specs.Cmp.{second_so}
@@ -195,3 +195,15 @@ child_set S s s' p level link child f k w g last = record {
 pub remembered : (s : Nodes) (o : Option ℕ) (q r : Path) (k : ℕ) → IfSome o (λ j. (j ≡ k) × (q ≡ r)) → IsChildOf s r k → IfSome o (IsChildOf s q)
 remembered s None q r k h g = tt
 remembered s (Some j) q r k h g = subst (λ (i : ℕ). IsChildOf s q i) (sym h.0) (subst (λ (x : Path). IsChildOf s x k) (sym h.1) g)
+
+-- the directory of a path that was given up
+pub child_kept : (s : Nodes) (o : Option ℕ) (q p x : Path) (level k : ℕ) → o ≡ Some k → q ≡ Rattle.std.proofs.Common.take (length p - 1) p → x ≡ p → level + 1 ≡ length x →
+    IsChildOf s (Rattle.std.proofs.Common.take level x) k → IfSome o (IsChildOf s q)
+child_kept s o q p x level k e d same last g =
+    let first : length p - 1 ≡ level = omega (arith, last, ap length same) in
+    let is : Rattle.std.proofs.Common.take level x ≡ q = ap (Rattle.std.proofs.Common.take level) same ∙ ap (λ n. Rattle.std.proofs.Common.take n p) (sym first) ∙ sym d in
+    subst (λ (y : Option ℕ). IfSome y (IsChildOf s q)) (sym e) (subst (λ (y : Path). IsChildOf s y k) is g)
+
+-- the same way, where its path is spelled in another way
+pub arrived_at : (S : List Object) (s s1 : Nodes) (p q : Path) (level : ℕ) (link : Link) (child : Option ℕ) → p ≡ q → IsArrived S s s1 p level link child → IsArrived S s s1 q level link child
+arrived_at S s s1 p q level link child e a = subst (λ (x : Path). IsArrived S s s1 x level link child) e a

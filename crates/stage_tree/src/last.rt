@@ -76,6 +76,16 @@ impl Last {
             self.child = Some(child);
         }
     }
+
+    // A node was set at a path. The path is given up: what is left of it is its directory.
+    pub fn keep(&mut self, mut path: Vec<Component>, child: usize)
+        ensures child { self.new.child ≡ Some child }
+        ensures directory { self.new.directory.items ≡ take (length path.items - 1) path.items }
+    {
+        let _ = path.pop();
+        self.directory = path;
+        self.child = Some(child);
+    }
 }
 
 // The place of a component in the directory of a node that stands before it. None: the node doesn't.

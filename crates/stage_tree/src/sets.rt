@@ -115,3 +115,31 @@ pub fn put_last(
     }
     Ok(())
 }
+
+// Puts a leaf or a stored directory at the end of a way, and remembers its node where its directory was there. The path
+// is given up: its directory is kept and not copied.
+pub fn put_kept(
+    nodes: &mut Nodes,
+    last: &mut Last,
+    way: Way,
+    components: Vec<Component>,
+    found: Found,
+) -> Result<(), AllocError>
+    requires way { (S : List Object)
+        × IsWay S nodes.old nodes.old components.items way.level way.spot.link way.spot.child
+        × (is_held S (Content.Held found) ≡ true) }
+    requires components { list_all is_component components.items ≡ true }
+    requires forgotten { last.old.child ≡ None }
+    ensures ok { OnOk result ((S : List Object)
+        (w : IsWay S nodes.old nodes.old components.items way.level way.spot.link way.spot.child)
+        → is_held S (Content.Held found) ≡ true
+        → (k : ℕ) × IsPutAt S nodes.old nodes.new components.items way.level way.spot.link way.spot.child found k w) }
+    ensures err { OnErr result (IsWaste nodes.old nodes.new) }
+    ensures child { IfSome last.new.child (IsChildOf nodes.new last.new.directory.items) }
+{
+    let number = put_on(nodes, way, &components, found)?;
+    if way.level + 1 == components.len() {
+        last.keep(components, number);
+    }
+    Ok(())
+}

@@ -12,7 +12,7 @@ ghost use Rattle.stage_tree.specs.Stages.{Shows};
 
 use crate::StageFault;
 use crate::last::{Last, arrive, remove_behind};
-use crate::sets::{most_with_leaf, put_last};
+use crate::sets::{most_with_leaf, put_kept, put_last};
 use git_objects::Name;
 use object_store::Store;
 use path_names::Path;
@@ -87,12 +87,23 @@ impl Stage {
     }
 
     /// Puts a leaf at a path, where every path that is comparable with it goes. Paths of one directory that come in the
-    /// order of their bytes cost little each.
+    /// order of their bytes cost little each. The path is copied: `set_owned` takes it without a copy.
     pub fn set(&mut self, store: &Store, path: &Path, leaf: Leaf) -> Result<(), StageFault>
         requires leaf { has_child store.now leaf.mode leaf.name.0 ≡ true }
         requires shows { (t : Flat) × Shows store.now self.old t }
         ensures { (t : Flat) → Shows store.now self.old t → IsEdited store.now self.new t
             (set_in t path.now (node store.now (record { mode = leaf.mode; name = leaf.name }))) result }
+    {
+        let path = path.copy(self.alloc)?;
+        self.set_owned(store, path, leaf)
+    }
+
+    /// Puts a leaf at a path as `set` does. The path is given up: its directory is kept and not copied.
+    pub fn set_owned(&mut self, store: &Store, path: Path, leaf: Leaf) -> Result<(), StageFault>
+        requires leaf { has_child store.now leaf.mode leaf.name.0 ≡ true }
+        requires shows { (t : Flat) × Shows store.now self.old t }
+        ensures { (t : Flat) → Shows store.now self.old t → IsEdited store.now self.new t
+            (set_in t path (node store.now (record { mode = leaf.mode; name = leaf.name }))) result }
     {
         // The name is looked at so that the proof has that it has 20 bytes.
         let _ = leaf.name.bytes();
@@ -100,24 +111,17 @@ impl Stage {
             mode: leaf.mode,
             name: leaf.name,
         };
-        let components = path.components();
+        let components = path.into_components();
         let way = arrive(
             &mut self.nodes,
             &mut self.last,
             self.alloc,
             store,
-            components,
+            &components,
         )?;
         let child = way.spot.child;
         let most = most_with_leaf(&self.nodes, self.alloc, store, child, self.most)?;
-        put_last(
-            &mut self.nodes,
-            &mut self.last,
-            self.alloc,
-            way,
-            components,
-            found,
-        )?;
+        put_kept(&mut self.nodes, &mut self.last, way, components, found)?;
         self.most = most;
         Ok(())
     }
