@@ -101,28 +101,28 @@ impl Replay {
         store: &mut Store,
         at: u64,
         stage: &mut Stage,
-        change: &Change,
+        change: Change,
     ) -> Result<(), StreamFault>
         requires store { IsStore store.old }
         requires base { IsBaseIn store.old (B.commits base.now) (B.refs base.now) (B.blobs base.now) }
-        requires fit { is_replayable (ChangeCommand change.now) ≡ true }
+        requires fit { is_replayable (ChangeCommand change) ≡ true }
         requires so_far { (r : ReplayOf) × IsReplayOf store.old self.old r }
         requires stage { (t : Flat) × Shows store.old stage.old t }
         ensures { (r : ReplayOf) (t : Flat) → IsReplayOf store.old self.old r → Shows store.old stage.old t →
-            IsChanged store.old store.new self.new stage.new r change.now
+            IsChanged store.old store.new self.new stage.new r change
             (edited (base_in store.old (B.commits base.now) (B.refs base.now) (B.blobs base.now)) r at t
-            change.now) result }
+            change) result }
     {
         match change {
             Change::Modify { mode, blob, path } => {
-                match self.given(base, store, at, *mode, blob) {
+                match self.given(base, store, at, mode, &blob) {
                     Err(fault) => Err(fault),
-                    Ok(name) => set_leaf(stage, store, at, path, Leaf { mode: *mode, name }),
+                    Ok(name) => set_leaf(stage, store, at, path, Leaf { mode, name }),
                 }
             }
-            Change::Delete { path } => remove_path(stage, store, path),
-            Change::Rename { from, to } => move_path(stage, store, at, from, to),
-            Change::Copy { from, to } => copy_path(stage, store, at, from, to),
+            Change::Delete { path } => remove_path(stage, store, &path),
+            Change::Rename { from, to } => move_path(stage, store, at, &from, &to),
+            Change::Copy { from, to } => copy_path(stage, store, at, &from, &to),
             Change::DeleteAll => {
                 stage.clear();
                 Ok(())
@@ -136,14 +136,14 @@ impl Replay {
         base: &B,
         store: &mut Store,
         at: u64,
-        change: &Change,
+        change: Change,
     ) -> Result<(), StreamFault>
         requires base { IsBaseIn store.old (B.commits base.now) (B.refs base.now) (B.blobs base.now) }
-        requires fit { is_replayable (ChangeCommand change.now) ≡ true }
+        requires fit { is_replayable (ChangeCommand change) ≡ true }
         requires so_far { (r : ReplayOf) × IsReplayOf store.old self.old r }
         ensures { (r : ReplayOf) → IsReplayOf store.old self.old r → IsStepped
             (base_in store.old (B.commits base.now) (B.refs base.now) (B.blobs base.now))
-            store.old store.new self.new r (record { at = at; command = ChangeCommand change.now }) result }
+            store.old store.new self.new r (record { at = at; command = ChangeCommand change }) result }
     {
         let Some(mut draft) = self.take_draft() else {
             look_at(store);

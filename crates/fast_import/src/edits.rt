@@ -41,20 +41,20 @@ fn fault_at(at: u64, fault: StageFault) -> StreamFault
     }
 }
 
-// Puts a leaf at a path.
+// Puts a leaf at a path, which is given up.
 pub(crate) fn set_leaf(
     stage: &mut Stage,
     store: &Store,
     at: u64,
-    path: &Path,
+    path: Path,
     leaf: Leaf,
 ) -> Result<(), StreamFault>
     requires leaf { has_child store.now leaf.mode leaf.name.0 ≡ true }
     requires stage { (t : Flat) × Shows store.now stage.old t }
     ensures { (t : Flat) → Shows store.now stage.old t → IsRedrawn store.now stage.new (refused_by (fault_at at)
-        (set_in t path.now (node store.now (record { mode = leaf.mode; name = leaf.name })))) result }
+        (set_in t path (node store.now (record { mode = leaf.mode; name = leaf.name })))) result }
 {
-    match stage.set(store, path, leaf) {
+    match stage.set_owned(store, path, leaf) {
         Err(fault) => Err(fault_at(at, fault)),
         Ok(()) => Ok(()),
     }

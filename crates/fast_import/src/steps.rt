@@ -40,7 +40,7 @@ impl Replay {
                 look_at(store);
                 self.commit(base, store, head)
             }
-            Command::Change(change) => self.change(base, store, at, &change),
+            Command::Change(change) => self.change(base, store, at, change),
             Command::CommitEnd => self.commit_end(store, at),
             Command::Reset { refname, from } => {
                 look_at(store);

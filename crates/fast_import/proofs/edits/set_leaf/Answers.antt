@@ -5,4 +5,4 @@ use Rattle.fast_import.proofs.edits.set_leaf.Goals as goal
 
 pub returns-in-Err : goal.returns-in-Err
 returns-in-Err c = λ t h.
-    edit_refused c.args.store.now c.set.new.self t (set_in t c.args.path.now (node c.args.store.now (record { mode = c.args.leaf.mode; name = c.args.leaf.name }))) c.args.at c.in-Err.fault c.fault_at.result c.set.result (c.set.ensures t h) c.in-Err.is c.fault_at.ensures
+    edit_refused c.args.store.now c.set_owned.new.self t (set_in t c.args.path (node c.args.store.now (record { mode = c.args.leaf.mode; name = c.args.leaf.name }))) c.args.at c.in-Err.fault c.fault_at.result c.set_owned.result (c.set_owned.ensures t h) c.in-Err.is c.fault_at.ensures

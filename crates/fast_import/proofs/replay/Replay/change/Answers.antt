@@ -21,5 +21,5 @@ pub returns : goal.returns
 returns g c = λ r h.
     let S = c.args.store.now in
     change_done S c.args.self.now c.take_draft.new.self r c.in-Some.draft h (sym c.take_draft.ensures.value ∙ c.in-Some.is) c.take_draft.ensures.after
-    (base_in S (g.B.Base.commits c.args.base.now) (g.B.Base.refs c.args.base.now) (g.B.Base.blobs c.args.base.now)) c.edited-changed.new.store c.edited-changed.new.self c.edited-changed.new.stage c.args.at c.args.change.now c.edited-changed.result c.edited-changed.ensures
+    (base_in S (g.B.Base.commits c.args.base.now) (g.B.Base.refs c.args.base.now) (g.B.Base.blobs c.args.base.now)) c.edited-changed.new.store c.edited-changed.new.self c.edited-changed.new.stage c.args.at c.args.change c.edited-changed.result c.edited-changed.ensures
     c.put_draft.new.self c.put_draft.ensures

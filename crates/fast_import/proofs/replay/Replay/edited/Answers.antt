@@ -30,8 +30,8 @@ returns-in-Err g c = λ r t h k.
     subst (λ (x : Change). IsChanged S c.given.new.store c.given.new.self c.args.stage.now r x (edited base r c.args.at t x) (Err c.in-Err.fault)) (sym c.in-Modify.is)
     (none_given base S c.given.new.store c.given.new.self c.args.stage.now r t c.args.at c.in-Modify.mode c.in-Modify.blob c.in-Modify.path c.in-Err.fault (c.in-Err.ensures r h))
 
-pub returns-in-Ok : goal.returns-in-Ok
-returns-in-Ok g c = λ r t h k.
+pub returns-in-Modify : goal.returns-in-Modify
+returns-in-Modify g c = λ r t h k.
     let S = c.args.store.now in
     let base = base_in S (g.B.Base.commits c.args.base.now) (g.B.Base.refs c.args.base.now) (g.B.Base.blobs c.args.base.now) in
     let given = c.in-Ok.ensures r h in
@@ -62,8 +62,8 @@ returns-in-Copy g c = λ r t h k.
     (redrawn_changed S c.args.self.now c.copy_path.new.stage r (changes.Copy c.in-Copy.from c.in-Copy.to) (edited base r c.args.at t (changes.Copy c.in-Copy.from c.in-Copy.to)) refl c.requires.store h c.copy_path.result
     (subst (λ (l : Result Flat StreamFault). IsRedrawn S c.copy_path.new.stage l c.copy_path.result) (copy_is base r c.args.at t c.in-Copy.from c.in-Copy.to) (c.copy_path.ensures t k)))
 
-pub returns-in-DeleteAll : goal.returns-in-DeleteAll
-returns-in-DeleteAll g c = λ r t h k.
+pub returns : goal.returns
+returns g c = λ r t h k.
     let S = c.args.store.now in
     let base = base_in S (g.B.Base.commits c.args.base.now) (g.B.Base.refs c.args.base.now) (g.B.Base.blobs c.args.base.now) in
     subst (λ (x : Change). IsChanged S S c.args.self.now c.clear.new.self r x (edited base r c.args.at t x) (Ok tt)) (sym c.in-DeleteAll.is)
