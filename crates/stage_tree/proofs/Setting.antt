@@ -1,5 +1,5 @@
 -- A leaf set in a stage.
-use Rattle.std.proofs.Common.{◌≡◌, ℕ, suc, ◌+◌, ◌-◌, ◌<◌, ◌≤◌, ◌⊎◌, inl, inr, Bool, true, false, not, List, [], ◌∷◌, ◌++◌, length, Result, Ok, Err, Option, Some, None, IfSome, refl, sym, ap, subst, ◌∙◌, arith}
+use Rattle.std.proofs.Common.{◌≡◌, ℕ, suc, ◌+◌, ◌-◌, ◌<◌, ◌≤◌, ◌⊎◌, inl, inr, Bool, true, false, not, List, [], ◌∷◌, ◌++◌, length, take, Result, Ok, Err, Option, Some, None, IfSome, refl, sym, ap, subst, ◌∙◌, arith}
 use Rattle.std.specs.Prelude.{nat_le, IsOkAnd, if◌then◌else◌}
 use Rattle.std.specs.List.{list_all}
 use Rattle.std.specs.Cmp.{second_so}
@@ -178,7 +178,7 @@ module _ (S : List Object) (s : Nodes) (m : ℕ) (v : Staged) (e : staged s m �
 
 -- ---- what was set last
 
-pub child_set : (S : List Object) (s s' : Nodes) (p : Path) (level : ℕ) (link : Link) (child : Option ℕ) (f : Found) (k : ℕ) (w : IsWay S s s p level link child) → IsPutAt S s s' p level link child f k w → level + 1 ≡ length p → IsChildOf s' (Rattle.std.proofs.Common.take level p) k
+pub child_set : (S : List Object) (s s' : Nodes) (p : Path) (level : ℕ) (link : Link) (child : Option ℕ) (f : Found) (k : ℕ) (w : IsWay S s s p level link child) → IsPutAt S s s' p level link child f k w → level + 1 ≡ length p → IsChildOf s' (take level p) k
 child_set S s s' p level link child f k w g last = record {
   frames = w.place.frames;
   component = w.component;
@@ -186,22 +186,22 @@ child_set S s s' p level link child f k w g last = record {
   children = stem g.below w.behind f;
   siblings = after_named w.component w.place.rest;
   whole = sym g.whole;
-  path = w.place.path ∙ sym (ap (Rattle.std.proofs.Common.take level) (sym w.path) ∙ front w.before (w.component ∷ w.behind) level w.level_is);
+  path = w.place.path ∙ sym (ap (take level) (sym w.path) ∙ front w.before (w.component ∷ w.behind) level w.level_is);
 }
   where
-    front : (a b : Path) (n : ℕ) → length a ≡ n → Rattle.std.proofs.Common.take n (a ++ b) ≡ a
-    front a b n e = ap (λ i. Rattle.std.proofs.Common.take i (a ++ b)) (sym e) ∙ Rattle.std.proofs.Math.Seq.take-append_seam a b
+    front : (a b : Path) (n : ℕ) → length a ≡ n → take n (a ++ b) ≡ a
+    front a b n e = ap (λ i. take i (a ++ b)) (sym e) ∙ Rattle.std.proofs.Math.Seq.take-append_seam a b
 
 pub remembered : (s : Nodes) (o : Option ℕ) (q r : Path) (k : ℕ) → IfSome o (λ j. (j ≡ k) × (q ≡ r)) → IsChildOf s r k → IfSome o (IsChildOf s q)
 remembered s None q r k h g = tt
 remembered s (Some j) q r k h g = subst (λ (i : ℕ). IsChildOf s q i) (sym h.0) (subst (λ (x : Path). IsChildOf s x k) (sym h.1) g)
 
 -- the directory of a path that was given up
-pub child_kept : (s : Nodes) (o : Option ℕ) (q p x : Path) (level k : ℕ) → o ≡ Some k → q ≡ Rattle.std.proofs.Common.take (length p - 1) p → x ≡ p → level + 1 ≡ length x →
-    IsChildOf s (Rattle.std.proofs.Common.take level x) k → IfSome o (IsChildOf s q)
+pub child_kept : (s : Nodes) (o : Option ℕ) (q p x : Path) (level k : ℕ) → o ≡ Some k → q ≡ take (length p - 1) p → x ≡ p → level + 1 ≡ length x →
+    IsChildOf s (take level x) k → IfSome o (IsChildOf s q)
 child_kept s o q p x level k e d same last g =
     let first : length p - 1 ≡ level = omega (arith, last, ap length same) in
-    let is : Rattle.std.proofs.Common.take level x ≡ q = ap (Rattle.std.proofs.Common.take level) same ∙ ap (λ n. Rattle.std.proofs.Common.take n p) (sym first) ∙ sym d in
+    let is : take level x ≡ q = ap (take level) same ∙ ap (λ n. take n p) (sym first) ∙ sym d in
     subst (λ (y : Option ℕ). IfSome y (IsChildOf s q)) (sym e) (subst (λ (y : Path). IsChildOf s y k) is g)
 
 -- the same way, where its path is spelled in another way

@@ -1,4 +1,4 @@
-use Rattle.std.proofs.Common.{inl, sym, subst}
+use Rattle.std.proofs.Common.{inl, subst}
 use Rattle.std.proofs.lemmas.Result.{err_from_is_err_and}
 use Rattle.git_objects.specs.Paths.{Path}
 use Rattle.path_trees.specs.Standing.{node}
