@@ -12,10 +12,14 @@ use Rattle.git_objects.specs.Commits.{Commit}
 use Rattle.git_objects.specs.declared.entry.Entry.{Entry}
 use Rattle.git_objects.specs.declared.kind.Kind.{Kind}
 use Rattle.git_objects.specs.declared.kind.Kind.TheVariants.{Blob, Tree, Commit as CommitKind}
+use Rattle.git_objects.specs.declared.name.Name.{Name}
 use Rattle.git_objects.proofs.Basics.{same_bytes-self}
-use Rattle.object_store.specs.Growth.{IsGrownBy, IsOnly}
+use Rattle.object_store.specs.Errors.{refusal_told}
+use Rattle.object_store.specs.Growth.{IsClash, IsGrownBy, IsOnly}
 use Rattle.object_store.specs.Objects.{Object, find_named, has, missing_entry, missing_of_commit, missing_parent, IsStore}
-use Rattle.object_store.specs.Puts.{Refusal, Collides, collision, same_object, if_missing, of_tree, of_commit, of_body, refusal, with_object}
+use Rattle.object_store.specs.declared.store.PutError.{PutError}
+use Rattle.object_store.specs.declared.store.PutError.TheVariants.{NotCanonical, MissingChild, Collision, OutOfMemory}
+use Rattle.object_store.specs.Puts.{Refusal, Collides, Missing, NotBody, collision, same_object, if_missing, of_tree, of_commit, of_body, refusal, with_object}
 use Rattle.object_store.proofs.Finding.{found_name}
 use Rattle.object_store.proofs.Held.{kind_is}
 
@@ -39,6 +43,7 @@ module _ (S : List Object) (k : Kind) (b : Bytes) where
       by None g = refl
       by (Some n) g = cc
 
+  -- where the body and its children are fine, what comes behind them decides
   passes : (j : Kind) (later : Option Refusal) → of_body S j b None ≡ None → of_body S j b later ≡ later
   passes Blob later h = refl
   passes Tree later h = tree_passes (tree_entries b) later h
@@ -83,6 +88,43 @@ module _ (S : List Object) (k : Kind) (b : Bytes) where
   put_is T fine taken s e =
       put_by T (find_named S (name k b)) refl s (e ∙ ap (λ t. cond t S (new ∷ S)) (found_name S (name k b)))
       (no_collision (find_named S (name k b)) (sym (passes k (collision k b (find_named S (name k b))) fine) ∙ taken))
+
+  -- a name that is taken is the object's own
+  taken_by : (o : Option Object) (r : Refusal) → collision k b o ≡ Some r → r ≡ Collides (name k b)
+  taken_by None r h = cc
+  taken_by (Some o) r h =
+      elim (same_object k b o) as (λ t. cond t None (Some (Collides (name k b))) ≡ Some r → r ≡ Collides (name k b)) [
+        | true ↦ λ g. cc
+        | false ↦ λ g. cc
+      ] h
+
+  same_name : (m : Bytes) → Collides m ≡ Collides (name k b) → m ≡ name k b
+  same_name m h = cc
+
+  no_body : NotBody ≡ Collides (name k b) → ⊥
+  no_body h = cc
+
+  no_child : (m : Bytes) → Missing m ≡ Collides (name k b) → ⊥
+  no_child m h = cc
+
+  clash_of : (n : Name) → collision k b (find_named S (name k b)) ≡ Some (Collides n.0) → IsClash (IsOnly k b) S n.0
+  clash_of n h =
+      let own = same_name n.0 (taken_by (find_named S (name k b)) (Collides n.0) h) in
+      record { object = new; is_made = refl; held = ap (λ (m : Bytes). collision k b (find_named S m)) own ∙ h }
+
+  -- why an object that fits is not put
+  abbrev pub IsOnlyClash : PutError → Type 0
+  IsOnlyClash e = (e ≡ OutOfMemory) ⊎ ((n : Name) × (e ≡ Collision n) × IsClash (IsOnly k b) S n.0)
+
+  clash_told : (e : PutError) → collision k b (find_named S (name k b)) ≡ refusal_told e → IsOnlyClash e
+  clash_told OutOfMemory h = inl refl
+  clash_told (Collision n) h = inr (n, refl, clash_of n h)
+  clash_told NotCanonical h = absurd (no_body (taken_by (find_named S (name k b)) NotBody h))
+  clash_told (MissingChild n) h = absurd (no_child n.0 (taken_by (find_named S (name k b)) (Missing n.0) h))
+
+  pub only_clash : (e : PutError) → of_body S k b None ≡ None → (e ≡ OutOfMemory) ⊎ (refusal S k b ≡ refusal_told e) → IsOnlyClash e
+  only_clash e fine (inl h) = inl h
+  only_clash e fine (inr h) = clash_told e (sym (passes k (collision k b (find_named S (name k b))) fine) ∙ h)
 
 -- ---- a commit that is put
 
