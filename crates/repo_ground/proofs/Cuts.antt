@@ -134,11 +134,6 @@ no-memory (Err e) w = ap Err w
 pub memory-is : {A : Type 0} (r : Result A CommitError) (P : A → Type 0) (Q : CommitError → Type 0) → r ≡ Err OutOfMemory → Q OutOfMemory → MatchResult r P Q
 memory-is {A = A} r P Q e q = subst (λ (x : Result A CommitError). MatchResult x P Q) (sym e) q
 
--- the same error of another call
-abbrev pub again : {A B : Type 0} → Result A CommitError → Result B CommitError
-again (Ok x) = Err OutOfMemory
-again (Err e) = Err e
-
 abbrev is-fault : {A : Type 0} → Result A CommitError → Bool
 is-fault (Ok x) = false
 is-fault (Err StoreFault) = true

@@ -42,8 +42,7 @@ use Rattle.state_items.proofs.Growing.{grown-fresh}
 use Rattle.repo_ground.specs.Growing.{AreFed, Extends, IsReady, IsStep, held_of}
 use Rattle.repo_ground.specs.Moving.{moves_in, with_heads}
 use Rattle.repo_ground.specs.declared.commit.Batch.{Batch}
-use Rattle.repo_ground.specs.declared.commit.CommitError.{CommitError}
-use Rattle.repo_ground.specs.declared.commit.CommitError.TheVariants.{StoreFault, Limit, OutOfMemory}
+use Rattle.repo_ground.specs.declared.commit.CommitError.TheVariants.{Limit}
 use Rattle.repo_ground.specs.declared.draft.Draft.{Draft}
 use Rattle.repo_ground.proofs.Batches.{fed-from}
 use Rattle.repo_ground.proofs.Brought.{batch-found, batch-new, batch-ready, held-named, held-own}
@@ -256,11 +255,9 @@ module _ (h : Held) (s : Contents) (b : Batch) (blobs : List Bytes) (cs : List S
         ap (passed h (room_in s)) e
         ∙ ap (λ (x : Bytes). passed_with (reverse fs ++ H) s.number s.size x) (sym (f ∙ (λ i. change_text (n.fresh.found i) (refs-are i))))
 
-    pub no-draft-is : (e : CommitError) → batch_plan h b blobs cs ≡ ChangePlan fs ms → IsSizeOf (passed_with (reverse fs ++ H) s.number s.size (change_text (found S names) rs)) (change_text (found S names) rs) (Err e)
-        → IsNoDraft h (batch_plan h b blobs cs) s e
-    no-draft-is StoreFault e made = absurd made
-    no-draft-is (Limit q) e made = passed-is (change_text (found S names) rs) e refl ∙ made
-    no-draft-is OutOfMemory e made = tt
+    pub no-draft-is : (q : Quantity) → batch_plan h b blobs cs ≡ ChangePlan fs ms → IsSizeOf (passed_with (reverse fs ++ H) s.number s.size (change_text (found S names) rs)) (change_text (found S names) rs) (Err q)
+        → IsNoDraft h (batch_plan h b blobs cs) s (Limit q)
+    no-draft-is q e made = passed-is (change_text (found S names) rs) e refl ∙ made
 
     pub draft-is : (known : List Name) (graph : List Row) (d : Draft) → IsGround s.basis → AreHeld (reverse fs ++ H) new graph known → batch_plan h b blobs cs ≡ ChangePlan fs ms
         → passed_with (reverse fs ++ H) s.number s.size (change_text (found S names) rs) ≡ None → d.size ≡ length (change_text (found S names) rs) → d.refs ≡ with_heads s.refs rs

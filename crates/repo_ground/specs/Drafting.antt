@@ -22,12 +22,10 @@ use Rattle.repo_ground.specs.declared.commit.CommitError.TheVariants.{StoreFault
 abbrev pub passed_with : List Object → ℕ → ℕ → Bytes → Option Quantity
 passed_with S number size text = passed_by_objects S (passed_by_item (record { number = number; size = size }) text)
 
--- an item's length where no limit is passed, or the limit that is passed first, or want of memory
-abbrev pub IsSizeOf : Option Quantity → Bytes → Result ℕ CommitError → Type 0
+-- an item's length where no limit is passed, or the limit that is passed first
+abbrev pub IsSizeOf : Option Quantity → Bytes → Result ℕ Quantity → Type 0
 IsSizeOf passed text (Ok size) = (passed ≡ None) × (size ≡ length text)
-IsSizeOf passed text (Err StoreFault) = ⊥
-IsSizeOf passed text (Err (Limit q)) = passed ≡ Some q
-IsSizeOf passed text (Err OutOfMemory) = ⊤
+IsSizeOf passed text (Err q) = passed ≡ Some q
 
 -- it gets an item of these bytes; after a fault it may have it or not
 abbrev pub Adds : Bytes → KeeperView → KeeperView → Result (Unit {0}) KeepError → Type 0

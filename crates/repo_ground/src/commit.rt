@@ -184,7 +184,7 @@ impl State {
         };
         let objects = found_objects(self.alloc, &self.ground.store, names)?;
         let size = match size_within(&objects, &moved, meter) {
-            Err(error) => return Err(error),
+            Err(which) => return Err(CommitError::Limit { which }),
             Ok(size) => size,
         };
         let refs = with_moved(self.alloc, &self.refs, &moved)?;

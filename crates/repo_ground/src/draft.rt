@@ -13,8 +13,7 @@ ghost use Rattle.ref_store.specs.Pairs.{pairs};
 ghost use Rattle.state_items.specs.Items.{change_text};
 ghost use Rattle.repo_ground.specs.Drafting.{Adds, IsSizeOf, passed_with};
 
-use crate::CommitError;
-use git_objects::Name;
+use git_objects::{Name, Quantity};
 use indexmap::IndexSet;
 use object_store::ObjectRef;
 use path_names::RefName;
@@ -60,19 +59,18 @@ pub(crate) fn size_within(
     objects: &[ObjectRef<'_>],
     refs: &[(RefName, Name)],
     meter: Meter,
-) -> Result<usize, CommitError>
-    ensures size { (S : List Object) → meter.commits + length (filter is_commit (map object_value objects.now))
+) -> Result<usize, Quantity>
+    ensures { (S : List Object) → meter.commits + length (filter is_commit (map object_value objects.now))
         ≡ length (filter is_commit S) → meter.objects ≡ length S →
         let text = change_text (map object_value objects.now) (pairs refs.now) in
         IsSizeOf (passed_with S meter.number meter.size text) text result }
-    ensures calm { ¬ IsErrOf result CommitError.StoreFault }
 {
     let commits = meter.commits as usize + count_commits(objects);
     let size = change_size(objects, refs);
     match first_passed(commits, meter.objects, size, meter.number, meter.size) {
-        Some(which) => Err(CommitError::Limit { which }),
+        Some(which) => Err(which),
         None => match size {
-            None => Err(CommitError::OutOfMemory),
+            None => unreachable!(),
             Some(size) => Ok(size),
         },
     }

@@ -15,7 +15,7 @@ use Rattle.state_items.specs.Changes.{Plan, fresh, objects_of, plan_items}
 use Rattle.state_items.specs.Items.{change_text}
 use Rattle.state_items.specs.Writings.{found}
 use Rattle.repo_ground.specs.Drafting.{IsDraft, IsNoDraft, IsSizeOf, outcome, passed_with}
-use Rattle.repo_ground.specs.declared.commit.CommitError.TheVariants.{StoreFault}
+use Rattle.repo_ground.specs.declared.commit.CommitError.TheVariants.{Limit, StoreFault}
 use Rattle.std.specs.Result.{IsErrOf}
 use Rattle.proj_io.specs.Uses.{IsUsed}
 use Rattle.repo_ground.specs.declared.draft.Draft.{Draft}
@@ -28,7 +28,7 @@ use Rattle.repo_ground.specs.Changes.{Appends, GetsItems, IsBatchOf, IsRefusal, 
 use Rattle.repo_ground.specs.declared.commit.CommitError.{CommitError}
 use Rattle.repo_ground.specs.Contents.{Contents}
 use Rattle.repo_ground.specs.contracts.state.State.{the_view}
-use Rattle.repo_ground.proofs.Cuts.{again, appends-is, fault-is, kept-fault, keeps-same, memory-fault, memory-is, no-memory, refusal-memory, stop-is, told-fault, unused, used-as}
+use Rattle.repo_ground.proofs.Cuts.{appends-is, fault-is, kept-fault, keeps-same, memory-fault, memory-is, no-memory, refusal-memory, stop-is, told-fault, unused, used-as}
 use Rattle.repo_ground.proofs.Entered.{front-none}
 use Rattle.repo_ground.proofs.Prepared.{IsItem, behind-old, commits-there, draft-is, front-map, has-more, held-before, held-with, item-of, news-of, no-draft-is, nothing-new, room-with, something-new}
 use Rattle.repo_ground.proofs.state.State.append_batch.Goals as goal
@@ -145,7 +145,7 @@ enter-requires g c =
     let read : map object_value c.deref-3.result.now ≡ found v.basis.store names = ap (map object_value) c.deref-3.ensures.value ∙ c.in_ok-objects.ensures in
     let counted : c.len.result + length (filter is_commit (map object_value c.deref-3.result.now)) ≡ length (filter is_commit all) =
     (λ i. c.len.ensures.len i + length (filter is_commit (read i))) ∙ n.commits in
-    let made = c.in-Ok.ensures.size all counted (c.len-2.ensures.len ∙ n.objects) in
+    let made = c.in-Ok.ensures all counted (c.len-2.ensures.len ∙ n.objects) in
     record {
       new = (
         v.basis.store,
@@ -178,7 +178,7 @@ returns-clause-prepared g c = λ h blobs cs u.
     (λ i. c.len.ensures.len i + length (filter is_commit (read i))) ∙ n.commits in
     let made : IsSizeOf (passed_with all v.number v.size (change_text (found v.basis.store names) rs)) (change_text (found v.basis.store names) rs) (Ok c.in-Ok.size) =
     subst (λ (os : List Object). IsSizeOf (passed_with all v.number v.size (change_text os rs)) (change_text os rs) (Ok c.in-Ok.size)) read
-    (c.in-Ok.ensures.size all counted (c.len-2.ensures.len ∙ n.objects)) in
+    (c.in-Ok.ensures all counted (c.len-2.ensures.len ∙ n.objects)) in
     let objects : map object_value c.deref-6.result.now ≡ found v.basis.store names = ap (map object_value) c.deref-6.ensures.value ∙ c.in_ok-objects.ensures in
     let before = held-before h v b blobs cs w g.graph.store old c.self.inside.blobs.keys refl refl in
     let room = room-with h v b blobs cs w g.graph.store c.self.inside.number c.self.inside.size (change_text (found v.basis.store names) rs) made.0 in
@@ -207,12 +207,12 @@ returns-in-Err-clause-prepared g c = λ h blobs cs u.
     let read : map object_value c.deref-3.result.now ≡ found v.basis.store names = ap (map object_value) c.deref-3.ensures.value ∙ c.in_ok-objects.ensures in
     let counted : c.len.result + length (filter is_commit (map object_value c.deref-3.result.now)) ≡ length (filter is_commit all) =
     (λ i. c.len.ensures.len i + length (filter is_commit (read i))) ∙ n.commits in
-    let made : IsSizeOf (passed_with all v.number v.size (change_text (found v.basis.store names) rs)) (change_text (found v.basis.store names) rs) (Err c.in-Err.error) =
-    subst (λ (os : List Object). IsSizeOf (passed_with all v.number v.size (change_text os rs)) (change_text os rs) (Err c.in-Err.error)) read
-    (c.in-Err.ensures.size all counted (c.len-2.ensures.len ∙ n.objects)) in
+    let made : IsSizeOf (passed_with all v.number v.size (change_text (found v.basis.store names) rs)) (change_text (found v.basis.store names) rs) (Err c.in-Err.which) =
+    subst (λ (os : List Object). IsSizeOf (passed_with all v.number v.size (change_text os rs)) (change_text os rs) (Err c.in-Err.which)) read
+    (c.in-Err.ensures all counted (c.len-2.ensures.len ∙ n.objects)) in
     let plan = something-new h v b blobs cs w g.graph.store names new n rs re (sym (c.is_nothing.ensures ∙ ap (λ xs. is_nil names && is_nil (pairs xs)) (c.deref-2.ensures.value ∙ sym c.deref-4.ensures.value)) ∙ c.if-is_nothing.false) in
-    subst (λ (x : Contents). IsNoDraft h (batch_plan h b blobs cs) x c.in-Err.error) c.self.view_is
-    (no-draft-is h v b blobs cs w g.graph.store names new n rs re c.in-Err.error plan made)
+    subst (λ (x : Contents). IsNoDraft h (batch_plan h b blobs cs) x (Limit c.in-Err.which)) c.self.view_is
+    (no-draft-is h v b blobs cs w g.graph.store names new n rs re c.in-Err.which plan made)
 
 pub append_change-requires-clause-size : goal.append_change-requires-clause-size
 append_change-requires-clause-size g c =
@@ -238,7 +238,7 @@ append_change-requires-clause-size g c =
     let text : Bytes = change_text (map object_value c.deref-7.result.now) (pairs c.deref-8.result.now) in
     let made : IsItem h v b blobs cs text = subst (IsItem h v b blobs cs) (λ i. change_text (same i) (also i))
     (item-of h v b blobs cs w ground.graph.store old new names refl (c.in_ok-hold_batch.ensures.step blobs cs w.known w.named) c.in_ok-hold_batch.ensures.extends en read rs c.in-Ok.size re me some
-    (λ all counted many. c.in-Ok.ensures.size all (ap (λ (k : ℕ). k + length (filter is_commit read)) c.len.ensures.len ∙ counted) (c.len-2.ensures.len ∙ many))) in
+    (λ all counted many. c.in-Ok.ensures all (ap (λ (k : ℕ). k + length (filter is_commit read)) c.len.ensures.len ∙ counted) (c.len-2.ensures.len ∙ many))) in
     let here : IsItem h c.args.self.now b blobs cs text = subst (λ (x : Contents). IsItem h x b blobs cs text) c.self.view_is made in
     (here.some, here.may.item)
 
@@ -266,7 +266,7 @@ append_change-requires-clause-room g c =
     let text : Bytes = change_text (map object_value c.deref-7.result.now) (pairs c.deref-8.result.now) in
     let made : IsItem h v b blobs cs text = subst (IsItem h v b blobs cs) (λ i. change_text (same i) (also i))
     (item-of h v b blobs cs w ground.graph.store old new names refl (c.in_ok-hold_batch.ensures.step blobs cs w.known w.named) c.in_ok-hold_batch.ensures.extends en read rs c.in-Ok.size re me some
-    (λ all counted many. c.in-Ok.ensures.size all (ap (λ (k : ℕ). k + length (filter is_commit read)) c.len.ensures.len ∙ counted) (c.len-2.ensures.len ∙ many))) in
+    (λ all counted many. c.in-Ok.ensures all (ap (λ (k : ℕ). k + length (filter is_commit read)) c.len.ensures.len ∙ counted) (c.len-2.ensures.len ∙ many))) in
     let here : IsItem h c.args.self.now b blobs cs text = subst (λ (x : Contents). IsItem h x b blobs cs text) c.self.view_is made in
     subst (λ (n : ℕ). n < ITEMS) c.requires.open.1 here.may.items
 
@@ -290,7 +290,7 @@ returns-in-Err-append_change-clause-prepared g c = λ h blobs cs u.
     let text : Bytes = change_text (map object_value c.deref-7.result.now) (pairs c.deref-8.result.now) in
     let made : IsItem h v b blobs cs text = subst (IsItem h v b blobs cs) (λ i. change_text (same i) (also i))
     (item-of h v b blobs cs w ground.graph.store old new names refl (c.in_ok-hold_batch.ensures.step blobs cs w.known w.named) c.in_ok-hold_batch.ensures.extends en read rs c.in-Ok.size re me some
-    (λ all counted many. c.in-Ok.ensures.size all (ap (λ (k : ℕ). k + length (filter is_commit read)) c.len.ensures.len ∙ counted) (c.len-2.ensures.len ∙ many))) in
+    (λ all counted many. c.in-Ok.ensures all (ap (λ (k : ℕ). k + length (filter is_commit read)) c.len.ensures.len ∙ counted) (c.len-2.ensures.len ∙ many))) in
     let here : IsItem h c.args.self.now b blobs cs text = subst (λ (x : Contents). IsItem h x b blobs cs text) c.self.view_is made in
     subst (λ (e : CommitError). IsNoDraft h (batch_plan h b blobs cs) c.args.self.now e) (sym c.keep_error.ensures)
     (fault-is h c.args.self.now (batch_plan h b blobs cs) text c.in-Err-append_change.error here.fits here.item)
@@ -315,7 +315,7 @@ returns-in-Err-append_change-clause-items g c = λ h blobs cs u.
     let text : Bytes = change_text (map object_value c.deref-7.result.now) (pairs c.deref-8.result.now) in
     let made : IsItem h v b blobs cs text = subst (IsItem h v b blobs cs) (λ i. change_text (same i) (also i))
     (item-of h v b blobs cs w ground.graph.store old new names refl (c.in_ok-hold_batch.ensures.step blobs cs w.known w.named) c.in_ok-hold_batch.ensures.extends en read rs c.in-Ok.size re me some
-    (λ all counted many. c.in-Ok.ensures.size all (ap (λ (k : ℕ). k + length (filter is_commit read)) c.len.ensures.len ∙ counted) (c.len-2.ensures.len ∙ many))) in
+    (λ all counted many. c.in-Ok.ensures all (ap (λ (k : ℕ). k + length (filter is_commit read)) c.len.ensures.len ∙ counted) (c.len-2.ensures.len ∙ many))) in
     let here : IsItem h c.args.self.now b blobs cs text = subst (λ (x : Contents). IsItem h x b blobs cs text) c.self.view_is made in
     let before : KeeperView = keeper_view g.K.Keeper.items g.K.Keeper.number g.K.Keeper.faults c.args.keeper.now in
     let after : KeeperView = keeper_view g.K.Keeper.items g.K.Keeper.number g.K.Keeper.faults c.append_change.new.keeper in
@@ -348,15 +348,12 @@ returns-clause-items g c = λ h blobs cs u.
     let text : Bytes = change_text (map object_value c.deref-7.result.now) (pairs c.deref-8.result.now) in
     let made : IsItem h v b blobs cs text = subst (IsItem h v b blobs cs) (λ i. change_text (same i) (also i))
     (item-of h v b blobs cs w ground.graph.store old new names refl (c.in_ok-hold_batch.ensures.step blobs cs w.known w.named) c.in_ok-hold_batch.ensures.extends en read rs c.in-Ok.size re me some
-    (λ all counted many. c.in-Ok.ensures.size all (ap (λ (k : ℕ). k + length (filter is_commit read)) c.len.ensures.len ∙ counted) (c.len-2.ensures.len ∙ many))) in
+    (λ all counted many. c.in-Ok.ensures all (ap (λ (k : ℕ). k + length (filter is_commit read)) c.len.ensures.len ∙ counted) (c.len-2.ensures.len ∙ many))) in
     let here : IsItem h c.args.self.now b blobs cs text = subst (λ (x : Contents). IsItem h x b blobs cs text) c.self.view_is made in
     let p : Plan = batch_plan h b blobs cs in (
       appends-is p text _ _ (Ok tt) here.item c.in-Ok-append_change.ensures.items,
       adds_as _ _ _ _ _ _ (λ left. stop-is h c.args.self.now p text (g.K.Keeper.items c.args.keeper.now) left here.fits here.item) c.in-Ok-append_change.ensures.stops.0,
     )
-
-pub returns-in-Err-clause-used : goal.returns-in-Err-clause-used
-returns-in-Err-clause-used g c = unused _ _ _ _ _ c.requires.open.0 (λ q. c.in-Err.ensures.calm (ap (again {A = Option Draft} {B = ℕ}) q))
 
 pub returns-in_err-enter-clause-prepared : goal.returns-in_err-enter-clause-prepared
 returns-in_err-enter-clause-prepared g c = λ h blobs cs u.

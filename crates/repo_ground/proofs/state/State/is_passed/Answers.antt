@@ -13,5 +13,5 @@ pub returns : goal.returns
 returns c = λ h bytes w e.
     let s : Spells h _ = subst (Spells h) (sym c.self.view_is) w in
     c.is_some.ensures
-    ∙ ap is_some (c.first_passed.ensures h.objects bytes (c.len-commits.ensures.len ∙ commits-number h _ s) (c.len.ensures.len ∙ sym (length-map c.self.inside.held.keys name_bytes) ∙ objects-number h _ s) e)
+    ∙ ap is_some (c.first_passed.ensures.first h.objects bytes (c.len-commits.ensures.len ∙ commits-number h _ s) (c.len.ensures.len ∙ sym (length-map c.self.inside.held.keys name_bytes) ∙ objects-number h _ s) e)
     ∙ ap (λ (v : Contents). is_some (passed_by_objects h.objects (passed_by_item (room_in v) bytes))) c.self.view_is

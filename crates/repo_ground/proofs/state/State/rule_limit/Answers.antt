@@ -13,7 +13,7 @@ use Rattle.repo_ground.proofs.state.State.rule_limit.Goals as goal
 pub returns-clause-limit : goal.returns-clause-limit
 returns-clause-limit c = λ h k w.
     let s : Spells h _ = subst (Spells h) (sym c.self.view_is) w in
-    c.first_passed.ensures h.objects (rule_text k) (c.len-commits.ensures.len ∙ commits-number h _ s) (c.len.ensures.len ∙ sym (length-map c.self.inside.held.keys name_bytes) ∙ objects-number h _ s) refl
+    c.first_passed.ensures.first h.objects (rule_text k) (c.len-commits.ensures.len ∙ commits-number h _ s) (c.len.ensures.len ∙ sym (length-map c.self.inside.held.keys name_bytes) ∙ objects-number h _ s) refl
     ∙ ap (λ (v : Contents). passed h (room_in v) (RulePlan k)) c.self.view_is
 
 -- src/rule.rt:56:5
@@ -21,6 +21,6 @@ pub returns-clause-room : goal.returns-clause-room
 returns-clause-room c = λ e.
     let h = c.requires.spells.0 in
     let s : Spells h _ = subst (Spells h) (sym c.self.view_is) c.requires.spells.1 in
-    let none = sym (c.first_passed.ensures h.objects (rule_text 1) (c.len-commits.ensures.len ∙ commits-number h _ s) (c.len.ensures.len ∙ sym (length-map c.self.inside.held.keys name_bytes) ∙ objects-number h _ s) refl) ∙ e in
+    let none = sym (c.first_passed.ensures.first h.objects (rule_text 1) (c.len-commits.ensures.len ∙ commits-number h _ s) (c.len.ensures.len ∙ sym (length-map c.self.inside.held.keys name_bytes) ∙ objects-number h _ s) refl) ∙ e in
     let m = may-append h.objects _ (rule_text 1) none in
     (subst (λ (v : Contents). v.number < ITEMS) c.self.view_is m.items, subst (λ (v : Contents). v.size + 3 ≤ STORE_BYTES) c.self.view_is m.store)

@@ -42,7 +42,7 @@ enter-requires c =
     let read : map object_value c.deref.result.now ≡ found v.basis.store names = ap (map object_value) c.deref.ensures.value ∙ c.in_ok-objects.ensures in
     let counted : c.len.result + c.count_commits.result ≡ length (filter is_commit all) =
     ap (λ (k : ℕ). c.len.result + k) c.count_commits.ensures.number ∙ (λ i. c.len.ensures.len i + length (filter is_commit (read i))) ∙ n.commits in
-    let passed = c.first_passed.ensures all [] counted (c.len-2.ensures.len ∙ n.objects) refl in
+    let passed = c.first_passed.ensures.first all [] counted (c.len-2.ensures.len ∙ n.objects) refl in
     let fits : passed_by_objects all None ≡ None = sym passed ∙ c.in_default.is in
     record {
       new = (
@@ -72,7 +72,7 @@ returns-in-Some c = λ h blobs cs u.
     let read : map object_value c.deref.result.now ≡ found v.basis.store names = ap (map object_value) c.deref.ensures.value ∙ c.in_ok-objects.ensures in
     let counted : c.len.result + c.count_commits.result ≡ length (filter is_commit all) =
     ap (λ (k : ℕ). c.len.result + k) c.count_commits.ensures.number ∙ (λ i. c.len.ensures.len i + length (filter is_commit (read i))) ∙ n.commits in
-    let passed = c.first_passed.ensures all [] counted (c.len-2.ensures.len ∙ n.objects) refl in
+    let passed = c.first_passed.ensures.first all [] counted (c.len-2.ensures.len ∙ n.objects) refl in
     sym passed ∙ c.in-Some.is
 
 pub returns : goal.returns
@@ -92,7 +92,7 @@ returns c = λ h blobs cs u.
     let read : map object_value c.deref.result.now ≡ found v.basis.store names = ap (map object_value) c.deref.ensures.value ∙ c.in_ok-objects.ensures in
     let counted : c.len.result + c.count_commits.result ≡ length (filter is_commit all) =
     ap (λ (k : ℕ). c.len.result + k) c.count_commits.ensures.number ∙ (λ i. c.len.ensures.len i + length (filter is_commit (read i))) ∙ n.commits in
-    let passed = c.first_passed.ensures all [] counted (c.len-2.ensures.len ∙ n.objects) refl in
+    let passed = c.first_passed.ensures.first all [] counted (c.len-2.ensures.len ∙ n.objects) refl in
     let fits : passed_by_objects all None ≡ None = sym passed ∙ c.in_default.is in
     let before = held-before h v b blobs cs w g.graph.store old c.self.inside.blobs.keys refl refl in
     let objects : map object_value c.deref-2.result.now ≡ found v.basis.store names = ap (map object_value) c.deref-2.ensures.value ∙ c.in_ok-objects.ensures in
