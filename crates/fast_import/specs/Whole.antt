@@ -1,26 +1,16 @@
 -- What a whole stream gives, read in pieces.
-use Rattle.std.specs.Prelude.{◌≡◌, ◌⊎◌, ◌<◌, ◌≤◌, ℕ, true, false, List, [], length, Option, IfOk, IfErr, IsOkAnd, Result, Ok, Err}
+use Rattle.std.specs.Prelude.{◌≡◌, ◌⊎◌, ◌<◌, ◌≤◌, ℕ, true, false, List, [], length, Option, IfOk, IfErr, IsOkAnd, Result}
 use Rattle.std.specs.Io.KnownBytes.{Consumes, IsAtEnd}
 use Rattle.git_objects.specs.Paths.{Bytes, is_bytes}
 use Rattle.object_store.specs.Growth.{IsGrownBy}
 use Rattle.object_store.specs.Objects.{Object}
 use Rattle.fast_import.specs.Made.{IsMadeBy, IsRefusal}
 use Rattle.stream_reader.specs.Readers.{Reading, fed}
-use Rattle.stream_reader.specs.Verdicts.{start}
-use Rattle.fast_import.specs.Replays.{Base, Replay, given_by, nothing_yet, ran, replay}
-use Rattle.fast_import.specs.Replaying.{Replaying}
-use Rattle.fast_import.specs.Standing.{IsReplayOf, IsReplayedOf}
+use Rattle.fast_import.specs.Replays.{Base, nothing_yet, ran, replay}
+use Rattle.fast_import.specs.Standing.{IsReplayedOf}
 use Rattle.fast_import.specs.declared.whole.ReplayError.{ReplayError}
 use Rattle.fast_import.specs.declared.whole.ReplayError.TheVariants.{ReadFault, Stream}
 use Rattle.fast_import.specs.declared.replayed.Replayed.{Replayed as ReplayedNames}
-
--- a reader that was fed with nothing
-abbrev pub unread : Reading
-unread = record { progress = start; input = record { at = 0; rest = [] }; ended = false }
-
--- what a replay gives, over every store
-abbrev pub Gives : Replaying → ReplayedNames → Type 0
-Gives v g = (S : List Object) (r : Replay) → IsReplayOf S v r → IsReplayedOf S g (given_by r)
 
 -- a reader was fed with the next bytes of a source, at most so many
 pub record IsPiece (before after : Option Bytes) (old new : Reading) (most : ℕ) : Type 0 where
@@ -58,8 +48,3 @@ pub record IsWhole (base : Base) (S S' : List Object) (all : Bytes) (result : Re
   pub given : IfOk result (λ g. IsOkAnd (replay base all) (IsReplayedOf S' g))
   pub refused : IfErr result (IsStreamError base S' all)
   pub grown : IsGrownBy (IsMadeOfStream base all) S S'
-
--- what became of it, as a replay by which it is given
-abbrev pub IsWholeBy : {A : Type 0} → Base → List Object → List Object → Bytes → Replaying → Result A ReplayError → Type 0
-IsWholeBy base S S' all v (Ok x) = (g : ReplayedNames) → Gives v g → IsWhole base S S' all (Ok g)
-IsWholeBy base S S' all v (Err e) = IsWhole base S S' all (Err e)

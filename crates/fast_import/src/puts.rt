@@ -1,14 +1,15 @@
 // Objects that a stream brings, put into a store.
-ghost use Rattle.std.specs.Prelude.{◌≡◌, ◌≤◌, true, map, length, IfErr, IfOk, None, Some};
+ghost use Rattle.std.specs.Prelude.{◌≡◌, ◌≤◌, ◌⊎◌, true, map, length, IfErr, IfOk, Some};
 ghost use Rattle.git_objects.specs.Commits.{commit_body};
 ghost use Rattle.git_objects.specs.Lists.{Each};
 ghost use Rattle.git_objects.specs.Names.{name};
 ghost use Rattle.git_objects.specs.Parts.{commit_of, name_bytes};
 ghost use Rattle.git_objects.specs.declared.kind.Kind.TheVariants.{Commit, Tree};
+ghost use Rattle.git_objects.specs.declared.name.Name.{Name};
 ghost use Rattle.object_store.specs.Growth.{IsGrownBy, IsOnly};
 ghost use Rattle.object_store.specs.Objects.{IsStore, find_named, has};
-ghost use Rattle.object_store.specs.Puts.{of_body};
 ghost use Rattle.fast_import.specs.Made.{IsPutFault};
+ghost use Rattle.stream_reader.specs.declared.fault.StreamFault.TheVariants.{Collision, OutOfMemory};
 
 use crate::StreamFault;
 use git_objects::{CommitParts, Kind, Name, encode_commit};
@@ -22,20 +23,17 @@ pub(crate) fn look_at(store: &Store)
     let _ = store.get(&Name([0; 20]));
 }
 
-// Takes in an object whose children are there.
-pub(crate) fn put_object(store: &mut Store, kind: Kind, body: &[u8]) -> Result<Name, StreamFault>
-    requires { of_body store.old kind body.now None ≡ None }
-    ensures ok { IfOk result (λ n. (n.0 ≡ name kind body.now)
-        × (find_named store.new n.0 ≡ Some (record { kind = kind; body = body.now }))) }
-    ensures err { IfErr result (IsPutFault (IsOnly kind body.now) store.new) }
-    ensures store { IsGrownBy (IsOnly kind body.now) store.old store.new }
+// The fault of a stream that brings an object which fits but isn't taken in.
+pub(crate) fn put_fault(error: PutError) -> StreamFault
+    requires { (error ≡ PutError.OutOfMemory) ⊎ ((n : Name) × (error ≡ PutError.Collision n)) }
+    ensures memory { error ≡ PutError.OutOfMemory → result ≡ OutOfMemory }
+    ensures collision { (n : Name) → error ≡ PutError.Collision n → result ≡ Collision n }
 {
-    match store.put_fitting(kind, body) {
-        Ok(name) => Ok(name),
-        Err(PutError::Collision { name }) => Err(StreamFault::Collision { name }),
-        Err(PutError::OutOfMemory) => Err(StreamFault::OutOfMemory),
-        Err(PutError::NotCanonical) => unreachable!(),
-        Err(PutError::MissingChild { name: _ }) => unreachable!(),
+    match error {
+        PutError::Collision { name } => StreamFault::Collision { name },
+        PutError::OutOfMemory => StreamFault::OutOfMemory,
+        PutError::NotCanonical => unreachable!(),
+        PutError::MissingChild { name: _ } => unreachable!(),
     }
 }
 
@@ -59,5 +57,8 @@ pub(crate) fn put_commit(
         Ok(body) => body,
         Err(_) => return Err(StreamFault::OutOfMemory),
     };
-    put_object(store, Kind::Commit, &body)
+    match store.put_fitting(Kind::Commit, &body) {
+        Ok(name) => Ok(name),
+        Err(error) => Err(put_fault(error)),
+    }
 }

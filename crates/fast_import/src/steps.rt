@@ -10,7 +10,7 @@ ghost use Rattle.stream_reader.specs.declared.command.Command.TheVariants.{Blob,
 ghost use Rattle.stream_reader.specs.declared.fault.StreamFault.TheVariants.{OutOfMemory};
 
 use crate::marks::Marked;
-use crate::puts::{look_at, put_object};
+use crate::puts::{look_at, put_fault};
 use crate::{Base, Command, CommitRef, Placed, Replay, StreamFault};
 use git_objects::{Bytes, Kind, Name};
 use object_store::Store;
@@ -57,9 +57,13 @@ impl Replay {
     pub(crate) fn bring(&mut self, store: &mut Store, content: &[u8]) -> Result<Name, StreamFault>
         ensures { IsBrought store.old store.new self.old self.new content.now result }
     {
-        let name = put_object(store, Kind::Blob, content)?;
-        self.blobs.add(name)?;
-        Ok(name)
+        match store.put_fitting(Kind::Blob, content) {
+            Err(error) => Err(put_fault(error)),
+            Ok(name) => {
+                self.blobs.add(name)?;
+                Ok(name)
+            }
+        }
     }
 
     // Gives a mark its object, where there is a mark.

@@ -6,10 +6,7 @@ ghost use Rattle.git_objects.specs.declared.limits.TheConstants.{STREAM_BYTES};
 ghost use Rattle.proj_io.specs.Counts.{Counts};
 ghost use Rattle.fast_import.specs.Bases.{IsBaseIn, base_in};
 ghost use Rattle.fast_import.specs.Waited.{IsTaken};
-ghost use Rattle.fast_import.specs.Whole.{IsFed, IsGiven, IsWhole, IsWholeBy, unread};
-ghost use Rattle.fast_import.specs.Replays.{nothing_yet};
-ghost use Rattle.fast_import.specs.Standing.{IsReplayOf};
-ghost use Rattle.object_store.specs.Objects.{Object};
+ghost use Rattle.fast_import.specs.Whole.{IsFed, IsGiven, IsWhole};
 ghost use Rattle.stream_reader.specs.declared.fault.StreamFault.TheVariants.{OutOfMemory};
 
 use crate::{Base, Next, Reader, Replay, Replayed, StreamFault};
@@ -45,70 +42,20 @@ pub fn replay_all<S: Source, B: Base>(
     ensures told { S.tells input.new ↔ S.tells input.old }
     ensures cause { Counts (S.faults input.old) (S.faults input.new) (IsErrOf result ReplayError.ReadFault) }
 {
-    let mut replay = Replay::new(alloc);
-    let ran = replay_by(alloc, input, base, store, &mut replay);
-    let replayed = replay.finish();
-    match ran {
-        Err(error) => Err(error),
-        Ok(()) => Ok(replayed),
-    }
-}
-
-// Replays a stream. Nothing has been replayed.
-fn replay_by<S: Source, B: Base>(
-    alloc: Global,
-    input: &mut S,
-    base: &B,
-    store: &mut Store,
-    replay: &mut Replay,
-) -> Result<(), ReplayError>
-    requires base { IsBaseIn store.old (B.commits base.now) (B.refs base.now) (B.blobs base.now) }
-    requires nothing { (S : List Object) → IsReplayOf S replay.old nothing_yet }
-    ensures stream { (all : List ℕ) × (is_bytes all ≡ true) × IfSome (S.left input.old) (λ bytes. bytes ≡ all) ×
-        IsWholeBy (base_in store.old (B.commits base.now) (B.refs base.now) (B.blobs base.now))
-        store.old store.new all replay.new result }
-    ensures taken { IsTaken (base_in store.old (B.commits base.now) (B.refs base.now) (B.blobs base.now))
-        (S.left input.old) (S.left input.new) result }
-    ensures told { S.tells input.new ↔ S.tells input.old }
-    ensures cause { Counts (S.faults input.old) (S.faults input.new) (IsErrOf result ReplayError.ReadFault) }
-{
-    let mut piece = [0u8; PIECE];
-    let mut reader = Reader::new(alloc);
-    replay_with(input, base, store, &mut piece, &mut reader, replay)
-}
-
-// Replays what a reader tells, up to its end. It has told nothing yet, and nothing has been replayed.
-fn replay_with<S: Source, B: Base>(
-    input: &mut S,
-    base: &B,
-    store: &mut Store,
-    piece: &mut [u8],
-    reader: &mut Reader,
-    replay: &mut Replay,
-) -> Result<(), ReplayError>
-    requires base { IsBaseIn store.old (B.commits base.now) (B.refs base.now) (B.blobs base.now) }
-    requires size { (0 < length piece.old) × (length piece.old ≤ 65536) }
-    requires unread { reader.old ≡ unread }
-    requires nothing { (S : List Object) → IsReplayOf S replay.old nothing_yet }
-    ensures stream { (all : List ℕ) × (is_bytes all ≡ true) × IfSome (S.left input.old) (λ bytes. bytes ≡ all) ×
-        IsWholeBy (base_in store.old (B.commits base.now) (B.refs base.now) (B.blobs base.now))
-        store.old store.new all replay.new result }
-    ensures taken { IsTaken (base_in store.old (B.commits base.now) (B.refs base.now) (B.blobs base.now))
-        (S.left input.old) (S.left input.new) result }
-    ensures told { S.tells input.new ↔ S.tells input.old }
-    ensures cause { Counts (S.faults input.old) (S.faults input.new) (IsErrOf result ReplayError.ReadFault) }
-{
     // The store is looked at so that the proof has what each store keeps.
     let _ = store.get(&Name([0; 20]));
+    let mut piece = [0u8; PIECE];
+    let mut reader = Reader::new(alloc);
+    let mut replay = Replay::new(alloc);
     'stream: loop {
         match reader.next() {
             Err(fault) => return Err(ReplayError::Stream(fault)),
-            Ok(Next::Ended) => return Ok(()),
+            Ok(Next::Ended) => return Ok(replay.finish()),
             Ok(Next::Command(placed)) => match replay.step(base, store, placed) {
                 Err(fault) => return Err(ReplayError::Stream(fault)),
                 Ok(()) => {}
             },
-            Ok(Next::More) => match feed_on(input, reader, piece) {
+            Ok(Next::More) => match feed_on(input, &mut reader, &mut piece) {
                 Err(error) => return Err(error),
                 Ok(()) => {}
             },

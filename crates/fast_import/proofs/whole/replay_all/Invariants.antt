@@ -4,7 +4,7 @@ use Rattle.fast_import.specs.Bases.{base_in}
 use Rattle.stream_reader.specs.Readers.{came}
 use Rattle.fast_import.proofs.Running.{IsSoFar}
 use Rattle.fast_import.proofs.Stopping.{ahead}
-use Rattle.fast_import.proofs.whole.replay_with.Given as goal
+use Rattle.fast_import.proofs.whole.replay_all.Given as goal
 
 abbrev pub invariant-stream : goal.invariant-stream
 invariant-stream g l = record {
