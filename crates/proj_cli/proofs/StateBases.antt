@@ -9,7 +9,7 @@ use Rattle.std.proofs.lemmas.List.{reverse-append}
 use Rattle.std.proofs.lemmas.List.Folds.{list_any-append}
 use Rattle.git_objects.specs.Lists.{Each}
 use Rattle.git_objects.specs.Names.{name}
-use Rattle.git_objects.specs.Paths.{Bytes, same_bytes}
+use Rattle.git_objects.specs.Paths.{Bytes, is_bytes, same_bytes}
 use Rattle.git_objects.specs.Refs.{Refs}
 use Rattle.git_objects.specs.declared.kind.Kind.{Kind}
 use Rattle.git_objects.specs.declared.kind.Kind.TheVariants.{Blob, Tree, Commit as CommitKind}
@@ -167,7 +167,7 @@ module _ (items : List Bytes) (h : Held) (s : Contents) (cs : List (Bytes × Byt
   over-held : (x : Result Replayed ReplayError) → IsWhole named s.basis.store S all x → IsWhole (base_of h) s.basis.store S all x
   over-held x y = subst (λ (base : Base). IsWhole base s.basis.store S all x) named-is y
 
-  pub replayed : (g : Replayed) (result : Result Replayed Outcome) → result ≡ Ok g → IsWhole named s.basis.store S all (Ok g) → IsReplayedUpon items h all s (with_store s S) result
+  replayed : (g : Replayed) (result : Result Replayed Outcome) → result ≡ Ok g → IsWhole named s.basis.store S all (Ok g) → IsReplayedUpon items h all s (with_store s S) result
   replayed g result e x =
       let y = over-held (Ok g) x in
       subst (IsReplayedUpon items h all s (with_store s S)) (sym e) (record {
@@ -178,7 +178,7 @@ module _ (items : List Bytes) (h : Held) (s : Contents) (cs : List (Bytes × Byt
         same = refl;
       })
 
-  pub not-replayed : (f : ReplayError) (o : Outcome) (result : Result Replayed Outcome) → result ≡ Err o → o ≡ replay_outcome f → IsWhole named s.basis.store S all (Err f)
+  not-replayed : (f : ReplayError) (o : Outcome) (result : Result Replayed Outcome) → result ≡ Err o → o ≡ replay_outcome f → IsWhole named s.basis.store S all (Err f)
       → IsReplayedUpon items h all s (with_store s S) result
   not-replayed f o result e q x =
       let y = over-held (Err f) x in
@@ -189,3 +189,21 @@ module _ (items : List Bytes) (h : Held) (s : Contents) (cs : List (Bytes × Byt
         grown = y.grown;
         same = refl;
       })
+
+-- what is answered
+abbrev pub answered : Result Replayed ReplayError → Result Replayed Outcome
+answered (Ok g) = Ok g
+answered (Err f) = Err (replay_outcome f)
+
+-- what became of a stream over what a state has: the same is replayed upon the state
+pub replayed-upon : (items : List Bytes) (h : Held) (old v : Contents) → v ≡ old → IsStateOf items h old → (cs : List (Bytes × Bytes)) (rs : Refs) (bs : List Bytes) (S : List Object)
+    → cs ≡ trees_of v.basis.graph → rs ≡ with_refs [] v.refs → bs ≡ reverse v.blobs → (left : Option Bytes) (x : Result Replayed ReplayError)
+    → ((all : Bytes) × (is_bytes all ≡ true) × IfSome left (λ l. l ≡ all) × IsWhole (base_in v.basis.store cs rs bs) v.basis.store S all x)
+    → (all : Bytes) × (is_bytes all ≡ true) × IfSome left (λ l. all ≡ l) × IsReplayedUpon items h all old (with_store v S) (answered x)
+replayed-upon items h old v e w cs rs bs S c r b left x k =
+    let st = subst (IsStateOf items h) (sym e) w in
+    (k.0, k.1, same-bytes left k.0 k.2, subst (λ (y : Contents). IsReplayedUpon items h k.0 y (with_store v S) (answered x)) e (by st x k.3))
+  where
+    by : IsStateOf items h v → (y : Result Replayed ReplayError) → IsWhole (base_in v.basis.store cs rs bs) v.basis.store S k.0 y → IsReplayedUpon items h k.0 v (with_store v S) (answered y)
+    by st (Ok g) z = replayed items h v cs rs bs S k.0 st c r b g (Ok g) refl z
+    by st (Err f) z = not-replayed items h v cs rs bs S k.0 st c r b f (replay_outcome f) (Err (replay_outcome f)) refl refl z

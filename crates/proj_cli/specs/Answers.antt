@@ -10,10 +10,10 @@ use Rattle.state_items.specs.Repos.{repo}
 use Rattle.state_items.specs.Changes.{Plan, held_after, plan_items}
 use Rattle.state_items.specs.Hands.{IsTwice}
 use Rattle.repo_ground.specs.Changes.{KeepsItems}
-use Rattle.proj_words.specs.Words.{Command, Import, Project, Push, Export, Name, Batch, Trial, Rule, Unknown, loads, reads, writes}
+use Rattle.proj_words.specs.Words.{Command, Export, Project, loads, reads, writes}
 use Rattle.proj_words.specs.declared.outcome.Outcome.{Outcome}
 use Rattle.proj_words.specs.declared.outcome.Outcome.TheVariants.{Done, OutOfMemory, Collision, ReadFault, WriteFault, StoreFault}
-use Rattle.proj_cli.specs.Cases.{Case, ImportCase, ProjectCase, ExportCase, PushCase, NameCase, RuleCase, Made, case, loaded, name_line}
+use Rattle.proj_cli.specs.Cases.{Case, ProjectCase, Made, case, loaded, name_line}
 use Rattle.proj_cli.specs.Filters.{entries_of, recalled}
 use Rattle.proj_cli.specs.Hands.{IsInHands, hand}
 use Rattle.proj_cli.specs.Lawful.{IsLawful}
@@ -89,14 +89,7 @@ IsOutcome hand outcome r = r ≡ Err outcome
 -- whether a form writes its report while it is made
 abbrev pub flows : Command → Bool
 flows (Export r f) = true
-flows (Import force) = false
-flows (Project r f) = false
-flows (Push r f) = false
-flows (Name r f) = false
-flows Batch = false
-flows (Trial n) = false
-flows (Rule k) = false
-flows Unknown = false
+flows asked = false
 
 -- Where the report is this and these items are appended, none or one: what was done by each outcome. A report is written after the append.
 -- An export may have written a front of it without memory, and so may a sink that has none itself.
@@ -178,12 +171,7 @@ pub record IsSafe (asked : Command) (items : List Bytes) (h : Held) (before afte
 -- state's rule are taken for projections, true or not
 abbrev pub IsRecalledCase : Result Case Outcome → Devices → Devices → Type 0
 IsRecalledCase (Ok (ProjectCase h f n)) before after = Wrote (name_line (recalled (entries_of h f) h.rule f (repo h).commits n)) before after
-IsRecalledCase (Ok (ImportCase force h x)) before after = ⊤
-IsRecalledCase (Ok (ExportCase h f refname n)) before after = ⊤
-IsRecalledCase (Ok (PushCase h f refname n p)) before after = ⊤
-IsRecalledCase (Ok (NameCase f refname x)) before after = ⊤
-IsRecalledCase (Ok (RuleCase h k)) before after = ⊤
-IsRecalledCase (Err e) before after = ⊤
+IsRecalledCase other before after = ⊤
 
 abbrev pub IsRecalled : Command → Devices → Devices → Outcome → Type 0
 IsRecalled asked before after outcome =

@@ -59,6 +59,15 @@ pub data Case : Type 0 where
   NameCase : Filter → Bytes → Ran StreamFault → Case
   RuleCase : Held → ℕ → Case
 
+-- what is held before it; a stream that is named stands upon nothing
+abbrev pub held_in : Case → Held
+held_in (ImportCase force h x) = h
+held_in (ProjectCase h f n) = h
+held_in (ExportCase h f refname n) = h
+held_in (PushCase h f refname n p) = h
+held_in (NameCase f refname x) = nothing
+held_in (RuleCase h k) = h
+
 -- the cases of a ref's commit, or that there is no such ref
 abbrev pub project_case : Held → Filter → Bytes → Result Case Outcome
 project_case h f refname = head_of refname h.refs >>= λ n. Ok (ProjectCase h f n)

@@ -23,7 +23,7 @@ use Rattle.fast_import.specs.Replays.{Base, Ran, Replay, empty_base, given_bytes
 use Rattle.state_items.specs.Changes.{blob_object}
 use Rattle.state_items.specs.Repos.{repo}
 use Rattle.repo_ground.specs.Laws.{base_of}
-use Rattle.proj_cli.specs.Cases.{Case, ImportCase, ProjectCase, ExportCase, PushCase, NameCase, RuleCase}
+use Rattle.proj_cli.specs.Cases.{Case, ImportCase, ProjectCase, ExportCase, PushCase, NameCase, held_in}
 use Rattle.proj_cli.specs.Filters.{history, rule_by}
 
 -- What a command brings together: the objects that the items hold; the blobs that it reads; the commits that are held or made, with
@@ -148,7 +148,7 @@ abbrev pub laid_parts : Filter → Flat → Flat → List Snapshot → List Byte
 laid_parts f t seen [] = []
 laid_parts f t seen (c ∷ cs) = parts_in (next f t c.tree) ++ parts_upon (original_tree f t seen c.tree) (λ u. laid_parts f u c.tree cs)
 
--- What each case brings together.
+-- What each case brings together: where nothing is said, what is held alone.
 abbrev pub hand : Case → Hand
 hand (ImportCase force h x) = hand_of h.objects (repo h).commits (base_of h) x []
 hand (ProjectCase h f n) =
@@ -162,4 +162,4 @@ hand (PushCase h f refname n p) =
 hand (NameCase f refname x) =
     hand_of [] (history_at f (reverse x.state.commits) (find_entry bytes_cmp refname (heads_of x.state))) empty_base x
     (components_for f x.state.commits)
-hand (RuleCase h k) = still_hand h.objects [] []
+hand other = still_hand (held_in other).objects [] []

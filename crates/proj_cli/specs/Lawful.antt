@@ -16,7 +16,7 @@ use Rattle.push_laws.specs.Pushes.{Pushing}
 use Rattle.state_items.specs.Items.{Held}
 use Rattle.state_items.specs.Repos.{repo}
 use Rattle.state_items.specs.Changes.{Plan, held_after}
-use Rattle.proj_cli.specs.Cases.{Case, ImportCase, ProjectCase, ExportCase, PushCase, NameCase, RuleCase}
+use Rattle.proj_cli.specs.Cases.{Case, ProjectCase, PushCase}
 use Rattle.proj_cli.specs.Filters.{projected}
 use Rattle.proj_cli.specs.Plans.{HoldsHead}
 
@@ -49,7 +49,4 @@ pub record IsPushed (h g : Held) (f : Filter) (refname n : Bytes) (p : Pushing) 
 abbrev pub IsLawful : List Bytes → Plan → Case → Type 0
 IsLawful items plan (PushCase h f refname n p) = IsPushed h (held_after h plan) f refname n p
 IsLawful items plan (ProjectCase h f n) = HoldsHead h f n items plan
-IsLawful items plan (ImportCase force h x) = ⊤
-IsLawful items plan (ExportCase h f refname n) = ⊤
-IsLawful items plan (NameCase f refname x) = ⊤
-IsLawful items plan (RuleCase h k) = ⊤
+IsLawful items plan other = ⊤

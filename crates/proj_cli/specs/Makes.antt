@@ -23,7 +23,7 @@ use Rattle.repo_ground.specs.Changes.{GetsItems, KeepsItems}
 use Rattle.repo_ground.specs.Contents.{Contents, IsCurrent, Spells, room_in}
 use Rattle.proj_words.specs.declared.outcome.Outcome.{Outcome}
 use Rattle.proj_words.specs.declared.outcome.Outcome.TheVariants.{Done, OutOfMemory, Collision, ReadFault, WriteFault, StoreFault}
-use Rattle.proj_cli.specs.Cases.{Case, ImportCase, ProjectCase, ExportCase, PushCase, NameCase, RuleCase, Made, made, name_line, unchanged}
+use Rattle.proj_cli.specs.Cases.{Case, ProjectCase, PushCase, Made, made, name_line, unchanged}
 use Rattle.proj_cli.specs.Filters.{entries_of, recalled}
 use Rattle.proj_cli.specs.Hands.{Hand, IsInHands, hand}
 use Rattle.proj_cli.specs.Lawful.{IsPushed}
@@ -46,11 +46,7 @@ IsState s = (items : List Bytes) × (h : Held) × IsStateOf items h s
 -- What comes of a case, with what is kept taken for projections.
 abbrev pub recalled_made : Room → Case → Result Made Outcome
 recalled_made room (ProjectCase h f n) = Ok (unchanged h (name_line (recalled (entries_of h f) h.rule f (repo h).commits n)))
-recalled_made room (ImportCase force h x) = made room (ImportCase force h x)
-recalled_made room (ExportCase h f refname n) = made room (ExportCase h f refname n)
-recalled_made room (PushCase h f refname n p) = made room (PushCase h f refname n p)
-recalled_made room (NameCase f refname x) = made room (NameCase f refname x)
-recalled_made room (RuleCase h k) = made room (RuleCase h k)
+recalled_made room other = made room other
 
 -- of a case that comes up, or its refusal
 abbrev pub step_in : Room → Result Case Outcome → Result Made Outcome
@@ -116,11 +112,8 @@ pub record IsKeepPlanOf (h : Held) (f : Filter) (n : Bytes) (room : Room) (p : P
 -- what a case appends: its step's plan, but for projections that are kept; and behind a push each original is projected to its commit
 abbrev pub IsPlanIn : Room → Case → Made → Plan → Type 0
 IsPlanIn room (ProjectCase h f n) m p = IsKeepPlanOf h f n room p
-IsPlanIn room (ImportCase force h x) m p = p ≡ m.plan
-IsPlanIn room (ExportCase h f refname n) m p = p ≡ m.plan
 IsPlanIn room (PushCase h f refname n x) m p = (p ≡ m.plan) × IsPushed h (held_after h p) f refname n x
-IsPlanIn room (NameCase f refname x) m p = p ≡ m.plan
-IsPlanIn room (RuleCase h k) m p = p ≡ m.plan
+IsPlanIn room other m p = p ≡ m.plan
 
 -- A plan comes of the case that came up.
 pub record IsPlanned (room : Room) (r : Result Case Outcome) (p : Plan) : Type 0 where

@@ -10,7 +10,7 @@ use Rattle.commit_map.specs.Shown.{Shown}
 use Rattle.state_items.specs.Items.{Held, is_canonical, is_of}
 use Rattle.state_items.specs.Repos.{IsKept, repo}
 use Rattle.state_items.specs.Changes.{Plan, NoPlan, ChangePlan, RulePlan, KeepPlan, held_after, passed, room_of}
-use Rattle.proj_cli.specs.Cases.{Case, ImportCase, ProjectCase, ExportCase, PushCase, NameCase, RuleCase, Made}
+use Rattle.proj_cli.specs.Cases.{Case, ProjectCase, Made}
 use Rattle.proj_cli.specs.Filters.{entries_of, project_by, projected, recalled, sound}
 
 -- ---- items that hold what they should
@@ -52,11 +52,7 @@ IsKeepPlan h f items (RulePlan k) = ⊥
 -- What may be appended: for `project` nothing, or projections that are kept; for every other form exactly what the step says.
 abbrev pub IsPlanOf : List Bytes → Case → Made → Plan → Type 0
 IsPlanOf items (ProjectCase h f n) m p = IsKeepPlan h f items p
-IsPlanOf items (ImportCase force h x) m p = p ≡ m.plan
-IsPlanOf items (ExportCase h f refname n) m p = p ≡ m.plan
-IsPlanOf items (PushCase h f refname n x) m p = p ≡ m.plan
-IsPlanOf items (NameCase f refname x) m p = p ≡ m.plan
-IsPlanOf items (RuleCase h k) m p = p ≡ m.plan
+IsPlanOf items other m p = p ≡ m.plan
 
 -- Behind a `project` that is done an entry of the ref's commit is held, where the filter's canonical text is read, there were fewer than
 -- 2^20 items, and their bytes with 61 for each commit and 8,192 more are at most 2^31.

@@ -1,7 +1,7 @@
 // What a stream brings to the store.
-ghost use Rattle.std.specs.Prelude.{◌≡◌, ◌≢◌, ◌⊎◌, ◌↔◌, ◌++◌, List, Err};
+ghost use Rattle.std.specs.Prelude.{◌≡◌, ◌≢◌, ◌⊎◌, ◌++◌, List, Err, Some};
 ghost use Rattle.std.specs.Prelude.{Ok, reverse, true, IfOk, IfSome, MatchResult};
-ghost use Rattle.git_objects.specs.Paths.{Bytes, is_bytes};
+ghost use Rattle.git_objects.specs.Paths.{Bytes};
 ghost use Rattle.git_objects.specs.Snapshots.{Snapshot};
 ghost use Rattle.fast_import.specs.Replays.{ran};
 ghost use Rattle.projection_ground.specs.Grounds.{IsGround};
@@ -9,16 +9,20 @@ ghost use Rattle.proj_io.specs.Counts.{Counts};
 ghost use Rattle.proj_io.specs.Stops.{OnlyAdds};
 ghost use Rattle.proj_io.specs.Uses.{IsUsed};
 ghost use Rattle.proj_io.specs.Views.{keeper_view};
+ghost use Rattle.proj_words.specs.Words.{Import};
 ghost use Rattle.repo_ground.specs.Changes.{IsBatchOf, IsStopOf, settings_of};
 ghost use Rattle.repo_ground.specs.Laws.{base_of};
 ghost use Rattle.state_items.specs.Changes.{Plan};
 ghost use Rattle.state_items.specs.Items.{Held};
 ghost use Rattle.state_items.specs.Repos.{repo};
 ghost use Rattle.proj_cli.specs.Cases.{ImportCase, all_forward};
+ghost use Rattle.proj_cli.specs.Forms.{IsForm};
 ghost use Rattle.proj_cli.specs.Makes.{IsMadeOf, IsState, IsStateOf};
-ghost use Rattle.proj_cli.specs.Replaying.{IsPrepared, IsReplayedUpon};
+ghost use Rattle.proj_cli.specs.Replaying.{IsPrepared};
+ghost use Rattle.proj_cli.specs.Stopped.{ForInput};
 
 use crate::lines::refs_report;
+use crate::loading::load;
 use crate::naming::commit_names;
 use crate::refusals::{commit_outcome, replay_outcome};
 use fast_import::{Replayed, replay_all};
@@ -27,27 +31,6 @@ use proj_io::{Keeper, Source};
 use proj_words::Outcome;
 use repo_ground::{Backward, Batch, State, StateView};
 use std::alloc::{AllocError, Global};
-
-// Replays a stream upon a state, into its store.
-fn replay_upon<S: Source>(
-    alloc: Global,
-    state: &mut State,
-    input: &mut S,
-) -> Result<Replayed, Outcome>
-    requires { IsState state.old }
-    ensures replayed { (items : List Bytes) (h : Held) → IsStateOf items h state.old →
-        (all : Bytes) × (is_bytes all ≡ true) × IfSome (S.left input.old) (λ l. all ≡ l) ×
-        IsReplayedUpon items h all state.old state.new result }
-    ensures early { (result ≢ Err Outcome.WriteFault) × (result ≢ Err Outcome.StoreFault) }
-    ensures told { S.tells input.new ↔ S.tells input.old }
-    ensures read { Counts (S.faults input.old) (S.faults input.new) (result ≡ Err Outcome.ReadFault) }
-{
-    let view = StateView::of(&state.ground.graph, &state.refs, &state.blobs);
-    match replay_all(alloc, input, &view, &mut state.ground.store) {
-        Ok(replayed) => Ok(replayed),
-        Err(error) => Err(replay_outcome(error)),
-    }
-}
 
 // The report of what a stream gives, and what is to be committed.
 fn prepared(alloc: Global, replayed: Replayed) -> Result<(Bytes, Batch), AllocError>
@@ -124,7 +107,11 @@ pub fn import<S: Source, K: Keeper>(
     ensures read { Counts (S.faults input.old) (S.faults input.new) (result ≡ Err Outcome.ReadFault) }
     ensures used { IsUsed K.faults K.is_open K.tells store.old store.new (result ≡ Err Outcome.StoreFault) }
 {
-    let replayed = replay_upon(alloc, state, input)?;
+    let view = StateView::of(&state.ground.graph, &state.refs, &state.blobs);
+    let replayed = match replay_all(alloc, input, &view, &mut state.ground.store) {
+        Err(error) => return Err(replay_outcome(error)),
+        Ok(replayed) => replayed,
+    };
     let Ok((report, batch)) = prepared(alloc, replayed) else {
         return Err(Outcome::OutOfMemory);
     };
@@ -132,5 +119,27 @@ pub fn import<S: Source, K: Keeper>(
     match state.commit(store, batch) {
         Ok(()) => Ok(report),
         Err(error) => Err(commit_outcome(error)),
+    }
+}
+
+/// `import`, and whether a ref may move anywhere.
+pub(crate) fn import_form<S: Source, K: Keeper>(
+    alloc: Global,
+    force: bool,
+    input: &mut S,
+    store: &mut K,
+) -> Result<Bytes, Outcome>
+    requires { K.is_open store.old }
+    ensures made { let seen = keeper_view K.items K.number K.faults in
+        (items : List Bytes) → K.items store.old ≡ Some items → ForInput (S.left input.old) (λ all.
+        IsForm (Import force) items all (seen store.old) (seen store.new)
+        (OnlyAdds (K.moment store.old) (K.moment store.new) (K.left_since store.old) (K.left_since store.new)) result) }
+    ensures early { result ≢ Err Outcome.WriteFault }
+    ensures read { Counts (S.faults input.old) (S.faults input.new) (result ≡ Err Outcome.ReadFault) }
+    ensures used { IsUsed K.faults K.is_open K.tells store.old store.new (result ≡ Err Outcome.StoreFault) }
+{
+    match load(alloc, store) {
+        Err(outcome) => Err(outcome),
+        Ok(mut state) => import(alloc, &mut state, input, store, force),
     }
 }

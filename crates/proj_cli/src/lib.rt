@@ -5,7 +5,6 @@ mod batching;
 mod deliver;
 mod exporting;
 mod filters;
-mod forms;
 mod importing;
 mod laws;
 mod lines;

@@ -1,10 +1,11 @@
 // The projection of a ref of a stream.
-ghost use Rattle.std.specs.Prelude.{◌≡◌, ◌≢◌, ◌↔◌, ◌<◌, Err, Ok, IfErr, IfOk, IfSome, IsSome, map, true};
+ghost use Rattle.std.specs.Prelude.{◌≡◌, ◌≢◌, ◌↔◌, ◌<◌, Err, Ok, IfErr, IfOk, IfSome, IsSome, map, true, List};
 ghost use Rattle.std.specs.FinMap.{find};
 ghost use Rattle.std.specs.Option.{option_map};
 ghost use Rattle.git_objects.specs.Parts.{name_bytes};
 ghost use Rattle.git_objects.specs.Paths.{Bytes, is_bytes};
 ghost use Rattle.git_objects.specs.Refs.{bytes_cmp};
+ghost use Rattle.path_names.specs.RefNames.{is_ref_name};
 ghost use Rattle.commit_graph.specs.Graphs.{place_of};
 ghost use Rattle.commit_map.specs.Shown.{shown_value};
 ghost use Rattle.fast_import.specs.Replaying.{setting_value};
@@ -15,14 +16,20 @@ ghost use Rattle.filter_text.specs.Shapes.{shape};
 ghost use Rattle.projection_laws.specs.Projections.{projection_by};
 ghost use Rattle.projection_ground.specs.Grounds.{Extends, IsGround, IsShownOf, commits_of};
 ghost use Rattle.proj_io.specs.Counts.{Counts};
+ghost use Rattle.proj_io.specs.Views.{KeeperView};
+ghost use Rattle.proj_words.specs.Words.{Name as NameCommand};
 ghost use Rattle.repo_ground.specs.Loads.{IsEmpty};
+ghost use Rattle.state_items.specs.Changes.{NoPlan};
 ghost use Rattle.workspace.specs.Laws.{IsUsable};
 ghost use Rattle.workspace.specs.Workspaces.{shown};
-ghost use Rattle.proj_cli.specs.Cases.{NameCase};
+ghost use Rattle.proj_cli.specs.Cases.{NameCase, case, loaded};
+ghost use Rattle.proj_cli.specs.Forms.{IsFormMade};
 ghost use Rattle.proj_cli.specs.Makes.{IsReportOf};
+ghost use Rattle.proj_cli.specs.Stopped.{ForInput};
 ghost use Rattle.proj_cli.specs.StreamsGiven.{IsGiven, IsUnnamed};
 
 use crate::lines::projection_report;
+use crate::loading::read_subject;
 use crate::refusals::{apply_outcome, commit_outcome, replay_outcome};
 use commit_map::Shown;
 use fast_import::{EmptyBase, Made, Replayed, Setting, replay_all};
@@ -191,5 +198,25 @@ pub fn name<S: Source>(
     match State::empty(alloc) {
         Err(_) => Err(Outcome::OutOfMemory),
         Ok(mut state) => name_upon(alloc, &mut state, filter, refname, input),
+    }
+}
+
+/// `name` of a ref and a filter, of a stream upon nothing.
+pub(crate) fn name_form<S: Source>(
+    alloc: Global,
+    refname: &[u8],
+    filter: &[u8],
+    input: &mut S,
+) -> Result<Bytes, Outcome>
+    requires { is_ref_name refname.now ≡ true }
+    ensures made { (items : List Bytes) (store : KeeperView) → ForInput (S.left input.old) (λ all.
+        IsFormMade (case (NameCommand refname.now filter.now) (loaded items) all) items store store NoPlan result) }
+    ensures early { (result ≢ Err Outcome.WriteFault) × (result ≢ Err Outcome.StoreFault) }
+    ensures told { S.tells input.new ↔ S.tells input.old }
+    ensures read { Counts (S.faults input.old) (S.faults input.new) (result ≡ Err Outcome.ReadFault) }
+{
+    match read_subject(alloc, refname, filter) {
+        Err(outcome) => Err(outcome),
+        Ok(subject) => name(alloc, &subject.filter, &subject.refname, input),
     }
 }

@@ -14,8 +14,13 @@ ghost use Rattle.proj_cli.specs.Stopped.{ForInput};
 
 use crate::batching::batch;
 use crate::deliver::{conclude, finish};
-use crate::forms::{export_form, import_form, name_form, project_form, push_form, rule_form};
+use crate::exporting::export_form;
+use crate::importing::import_form;
 use crate::laws::recall_law;
+use crate::naming::name_form;
+use crate::projecting::project_form;
+use crate::pushing::push_form;
+use crate::rule::rule_form;
 use crate::trying::trial;
 use git_objects::Bytes;
 use proj_io::{Keeper, Sink, Source};

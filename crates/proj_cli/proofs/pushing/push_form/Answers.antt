@@ -1,4 +1,4 @@
--- Proves what src/forms.rt needs of `push_form`.
+-- Proves what src/pushing.rt needs of `push_form`.
 use Rattle.std.proofs.Common.{List, Err, refl}
 use Rattle.git_objects.specs.Paths.{Bytes}
 use Rattle.proj_io.specs.Stops.{OnlyAdds}
@@ -8,7 +8,7 @@ use Rattle.proj_cli.specs.Forms.{IsForm}
 use Rattle.proj_cli.proofs.Forming.{used-on, loaded-state}
 use Rattle.proj_cli.proofs.Lengthening.{for-any}
 use Rattle.proj_cli.proofs.Opening.{opened-at, pushing-holds, pushing_back, unopened-form}
-use Rattle.proj_cli.proofs.forms.push_form.Goals as goal
+use Rattle.proj_cli.proofs.pushing.push_form.Goals as goal
 
 pub returns-in-Err-clause-made : goal.returns-in-Err-clause-made
 returns-in-Err-clause-made g c = λ (items : List Bytes) told.

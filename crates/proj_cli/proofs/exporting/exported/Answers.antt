@@ -1,4 +1,4 @@
--- Proves what src/turns.rt needs of `exported`.
+-- Proves what src/exporting.rt needs of `exported`.
 use Rattle.std.proofs.Common.{List, Some, sym, ap}
 use Rattle.git_objects.specs.Paths.{Bytes}
 use Rattle.filter_text.specs.Shapes.{shape}
@@ -7,7 +7,7 @@ use Rattle.proj_io.specs.Views.{KeeperView}
 use Rattle.state_items.specs.Items.{Held}
 use Rattle.proj_cli.proofs.CommandsMade.{export-done, export-refused, given-quiet, quiet-made}
 use Rattle.proj_cli.proofs.ExportAnswers.{no-read, not-store}
-use Rattle.proj_cli.proofs.turns.exported.Goals as goal
+use Rattle.proj_cli.proofs.exporting.exported.Goals as goal
 
 pub returns-in-Done-clause-made : goal.returns-in-Done-clause-made
 returns-in-Done-clause-made c = λ (items : List Bytes) (h : Held) (k : KeeperView) w.

@@ -1,4 +1,4 @@
--- Proves what src/turns.rt needs of `rule_upon`.
+-- Proves what src/rule.rt needs of `rule_upon`.
 use Rattle.std.proofs.Common.{List, Ok, refl, sym, ap}
 use Rattle.git_objects.specs.Paths.{Bytes}
 use Rattle.commit_map.specs.Rules.{rule_number}
@@ -8,7 +8,7 @@ use Rattle.state_items.specs.Items.{Held}
 use Rattle.proj_cli.specs.Cases.{RuleCase}
 use Rattle.proj_cli.proofs.CommandsMade.{case-made}
 use Rattle.proj_cli.proofs.RuleForms.{number-of-rule}
-use Rattle.proj_cli.proofs.turns.rule_upon.Goals as goal
+use Rattle.proj_cli.proofs.rule.rule_upon.Goals as goal
 
 pub returns-clause-made : goal.returns-clause-made
 returns-clause-made g c = λ (items : List Bytes) (h : Held) (all : Bytes) w.

@@ -1,11 +1,11 @@
--- Proves what src/forms.rt needs of `project_form`.
+-- Proves what src/projecting.rt needs of `project_form`.
 use Rattle.std.proofs.Common.{List, refl}
 use Rattle.git_objects.specs.Paths.{Bytes}
 use Rattle.proj_io.specs.Views.{keeper_view}
 use Rattle.proj_words.specs.Words.{Project}
 use Rattle.proj_cli.proofs.Forming.{used-on}
 use Rattle.proj_cli.proofs.Opening.{opened-form, projecting, projecting-holds, unopened-form}
-use Rattle.proj_cli.proofs.forms.project_form.Goals as goal
+use Rattle.proj_cli.proofs.projecting.project_form.Goals as goal
 
 pub project-requires-clause-sound : goal.project-requires-clause-sound
 project-requires-clause-sound g c = (c.args.filter.now, c.in-Ok.ensures.ok.judged)

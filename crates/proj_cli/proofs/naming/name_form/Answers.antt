@@ -1,4 +1,4 @@
--- Proves what src/forms.rt needs of `name_form`.
+-- Proves what src/naming.rt needs of `name_form`.
 use Rattle.std.proofs.Common.{List, Err}
 use Rattle.filter_text.specs.Shapes.{shape}
 use Rattle.git_objects.specs.Paths.{Bytes}
@@ -10,7 +10,7 @@ use Rattle.proj_cli.specs.Forms.{IsFormMade}
 use Rattle.proj_cli.proofs.Lengthening.{for-any}
 use Rattle.proj_cli.proofs.NameForms.{name-formed-at, name-refused}
 use Rattle.proj_cli.proofs.Refusing.{own-early, own-read, unsound-own}
-use Rattle.proj_cli.proofs.forms.name_form.Goals as goal
+use Rattle.proj_cli.proofs.naming.name_form.Goals as goal
 
 pub returns-in-Err-clause-made : goal.returns-in-Err-clause-made
 returns-in-Err-clause-made g c = λ (items : List Bytes) (k : KeeperView).

@@ -1,4 +1,4 @@
--- Proves what src/turns.rt needs of `push_upon`.
+-- Proves what src/pushing.rt needs of `push_upon`.
 use Rattle.std.proofs.Common.{◌≡◌, List, refl, ap, ◌∙◌}
 use Rattle.git_objects.specs.Paths.{Bytes}
 use Rattle.filter_text.specs.Shapes.{shape}
@@ -10,7 +10,7 @@ use Rattle.proj_cli.proofs.CommandsMade.{case-made, cased, command-refused, own-
 use Rattle.proj_cli.proofs.Forming.{used-not}
 use Rattle.proj_cli.proofs.Opening.{pushing_back}
 use Rattle.proj_cli.proofs.Refusing.{unsound-own}
-use Rattle.proj_cli.proofs.turns.push_upon.Goals as goal
+use Rattle.proj_cli.proofs.pushing.push_upon.Goals as goal
 
 pub returns-in_err-subject-clause-made : goal.returns-in_err-subject-clause-made
 returns-in_err-subject-clause-made g c = λ (items : List Bytes) (h : Held) w.

@@ -1,4 +1,4 @@
--- Proves what src/forms.rt needs of `rule_form`.
+-- Proves what src/rule.rt needs of `rule_form`.
 use Rattle.std.proofs.Common.{List, Ok, refl, sym, ap}
 use Rattle.git_objects.specs.Paths.{Bytes}
 use Rattle.commit_map.specs.Rules.{rule_number}
@@ -8,7 +8,7 @@ use Rattle.proj_cli.specs.Cases.{RuleCase}
 use Rattle.proj_cli.proofs.Forming.{used-on, loaded-state}
 use Rattle.proj_cli.proofs.Opening.{loaded-form, unloaded-form}
 use Rattle.proj_cli.proofs.RuleForms.{number-of-rule}
-use Rattle.proj_cli.proofs.forms.rule_form.Goals as goal
+use Rattle.proj_cli.proofs.rule.rule_form.Goals as goal
 
 pub returns-in-Err-clause-made : goal.returns-in-Err-clause-made
 returns-in-Err-clause-made g c = λ (items : List Bytes) (all : Bytes) told.

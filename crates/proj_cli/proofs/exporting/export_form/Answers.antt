@@ -1,4 +1,4 @@
--- Proves what src/forms.rt needs of `export_form`.
+-- Proves what src/exporting.rt needs of `export_form`.
 use Rattle.std.proofs.Common.{List, refl}
 use Rattle.git_objects.specs.Paths.{Bytes}
 use Rattle.proj_io.specs.Views.{keeper_view, sink_view}
@@ -6,7 +6,7 @@ use Rattle.proj_words.specs.Words.{Export}
 use Rattle.proj_cli.proofs.ExportAnswers.{no-read, no-store}
 use Rattle.proj_cli.proofs.Opening.{exporting, exporting-holds, opened-export, state-of, unopened-export}
 use Rattle.proj_cli.proofs.Refusing.{none-read, none-written, of-counts}
-use Rattle.proj_cli.proofs.forms.export_form.Goals as goal
+use Rattle.proj_cli.proofs.exporting.export_form.Goals as goal
 
 pub returns-in-Err-clause-exported : goal.returns-in-Err-clause-exported
 returns-in-Err-clause-exported g c = λ (items : List Bytes) (all : Bytes) told.

@@ -1,4 +1,4 @@
--- Proves what src/forms.rt needs of `import_form`.
+-- Proves what src/importing.rt needs of `import_form`.
 use Rattle.std.proofs.Common.{List, Err, refl}
 use Rattle.git_objects.specs.Paths.{Bytes}
 use Rattle.fast_import.specs.Replays.{ran}
@@ -11,7 +11,7 @@ use Rattle.proj_cli.specs.Forms.{IsForm}
 use Rattle.proj_cli.proofs.Forming.{used-on, loaded-state}
 use Rattle.proj_cli.proofs.Lengthening.{for-any}
 use Rattle.proj_cli.proofs.Opening.{loaded-form, unloaded-form}
-use Rattle.proj_cli.proofs.forms.import_form.Goals as goal
+use Rattle.proj_cli.proofs.importing.import_form.Goals as goal
 
 pub returns-in-Err-clause-made : goal.returns-in-Err-clause-made
 returns-in-Err-clause-made g c = λ (items : List Bytes) told.

@@ -1,4 +1,4 @@
--- Proves what src/turns.rt needs of `project_upon`.
+-- Proves what src/projecting.rt needs of `project_upon`.
 use Rattle.std.proofs.Common.{List, refl, ap, ◌∙◌}
 use Rattle.git_objects.specs.Paths.{Bytes}
 use Rattle.filter_text.specs.Shapes.{shape}
@@ -11,7 +11,7 @@ use Rattle.proj_cli.proofs.CommandsMade.{away-made, away-state, away-stops, case
 use Rattle.proj_cli.proofs.Forming.{used-not}
 use Rattle.proj_cli.proofs.Opening.{projecting}
 use Rattle.proj_cli.proofs.Refusing.{memory-own, unsound-own}
-use Rattle.proj_cli.proofs.turns.project_upon.Goals as goal
+use Rattle.proj_cli.proofs.projecting.project_upon.Goals as goal
 
 pub returns-in_err-subject-clause-made : goal.returns-in_err-subject-clause-made
 returns-in_err-subject-clause-made g c = λ (items : List Bytes) (h : Held) (all : Bytes) w.

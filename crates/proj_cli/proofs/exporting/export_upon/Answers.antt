@@ -1,4 +1,4 @@
--- Proves what src/turns.rt needs of `export_upon`.
+-- Proves what src/exporting.rt needs of `export_upon`.
 use Rattle.std.proofs.Common.{List, Result, Ok, subst}
 use Rattle.git_objects.specs.Paths.{Bytes}
 use Rattle.filter_text.specs.Shapes.{shape}
@@ -12,7 +12,7 @@ use Rattle.proj_cli.specs.Makes.{IsMadeOf}
 use Rattle.proj_cli.proofs.CommandsMade.{cased, handed, own-quiet, text-refused}
 use Rattle.proj_cli.proofs.Opening.{exporting}
 use Rattle.proj_cli.proofs.Refusing.{unsound-own}
-use Rattle.proj_cli.proofs.turns.export_upon.Goals as goal
+use Rattle.proj_cli.proofs.exporting.export_upon.Goals as goal
 
 pub returns-in_err-subject-clause-made : goal.returns-in_err-subject-clause-made
 returns-in_err-subject-clause-made c = λ (items : List Bytes) (h : Held) (all : Bytes) (k : KeeperView) w.
