@@ -99,15 +99,15 @@ compare() {
     fi
 }
 
-# a repository, exported in several ways
+# a repository, exported in several ways; `--all` would have HEAD too, where no branch is checked out
 export_all() {
-    git -C "$2" fast-export --all >"$work/stream"
+    git -C "$2" fast-export --glob='refs/*' >"$work/stream"
     compare "$1"
-    git -C "$2" fast-export --all --full-tree >"$work/stream"
+    git -C "$2" fast-export --glob='refs/*' --full-tree >"$work/stream"
     compare "$1 by whole trees"
-    git -C "$2" fast-export --all -M -C >"$work/stream"
+    git -C "$2" fast-export --glob='refs/*' -M -C >"$work/stream"
     compare "$1 with moves and copies"
-    git -C "$2" fast-export --all --signed-tags=strip --tag-of-filtered-object=drop --reencode=yes >"$work/stream"
+    git -C "$2" fast-export --glob='refs/*' --signed-tags=strip --tag-of-filtered-object=drop --reencode=yes >"$work/stream"
     compare "$1 with messages encoded anew"
 }
 
