@@ -18,10 +18,9 @@ ghost use Rattle.stream_reader.specs.declared.command.Command.TheVariants.{Chang
 
 use crate::edits::{copy_path, move_path, remove_path, set_leaf};
 use crate::marks::Marked;
-use crate::puts::look_at;
 use crate::{Base, BlobRef, Change, Replay, StreamFault};
 use git_objects::{Mode, Name};
-use object_store::Store;
+use object_store::{Store, store_law};
 use path_trees::Leaf;
 use stage_tree::Stage;
 
@@ -146,7 +145,7 @@ impl Replay {
             store.old store.new self.new r (record { at = at; command = ChangeCommand change }) result }
     {
         let Some(mut draft) = self.take_draft() else {
-            look_at(store);
+            store_law(store);
             return Err(StreamFault::Syntax { at });
         };
         let changed = self.edited(base, store, at, &mut draft.stage, change);

@@ -19,10 +19,10 @@ ghost use Rattle.stream_reader.specs.declared.fault.StreamFault.TheVariants.{Out
 
 use crate::draft::{Begun, Draft, Ended, draft_of};
 use crate::marks::Marked;
-use crate::puts::{look_at, put_commit};
+use crate::puts::put_commit;
 use crate::{Base, CommitHead, Made, Replay, StreamFault};
 use git_objects::Name;
-use object_store::Store;
+use object_store::{Store, store_law};
 use path_trees::TreeFault;
 use stage_tree::Stage;
 use std::alloc::{AllocError, Global};
@@ -42,12 +42,12 @@ impl Replay {
             (option_map name_bytes first))) }
     {
         let Some(name) = first else {
-            look_at(store);
+            store_law(store);
             return Stage::empty(self.alloc);
         };
         match self.tree_of(base, &name) {
             None => {
-                look_at(store);
+                store_law(store);
                 Stage::empty(self.alloc)
             }
             Some(tree) => Stage::begin(self.alloc, store, tree),
@@ -154,7 +154,7 @@ impl Replay {
             IsStepped base store.old store.new self.new r (record { at = at; command = CommitEnd }) result }
     {
         let Some(mut draft) = self.take_draft() else {
-            look_at(store);
+            store_law(store);
             return Err(StreamFault::Syntax { at });
         };
         let ended = end_of(self.alloc, store, &mut draft);

@@ -13,15 +13,8 @@ ghost use Rattle.stream_reader.specs.declared.fault.StreamFault.TheVariants.{Col
 
 use crate::StreamFault;
 use git_objects::{CommitParts, Kind, Name, encode_commit};
-use object_store::{PutError, Store};
+use object_store::{PutError, Store, store_law};
 use std::alloc::Global;
-
-// Looks at a store, so that a proof has what each store keeps.
-pub(crate) fn look_at(store: &Store)
-    ensures { IsStore store.now }
-{
-    let _ = store.get(&Name([0; 20]));
-}
 
 // The fault of a stream that brings an object which fits but isn't taken in.
 pub(crate) fn put_fault(error: PutError) -> StreamFault
@@ -51,8 +44,7 @@ pub(crate) fn put_commit(
     ensures err { IfErr result (IsPutFault (IsOnly Commit (commit_body (commit_of parts.now))) store.new) }
     ensures store { IsGrownBy (IsOnly Commit (commit_body (commit_of parts.now))) store.old store.new }
 {
-    // The store is looked at so that the proof has what each store keeps.
-    let _ = store.get(&parts.tree);
+    store_law(store);
     let body = match encode_commit(alloc, parts) {
         Ok(body) => body,
         Err(_) => return Err(StreamFault::OutOfMemory),

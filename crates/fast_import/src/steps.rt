@@ -10,10 +10,10 @@ ghost use Rattle.stream_reader.specs.declared.command.Command.TheVariants.{Blob,
 ghost use Rattle.stream_reader.specs.declared.fault.StreamFault.TheVariants.{OutOfMemory};
 
 use crate::marks::Marked;
-use crate::puts::{look_at, put_fault};
+use crate::puts::put_fault;
 use crate::{Base, Command, CommitRef, Placed, Replay, StreamFault};
 use git_objects::{Bytes, Kind, Name};
-use object_store::Store;
+use object_store::{Store, store_law};
 use path_names::RefName;
 
 impl Replay {
@@ -37,17 +37,17 @@ impl Replay {
         match command {
             Command::Blob { mark, content } => self.blob(store, mark, &content),
             Command::Commit(head) => {
-                look_at(store);
+                store_law(store);
                 self.commit(base, store, head)
             }
             Command::Change(change) => self.change(base, store, at, change),
             Command::CommitEnd => self.commit_end(store, at),
             Command::Reset { refname, from } => {
-                look_at(store);
+                store_law(store);
                 self.reset(base, refname, &from)
             }
             Command::Done => {
-                look_at(store);
+                store_law(store);
                 Ok(())
             }
         }

@@ -11,7 +11,7 @@ ghost use Rattle.stream_reader.specs.declared.fault.StreamFault.TheVariants.{Out
 
 use crate::{Base, Next, Reader, Replay, Replayed, StreamFault};
 use git_objects::Name;
-use object_store::Store;
+use object_store::{Store, store_law};
 use proj_io::Source;
 use std::alloc::Global;
 
@@ -42,8 +42,7 @@ pub fn replay_all<S: Source, B: Base>(
     ensures told { S.tells input.new ↔ S.tells input.old }
     ensures cause { Counts (S.faults input.old) (S.faults input.new) (IsErrOf result ReplayError.ReadFault) }
 {
-    // The store is looked at so that the proof has what each store keeps.
-    let _ = store.get(&Name([0; 20]));
+    store_law(store);
     let mut piece = [0u8; PIECE];
     let mut reader = Reader::new(alloc);
     let mut replay = Replay::new(alloc);

@@ -13,8 +13,8 @@ ghost use Rattle.filter_apply.specs.Faults.{IsApplyFault};
 ghost use Rattle.filter_apply.specs.Hands.{IsPlacedObject};
 
 use crate::ApplyError;
-use git_objects::{Component, Mode, Name, add_entry};
-use object_store::Store;
+use git_objects::{Component, Mode, Name, add_entry, name_bytes_law};
+use object_store::{Store, store_law};
 use path_trees::{Found, taken_in};
 use std::alloc::{AllocError, Global};
 
@@ -32,9 +32,8 @@ pub fn placed(
     ensures err { IfErr result (IsApplyFault (IsPlacedObject target.now (rests (node store.old found))) store.new) }
     ensures store { IsGrownBy (IsPlacedObject target.now (rests (node store.old found))) store.old store.new }
 {
-    // The store and the name are looked at so that the proof has what each store and name keeps.
-    let _ = store.get(&found.name);
-    let _ = found.name.bytes();
+    store_law(store);
+    name_bytes_law(&found.name);
     let mut found = found;
     let mut level = target.len();
     'levels: while level > 0 {

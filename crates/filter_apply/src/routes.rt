@@ -14,9 +14,9 @@ ghost use Rattle.filter_apply.specs.Parts.{base_in};
 ghost use Rattle.filter_apply.specs.Ranges.{map_of, seen_between};
 
 use crate::{ApplyError, part, placed};
-use filter_routes::Table;
+use filter_routes::{Table, table_law};
 use git_objects::{Name, Steps};
-use object_store::Store;
+use object_store::{Store, store_law};
 use path_trees::{TreeFault, join_apart};
 use std::alloc::Global;
 use std::sync::ledger::Ledger;
@@ -39,8 +39,7 @@ fn shown_by<L: Ledger>(
     ensures store { IsGrownBy (IsShownObject (shape table.now.filter) (flat store.old root.0)) store.old store.new }
     ensures few { route ≡ 0 → steps.new ≤ steps.old + length (base_in (slice_get table.now.routes route)) }
 {
-    // The store is looked at so that the proof has what each store keeps.
-    let _ = store.get(&root);
+    store_law(store);
     let entries = table.entries();
     let entry = &entries[route];
     match &entry.target {
@@ -122,9 +121,8 @@ pub fn shown_between<L: Ledger>(
     if last - first == 1 {
         return shown_by(alloc, store, table, first, root, steps);
     }
-    // The store and the list are looked at so that the proof has what each store and table keeps.
-    let _ = store.get(&root);
-    let _ = table.entries();
+    store_law(store);
+    table_law(table);
     let middle = middle_of(first, last);
     let left = shown_between(alloc, store, table, first, middle, root, steps)?;
     let right = shown_between(alloc, store, table, middle, last, root, steps)?;

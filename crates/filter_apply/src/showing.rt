@@ -18,7 +18,7 @@ use crate::routes::shown_between;
 use filter_cache::Memo;
 use filter_routes::Table;
 use git_objects::{Name, Steps};
-use object_store::Store;
+use object_store::{Store, store_law};
 use path_trees::taken_in;
 use std::alloc::Global;
 use std::sync::ledger::Ledger;
@@ -39,8 +39,7 @@ fn shown_by_all<L: Ledger>(
     ensures store { IsGrownBy (IsShownObject (shape table.now.filter) (flat store.old root.0)) store.old store.new }
     ensures few { IsPaid (shape table.now.filter) steps.old steps.new }
 {
-    // The store is looked at so that the proof has what each store keeps.
-    let _ = store.get(&root);
+    store_law(store);
     let count = table.entries().len();
     if count == 0 {
         return Ok(None);
@@ -95,8 +94,7 @@ pub fn shown<L: Ledger>(
         (λ n. (result ≡ Ok (record { 0 = n })) × (steps.new ≡ steps.old)) }
     ensures few { IsPaid (shape table.now.filter) steps.old steps.new }
 {
-    // The store is looked at so that the proof has what each store keeps.
-    let _ = store.get(&root);
+    store_law(store);
     if let Some(name) = memo.get(id, &root) {
         return Ok(name);
     }

@@ -8,7 +8,7 @@ ghost use Rattle.object_store.specs.Unfolding.{flat};
 ghost use Rattle.path_trees.specs.Standing.{node};
 
 use git_objects::{Component, Mode, Name, Steps};
-use object_store::Store;
+use object_store::{Store, store_law};
 use path_trees::{Found, entry_in};
 use std::sync::ledger::Ledger;
 
@@ -19,8 +19,7 @@ pub fn whole(store: &Store, root: Name) -> Option<Found>
     ensures held { IfSome result (λ f. has_child store.now f.mode f.name.0 ≡ true) }
     ensures store { IsStore store.now }
 {
-    // The store is looked at so that the proof has what each store keeps.
-    let _ = store.get(&root);
+    store_law(store);
     match store.stats(&root) {
         Some(stats) if stats.files > 0 => Some(Found {
             mode: Mode::Dir,

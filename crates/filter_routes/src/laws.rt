@@ -4,6 +4,13 @@ ghost use Rattle.filter_routes.specs.FaultTests.{FaultTestLaw};
 ghost use Rattle.filter_routes.specs.Lenses.{SeenLaw};
 ghost use Rattle.filter_routes.specs.Origins.{LensLaw};
 ghost use Rattle.filter_routes.specs.SoundTests.{SoundTestLaw};
+ghost use Rattle.filter_routes.specs.Lists.{IsListOf};
+ghost use Rattle.filter_routes.specs.Soundness.{IsSound};
+ghost use Rattle.filter_text.specs.Filters.{has_paths};
+ghost use Rattle.filter_text.specs.Shapes.{shape};
+ghost use Rattle.std.specs.Prelude.{◌≡◌, true};
+
+use crate::Table;
 
 /// Under a sound filter equal images come only from equal paths, and comparable images only from comparable paths; the
 /// image of a path is a path.
@@ -39,4 +46,12 @@ pub fn fault_test_law()
 /// What is seen of a tree through a lens is a tree, and has at each path the leaf of the path's origin.
 pub fn seen_law()
     ensures { SeenLaw }
+{}
+
+/// What each table keeps: its list is its filter's, and the filter is sound and has paths. The call does nothing: a
+/// proof cites it.
+pub fn table_law(table: &Table)
+    ensures list { IsListOf (shape table.now.filter) table.now.routes }
+    ensures sound { IsSound (shape table.now.filter) }
+    ensures paths { has_paths (shape table.now.filter) ≡ true }
 {}

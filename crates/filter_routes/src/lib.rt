@@ -15,7 +15,7 @@ pub use decision_lists::RouteHit;
 pub use fault::RouteFault;
 pub use faults::first_not_keeping;
 pub use laws::{
-    fault_law, fault_test_law, lens_law, route_law, seen_law, sound_test_law, tables_law,
+    fault_law, fault_test_law, lens_law, route_law, seen_law, sound_test_law, table_law, tables_law,
 };
 pub use lists::is_sound;
 pub use search::check;

@@ -12,7 +12,7 @@ ghost use Rattle.filter_unapply.specs.Stored.{IsLaidBody, IsLaidTree, IsLayFault
 
 use crate::LayFault;
 use git_objects::{Mode, Name};
-use object_store::Store;
+use object_store::{Store, store_law};
 use path_names::Path;
 use path_trees::{Found, Walk, entry_at, put_at, remove_at};
 use std::alloc::{AllocError, Global};
@@ -38,7 +38,7 @@ pub fn laid_below(
         (laid_through (below place.now) (flat store.old base.0) (flat store.old pushed.0)) place.now)
         store.old store.new }
 {
-    let _ = store.get(&base);
+    store_law(store);
     match first_path(alloc, store, pushed)? {
         None => emptied(alloc, store, place, base),
         Some(first) => replaced(alloc, store, place, base, pushed, &first),
@@ -68,7 +68,7 @@ fn emptied(alloc: Global, store: &mut Store, place: &Path, base: Name) -> Result
         (laid_through (below place.now) (flat store.old base.0) []) place.now)
         store.old store.new }
 {
-    let _ = store.get(&base);
+    store_law(store);
     match entry_at(store, base, place) {
         Some(found) if found.mode.is_dir() => Ok(remove_at(alloc, store, base, place)?),
         _ => Ok(base),
@@ -96,7 +96,7 @@ fn replaced(
         (laid_through (below place.now) (flat store.old base.0) (flat store.old pushed.0)) place.now)
         store.old store.new }
 {
-    let _ = store.get(&base);
+    store_law(store);
     if let Some(by) = leaf_in_way(alloc, store, base, place)? {
         let path = place.joined(alloc, first)?;
         return Err(LayFault::Blocked { path, by });
@@ -119,7 +119,7 @@ fn leaf_in_way(
     ensures leaf { IfOk result (IsLeafInWay (flat store.now root.0) path.now) }
     ensures path { is_path path.now ≡ true }
 {
-    let _ = store.get(&root);
+    store_law(store);
     let components = path.components();
     'fronts: for last in 0..components.len() {
         let front = Path::of_parts(alloc, &components[..last + 1], &[])?;

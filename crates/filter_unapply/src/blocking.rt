@@ -12,8 +12,8 @@ ghost use Rattle.filter_unapply.specs.Blocks.{IsLeast, lesser, pair_cmp, with_cl
 ghost use Rattle.filter_unapply.specs.Parts.{AreApart, IsBlockIn, any_at};
 
 use git_objects::Name;
-use object_store::Store;
-use path_names::{Path, before};
+use object_store::{Store, store_law};
+use path_names::{Path, before, path_law};
 use path_trees::first_clash;
 use std::alloc::{AllocError, Global};
 use std::cmp::Ordering;
@@ -32,8 +32,7 @@ pub fn first_block(
         any_at store.now parts.now p ≡ None }
     ensures { IfOk result (IsLeast (IsBlockIn store.now kept parts.now)) }
 {
-    // The store is looked at so that the proof has what each store keeps.
-    let _ = store.get(&kept);
+    store_law(store);
     let mut least = None;
     for i in 0..parts.len() {
         let part: &Name = &parts[i];
@@ -110,9 +109,8 @@ fn comes_before(a: &(Path, Path), b: &(Path, Path)) -> bool
 pub fn order(a: &Path, b: &Path) -> Ordering
     ensures { result ≡ path_cmp a.now b.now }
 {
-    // The components are looked at so that the proof has that both are paths.
-    let _ = a.components();
-    let _ = b.components();
+    path_law(a);
+    path_law(b);
     if before(a, b) {
         return Ordering::Less;
     }

@@ -11,9 +11,9 @@ ghost use Rattle.decision_lists.specs.Hits.{image_at};
 ghost use Rattle.filter_routes.specs.Images.{image};
 ghost use Rattle.filter_routes.specs.Tables.{target};
 
-use filter_routes::{RouteHit, Table};
+use filter_routes::{RouteHit, Table, table_law};
 use git_objects::Name;
-use object_store::Store;
+use object_store::{Store, store_law};
 use path_names::Path;
 use path_trees::{Walk, entry_at};
 use std::alloc::{AllocError, Global};
@@ -33,8 +33,7 @@ pub fn unseen(
     ensures { IfOk result (λ path. path ≡ unseen (shape old.now.filter) (shape new.now.filter)
         (flat store.now base.0) (flat store.now pushed.0)) }
 {
-    // The store is looked at so that the proof has what each store keeps.
-    let _ = store.get(&base);
+    store_law(store);
     let mut walk = Walk::new(alloc, store, base)?;
     'leaves: while walk.next()? {
         let path = walk.path();
@@ -84,8 +83,7 @@ pub fn image_of(
     requires cut { hit.now.cut ≤ length path.now }
     ensures { IfOk result (λ q. Some q ≡ image (shape table.now.filter) path.now) }
 {
-    // The filter is looked at so that the proof has that it has paths.
-    let _ = table.filter();
+    table_law(table);
     Path::of_parts(
         alloc,
         table.target(hit.route),
@@ -100,8 +98,7 @@ pub fn differ(store: &Store, first: Name, path: &Path, second: Name, other: &Pat
     ensures { (x : LeafValue) → at (flat store.now first.0) path.now ≡ Some x →
         result ≡ differs_at (flat store.now second.0) x other.now }
 {
-    // The store is looked at so that the proof has what each store keeps.
-    let _ = store.get(&first);
+    store_law(store);
     let Some(found) = entry_at(store, second, other) else {
         return true;
     };

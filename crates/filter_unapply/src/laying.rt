@@ -26,9 +26,9 @@ use crate::parts::{joined, parts_of};
 use crate::routing::unplaced;
 use crate::sifting::{empty, sifted};
 use decision_lists::Entry;
-use filter_routes::Table;
+use filter_routes::{Table, table_law};
 use git_objects::Name;
-use object_store::Store;
+use object_store::{Store, store_law};
 use std::alloc::Global;
 
 /// Lays the tree `pushed` into `base` through a filter: in the place of all that the filter shows of `base`. Whole
@@ -53,9 +53,8 @@ pub fn laid(
         (IsLaidMade (shape table.now.filter) (flat store.old base.0) (flat store.old pushed.0))
         store.old store.new }
 {
-    // The store is looked at so that the proof has what each store keeps.
-    let _ = store.get(&base);
-    let _ = table.filter();
+    store_law(store);
+    table_law(table);
     let entries = table.entries();
     let rest = unplaced(alloc, store, entries, pushed)?;
     if let Some(path) = first_path(alloc, store, rest)? {
@@ -85,8 +84,7 @@ fn taken_apart(
         (IsOfBoth entries.now (flat store.old base.0) (flat store.old pushed.0)))
         store.old store.new }
 {
-    // The store is looked at so that the proof has what each store keeps.
-    let _ = store.get(&base);
+    store_law(store);
     let kept = sifted(alloc, store, entries, false, base)?;
     let none = empty(store)?;
     let parts = parts_of(alloc, store, none, entries, pushed)?;
@@ -109,8 +107,7 @@ fn put_together(
     ensures err { IfErr result (IsPutFault store.old kept parts.now store.new) }
     ensures store { IsGrownBy (IsMadeOf (IsAmong store.old kept parts.now)) store.old store.new }
 {
-    // The store is looked at so that the proof has what each store keeps.
-    let _ = store.get(&kept);
+    store_law(store);
     if let Some(name) = joined(alloc, store, kept, parts)? {
         return Ok(name);
     }

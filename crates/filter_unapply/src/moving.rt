@@ -15,7 +15,7 @@ ghost use Rattle.filter_unapply.specs.Moved.{IsHeldAt, moved};
 use crate::LayFault;
 use crate::sifting::fitting;
 use git_objects::{Component, Mode, Name};
-use object_store::Store;
+use object_store::{Store, store_law};
 use path_names::Path;
 use path_trees::{Found, put_at};
 use std::alloc::{AllocError, Global};
@@ -44,8 +44,7 @@ pub fn moved(
         (IsMadeOf (λ p x. moved point from.now to.now (flat store.old part.0) p ≡ Some x))
         store.old store.new }
 {
-    // The store is looked at so that the proof has what each store keeps.
-    let _ = store.get(&part);
+    store_law(store);
     if part == none {
         return Ok(none);
     }
@@ -74,8 +73,7 @@ fn held_at(
     ensures found { IfOk result (IsHeldAt store.now (flat store.now part.0) point from.now) }
     ensures store { IsStore store.now }
 {
-    // The store is looked at so that the proof has what each store keeps.
-    let _ = store.get(&part);
+    store_law(store);
     if from.is_empty() {
         return Ok(Some(Found {
             mode: Mode::Dir,

@@ -17,7 +17,7 @@ use crate::LayFault;
 use crate::routing::part_of_route;
 use decision_lists::Entry;
 use git_objects::Name;
-use object_store::Store;
+use object_store::{Store, store_law};
 use path_trees::{TreeFault, first_clash, join_apart};
 use std::alloc::{AllocError, Global};
 
@@ -40,8 +40,7 @@ pub fn parts_of(
     ensures store { IsGrownBy (IsMadeOf
         (IsTakenOrIn (cells [] entries.now) (flat store.old pushed.0))) store.old store.new }
 {
-    // The store is looked at so that the proof has what each store keeps.
-    let _ = store.get(&pushed);
+    store_law(store);
     let mut parts = Vec::new(alloc);
     for route in 0..entries.len() {
         let part = part_of_route(alloc, store, none, entries, route, pushed)?;
@@ -78,8 +77,7 @@ pub fn joined(
         (IsMadeOf (IsAmong store.old kept parts.now)) store.new) }
     ensures store { IsGrownBy (IsMadeOf (IsAmong store.old kept parts.now)) store.old store.new }
 {
-    // The store is looked at so that the proof has what each store keeps.
-    let _ = store.get(&kept);
+    store_law(store);
     if parts.is_empty() {
         return Ok(Some(kept));
     }
@@ -99,8 +97,7 @@ fn whole(alloc: Global, store: &mut Store, parts: &[Name]) -> Result<Option<Name
     ensures err { IfErr result (IsFaultOf (IsMadeOf (IsOfAny store.old parts.now)) store.new) }
     ensures store { IsGrownBy (IsMadeOf (IsOfAny store.old parts.now)) store.old store.new }
 {
-    // The store is looked at so that the proof has what each store keeps.
-    let _ = store.get(&parts[0]);
+    store_law(store);
     if parts.len() == 1 {
         return Ok(Some(parts[0]));
     }
@@ -125,8 +122,7 @@ fn pair(alloc: Global, store: &mut Store, a: Name, b: Name) -> Result<Option<Nam
         (λ p x. IsIn (flat store.old a.0) p x ⊎ IsIn (flat store.old b.0) p x))
         store.old store.new }
 {
-    // The store is looked at so that the proof has what each store keeps.
-    let _ = store.get(&a);
+    store_law(store);
     if first_clash(alloc, store, &a, &b)?.is_some() {
         return Ok(None);
     }

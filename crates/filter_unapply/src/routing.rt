@@ -19,7 +19,7 @@ use crate::moving::moved;
 use crate::sifting::{sifted, without};
 use decision_lists::{Entry, back_from, way_back};
 use git_objects::{Component, Name};
-use object_store::Store;
+use object_store::{Store, store_law};
 use stage_tree::Stage;
 use std::alloc::Global;
 
@@ -36,8 +36,7 @@ pub fn unplaced(
     ensures err { IfErr result (IsFaultOf (IsMadeOf (IsIn (flat store.old pushed.0))) store.new) }
     ensures store { IsGrownBy (IsMadeOf (IsIn (flat store.old pushed.0))) store.old store.new }
 {
-    // The store is looked at so that the proof has what each store keeps.
-    let _ = store.get(&pushed);
+    store_law(store);
     let mut stage = Stage::begin(alloc, store, pushed)?;
     for route in 0..entries.len() {
         let way = way_back(alloc, entries, route)?;
@@ -67,8 +66,7 @@ pub fn part_of_route(
         (IsTakenOrIn (route_cells entries.now route) (flat store.old pushed.0)))
         store.old store.new }
 {
-    // The store is looked at so that the proof has what each store keeps.
-    let _ = store.get(&pushed);
+    store_law(store);
     let entry: &Entry = &entries[route];
     let Some(target) = &entry.target else {
         return Ok(none);
@@ -109,8 +107,7 @@ fn part_by(
         (cells_at (cone_of point base.now) (Some target.now) (heads holes.now []) [])
         (flat store.old pushed.0))) store.old store.new }
 {
-    // The store is looked at so that the proof has what each store keeps.
-    let _ = store.get(&pushed);
+    store_law(store);
     let way = back_from(alloc, point, base, target, holes)?;
     let inside = sifted(alloc, store, way.as_slice(), true, pushed)?;
     moved(alloc, store, none, point, target, base, inside)

@@ -13,7 +13,7 @@ ghost use Rattle.filter_unapply.specs.Sifted.{IsFitting, IsShown, IsWithin, aske
 use crate::LayFault;
 use decision_lists::Entry;
 use git_objects::Name;
-use object_store::Store;
+use object_store::{Store, store_law};
 use path_names::Path;
 use path_trees::{Found, entry_at, taken_in};
 use stage_tree::Stage;
@@ -34,8 +34,7 @@ pub fn sifted(
     ensures err { IfErr result (IsFaultOf (IsMadeOf (IsIn (flat store.old root.0))) store.new) }
     ensures store { IsGrownBy (IsMadeOf (IsIn (flat store.old root.0))) store.old store.new }
 {
-    // The store is looked at so that the proof has what each store keeps.
-    let _ = store.get(&root);
+    store_law(store);
     let mut stage = staged(alloc, store, list, inside, root)?;
     Ok(stage.finish(store)?)
 }
@@ -51,8 +50,7 @@ fn staged(
     requires root { has Tree store.now root.0 ≡ true }
     ensures { IfOk result (λ s. Shows store.now s (sifted inside list.now (flat store.now root.0))) }
 {
-    // The store is looked at so that the proof has what each store keeps.
-    let _ = store.get(&root);
+    store_law(store);
     let mut stage = start(alloc, store, inside, root)?;
     let mut level = list.len();
     'entries: while level > 0 {
@@ -67,8 +65,7 @@ fn start(alloc: Global, store: &Store, inside: bool, root: Name) -> Result<Stage
     requires root { has Tree store.now root.0 ≡ true }
     ensures { IfOk result (λ s. Shows store.now s (sifted inside [] (flat store.now root.0))) }
 {
-    // The store is looked at so that the proof has what each store keeps.
-    let _ = store.get(&root);
+    store_law(store);
     if inside {
         return Stage::empty(alloc);
     }
@@ -92,8 +89,7 @@ pub fn without(
     ensures err { IfErr result (IsFaultOf (IsMadeOf (IsIn (flat store.old root.0))) store.new) }
     ensures store { IsGrownBy (IsMadeOf (IsIn (flat store.old root.0))) store.old store.new }
 {
-    // The store is looked at so that the proof has what each store keeps.
-    let _ = store.get(&root);
+    store_law(store);
     if list.is_empty() {
         return Ok(());
     }
@@ -130,8 +126,7 @@ fn with_entry(
     ensures { OnOk result ((u : Flat) → Shows store.now stage.old u → IsWithin u (flat store.now root.0) →
         IsShown store.now stage.new (asked inside entry.now (flat store.now root.0) u)) }
 {
-    // The store is looked at so that the proof has what each store keeps.
-    let _ = store.get(&root);
+    store_law(store);
     let stays = stays(entry, inside);
     if entry.base.as_slice().is_empty() {
         return with_all(alloc, store, entry.point, stays, root, stage);
@@ -165,8 +160,7 @@ fn with_all(
         IsShown store.now stage.new
         (if stays then put_back (cone_of point []) (flat store.now root.0) u else taken_out (cone_of point []) u)) }
 {
-    // The store is looked at so that the proof has what each store keeps.
-    let _ = store.get(&root);
+    store_law(store);
     if point {
         return Ok(());
     }
@@ -223,8 +217,7 @@ pub fn fitting(store: &Store, root: Name, point: bool, path: &Path) -> Option<Fo
     ensures found { IsFitting store.now (flat store.now root.0) point path.now result }
     ensures store { IsStore store.now }
 {
-    // The store is looked at so that the proof has what each store keeps.
-    let _ = store.get(&root);
+    store_law(store);
     match entry_at(store, root, path) {
         Some(found) if found.mode.is_dir() != point => Some(found),
         _ => None,

@@ -13,8 +13,8 @@ ghost use Rattle.git_objects.specs.ParentLines.{parents_at, with_parents};
 ghost use Rattle.git_objects.specs.Parts.{name_bytes};
 ghost use Rattle.git_objects.specs.Views.{letter_value};
 
-use crate::Name;
 use crate::ident::{cut, is_ident};
+use crate::{Name, name_bytes_law};
 use std::marker::Model;
 
 // What a commit says beside its tree and its parents.
@@ -171,9 +171,8 @@ fn lower_name(text: &[u8]) -> Option<Name>
         };
         bytes[i] = high * 16 + low;
     }
-    // The proof learns from this read that each byte is below 256.
     let name = Name(bytes);
-    let _bytes = name.bytes();
+    name_bytes_law(&name);
     Some(name)
 }
 

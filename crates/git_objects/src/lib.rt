@@ -28,7 +28,7 @@ pub use ident::{Ident, IdentFault};
 pub use kind::Kind;
 pub use laws::{commit_body_law, ident_law, tree_body_law};
 pub use mode::Mode;
-pub use name::{Name, name_of};
+pub use name::{Name, name_bytes_law, name_of};
 pub use quantity::Quantity;
 pub use steps::Steps;
 pub use tree_laws::{edit_law, listing_law, name_law};

@@ -125,6 +125,13 @@ pub fn name_of(kind: Kind, body: &[u8]) -> Name
     Name(hasher.finalize())
 }
 
+/// A name has 20 bytes, each below 256. The call does nothing: a proof cites it.
+pub fn name_bytes_law(name: &Name)
+    ensures name { is_name name.now.0 ≡ true }
+{
+    let _bytes = in_range(&name.0);
+}
+
 // The 20 bytes, of which the proof learns that each is below 256.
 fn in_range(bytes: &[u8]) -> &[u8]
     ensures same { result.now ≡ bytes.now }

@@ -9,7 +9,7 @@ use crate::values::{mode_digits, mode_of};
 use case_lines::{Fault, Texts, Word, digits_of, name_of as name_in, printed, text_of};
 use git_objects::{
     Bytes, CommitParts, CommitView, Component, Entry, EntryView, Ident, Kind, Name, TreeView,
-    add_entry, encode_commit, encode_tree, is_component, name_of,
+    add_entry, encode_commit, encode_tree, is_component, name_bytes_law, name_of,
 };
 use std::alloc::{AllocError, Global};
 
@@ -95,7 +95,7 @@ fn spelled(alloc: Global, entries: &[Entry]) -> Result<Vec<u8>, AllocError>
 {
     let mut body = Vec::new(alloc);
     for entry in entries {
-        let _ = entry.name.bytes();
+        name_bytes_law(&entry.name);
         add_entry(&mut body, entry.mode, entry.component.bytes(), &entry.name)?;
     }
     Ok(body)

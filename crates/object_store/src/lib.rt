@@ -10,5 +10,5 @@ mod tree_stats;
 
 pub use commits::tree_of;
 pub use incoming::Incoming;
-pub use laws::{growing_law, unfolding_law};
+pub use laws::{growing_law, store_law, unfolding_law};
 pub use store::{ObjectRef, PutError, Store, TreeStats};

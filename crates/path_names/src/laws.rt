@@ -1,5 +1,9 @@
 // Laws of paths, and of texts between quotes.
+ghost use Rattle.std.specs.Prelude.{◌≡◌, true};
+ghost use Rattle.git_objects.specs.Paths.{is_path};
 ghost use Rattle.path_names.specs.Laws.{ComparableLaw, PathOrderLaw, PathTextLaw, QuotingLaw};
+
+use crate::Path;
 
 /// Any two paths stand in one of the orders less, equal and greater, and equal ones alone are tied. This order compares
 /// the components from the first on, each with the slash that follows it, and gives the same answer as comparing the
@@ -22,4 +26,9 @@ pub fn path_text_law()
 /// What was quoted is unquoted again, whatever follows it.
 pub fn quoting_law()
     ensures { QuotingLaw }
+{}
+
+/// A path has one component or more, each of them valid. The call does nothing: a proof cites it.
+pub fn path_law(path: &Path)
+    ensures path { is_path path.now ≡ true }
 {}

@@ -9,7 +9,7 @@ mod quoting;
 mod ref_name;
 mod words;
 
-pub use laws::{comparable_law, path_order_law, path_text_law, quoting_law};
+pub use laws::{comparable_law, path_law, path_order_law, path_text_law, quoting_law};
 pub use order::{before, comparable};
 pub use path::{Path, PathFault, path_in};
 pub use quoting::{QuoteFault, Unquoted, quote, quoted, unquote};

@@ -17,7 +17,7 @@ use crate::Found;
 use crate::directory::find;
 use crate::walk::{copied, entries_at, go_up, next_leaf};
 use git_objects::{Component, Mode, Name, TreeView};
-use object_store::Store;
+use object_store::{Store, store_law};
 use path_names::Path;
 use std::alloc::{AllocError, Global};
 
@@ -101,8 +101,7 @@ fn clash_at(
     ensures { IfOk result (λ found. Some found ≡ option_map (pair_behind components.items)
         (clash (rests (node store.now left.now)) (rests (node store.now right.now)))) }
 {
-    // The store is looked at so that the proof has what each store keeps.
-    let _ = store.get(&left.name);
+    store_law(store);
     let path = Path::of(components);
     let other = path.copy(alloc)?.into_components();
     let own = first_path(alloc, store, path.into_components(), left)?;

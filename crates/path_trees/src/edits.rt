@@ -19,8 +19,8 @@ ghost use Rattle.path_trees.specs.Levels.{AreDirectories, IsAbove, IsRefused, Is
 use crate::directory::directory_in;
 use crate::rebuild::changed_body;
 use crate::{Found, TreeFault, entry_at};
-use git_objects::{Component, Kind, Mode, Name};
-use object_store::{PutError, Store};
+use git_objects::{Component, Kind, Mode, Name, name_bytes_law};
+use object_store::{PutError, Store, store_law};
 use path_names::Path;
 use std::alloc::{AllocError, Global};
 
@@ -44,8 +44,7 @@ pub fn put_at(
         (IsOnWay (put (flat store.old root.0) path.now (node store.old found)) path.now)
         store.old store.new }
 {
-    // The name is looked at so that the proof has that it has 20 bytes, a module's too.
-    let _ = found.name.bytes();
+    name_bytes_law(&found.name);
     edited(alloc, store, root, path, Some(found))
 }
 
@@ -65,8 +64,7 @@ pub fn remove_at(
     ensures store { IsGrown (IsOnWay (remove (flat store.old root.0) path.now) path.now)
         store.old store.new }
 {
-    // The store is looked at so that the proof has what each store keeps.
-    let _ = store.get(&root);
+    store_law(store);
     if entry_at(store, root, path).is_none() {
         return Ok(root);
     }
@@ -138,8 +136,7 @@ fn directories(
     ensures names { IfOk result (λ names. AreDirectories store.now (flat store.now root.0) path.now names.items) }
     ensures store { IsStore store.now }
 {
-    // The store is looked at so that the proof has what each store keeps.
-    let _ = store.get(&root);
+    store_law(store);
     let mut directories = Vec::new(alloc);
     let mut directory = root;
     for component in path.components() {

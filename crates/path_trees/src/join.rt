@@ -17,7 +17,7 @@ use crate::edits::taken_in;
 use crate::pairs::{Pair, next_pair};
 use crate::walk::entries_at;
 use git_objects::{Name, add_entry};
-use object_store::Store;
+use object_store::{Store, store_law};
 use path_names::Path;
 use std::alloc::{AllocError, Global};
 
@@ -50,8 +50,7 @@ pub fn join_disjoint(alloc: Global, store: &mut Store, a: Name, b: Name) -> Resu
     ensures store { IsGrown (IsShared (flat store.old a.0) (flat store.old b.0))
         store.old store.new }
 {
-    // The store is looked at so that the proof has what each store keeps.
-    let _ = store.get(&a);
+    store_law(store);
     match first_clash(alloc, store, &a, &b) {
         Err(_) => return Err(JoinFault::OutOfMemory),
         Ok(Some((path, by))) => return Err(JoinFault::Clash { path, by }),
@@ -74,8 +73,7 @@ pub fn join_apart(alloc: Global, store: &mut Store, a: Name, b: Name) -> Result<
     ensures err { IfErr result (IsTreeFault (IsShared (flat store.old a.0) (flat store.old b.0)) store.new) }
     ensures store { IsGrown (IsShared (flat store.old a.0) (flat store.old b.0)) store.old store.new }
 {
-    // The store is looked at so that the proof has what each store keeps.
-    let _ = store.get(&a);
+    store_law(store);
     if is_empty(store, &a) {
         return Ok(b);
     }
@@ -145,8 +143,7 @@ fn shared_directories(
         (record { left = a; right = b }) r.0.items r.1.items) }
     ensures store { IsStore store.now }
 {
-    // The store is looked at so that the proof has what each store keeps.
-    let _ = store.get(&a);
+    store_law(store);
     let mut directories = Vec::new(alloc);
     let mut firsts = Vec::new(alloc);
     directories.push(Shared { left: a, right: b })?;

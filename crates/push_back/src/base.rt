@@ -9,7 +9,7 @@ ghost use Rattle.push_back.specs.Grounds.{push_base_in, refs_of};
 
 use fast_import::{Base, Blobs};
 use git_objects::{Mode, Name};
-use object_store::Store;
+use object_store::{Store, store_law};
 use path_names::RefName;
 use path_trees::{Leaf, Walk};
 use std::alloc::{AllocError, Global};
@@ -111,8 +111,7 @@ fn tree_blobs(alloc: Global, store: &Store, tree: Name) -> Result<Blobs, AllocEr
     requires { has Tree store.now tree.0 ≡ true }
     ensures { IfOk result (AreBlobsOf store.now (flat store.now tree.0)) }
 {
-    // The store is looked at so that the proof has what each store keeps.
-    let _ = store.get(&tree);
+    store_law(store);
     let mut blobs = Blobs::new(alloc);
     let mut walk = Walk::new(alloc, store, tree)?;
     'leaves: while walk.next()? {

@@ -13,7 +13,7 @@ ghost use Rattle.push_back.specs.Replaying.{IsEndJudged, IsJudged, IsPushStepped
 use crate::{PushBase, PushError};
 use fast_import::{Command, CommitHead, Placed, Replay};
 use git_objects::Name;
-use object_store::Store;
+use object_store::{Store, store_law};
 
 /// Carries out a command of a push that a reader gave behind those before it, none of which was refused.
 pub(crate) fn push_on(
@@ -29,8 +29,7 @@ pub(crate) fn push_on(
         IsPushStepped store.old store.new base.now replay.new r placed result }
     ensures read { ¬ IsErrOf result PushError.ReadFault }
 {
-    // The store is looked at so that the proof has what each store keeps.
-    let _ = store.get(&Name([0; 20]));
+    store_law(store);
     match judged(replay, base, &placed) {
         Err(error) => return Err(error),
         Ok(()) => {}

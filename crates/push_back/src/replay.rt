@@ -14,7 +14,7 @@ use crate::commands::{end_judged, push_on};
 use crate::{PushBase, PushError};
 use fast_import::{Next, Reader, Replay, ReplayError, Replayed, feed_on};
 use git_objects::Name;
-use object_store::Store;
+use object_store::{Store, store_law};
 use proj_io::Source;
 use std::alloc::Global;
 
@@ -59,8 +59,7 @@ fn replay_by<S: Source>(
     ensures told { S.tells input.new ↔ S.tells input.old }
     ensures cause { Counts (S.faults input.old) (S.faults input.new) (IsErrOf result PushError.ReadFault) }
 {
-    // The store is looked at so that the proof has what each store keeps.
-    let _ = store.get(&Name([0; 20]));
+    store_law(store);
     let mut reader = Reader::new(alloc);
     let mut replay = Replay::new(alloc);
     'stream: loop {

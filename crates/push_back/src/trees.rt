@@ -23,7 +23,7 @@ use filter_routes::Table;
 use filter_text::Filter;
 use filter_unapply::{laid, unseen};
 use git_objects::Name;
-use object_store::Store;
+use object_store::{Store, store_law};
 use projection_ground::Ground;
 use std::alloc::Global;
 
@@ -45,8 +45,7 @@ fn laid_unless_unseen(
         (IsLaidMade (shape new.now.filter) (flat store.old base.0) (flat store.old pushed.0))
         store.old store.new result }
 {
-    // The store is looked at so that the proof has what each store keeps.
-    let _ = store.get(&base);
+    store_law(store);
     if let Some(path) = unseen(alloc, store, old, new, base, pushed)? {
         return Err(TreeRefusal::Unseen { path });
     }

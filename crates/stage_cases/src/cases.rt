@@ -9,7 +9,7 @@ use crate::edits::edit;
 use crate::words::edit_of;
 use case_lines::{Answers, Fault, Texts, Word};
 use git_objects::{Kind, Name};
-use object_store::Store;
+use object_store::{Store, store_law};
 use stage_tree::{Stage, StageFault};
 use std::alloc::Global;
 
@@ -62,8 +62,7 @@ fn finished(stage: &mut Stage, store: &mut Store) -> Result<Name, Fault>
 fn base(alloc: Global, store: &mut Store, blob: Name, words: &[Word]) -> Result<Name, Fault>
     requires { has Blob store.old blob.0 ≡ true }
 {
-    // The store is looked at so that the proof has what each store keeps.
-    let _ = store.get(&blob);
+    store_law(store);
     let mut stage = Stage::empty(alloc)?;
     let mut lines = String::new(alloc);
     edited(alloc, &mut stage, store, blob, None, words, &mut lines)?;

@@ -13,8 +13,8 @@ ghost use Rattle.stage_tree.specs.Stages.{Shows};
 use crate::StageFault;
 use crate::last::{Last, arrive, remove_behind};
 use crate::sets::{most_with_leaf, put_kept, put_last};
-use git_objects::Name;
-use object_store::Store;
+use git_objects::{Name, name_bytes_law};
+use object_store::{Store, store_law};
 use path_names::Path;
 use path_trees::{Found, Leaf, TreeFault};
 use stage_nodes::{Content, Nodes};
@@ -54,8 +54,7 @@ impl Stage {
             None => unreachable!(),
             Some(stats) => stats.files,
         };
-        // Every answer rests on what the store keeps.
-        let _ = store.get(&root);
+        store_law(store);
         Ok(Stage {
             alloc,
             nodes: Nodes::of_root(alloc, root)?,
@@ -105,8 +104,7 @@ impl Stage {
         ensures { (t : Flat) → Shows store.now self.old t → IsEdited store.now self.new t
             (set_in t path (node store.now (record { mode = leaf.mode; name = leaf.name }))) result }
     {
-        // The name is looked at so that the proof has that it has 20 bytes.
-        let _ = leaf.name.bytes();
+        name_bytes_law(&leaf.name);
         let found = Found {
             mode: leaf.mode,
             name: leaf.name,
@@ -136,8 +134,7 @@ impl Stage {
             → Shows store.now self.new (put t path.now (node store.now found))) }
         ensures err { OnErr result ((t : Flat) → Shows store.now self.old t → Shows store.now self.new t) }
     {
-        // The name is looked at so that the proof has that it has 20 bytes.
-        let _ = found.name.bytes();
+        name_bytes_law(&found.name);
         let components = path.components();
         let way = arrive(
             &mut self.nodes,

@@ -12,7 +12,7 @@ use Rattle.fast_import.proofs.whole.replay_all.Goals as goal
 pub stream-init : goal.stream-init
 stream-init g c = record {
   so_far = subst (λ (rd : Reading). IsSoFar (base_in c.args.store.now (g.B.Base.commits c.args.base.now) (g.B.Base.refs c.args.base.now) (g.B.Base.blobs c.args.base.now)) c.args.store.now c.args.store.now (g.S.Source.left c.args.input.now) (g.S.Source.left c.args.input.now) rd c.new-replay.result) (sym c.new-reader.ensures)
-      (nothing_so_far (base_in c.args.store.now (g.B.Base.commits c.args.base.now) (g.B.Base.refs c.args.base.now) (g.B.Base.blobs c.args.base.now)) c.args.store.now (g.S.Source.left c.args.input.now) c.new-replay.result c.get.ensures.store (c.new-replay.ensures c.args.store.now));
+      (nothing_so_far (base_in c.args.store.now (g.B.Base.commits c.args.base.now) (g.B.Base.refs c.args.base.now) (g.B.Base.blobs c.args.base.now)) c.args.store.now (g.S.Source.left c.args.input.now) c.new-replay.result c.store_law.ensures.store (c.new-replay.ensures c.args.store.now));
   told = (λ x. x, λ x. x);
   later = omega arith;
   within = let e : came c.new-reader.result ≡ 0 = ap came c.new-reader.ensures in omega arith;

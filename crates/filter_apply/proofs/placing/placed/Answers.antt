@@ -17,7 +17,7 @@ start d n l (inr k) = inr (k, refl)
 pub levels-init : goal.levels-init
 levels-init c = record {
   within = omega arith;
-  placing = first_placing c.args.store.now c.args.target.now c.args.found c.get.ensures.store c.requires.held c.bytes.ensures.name;
+  placing = first_placing c.args.store.now c.args.target.now c.args.found c.store_law.ensures.store c.requires.held c.name_bytes_law.ensures.name;
   kind = start (is_dir c.args.found.mode) (is_nil c.args.target.now) (length c.args.target.now) c.requires.tree;
 }
 

@@ -33,35 +33,35 @@ returns-in_err-right-clause-err g t c =
     let S1 = c.shown_between.new.store in
     let S2 = c.shown_between-2.new.store in
     err_told (IsApplyFault (IsShownObject (shape c.args.table.now.filter) (flat S0 c.args.root.0)) S2) c.from_residual-in_err-right.result c.in_err-right.field-0.0 c.from_residual-in_err-right.ensures.1
-    (half_fault (shape c.args.table.now.filter) c.args.table.now.routes c.entries.ensures.list c.entries.ensures.sound c.entries.ensures.paths S0 S1 S2 c.args.root.0 c.get.ensures.store c.requires.root c.in_ok-left.ensures.store c.in_err-right.ensures.store c.in_err-right.field-0.0 c.in_err-right.ensures.err)
+    (half_fault (shape c.args.table.now.filter) c.args.table.now.routes c.table_law.ensures.list c.table_law.ensures.sound c.table_law.ensures.paths S0 S1 S2 c.args.root.0 c.store_law.ensures.store c.requires.root c.in_ok-left.ensures.store c.in_err-right.ensures.store c.in_err-right.field-0.0 c.in_err-right.ensures.err)
 
 pub returns-in_err-right-clause-store : goal.returns-in_err-right-clause-store
 returns-in_err-right-clause-store g t c =
     let S0 = c.args.store.now in
     let S1 = c.shown_between.new.store in
     let S2 = c.shown_between-2.new.store in
-    both_grown (shape c.args.table.now.filter) c.args.table.now.routes c.entries.ensures.list c.entries.ensures.sound c.entries.ensures.paths S0 S1 S2 c.args.root.0 c.get.ensures.store c.requires.root c.in_ok-left.ensures.store c.in_err-right.ensures.store
+    both_grown (shape c.args.table.now.filter) c.args.table.now.routes c.table_law.ensures.list c.table_law.ensures.sound c.table_law.ensures.paths S0 S1 S2 c.args.root.0 c.store_law.ensures.store c.requires.root c.in_ok-left.ensures.store c.in_err-right.ensures.store
 
 pub joined-requires-clause-first : goal.joined-requires-clause-first
 joined-requires-clause-first g t c =
     let S0 = c.args.store.now in
     let S1 = c.shown_between.new.store in
     let S2 = c.shown_between-2.new.store in
-    left_held (shape c.args.table.now.filter) c.args.table.now.routes c.entries.ensures.list c.entries.ensures.sound c.entries.ensures.paths S0 S1 S2 c.args.root.0 c.get.ensures.store c.requires.root c.in_ok-left.ensures.store c.in_ok-right.ensures.store c.args.first c.middle_of-middle.result c.args.last c.in_ok-left.left c.in_ok-right.right c.in_ok-left.ensures.ok c.in_ok-right.ensures.ok
+    left_held (shape c.args.table.now.filter) c.args.table.now.routes c.table_law.ensures.list c.table_law.ensures.sound c.table_law.ensures.paths S0 S1 S2 c.args.root.0 c.store_law.ensures.store c.requires.root c.in_ok-left.ensures.store c.in_ok-right.ensures.store c.args.first c.middle_of-middle.result c.args.last c.in_ok-left.left c.in_ok-right.right c.in_ok-left.ensures.ok c.in_ok-right.ensures.ok
 
 pub joined-requires-clause-second : goal.joined-requires-clause-second
 joined-requires-clause-second g t c =
     let S0 = c.args.store.now in
     let S1 = c.shown_between.new.store in
     let S2 = c.shown_between-2.new.store in
-    right_held (shape c.args.table.now.filter) c.args.table.now.routes c.entries.ensures.list c.entries.ensures.sound c.entries.ensures.paths S0 S1 S2 c.args.root.0 c.get.ensures.store c.requires.root c.in_ok-left.ensures.store c.in_ok-right.ensures.store c.args.first c.middle_of-middle.result c.args.last c.in_ok-left.left c.in_ok-right.right c.in_ok-left.ensures.ok c.in_ok-right.ensures.ok
+    right_held (shape c.args.table.now.filter) c.args.table.now.routes c.table_law.ensures.list c.table_law.ensures.sound c.table_law.ensures.paths S0 S1 S2 c.args.root.0 c.store_law.ensures.store c.requires.root c.in_ok-left.ensures.store c.in_ok-right.ensures.store c.args.first c.middle_of-middle.result c.args.last c.in_ok-left.left c.in_ok-right.right c.in_ok-left.ensures.ok c.in_ok-right.ensures.ok
 
 pub joined-requires-clause-apart : goal.joined-requires-clause-apart
 joined-requires-clause-apart g t c =
     let S0 = c.args.store.now in
     let S1 = c.shown_between.new.store in
     let S2 = c.shown_between-2.new.store in
-    halves_apart (shape c.args.table.now.filter) c.args.table.now.routes c.entries.ensures.list c.entries.ensures.sound c.entries.ensures.paths S0 S1 S2 c.args.root.0 c.get.ensures.store c.requires.root c.in_ok-left.ensures.store c.in_ok-right.ensures.store c.args.first c.middle_of-middle.result c.args.last c.in_ok-left.left c.in_ok-right.right c.in_ok-left.ensures.ok c.in_ok-right.ensures.ok
+    halves_apart (shape c.args.table.now.filter) c.args.table.now.routes c.table_law.ensures.list c.table_law.ensures.sound c.table_law.ensures.paths S0 S1 S2 c.args.root.0 c.store_law.ensures.store c.requires.root c.in_ok-left.ensures.store c.in_ok-right.ensures.store c.args.first c.middle_of-middle.result c.args.last c.in_ok-left.left c.in_ok-right.right c.in_ok-left.ensures.ok c.in_ok-right.ensures.ok
 
 pub returns-clause-ok : goal.returns-clause-ok
 returns-clause-ok g t c =
@@ -70,18 +70,18 @@ returns-clause-ok g t c =
     let S2 = c.shown_between-2.new.store in
     let above = c.middle_of-middle.ensures.above in
     let below = c.middle_of-middle.ensures.below in
-    halves_ok (shape c.args.table.now.filter) c.args.table.now.routes c.entries.ensures.list c.entries.ensures.sound c.entries.ensures.paths S0 S1 S2 c.args.root.0 c.get.ensures.store c.requires.root c.in_ok-left.ensures.store c.in_ok-right.ensures.store c.args.first c.middle_of-middle.result c.args.last c.in_ok-left.left c.in_ok-right.right c.in_ok-left.ensures.ok c.in_ok-right.ensures.ok c.joined.new.store c.joined.result (omega arith) (omega arith) c.joined.ensures.ok
+    halves_ok (shape c.args.table.now.filter) c.args.table.now.routes c.table_law.ensures.list c.table_law.ensures.sound c.table_law.ensures.paths S0 S1 S2 c.args.root.0 c.store_law.ensures.store c.requires.root c.in_ok-left.ensures.store c.in_ok-right.ensures.store c.args.first c.middle_of-middle.result c.args.last c.in_ok-left.left c.in_ok-right.right c.in_ok-left.ensures.ok c.in_ok-right.ensures.ok c.joined.new.store c.joined.result (omega arith) (omega arith) c.joined.ensures.ok
 
 pub returns-clause-err : goal.returns-clause-err
 returns-clause-err g t c =
     let S0 = c.args.store.now in
     let S1 = c.shown_between.new.store in
     let S2 = c.shown_between-2.new.store in
-    halves_err (shape c.args.table.now.filter) c.args.table.now.routes c.entries.ensures.list c.entries.ensures.sound c.entries.ensures.paths S0 S1 S2 c.args.root.0 c.get.ensures.store c.requires.root c.in_ok-left.ensures.store c.in_ok-right.ensures.store c.args.first c.middle_of-middle.result c.args.last c.in_ok-left.left c.in_ok-right.right c.in_ok-left.ensures.ok c.in_ok-right.ensures.ok c.joined.new.store c.joined.result c.joined.ensures.err
+    halves_err (shape c.args.table.now.filter) c.args.table.now.routes c.table_law.ensures.list c.table_law.ensures.sound c.table_law.ensures.paths S0 S1 S2 c.args.root.0 c.store_law.ensures.store c.requires.root c.in_ok-left.ensures.store c.in_ok-right.ensures.store c.args.first c.middle_of-middle.result c.args.last c.in_ok-left.left c.in_ok-right.right c.in_ok-left.ensures.ok c.in_ok-right.ensures.ok c.joined.new.store c.joined.result c.joined.ensures.err
 
 pub returns-clause-store : goal.returns-clause-store
 returns-clause-store g t c =
     let S0 = c.args.store.now in
     let S1 = c.shown_between.new.store in
     let S2 = c.shown_between-2.new.store in
-    halves_store (shape c.args.table.now.filter) c.args.table.now.routes c.entries.ensures.list c.entries.ensures.sound c.entries.ensures.paths S0 S1 S2 c.args.root.0 c.get.ensures.store c.requires.root c.in_ok-left.ensures.store c.in_ok-right.ensures.store c.args.first c.middle_of-middle.result c.args.last c.in_ok-left.left c.in_ok-right.right c.in_ok-left.ensures.ok c.in_ok-right.ensures.ok c.joined.new.store c.joined.ensures.store
+    halves_store (shape c.args.table.now.filter) c.args.table.now.routes c.table_law.ensures.list c.table_law.ensures.sound c.table_law.ensures.paths S0 S1 S2 c.args.root.0 c.store_law.ensures.store c.requires.root c.in_ok-left.ensures.store c.in_ok-right.ensures.store c.args.first c.middle_of-middle.result c.args.last c.in_ok-left.left c.in_ok-right.right c.in_ok-left.ensures.ok c.in_ok-right.ensures.ok c.joined.new.store c.joined.ensures.store

@@ -16,7 +16,7 @@ returns-then-count-eq0-clause-ok g c =
     let f = shape c.args.table.now.filter in
     let es = c.args.table.now.routes in
     let none : length es ≡ 0 = ap length (sym c.entries-count.ensures.entries) ∙ c.if-count-eq0.true in
-    none_seen f es c.entries-count.ensures.list c.entries-count.ensures.sound c.entries-count.ensures.paths t (flat_good S c.get.ensures.store c.args.root.0 c.requires.root).tree (omega arith)
+    none_seen f es c.entries-count.ensures.list c.entries-count.ensures.sound c.entries-count.ensures.paths t (flat_good S c.store_law.ensures.store c.args.root.0 c.requires.root).tree (omega arith)
 
 pub returns-then-count-eq0-clause-few : goal.returns-then-count-eq0-clause-few
 returns-then-count-eq0-clause-few g c = paid (shape c.args.table.now.filter) c.args.table.now.routes c.args.steps.now c.args.steps.now c.entries-count.ensures.list.one (λ _. omega arith)
@@ -28,7 +28,7 @@ returns-clause-ok g c =
     let f = shape c.args.table.now.filter in
     let es = c.args.table.now.routes in
     subst (λ (u : Flat). IfOk c.shown_between.result (IsDirectory c.shown_between.new.store u))
-    (ap (λ (ds : List Entry). seen_between f es 0 (length ds) t) c.entries-count.ensures.entries ∙ all_seen f es c.entries-count.ensures.list c.entries-count.ensures.sound c.entries-count.ensures.paths t (flat_good S c.get.ensures.store c.args.root.0 c.requires.root).tree) c.shown_between.ensures.ok
+    (ap (λ (ds : List Entry). seen_between f es 0 (length ds) t) c.entries-count.ensures.entries ∙ all_seen f es c.entries-count.ensures.list c.entries-count.ensures.sound c.entries-count.ensures.paths t (flat_good S c.store_law.ensures.store c.args.root.0 c.requires.root).tree) c.shown_between.ensures.ok
 
 pub returns-clause-few : goal.returns-clause-few
 returns-clause-few g c = paid (shape c.args.table.now.filter) c.args.table.now.routes c.args.steps.now c.shown_between.new.steps c.entries-count.ensures.list.one (λ e. c.shown_between.ensures.few (ap length c.entries-count.ensures.entries ∙ e))

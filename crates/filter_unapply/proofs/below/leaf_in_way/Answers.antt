@@ -5,7 +5,7 @@ use Rattle.filter_unapply.proofs.Fronts.{clear_first, leaf_at_front}
 use Rattle.filter_unapply.proofs.below.leaf_in_way.Goals as goal
 
 pub fronts-init : goal.fronts-init
-fronts-init c = let S = c.args.store.now in clear_first (flat S c.args.root.0) c.args.path.now (is_tree S c.get.ensures.store c.args.root.0 c.requires)
+fronts-init c = let S = c.args.store.now in clear_first (flat S c.args.root.0) c.args.path.now (is_tree S c.store_law.ensures.store c.args.root.0 c.requires)
 
 pub returns-then-not-is_dir-clause-leaf : goal.returns-then-not-is_dir-clause-leaf
 returns-then-not-is_dir-clause-leaf c =

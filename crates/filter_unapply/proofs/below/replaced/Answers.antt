@@ -13,12 +13,12 @@ pub returns-in-Some-clause-err : goal.returns-in-Some-clause-err
 returns-in-Some-clause-err c =
     let S = c.args.store.now in
     first_in_way c.args.place.now (flat S c.args.base.0) (flat S c.args.pushed.0) c.args.first.now c.in-Some.by c.leaf_in_way.ensures.path
-    (is_tree S c.get.ensures.store c.args.base.0 c.requires.base) (is_tree S c.get.ensures.store c.args.pushed.0 c.requires.pushed) c.requires.first
+    (is_tree S c.store_law.ensures.store c.args.base.0 c.requires.base) (is_tree S c.store_law.ensures.store c.args.pushed.0 c.requires.pushed) c.requires.first
     (subst (IsLeafInWay (flat S c.args.base.0) c.args.place.now) c.in-Some.is c.in_ok-by.ensures.leaf)
     ∙ ap (λ (r : Path). Blocked r c.in-Some.by) (sym c.in_ok-path.ensures)
 
 pub put_at-requires-clause-found : goal.put_at-requires-clause-found
-put_at-requires-clause-found c = let S = c.args.store.now in has_directory S c.get.ensures.store c.args.pushed.0 c.requires.pushed c.args.first.now c.requires.first
+put_at-requires-clause-found c = let S = c.args.store.now in has_directory S c.store_law.ensures.store c.args.pushed.0 c.requires.pushed c.args.first.now c.requires.first
 
 pub returns-in_err-put_at-clause-err : goal.returns-in_err-put_at-clause-err
 returns-in_err-put_at-clause-err c =
@@ -27,7 +27,7 @@ returns-in_err-put_at-clause-err c =
     let n = flat S c.args.pushed.0 in
     let way = subst (IsLeafInWay t c.args.place.now) c.in_default.is c.in_ok-by.ensures.leaf in
     told_err (laid_through (below c.args.place.now) t n) c.args.place.now (put t c.args.place.now (TreeNode n))
-    (laid_put c.args.place.now t n c.leaf_in_way.ensures.path (is_tree S c.get.ensures.store c.args.base.0 c.requires.base) (is_tree S c.get.ensures.store c.args.pushed.0 c.requires.pushed) way)
+    (laid_put c.args.place.now t n c.leaf_in_way.ensures.path (is_tree S c.store_law.ensures.store c.args.base.0 c.requires.base) (is_tree S c.store_law.ensures.store c.args.pushed.0 c.requires.pushed) way)
     c.put_at.new.store c.from_residual-in_err-put_at.result c.in_err-put_at.field-0.0 c.from_residual-in_err-put_at.ensures.1 c.in_err-put_at.ensures.err
 
 pub returns-in_err-put_at-clause-store : goal.returns-in_err-put_at-clause-store
@@ -37,7 +37,7 @@ returns-in_err-put_at-clause-store c =
     let n = flat S c.args.pushed.0 in
     let way = subst (IsLeafInWay t c.args.place.now) c.in_default.is c.in_ok-by.ensures.leaf in
     told_grown (laid_through (below c.args.place.now) t n) c.args.place.now (put t c.args.place.now (TreeNode n))
-    (laid_put c.args.place.now t n c.leaf_in_way.ensures.path (is_tree S c.get.ensures.store c.args.base.0 c.requires.base) (is_tree S c.get.ensures.store c.args.pushed.0 c.requires.pushed) way)
+    (laid_put c.args.place.now t n c.leaf_in_way.ensures.path (is_tree S c.store_law.ensures.store c.args.base.0 c.requires.base) (is_tree S c.store_law.ensures.store c.args.pushed.0 c.requires.pushed) way)
     c.put_at.new.store S c.put_at.ensures.store
 
 pub returns-clause-ok : goal.returns-clause-ok
@@ -47,7 +47,7 @@ returns-clause-ok c =
     let n = flat S c.args.pushed.0 in
     let way = subst (IsLeafInWay t c.args.place.now) c.in_default.is c.in_ok-by.ensures.leaf in
     told_tree (laid_through (below c.args.place.now) t n) c.args.place.now (put t c.args.place.now (TreeNode n))
-    (laid_put c.args.place.now t n c.leaf_in_way.ensures.path (is_tree S c.get.ensures.store c.args.base.0 c.requires.base) (is_tree S c.get.ensures.store c.args.pushed.0 c.requires.pushed) way)
+    (laid_put c.args.place.now t n c.leaf_in_way.ensures.path (is_tree S c.store_law.ensures.store c.args.base.0 c.requires.base) (is_tree S c.store_law.ensures.store c.args.pushed.0 c.requires.pushed) way)
     c.put_at.new.store c.in_ok-put_at.field-0 c.in_ok-put_at.ensures.ok
 
 pub returns-clause-store : goal.returns-clause-store
@@ -57,5 +57,5 @@ returns-clause-store c =
     let n = flat S c.args.pushed.0 in
     let way = subst (IsLeafInWay t c.args.place.now) c.in_default.is c.in_ok-by.ensures.leaf in
     told_grown (laid_through (below c.args.place.now) t n) c.args.place.now (put t c.args.place.now (TreeNode n))
-    (laid_put c.args.place.now t n c.leaf_in_way.ensures.path (is_tree S c.get.ensures.store c.args.base.0 c.requires.base) (is_tree S c.get.ensures.store c.args.pushed.0 c.requires.pushed) way)
+    (laid_put c.args.place.now t n c.leaf_in_way.ensures.path (is_tree S c.store_law.ensures.store c.args.base.0 c.requires.base) (is_tree S c.store_law.ensures.store c.args.pushed.0 c.requires.pushed) way)
     c.put_at.new.store S c.put_at.ensures.store

@@ -15,7 +15,7 @@ loop-i-preserved c =
     let a : Name = get_or all i (record { 0 = [] }) in
     let split : take i all ++ a ∷ drop (i + 1) all ≡ all =
     ap (λ (l : List Name). take i all ++ l) (sym (drop_more all i (record { 0 = [] }) c.loop-i-test.true)) ∙ take-append-drop i all in
-    block-more S c.get.ensures.store c.args.kept a (take i all) (drop (i + 1) all) all (take (i + 1) all) split (take_more all i (record { 0 = [] }) c.loop-i-test.true) c.requires.kept
+    block-more S c.store_law.ensures.store c.args.kept a (take i all) (drop (i + 1) all) all (take (i + 1) all) split (take_more all i (record { 0 = [] }) c.loop-i-test.true) c.requires.kept
     c.loop-i.least c.in_ok-least-3.least
     (c.in_ok-least-3.ensures
     ∙ ap (λ o. lesser o (clash (flat S a.0) (flat S c.args.kept.0))) (c.in_ok-least-2.ensures ∙ ap (λ ns. with_clashes S a ns c.in_ok-least.least) (take_all (length all - (i + 1)) (drop (i + 1) all) (omega (arith, length-drop (i + 1) all)))

@@ -11,6 +11,6 @@ of_parts-requires c =
     let n = c.args.hit.now.cut in
     let t = c.target.result.now in
     let e = ap (λ o. onto_rest o (drop n p)) c.target.ensures ∙ c.requires.hit in
-    let long = image-long (shape c.args.table.now.filter) p t n c.filter.ensures.paths c.components.ensures.path e in
+    let long = image-long (shape c.args.table.now.filter) p t n c.table_law.ensures.paths c.components.ensures.path e in
     subst (λ (q : Path). 0 < length t + length (take (length q - n) (drop n q))) (sym c.components.ensures.components)
     (subst (λ (r : Path). 0 < length t + length r) (sym (all-behind p n)) long)

@@ -16,5 +16,5 @@ leaves-init c =
     let same : c.in_ok-walk.walk.left ≡ t = ap (λ w. w.left) c.in_ok-walk.ensures in
     record {
       left = ap (λ (u : Flat). unseen (shape c.args.old.now.filter) (shape c.args.new.now.filter) u (flat S c.args.pushed.0)) same;
-      own = subst (λ (u : Flat). Each (λ (e : Path × Leaf). at t e.0 ≡ Some e.1) u) (sym same) (each_at t (is_tree S c.get.ensures.store c.args.base.0 c.requires.base).sorted);
+      own = subst (λ (u : Flat). Each (λ (e : Path × Leaf). at t e.0 ≡ Some e.1) u) (sym same) (each_at t (is_tree S c.store_law.ensures.store c.args.base.0 c.requires.base).sorted);
     }

@@ -33,7 +33,7 @@ pub returns-in-Some-clause-err : goal.returns-in-Some-clause-err
 returns-in-Some-clause-err c =
     let f = shape c.args.table.now.filter in let S = c.args.store.now in let b = c.args.base.0 in let n = c.args.pushed.0 in let R = c.unplaced.new.store in
     let es = c.entries-entries.result.now in
-    let h = begun f es S b n R c.filter.ensures.paths c.filter.ensures.sound c.entries-entries.ensures.entries c.entries-entries.ensures.list c.get.ensures.store c.requires.base c.requires.pushed c.unplaced.ensures.store in
+    let h = begun f es S b n R c.table_law.ensures.paths c.table_law.ensures.sound c.entries-entries.ensures.entries c.entries-entries.ensures.list c.store_law.ensures.store c.requires.base c.requires.pushed c.unplaced.ensures.store in
     not-held f h.paths h.sound es h.list (flat S b) (flat S n) h.base_tree h.pushed_tree (flat R c.in_ok-rest.rest.0) c.in-Some.path c.in_ok-rest.ensures.ok.map (sym c.in-Some.is ∙ c.in_ok-path.ensures)
 
 pub returns-in-Some-clause-store : goal.returns-in-Some-clause-store
@@ -52,21 +52,21 @@ pub returns-in_err-kept-clause-err : goal.returns-in_err-kept-clause-err
 returns-in_err-kept-clause-err c =
     let f = shape c.args.table.now.filter in let S = c.args.store.now in let b = c.args.base.0 in let n = c.args.pushed.0 in let R = c.unplaced.new.store in
     let es = c.entries-entries.result.now in
-    let h = begun f es S b n R c.filter.ensures.paths c.filter.ensures.sound c.entries-entries.ensures.entries c.entries-entries.ensures.list c.get.ensures.store c.requires.base c.requires.pushed c.unplaced.ensures.store in
+    let h = begun f es S b n R c.table_law.ensures.paths c.table_law.ensures.sound c.entries-entries.ensures.entries c.entries-entries.ensures.list c.store_law.ensures.store c.requires.base c.requires.pushed c.unplaced.ensures.store in
     err-told (laid_through (lens_of f) (flat S b) (flat S n)) (IsMadeOf (IsOfBoth es (flat R b) (flat R n))) (Laid f S b n) (both-made f es S b n R h) c.taken_apart.new.store c.from_residual-in_err-kept.result c.in_err-kept.field-0.0 c.from_residual-in_err-kept.ensures.1 c.in_err-kept.ensures.err
 
 pub returns-in_err-kept-clause-store : goal.returns-in_err-kept-clause-store
 returns-in_err-kept-clause-store c =
     let f = shape c.args.table.now.filter in let S = c.args.store.now in let b = c.args.base.0 in let n = c.args.pushed.0 in let R = c.unplaced.new.store in
     let es = c.entries-entries.result.now in
-    let h = begun f es S b n R c.filter.ensures.paths c.filter.ensures.sound c.entries-entries.ensures.entries c.entries-entries.ensures.list c.get.ensures.store c.requires.base c.requires.pushed c.unplaced.ensures.store in
+    let h = begun f es S b n R c.table_law.ensures.paths c.table_law.ensures.sound c.entries-entries.ensures.entries c.entries-entries.ensures.list c.store_law.ensures.store c.requires.base c.requires.pushed c.unplaced.ensures.store in
     both-grown f es S b n R h c.taken_apart.new.store c.taken_apart.ensures.store
 
 pub put_together-requires-clause-other : goal.put_together-requires-clause-other
 put_together-requires-clause-other c =
     let f = shape c.args.table.now.filter in let S = c.args.store.now in let b = c.args.base.0 in let n = c.args.pushed.0 in let R = c.unplaced.new.store in
     let es = c.entries-entries.result.now in
-    let h = begun f es S b n R c.filter.ensures.paths c.filter.ensures.sound c.entries-entries.ensures.entries c.entries-entries.ensures.list c.get.ensures.store c.requires.base c.requires.pushed c.unplaced.ensures.store in
+    let h = begun f es S b n R c.table_law.ensures.paths c.table_law.ensures.sound c.entries-entries.ensures.entries c.entries-entries.ensures.list c.store_law.ensures.store c.requires.base c.requires.pushed c.unplaced.ensures.store in
     let P = c.taken_apart.new.store in let k = c.in_ok-kept.kept in let ns = c.as_slice.result.now in
     let kept = kept-is f es S b n R h P k.0 c.in_ok-kept.ensures.ok.0 in
     let parts = parts-are f es S b n R h P c.in_ok-kept.parts.items ns c.as_slice.ensures.value c.in_ok-kept.ensures.ok.1 in
@@ -76,7 +76,7 @@ pub returns-clause-ok : goal.returns-clause-ok
 returns-clause-ok c =
     let f = shape c.args.table.now.filter in let S = c.args.store.now in let b = c.args.base.0 in let n = c.args.pushed.0 in let R = c.unplaced.new.store in
     let es = c.entries-entries.result.now in
-    let h = begun f es S b n R c.filter.ensures.paths c.filter.ensures.sound c.entries-entries.ensures.entries c.entries-entries.ensures.list c.get.ensures.store c.requires.base c.requires.pushed c.unplaced.ensures.store in
+    let h = begun f es S b n R c.table_law.ensures.paths c.table_law.ensures.sound c.entries-entries.ensures.entries c.entries-entries.ensures.list c.store_law.ensures.store c.requires.base c.requires.pushed c.unplaced.ensures.store in
     let P = c.taken_apart.new.store in let k = c.in_ok-kept.kept in let ns = c.as_slice.result.now in
     let kept = kept-is f es S b n R h P k.0 c.in_ok-kept.ensures.ok.0 in
     let parts = parts-are f es S b n R h P c.in_ok-kept.parts.items ns c.as_slice.ensures.value c.in_ok-kept.ensures.ok.1 in
@@ -88,7 +88,7 @@ pub returns-clause-err : goal.returns-clause-err
 returns-clause-err c =
     let f = shape c.args.table.now.filter in let S = c.args.store.now in let b = c.args.base.0 in let n = c.args.pushed.0 in let R = c.unplaced.new.store in
     let es = c.entries-entries.result.now in
-    let h = begun f es S b n R c.filter.ensures.paths c.filter.ensures.sound c.entries-entries.ensures.entries c.entries-entries.ensures.list c.get.ensures.store c.requires.base c.requires.pushed c.unplaced.ensures.store in
+    let h = begun f es S b n R c.table_law.ensures.paths c.table_law.ensures.sound c.entries-entries.ensures.entries c.entries-entries.ensures.list c.store_law.ensures.store c.requires.base c.requires.pushed c.unplaced.ensures.store in
     let P = c.taken_apart.new.store in let k = c.in_ok-kept.kept in let ns = c.as_slice.result.now in
     let kept = kept-is f es S b n R h P k.0 c.in_ok-kept.ensures.ok.0 in
     let parts = parts-are f es S b n R h P c.in_ok-kept.parts.items ns c.as_slice.ensures.value c.in_ok-kept.ensures.ok.1 in
@@ -102,7 +102,7 @@ pub returns-clause-store : goal.returns-clause-store
 returns-clause-store c =
     let f = shape c.args.table.now.filter in let S = c.args.store.now in let b = c.args.base.0 in let n = c.args.pushed.0 in let R = c.unplaced.new.store in
     let es = c.entries-entries.result.now in
-    let h = begun f es S b n R c.filter.ensures.paths c.filter.ensures.sound c.entries-entries.ensures.entries c.entries-entries.ensures.list c.get.ensures.store c.requires.base c.requires.pushed c.unplaced.ensures.store in
+    let h = begun f es S b n R c.table_law.ensures.paths c.table_law.ensures.sound c.entries-entries.ensures.entries c.entries-entries.ensures.list c.store_law.ensures.store c.requires.base c.requires.pushed c.unplaced.ensures.store in
     let P = c.taken_apart.new.store in let k = c.in_ok-kept.kept in let ns = c.as_slice.result.now in
     let kept = kept-is f es S b n R h P k.0 c.in_ok-kept.ensures.ok.0 in
     let parts = parts-are f es S b n R h P c.in_ok-kept.parts.items ns c.as_slice.ensures.value c.in_ok-kept.ensures.ok.1 in

@@ -33,7 +33,7 @@ unreachable-requires c =
     let ns = c.args.parts.now in
     let k = c.args.kept in
     let g = c.joined.ensures.store in
-    near-block S c.get.ensures.store k ns c.requires.kept
+    near-block S c.store_law.ensures.store k ns c.requires.kept
     (joined-none S k ns R c.in_ok-name.field-0 c.in_default.not-Some c.in_ok-name.ensures.ok)
     (block-grown S R g k ns c.requires.kept c.requires.parts None (subst (IsLeast (IsBlockIn R k ns)) c.in-None.is c.in_ok-path.ensures))
 

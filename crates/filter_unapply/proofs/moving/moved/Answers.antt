@@ -14,7 +14,7 @@ use Rattle.filter_unapply.proofs.moving.moved.Goals as goal
 
 pub held_at-requires-clause-full : goal.held_at-requires-clause-full
 held_at-requires-clause-full c =
-    full-name c.args.store.now c.get.ensures.store c.args.part.0 c.args.none.0 c.requires.part c.requires.none (names-differ c.args.part.0 c.args.none.0 c.if-eq.ensures)
+    full-name c.args.store.now c.store_law.ensures.store c.args.part.0 c.args.none.0 c.requires.part c.requires.none (names-differ c.args.part.0 c.args.none.0 c.if-eq.ensures)
 
 pub returns-in_err-put_at-clause-err : goal.returns-in_err-put_at-clause-err
 returns-in_err-put_at-clause-err c =
@@ -27,7 +27,7 @@ returns-in_err-put_at-clause-err c =
     let k : IsHeldAt S (flat S n) c.args.point from (Some f) = subst (IsHeldAt S (flat S n) c.args.point from) c.in-Some.is c.in_ok-found.ensures.found in
     let j = c.in_ok-path.ensures ∙ append-nil to in
     err-by (IsOnWay (put (flat S c.args.none.0) q (node S f)) q) (IsMadeOf (λ p x. moved c.args.point from to (flat S n) p ≡ Some x))
-    (put-made S c.get.ensures.store n c.requires.part c.args.point from c.requires.within to c.requires.solid f k (flat S c.args.none.0) q c.requires.none.map j (ap is_path (sym c.path.view_is) ∙ c.path.invariant))
+    (put-made S c.store_law.ensures.store n c.requires.part c.args.point from c.requires.within to c.requires.solid f k (flat S c.args.none.0) q c.requires.none.map j (ap is_path (sym c.path.view_is) ∙ c.path.invariant))
     c.put_at.new.store c.from_residual-in_err-put_at.result c.in_err-put_at.field-0.0 c.from_residual-in_err-put_at.ensures.1 c.in_err-put_at.ensures.err
 
 pub returns-in_err-put_at-clause-store : goal.returns-in_err-put_at-clause-store
@@ -41,7 +41,7 @@ returns-in_err-put_at-clause-store c =
     let k : IsHeldAt S (flat S n) c.args.point from (Some f) = subst (IsHeldAt S (flat S n) c.args.point from) c.in-Some.is c.in_ok-found.ensures.found in
     let j = c.in_ok-path.ensures ∙ append-nil to in
     grown-by (IsOnWay (put (flat S c.args.none.0) q (node S f)) q) (IsMadeOf (λ p x. moved c.args.point from to (flat S n) p ≡ Some x))
-    (put-made S c.get.ensures.store n c.requires.part c.args.point from c.requires.within to c.requires.solid f k (flat S c.args.none.0) q c.requires.none.map j (ap is_path (sym c.path.view_is) ∙ c.path.invariant))
+    (put-made S c.store_law.ensures.store n c.requires.part c.args.point from c.requires.within to c.requires.solid f k (flat S c.args.none.0) q c.requires.none.map j (ap is_path (sym c.path.view_is) ∙ c.path.invariant))
     S c.put_at.new.store c.put_at.ensures.store
 
 pub returns-clause-ok : goal.returns-clause-ok
@@ -55,7 +55,7 @@ returns-clause-ok c =
     let k : IsHeldAt S (flat S n) c.args.point from (Some f) = subst (IsHeldAt S (flat S n) c.args.point from) c.in-Some.is c.in_ok-found.ensures.found in
     let j = c.in_ok-path.ensures ∙ append-nil to in
     leaves-of c.put_at.new.store c.in_ok-put_at.field-0.0 (put (flat S c.args.none.0) q (node S f)) (moved c.args.point from to (flat S n)) c.in_ok-put_at.ensures.ok
-    (put-leaves S c.get.ensures.store n c.requires.part c.args.point from c.requires.within to c.requires.solid f k (flat S c.args.none.0) q c.requires.none.map j)
+    (put-leaves S c.store_law.ensures.store n c.requires.part c.args.point from c.requires.within to c.requires.solid f k (flat S c.args.none.0) q c.requires.none.map j)
 
 pub returns-clause-store : goal.returns-clause-store
 returns-clause-store c =
@@ -68,5 +68,5 @@ returns-clause-store c =
     let k : IsHeldAt S (flat S n) c.args.point from (Some f) = subst (IsHeldAt S (flat S n) c.args.point from) c.in-Some.is c.in_ok-found.ensures.found in
     let j = c.in_ok-path.ensures ∙ append-nil to in
     grown-by (IsOnWay (put (flat S c.args.none.0) q (node S f)) q) (IsMadeOf (λ p x. moved c.args.point from to (flat S n) p ≡ Some x))
-    (put-made S c.get.ensures.store n c.requires.part c.args.point from c.requires.within to c.requires.solid f k (flat S c.args.none.0) q c.requires.none.map j (ap is_path (sym c.path.view_is) ∙ c.path.invariant))
+    (put-made S c.store_law.ensures.store n c.requires.part c.args.point from c.requires.within to c.requires.solid f k (flat S c.args.none.0) q c.requires.none.map j (ap is_path (sym c.path.view_is) ∙ c.path.invariant))
     S c.put_at.new.store c.put_at.ensures.store

@@ -13,8 +13,8 @@ returns-in-Ok-clause-ok c =
     let S = c.args.store.now in
     let a = flat S c.args.a.0 in
     let b = flat S c.args.b.0 in
-    let h = is_tree S c.get.ensures.store c.args.a.0 c.requires.first in
-    let g = is_tree S c.get.ensures.store c.args.b.0 c.requires.second in
+    let h = is_tree S c.store_law.ensures.store c.args.a.0 c.requires.first in
+    let g = is_tree S c.store_law.ensures.store c.args.b.0 c.requires.second in
     let none = none-clash c.in_ok-first_clash.field-0 a b c.in_ok-first_clash.ensures c.if-is_some.ensures in
     pair-leaves a b h g none c.join_apart.new.store c.in-Ok.name.0 c.in-Ok.ensures.ok
 
@@ -23,8 +23,8 @@ returns-in-Ok-clause-store c =
     let S = c.args.store.now in
     let a = flat S c.args.a.0 in
     let b = flat S c.args.b.0 in
-    let h = is_tree S c.get.ensures.store c.args.a.0 c.requires.first in
-    let g = is_tree S c.get.ensures.store c.args.b.0 c.requires.second in
+    let h = is_tree S c.store_law.ensures.store c.args.a.0 c.requires.first in
+    let g = is_tree S c.store_law.ensures.store c.args.b.0 c.requires.second in
     let none = none-clash c.in_ok-first_clash.field-0 a b c.in_ok-first_clash.ensures c.if-is_some.ensures in
     grown-by (IsShared a b) (IsMadeOf (λ p x. IsIn a p x ⊎ IsIn b p x)) (shared-made a b h g none) S c.join_apart.new.store c.join_apart.ensures.store
 
@@ -33,8 +33,8 @@ returns-in-Err-Collision-clause-err c =
     let S = c.args.store.now in
     let a = flat S c.args.a.0 in
     let b = flat S c.args.b.0 in
-    let h = is_tree S c.get.ensures.store c.args.a.0 c.requires.first in
-    let g = is_tree S c.get.ensures.store c.args.b.0 c.requires.second in
+    let h = is_tree S c.store_law.ensures.store c.args.a.0 c.requires.first in
+    let g = is_tree S c.store_law.ensures.store c.args.b.0 c.requires.second in
     let none = none-clash c.in_ok-first_clash.field-0 a b c.in_ok-first_clash.ensures c.if-is_some.ensures in
     clash-by (IsShared a b) (IsMadeOf (λ p x. IsIn a p x ⊎ IsIn b p x)) (shared-made a b h g none) c.join_apart.new.store c.in-Err-Collision.name.0 (subst (IsTreeFault (IsShared a b) c.join_apart.new.store) c.in-Err-Collision.field-0-is c.in-Err-Collision.ensures.err)
 
@@ -43,8 +43,8 @@ returns-in-Err-Collision-clause-store c =
     let S = c.args.store.now in
     let a = flat S c.args.a.0 in
     let b = flat S c.args.b.0 in
-    let h = is_tree S c.get.ensures.store c.args.a.0 c.requires.first in
-    let g = is_tree S c.get.ensures.store c.args.b.0 c.requires.second in
+    let h = is_tree S c.store_law.ensures.store c.args.a.0 c.requires.first in
+    let g = is_tree S c.store_law.ensures.store c.args.b.0 c.requires.second in
     let none = none-clash c.in_ok-first_clash.field-0 a b c.in_ok-first_clash.ensures c.if-is_some.ensures in
     grown-by (IsShared a b) (IsMadeOf (λ p x. IsIn a p x ⊎ IsIn b p x)) (shared-made a b h g none) S c.join_apart.new.store c.join_apart.ensures.store
 
@@ -53,8 +53,8 @@ returns-in-Err-OutOfMemory-clause-store c =
     let S = c.args.store.now in
     let a = flat S c.args.a.0 in
     let b = flat S c.args.b.0 in
-    let h = is_tree S c.get.ensures.store c.args.a.0 c.requires.first in
-    let g = is_tree S c.get.ensures.store c.args.b.0 c.requires.second in
+    let h = is_tree S c.store_law.ensures.store c.args.a.0 c.requires.first in
+    let g = is_tree S c.store_law.ensures.store c.args.b.0 c.requires.second in
     let none = none-clash c.in_ok-first_clash.field-0 a b c.in_ok-first_clash.ensures c.if-is_some.ensures in
     grown-by (IsShared a b) (IsMadeOf (λ p x. IsIn a p x ⊎ IsIn b p x)) (shared-made a b h g none) S c.join_apart.new.store c.join_apart.ensures.store
 

@@ -23,7 +23,7 @@ loop-route-init c =
     let n = flat S c.args.pushed.0 in
     record {
       shows = subst (Shows S c.in_ok-stage.stage) (sym (unplaced-none n)) c.in_ok-stage.ensures.shows;
-      grown = grown_self (IsMadeOf (IsIn n)) S c.get.ensures.store;
+      grown = grown_self (IsMadeOf (IsIn n)) S c.store_law.ensures.store;
     }
 
 pub without-requires-clause-root : goal.without-requires-clause-root

@@ -20,7 +20,7 @@ entries-preserved c =
     let back : l - 1 + 1 ≡ l = omega (arith, c.entries-test.true) in
     let list : drop (l - 1) all ≡ e ∷ drop l all =
     drop_more all (l - 1) e less ∙ (λ i. (sym c.index-list-level.is) i ∷ drop (back i) all) in
-    let next = shown-step S c.with_entry.new.stage t (is_tree S c.get.ensures.store c.args.root.0 c.requires.root) b e (drop l all)
+    let next = shown-step S c.with_entry.new.stage t (is_tree S c.store_law.ensures.store c.args.root.0 c.requires.root) b e (drop l all)
     (c.in_ok-with_entry.ensures (sifted b (drop l all) t) c.entries.invariant.shows (sifted-within b (drop l all) t)) in
     record {
       within = omega (arith, c.entries.invariant.within);

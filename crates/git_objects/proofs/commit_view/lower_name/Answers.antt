@@ -21,4 +21,4 @@ pairs-preserved c =
     )
 
 pub returns : goal.returns
-returns c = all_digits c.pairs.bytes c.args.text.now c.pairs.i c.if-text-ne40.false c.bytes-bytes.ensures.name c.pairs.invariant.0 (omega arith) c.pairs.invariant.1
+returns c = all_digits c.pairs.bytes c.args.text.now c.pairs.i c.if-text-ne40.false c.name_bytes_law.ensures.name c.pairs.invariant.0 (omega arith) c.pairs.invariant.1

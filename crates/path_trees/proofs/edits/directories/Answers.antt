@@ -10,14 +10,14 @@ pub loop-component-init : goal.loop-component-init
 loop-component-init c =
     let S = c.args.store.now in
     subst (λ (names : List Name). IsSoFar S (flat S c.args.root.0) c.args.path.now names 0 c.args.root) (sym c.new-directories.ensures.items)
-    (at_first S c.args.root c.args.path.now c.get.ensures.store c.requires)
+    (at_first S c.args.root c.args.path.now c.store_law.ensures.store c.requires)
 
 pub returns-in-None-clause-names : goal.returns-in-None-clause-names
 returns-in-None-clause-names c =
     let S = c.args.store.now in
     let same = c.components-component-items.ensures.components in
     let n : length c.components-component-items.result.now ≡ length c.args.path.now = ap length same in
-    last_one S c.get.ensures.store (flat S c.args.root.0) (flat_good S c.get.ensures.store c.args.root.0 c.requires).tree c.args.path.now c.loop-component.directories.items c.loop-component.component-index c.loop-component.directory
+    last_one S c.store_law.ensures.store (flat S c.args.root.0) (flat_good S c.store_law.ensures.store c.args.root.0 c.requires).tree c.args.path.now c.loop-component.directories.items c.loop-component.component-index c.loop-component.directory
     c.loop-component.invariant c.bytes.result.now c.in-None.ensures.name (omega arith)
     (read_at c.components-component-items.result.now c.args.path.now c.loop-component.component-index c.component-item.result c.bytes.result.now same c.bytes.ensures.bytes c.component-item.is)
     c.push.new.self.items c.in_ok-push.ensures.items
@@ -27,7 +27,7 @@ loop-component-preserved c =
     let S = c.args.store.now in
     let same = c.components-component-items.ensures.components in
     let n : length c.components-component-items.result.now ≡ length c.args.path.now = ap length same in
-    one_more S c.get.ensures.store (flat S c.args.root.0) (flat_good S c.get.ensures.store c.args.root.0 c.requires).tree c.args.path.now c.loop-component.directories.items c.loop-component.component-index c.loop-component.directory
+    one_more S c.store_law.ensures.store (flat S c.args.root.0) (flat_good S c.store_law.ensures.store c.args.root.0 c.requires).tree c.args.path.now c.loop-component.directories.items c.loop-component.component-index c.loop-component.directory
     c.loop-component.invariant c.bytes.result.now c.in-Some.name c.in-Some.ensures.name (omega arith)
     (read_at c.components-component-items.result.now c.args.path.now c.loop-component.component-index c.component-item.result c.bytes.result.now same c.bytes.ensures.bytes c.component-item.is)
     c.push.new.self.items c.in_ok-push.ensures.items

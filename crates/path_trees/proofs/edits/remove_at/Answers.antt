@@ -21,15 +21,15 @@ returns-then-is_none-clause-ok c =
     let S = c.args.store.now in
     record {
       held = c.requires;
-      map = sym (remove_nothing (flat S c.args.root.0) c.args.path.now (flat_good S c.get.ensures.store c.args.root.0 c.requires).tree
+      map = sym (remove_nothing (flat S c.args.root.0) c.args.path.now (flat_good S c.store_law.ensures.store c.args.root.0 c.requires).tree
           (sym c.entry_at.ensures.found ∙ nothing (node S) c.entry_at.result c.if-is_none.ensures));
     }
 
 pub returns-then-is_none-clause-store : goal.returns-then-is_none-clause-store
-returns-then-is_none-clause-store c = record { store = c.get.ensures.store; newer = []; above = refl; trees = tt }
+returns-then-is_none-clause-store c = record { store = c.store_law.ensures.store; newer = []; above = refl; trees = tt }
 
 pub edited-requires-clause-clear : goal.edited-requires-clause-clear
 edited-requires-clause-clear c =
     let S = c.args.store.now in
-    clear_way (flat S c.args.root.0) c.args.path.now (flat_good S c.get.ensures.store c.args.root.0 c.requires).tree
+    clear_way (flat S c.args.root.0) c.args.path.now (flat_good S c.store_law.ensures.store c.args.root.0 c.requires).tree
     (ap is_none (sym c.entry_at.ensures.found) ∙ something (node S) c.entry_at.result c.if-is_none.ensures)

@@ -18,13 +18,13 @@ pub returns-then-is_empty-2-clause-ok : goal.returns-then-is_empty-2-clause-ok
 returns-then-is_empty-2-clause-ok c =
     let S = c.args.store.now in
     let A = flat S c.args.a.0 in
-    record { held = c.requires.first; map = sym (ap (together A) (no_path (flat S c.args.b.0) c.if-is_empty-2.ensures.empty) ∙ together_nothing A (flat_good S c.get.ensures.store c.args.a.0 c.requires.first).tree) }
+    record { held = c.requires.first; map = sym (ap (together A) (no_path (flat S c.args.b.0) c.if-is_empty-2.ensures.empty) ∙ together_nothing A (flat_good S c.store_law.ensures.store c.args.a.0 c.requires.first).tree) }
 
 pub joined-requires-clause-roots : goal.joined-requires-clause-roots
 joined-requires-clause-roots c =
     let S = c.args.store.now in
-    let a = under_nil (flat S c.args.a.0) (flat_good S c.get.ensures.store c.args.a.0 c.requires.first).tree in
-    let b = under_nil (flat S c.args.b.0) (flat_good S c.get.ensures.store c.args.b.0 c.requires.second).tree in
+    let a = under_nil (flat S c.args.a.0) (flat_good S c.store_law.ensures.store c.args.a.0 c.requires.first).tree in
+    let b = under_nil (flat S c.args.b.0) (flat_good S c.store_law.ensures.store c.args.b.0 c.requires.second).tree in
     record {
       path = [];
       left = record { held = c.requires.first; map = sym a };

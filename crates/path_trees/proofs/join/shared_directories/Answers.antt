@@ -17,7 +17,7 @@ directories-init c =
 pub add_shared-requires-clause-left : goal.add_shared-requires-clause-left
 add_shared-requires-clause-left c =
     let S = c.args.store.now in
-    let s = c.get.ensures.store in
+    let s = c.store_law.ensures.store in
     let root : Shared = record { left = c.args.a; right = c.args.b } in
     let same : c.len-in-directories-2.result ≡ length c.directories.firsts.items = omega arith in
     let this : slice_get c.directories.directories.items (length c.directories.firsts.items) ≡ Some c.index.result.now =
@@ -27,7 +27,7 @@ add_shared-requires-clause-left c =
 pub add_shared-requires-clause-right : goal.add_shared-requires-clause-right
 add_shared-requires-clause-right c =
     let S = c.args.store.now in
-    let s = c.get.ensures.store in
+    let s = c.store_law.ensures.store in
     let root : Shared = record { left = c.args.a; right = c.args.b } in
     let same : c.len-in-directories-2.result ≡ length c.directories.firsts.items = omega arith in
     let this : slice_get c.directories.directories.items (length c.directories.firsts.items) ≡ Some c.index.result.now =
@@ -37,7 +37,7 @@ add_shared-requires-clause-right c =
 pub directories-smaller : goal.directories-smaller
 directories-smaller c =
     let S = c.args.store.now in
-    let s = c.get.ensures.store in
+    let s = c.store_law.ensures.store in
     let root : Shared = record { left = c.args.a; right = c.args.b } in
     let same : c.len-in-directories-2.result ≡ length c.directories.firsts.items = omega arith in
     let this : slice_get c.directories.directories.items (length c.directories.firsts.items) ≡ Some c.index.result.now =
@@ -48,7 +48,7 @@ directories-smaller c =
 pub directories-preserved : goal.directories-preserved
 directories-preserved c =
     let S = c.args.store.now in
-    let s = c.get.ensures.store in
+    let s = c.store_law.ensures.store in
     let root : Shared = record { left = c.args.a; right = c.args.b } in
     let same : c.len-in-directories-2.result ≡ length c.directories.firsts.items = omega arith in
     let this : slice_get c.directories.directories.items (length c.directories.firsts.items) ≡ Some c.index.result.now =

@@ -4,7 +4,7 @@ use Rattle.push_back.proofs.Grounding.{all_collected, more_collected, none_colle
 use Rattle.push_back.proofs.base.tree_blobs.Goals as goal
 
 pub leaves-init : goal.leaves-init
-leaves-init c = ([], none_collected c.args.store.now c.args.tree.0 c.in_ok-walk.walk c.new-blobs.result c.get.ensures.store c.requires c.in_ok-walk.ensures c.new-blobs.ensures)
+leaves-init c = ([], none_collected c.args.store.now c.args.tree.0 c.in_ok-walk.walk c.new-blobs.result c.store_law.ensures.store c.requires c.in_ok-walk.ensures c.new-blobs.ensures)
 
 pub leaves-preserved : goal.leaves-preserved
 leaves-preserved c =

@@ -19,7 +19,7 @@ use Rattle.push_back.proofs.replay.replay_by.Goals as goal
 pub stream-init : goal.stream-init
 stream-init g c = record {
   so_far = subst (λ (rd : Reading). IsPushSoFar c.args.base.now.refname (from_of c.args.base.now) (flat c.args.store.now c.args.base.now.shown.0) c.args.store.now c.args.store.now (g.S.Source.left c.args.input.now) (g.S.Source.left c.args.input.now) rd c.new-replay.result) (sym c.new-reader.ensures)
-      (nothing_so_far c.args.base.now.refname (from_of c.args.base.now) (flat c.args.store.now c.args.base.now.shown.0) c.args.store.now (g.S.Source.left c.args.input.now) c.new-replay.result c.get.ensures.store (c.new-replay.ensures c.args.store.now));
+      (nothing_so_far c.args.base.now.refname (from_of c.args.base.now) (flat c.args.store.now c.args.base.now.shown.0) c.args.store.now (g.S.Source.left c.args.input.now) c.new-replay.result c.store_law.ensures.store (c.new-replay.ensures c.args.store.now));
   told = (λ x. x, λ x. x);
   later = omega arith;
   within = let e : came c.new-reader.result ≡ 0 = ap came c.new-reader.ensures in omega arith;

@@ -9,7 +9,7 @@ use Rattle.fast_import.proofs.replay.Replay.stage_upon.Goals as goal
 pub returns-in_default : goal.returns-in_default
 returns-in_default g c =
     IfOk-weaker c.empty.result _ _ (λ s p r h. subst (λ (t : Flat). Shows c.args.store.now s t)
-    (sym (upon_nothing (base_in c.args.store.now (g.B.Base.commits c.args.base.now) (g.B.Base.refs c.args.base.now) (g.B.Base.blobs c.args.base.now)) r c.args.first c.in_default.is)) (p c.args.store.now c.look_at.ensures)) c.empty.ensures
+    (sym (upon_nothing (base_in c.args.store.now (g.B.Base.commits c.args.base.now) (g.B.Base.refs c.args.base.now) (g.B.Base.blobs c.args.base.now)) r c.args.first c.in_default.is)) (p c.args.store.now c.store_law.ensures.store)) c.empty.ensures
 
 pub returns-in-None : goal.returns-in-None
 returns-in-None g c =

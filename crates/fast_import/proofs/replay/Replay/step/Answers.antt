@@ -17,7 +17,7 @@ returns-in-Commit g c = λ r h.
     let S = c.args.store.now in
     let base = base_in S (g.B.Base.commits c.args.base.now) (g.B.Base.refs c.args.base.now) (g.B.Base.blobs c.args.base.now) in
     subst (λ (x : Command). IsStepped base S S c.commit.new.self r (record { at = c.args.placed.at; command = x }) c.commit.result) (sym c.in-Commit.is)
-    (tried_stepped base S c.commit.new.self r (record { at = c.args.placed.at; command = commands.Commit c.in-Commit.head }) c.commit.result c.look_at.ensures (c.commit.ensures c.args.placed.at r h))
+    (tried_stepped base S c.commit.new.self r (record { at = c.args.placed.at; command = commands.Commit c.in-Commit.head }) c.commit.result c.store_law.ensures.store (c.commit.ensures c.args.placed.at r h))
 
 pub returns-in-CommitEnd : goal.returns-in-CommitEnd
 returns-in-CommitEnd g c = λ r h.

@@ -13,7 +13,7 @@ returns-clause-nodes c = begun_nodes c.in_ok-of_root.field-0 c.args.root c.in_ok
 pub returns-clause-shows : goal.returns-clause-shows
 returns-clause-shows c =
     begun_shows c.in_ok-of_root.field-0 c.args.root c.in_ok-of_root.ensures c.args.store.now c.in-Some.stats.files
-    (stats_files c.args.store.now c.args.root.0 c.in-Some.stats c.requires (sym c.in-Some.is ∙ c.stats.ensures)) c.get.ensures.store c.requires
+    (stats_files c.args.store.now c.args.root.0 c.in-Some.stats c.requires (sym c.in-Some.is ∙ c.stats.ensures)) c.store_law.ensures.store c.requires
 
 pub returns-in_err-of_root-clause-shows : goal.returns-in_err-of_root-clause-shows
 returns-in_err-of_root-clause-shows c = let p = err_from_is_err_and c.from_residual.result c.from_residual.ensures.1 in rw (p.1) tt

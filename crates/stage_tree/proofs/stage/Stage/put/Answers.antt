@@ -28,7 +28,7 @@ returns-in_err-way-clause-err c =
     rw (p.1) (λ t h. shows_unmoved c.args.store.now c.self.inside.nodes c.self.inside.most c.args.self.now c.self.view_is t h c.arrive.new.nodes c.in_err-way.ensures.err)
 
 pub put_last-requires-clause-way : goal.put_last-requires-clause-way
-put_last-requires-clause-way c = (c.args.store.now, c.in_ok-way.ensures.ok.way, and_both c.requires.found c.bytes.ensures.name)
+put_last-requires-clause-way c = (c.args.store.now, c.in_ok-way.ensures.ok.way, and_both c.requires.found c.name_bytes_law.ensures.name)
 
 pub put_last-requires-clause-components : goal.put_last-requires-clause-components
 put_last-requires-clause-components c = path_components c.components-components.result.now (ap is_path c.components-components.ensures.components ∙ c.components-components.ensures.path)
@@ -49,11 +49,11 @@ returns-in_err-put_last-clause-err c =
 
 pub invariant_of-self-2 : goal.invariant_of-self-2
 invariant_of-self-2 c =
-    let made = c.in_ok-put_last.ensures.ok c.args.store.now c.in_ok-way.ensures.ok.way (and_both c.requires.found c.bytes.ensures.name) in
+    let made = c.in_ok-put_last.ensures.ok c.args.store.now c.in_ok-way.ensures.ok.way (and_both c.requires.found c.name_bytes_law.ensures.name) in
     record { stage = stage_of c.args.store.now c.put_last.new.nodes made.1.opened; last_there = c.put_last.ensures.child }
 
 pub returns-clause-ok : goal.returns-clause-ok
 returns-clause-ok c = λ t h.
-    let made = c.in_ok-put_last.ensures.ok c.args.store.now c.in_ok-way.ensures.ok.way (and_both c.requires.found c.bytes.ensures.name) in
+    let made = c.in_ok-put_last.ensures.ok c.args.store.now c.in_ok-way.ensures.ok.way (and_both c.requires.found c.name_bytes_law.ensures.name) in
     subst (λ (q : Path). Shows c.args.store.now (staged c.put_last.new.nodes 4294967295) (put t q (node c.args.store.now c.args.found))) c.components-components.ensures.components
-    (put_done c.args.store.now c.self.inside.nodes c.self.inside.most c.args.self.now c.self.view_is t h c.arrive.new.nodes c.components-components.result.now c.in_ok-way.way.level c.in_ok-way.way.spot.link c.in_ok-way.way.spot.child c.in_ok-way.ensures.ok (ap is_path c.components-components.ensures.components ∙ c.components-components.ensures.path) c.args.found c.requires.found c.bytes.ensures.name c.put_last.new.nodes made.0 made.1)
+    (put_done c.args.store.now c.self.inside.nodes c.self.inside.most c.args.self.now c.self.view_is t h c.arrive.new.nodes c.components-components.result.now c.in_ok-way.way.level c.in_ok-way.way.spot.link c.in_ok-way.way.spot.child c.in_ok-way.ensures.ok (ap is_path c.components-components.ensures.components ∙ c.components-components.ensures.path) c.args.found c.requires.found c.name_bytes_law.ensures.name c.put_last.new.nodes made.0 made.1)
