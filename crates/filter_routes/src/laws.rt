@@ -54,4 +54,6 @@ pub fn table_law(table: &Table)
     ensures list { IsListOf (shape table.now.filter) table.now.routes }
     ensures sound { IsSound (shape table.now.filter) }
     ensures paths { has_paths (shape table.now.filter) ≡ true }
-{}
+{
+    let _entries = table.entries();
+}

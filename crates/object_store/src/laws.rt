@@ -19,4 +19,6 @@ pub fn growing_law()
 /// proof cites it.
 pub fn store_law(store: &Store)
     ensures store { IsStore store.now }
-{}
+{
+    let _arena = &store.arena;
+}

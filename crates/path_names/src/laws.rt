@@ -31,4 +31,6 @@ pub fn quoting_law()
 /// A path has one component or more, each of them valid. The call does nothing: a proof cites it.
 pub fn path_law(path: &Path)
     ensures path { is_path path.now ≡ true }
-{}
+{
+    let _components = path.components();
+}
