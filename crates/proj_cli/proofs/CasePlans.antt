@@ -15,7 +15,7 @@ use Rattle.state_items.specs.Items.{Break, Held, nothing, read_items}
 use Rattle.state_items.specs.Repos.{repo}
 use Rattle.state_items.specs.Changes.{KeepPlan, NoPlan, Plan, Room, fresh, held_after, objects_of, passed_by_objects, room_of}
 use Rattle.state_items.proofs.ReadObjects.{ok-same, value-of}
-use Rattle.repo_ground.specs.Laws.{base_of}
+use Rattle.import_laws.specs.Bases.{base_of}
 use Rattle.proj_words.specs.Words.{Command, Import, Project, Push, Export, Name, Batch, Trial, Rule, Unknown, loads}
 use Rattle.proj_words.specs.declared.outcome.Outcome.{Outcome}
 use Rattle.proj_cli.specs.Answers.{ArePlanned, IsSameState, changes_state}

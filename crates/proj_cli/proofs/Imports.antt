@@ -37,7 +37,7 @@ use Rattle.state_items.proofs.ReadObjects.{ok-same}
 use Rattle.state_items.proofs.Twices.{clash-twice}
 use Rattle.repo_ground.specs.Changes.{Appends, IsBatchOf, IsCommitted, IsRefusal as IsRefusedBy, IsRefused, IsStopOf, batch_plan, settings_of}
 use Rattle.repo_ground.specs.Contents.{Contents, room_in}
-use Rattle.repo_ground.specs.Laws.{base_of}
+use Rattle.import_laws.specs.Bases.{base_of}
 use Rattle.repo_ground.specs.Moves.{Move, first_backward}
 use Rattle.repo_ground.specs.declared.commit.Batch.{Batch}
 use Rattle.repo_ground.specs.declared.commit.CommitError.{CommitError}

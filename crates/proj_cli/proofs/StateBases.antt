@@ -31,7 +31,8 @@ use Rattle.state_items.specs.Items.{Held}
 use Rattle.state_items.specs.Steps.{are_heads}
 use Rattle.state_items.proofs.RowsHeld.{place-there, some-place}
 use Rattle.repo_ground.specs.Contents.{Contents, Spells}
-use Rattle.repo_ground.specs.Laws.{base_of, trees_of}
+use Rattle.repo_ground.specs.Laws.{trees_of}
+use Rattle.import_laws.specs.Bases.{base_of}
 use Rattle.repo_ground.proofs.GroundLaws.{ground-law}
 use Rattle.repo_ground.proofs.GrownLaws.{ground-grown, spells-grown}
 use Rattle.repo_ground.proofs.RowsGround.{are-in}

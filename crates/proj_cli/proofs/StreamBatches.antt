@@ -41,7 +41,7 @@ use Rattle.import_laws.proofs.SmallReplaying.{small-law}
 use Rattle.import_laws.proofs.StoredReplaying.{stored-replay-law}
 use Rattle.repo_ground.specs.Changes.{AreNamedIn, IsBatchOf, settings_of}
 use Rattle.repo_ground.specs.Contents.{Contents, Spells}
-use Rattle.repo_ground.specs.Laws.{base_of}
+use Rattle.import_laws.specs.Bases.{base_of}
 use Rattle.repo_ground.specs.declared.commit.Batch.{Batch}
 
 -- ---- commits by their names

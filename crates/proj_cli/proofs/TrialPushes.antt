@@ -14,7 +14,7 @@ use Rattle.state_items.specs.Changes.{Plan}
 use Rattle.state_items.specs.Items.{Break, Held, nothing, read_items}
 use Rattle.state_items.specs.Repos.{repo}
 use Rattle.repo_ground.specs.Contents.{Contents}
-use Rattle.repo_ground.specs.Laws.{base_of}
+use Rattle.import_laws.specs.Bases.{base_of}
 use Rattle.repo_ground.specs.Loads.{IsEmpty}
 use Rattle.proj_words.specs.TrialTexts.{TrialPush, first_push, main, push_stream, second_push, third_push, trial_stream}
 use Rattle.proj_words.specs.Words.{Command, Import, Push}

@@ -15,7 +15,7 @@ use Rattle.state_items.specs.Items.{Held}
 use Rattle.state_items.specs.Repos.{repo}
 use Rattle.state_items.specs.Changes.{Plan, Room, held_after, plan_items, room_of}
 use Rattle.repo_ground.specs.Contents.{Contents, room_in}
-use Rattle.repo_ground.specs.Laws.{base_of}
+use Rattle.import_laws.specs.Bases.{base_of}
 use Rattle.proj_words.specs.Words.{Command}
 use Rattle.proj_words.specs.declared.outcome.Outcome.{Outcome}
 use Rattle.proj_words.specs.declared.outcome.Outcome.TheVariants.{Done, OutOfMemory, Collision, ReadFault, WriteFault, StoreFault}

@@ -17,7 +17,7 @@ use Rattle.state_items.specs.Fields.{BrokenAt, Clash}
 use Rattle.state_items.specs.Items.{Break, Held, nothing, read_items}
 use Rattle.state_items.specs.Repos.{repo}
 use Rattle.state_items.specs.Changes.{NoPlan, Plan, Room, change_plan, fresh, held_after, objects_of, passed, passed_by_objects, rule_plan}
-use Rattle.repo_ground.specs.Laws.{base_of}
+use Rattle.import_laws.specs.Bases.{base_of}
 use Rattle.repo_ground.specs.Moves.{Move, first_backward}
 use Rattle.push_laws.specs.Pushes.{PushRefusal, StreamRefused, CommitRefused, Pushing, pushing}
 use Rattle.push_laws.specs.PushReplays.{StreamRefusal, OtherRef as OnOtherRef, NotAtHead as IsNotAtHead, MergePushed as IsMerge, Faulty}

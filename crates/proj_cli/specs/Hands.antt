@@ -22,7 +22,7 @@ use Rattle.stream_reader.specs.declared.command.Placed.{Placed}
 use Rattle.fast_import.specs.Replays.{Base, Ran, Replay, empty_base, given_bytes, heads_of, inline_blob, leaf_of, nothing_yet, step}
 use Rattle.state_items.specs.Changes.{blob_object}
 use Rattle.state_items.specs.Repos.{repo}
-use Rattle.repo_ground.specs.Laws.{base_of}
+use Rattle.import_laws.specs.Bases.{base_of}
 use Rattle.proj_cli.specs.Cases.{Case, ImportCase, ProjectCase, ExportCase, PushCase, NameCase, held_in}
 use Rattle.proj_cli.specs.Filters.{history, rule_by}
 

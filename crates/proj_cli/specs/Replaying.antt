@@ -11,7 +11,7 @@ use Rattle.fast_import.specs.declared.replayed.Replayed.{Replayed}
 use Rattle.fast_import.specs.declared.whole.ReplayError.{ReplayError}
 use Rattle.state_items.specs.Items.{Held}
 use Rattle.repo_ground.specs.Contents.{Contents}
-use Rattle.repo_ground.specs.Laws.{base_of}
+use Rattle.import_laws.specs.Bases.{base_of}
 use Rattle.repo_ground.specs.declared.commit.Batch.{Batch}
 use Rattle.proj_words.specs.declared.outcome.Outcome.{Outcome}
 use Rattle.proj_cli.specs.Cases.{ref_line}

@@ -11,7 +11,7 @@ ghost use Rattle.proj_io.specs.Uses.{IsUsed};
 ghost use Rattle.proj_io.specs.Views.{keeper_view};
 ghost use Rattle.proj_words.specs.Words.{Import};
 ghost use Rattle.repo_ground.specs.Changes.{IsBatchOf, IsStopOf, settings_of};
-ghost use Rattle.repo_ground.specs.Laws.{base_of};
+ghost use Rattle.import_laws.specs.Bases.{base_of};
 ghost use Rattle.state_items.specs.Changes.{Plan};
 ghost use Rattle.state_items.specs.Items.{Held};
 ghost use Rattle.state_items.specs.Repos.{repo};

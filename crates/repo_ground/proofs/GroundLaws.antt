@@ -28,7 +28,7 @@ use Rattle.state_items.specs.Arrivals.{blobs_of, commit_row, rows_of, with_blob_
 use Rattle.state_items.specs.Items.{Held}
 use Rattle.state_items.specs.Repos.{repo}
 use Rattle.repo_ground.specs.Contents.{Contents, Spells}
-use Rattle.repo_ground.specs.Laws.{GroundLaw, base_of, trees_of}
+use Rattle.repo_ground.specs.Laws.{GroundLaw, trees_of}
 use Rattle.repo_ground.specs.Selecting.{IsPutAway}
 use Rattle.repo_ground.proofs.RowsGround.{are-in}
 
@@ -123,7 +123,9 @@ ground-commits : (h : Held) (s : Contents) → Spells h s → IsGround s.basis �
 ground-commits h s w g =
     ap (graph_of s.basis.store) w.graph ∙ commits-held s.basis.store h.objects g.graph.store w.store (are-in s.basis.store h.objects w.within)
 
-ground-base : (h : Held) (s : Contents) → Spells h s → IsGround s.basis → base_in s.basis.store (trees_of s.basis.graph) h.refs (reverse s.blobs) ≡ base_of h
+ground-base : (h : Held) (s : Contents) → Spells h s → IsGround s.basis
+    → base_in s.basis.store (trees_of s.basis.graph) h.refs (reverse s.blobs)
+      ≡ record { commits = map named_tree (repo h).commits; refs = h.refs; blobs = (repo h).blobs }
 ground-base h s w g =
     let i : AreIn s.basis.store h.objects = are-in s.basis.store h.objects w.within in
     let trees : trees_by s.basis.store s.basis.graph ≡ map named_tree (snapshots_in h.objects) =

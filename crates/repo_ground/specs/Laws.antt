@@ -6,7 +6,7 @@ use Rattle.commit_map.specs.Shown.{Entries}
 use Rattle.object_store.specs.Objects.{Object, IsStore}
 use Rattle.commit_graph.specs.Graphs.{Row}
 use Rattle.fast_import.specs.Bases.{base_in}
-use Rattle.fast_import.specs.Replays.{Base, named_tree}
+use Rattle.fast_import.specs.Replays.{named_tree}
 use Rattle.projection_ground.specs.Grounds.{IsGround, commits_of}
 use Rattle.projection_ground.specs.declared.ground.Ground.{Ground}
 use Rattle.state_items.specs.Items.{Held}
@@ -24,15 +24,13 @@ pub record Named : Type 0 where
   pub refs : Refs
   pub blobs : List Bytes
 
--- what a stream may name of what is held: its commits with their trees, its refs, and its known blobs
-abbrev pub base_of : Held → Base
-base_of h = record { commits = map named_tree (repo h).commits; refs = h.refs; blobs = (repo h).blobs }
-
--- The ground of a state that has what items hold has exactly the commits that are held.
+-- The ground of a state that has what items hold has exactly the commits that are held, and a stream may name of the state exactly the
+-- commits that are held with their trees, the refs that are held, and the known blobs.
 pub record GroundLaw : Type 0 where
   pub commits : (h : Held) (s : Contents) → Spells h s → IsGround s.basis → commits_of s.basis ≡ (repo h).commits
   pub base : (h : Held) (s : Contents) → Spells h s → IsGround s.basis
-      → base_in s.basis.store (trees_of s.basis.graph) h.refs (reverse s.blobs) ≡ base_of h
+      → base_in s.basis.store (trees_of s.basis.graph) h.refs (reverse s.blobs)
+        ≡ record { commits = map named_tree (repo h).commits; refs = h.refs; blobs = (repo h).blobs }
 
 -- Where its ground has grown, the store by any objects and the map by entries behind those that are there, a state has what items hold
 -- still; and a ground whose store has grown is a ground.

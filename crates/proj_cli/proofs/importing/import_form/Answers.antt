@@ -5,7 +5,7 @@ use Rattle.fast_import.specs.Replays.{ran}
 use Rattle.proj_io.specs.Stops.{OnlyAdds}
 use Rattle.proj_io.specs.Views.{keeper_view}
 use Rattle.proj_words.specs.Words.{Import}
-use Rattle.repo_ground.specs.Laws.{base_of}
+use Rattle.import_laws.specs.Bases.{base_of}
 use Rattle.proj_cli.specs.Cases.{ImportCase}
 use Rattle.proj_cli.specs.Forms.{IsForm}
 use Rattle.proj_cli.proofs.Forming.{used-on, loaded-state}

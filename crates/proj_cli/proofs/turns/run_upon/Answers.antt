@@ -8,7 +8,7 @@ use Rattle.proj_io.specs.Views.{keeper_view}
 use Rattle.proj_words.specs.Views.{command_of}
 use Rattle.proj_words.specs.Words.{Batch, Command, Export, Import, Name, Project, Push, Trial, Unknown}
 use Rattle.proj_words.specs.declared.outcome.Outcome.TheVariants.{Usage}
-use Rattle.repo_ground.specs.Laws.{base_of}
+use Rattle.import_laws.specs.Bases.{base_of}
 use Rattle.state_items.specs.Items.{Held}
 use Rattle.state_items.specs.Changes.{NoPlan}
 use Rattle.proj_cli.specs.Cases.{ImportCase, case, loaded}
