@@ -138,7 +138,8 @@ impl Graph {
         Ok(found)
     }
 
-    /// Whether the old commit is the new one or an ancestor of it. It takes time for the places between them.
+    /// Whether the old commit is the new one or an ancestor of it. It takes a byte for each place up to the new one's,
+    /// and looks at no commit before the old one.
     pub fn is_ancestor(&self, old: u32, new: u32) -> Result<bool, AllocError>
         requires old_is_there { old < length self.now }
         requires new_is_there { new < length self.now }

@@ -64,6 +64,7 @@ impl Indexed {
         Ok(list)
     }
 
+    /// Puts an entry behind the others. After an error the list is of no more use.
     pub fn push(&mut self, entry: Entry) -> Result<(), AllocError>
         ensures { OnOk result (self.new ≡ self.old ++ entry ∷ []) }
     {

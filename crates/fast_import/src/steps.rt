@@ -19,7 +19,8 @@ use path_names::RefName;
 impl Replay {
     /// Carries out a command that a reader gave behind those before it, none of which was refused. A base gives
     /// the same answers in each call, and the store may only have grown. A command is refused exactly where it has a
-    /// fault; Collision comes only where another object has the name of one that the command brings.
+    /// fault; Collision comes only where another object has the name of one that the command brings. After a refusal
+    /// the replay is of no more use.
     pub fn step<B: Base>(
         &mut self,
         base: &B,

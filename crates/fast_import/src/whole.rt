@@ -62,7 +62,8 @@ pub fn replay_all<S: Source, B: Base>(
     }
 }
 
-/// Feeds a reader with the next piece, at most as long as the buffer, or tells it that the stream ends.
+/// Feeds a reader with the next piece, at most as long as the buffer, or tells it that the stream ends. After an error
+/// the reader is of no more use.
 pub fn feed_on<S: Source>(
     input: &mut S,
     reader: &mut Reader,

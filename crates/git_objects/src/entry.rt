@@ -28,7 +28,8 @@ pub fn encode_tree(alloc: Global, entries: &[Entry]) -> Result<Vec<u8>, AllocErr
     Ok(body)
 }
 
-/// Adds one entry to a body: the mode's digits, a space, the component, a zero byte and the 20 bytes of a name.
+/// Adds one entry to a body: the mode's digits, a space, the component, a zero byte and the 20 bytes of a name. After
+/// an error a part of it may be there.
 #[inline(always)]
 pub fn add_entry(
     body: &mut Vec<u8>,

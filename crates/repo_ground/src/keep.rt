@@ -32,7 +32,7 @@ use std::alloc::AllocError;
 impl State {
     /// Appends the entries of the selected filter's map that no item holds, as one item, in the graph's order. It
     /// appends nothing where there are none, where the filter's text isn't one that is read as a sound filter's
-    /// canonical text, or where the state would pass a limit.
+    /// canonical text, or where the state would pass a limit. After `Failed` the state is of no more use.
     pub fn keep<K: Keeper>(&mut self, keeper: &mut K, filter: &Filter) -> Result<(), KeepError>
         requires open { K.is_open keeper.old × (self.old.number ≡ K.number keeper.old) }
         requires state { IsKeepable self.old (printed (shape filter.now)) }

@@ -85,8 +85,9 @@ impl Stage {
         Ok(stage)
     }
 
-    /// Puts a leaf at a path, where every path that is comparable with it goes. Paths of one directory that come in the
-    /// order of their bytes cost little each. The path is copied: `set_owned` takes it without a copy.
+    /// Puts a leaf at a path, where every path that is comparable with it goes. A path behind the one that was set or
+    /// put last, in its directory, is looked for from there on. The path is copied: `set_owned` takes it without a
+    /// copy.
     pub fn set(&mut self, store: &Store, path: &Path, leaf: Leaf) -> Result<(), StageFault>
         requires leaf { has_child store.now leaf.mode leaf.name.0 ≡ true }
         requires shows { (t : Flat) × Shows store.now self.old t }
@@ -125,8 +126,8 @@ impl Stage {
     }
 
     /// Puts a leaf or a stored directory at a path, where every path that is comparable with it goes. No number of
-    /// files is refused: they are counted by the next `set` or `copy` and not here. Paths of one directory that come in
-    /// the order of their bytes cost little each.
+    /// files is refused: they are counted by the next `set` or `copy` and not here. A path behind the one that was set
+    /// or put last, in its directory, is looked for from there on.
     pub fn put(&mut self, store: &Store, path: &Path, found: Found) -> Result<(), AllocError>
         requires found { has_child store.now found.mode found.name.0 ≡ true }
         requires shows { (t : Flat) × Shows store.now self.old t }

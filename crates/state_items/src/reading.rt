@@ -353,7 +353,7 @@ impl Reading {
         incoming.piece_mut()
     }
 
-    /// Reads the item that the piece is; then the piece is empty. After a fault no further item may be read.
+    /// Reads the item that the piece is; then the piece is empty. After an error the reading is of no more use.
     pub fn read_item(&mut self) -> Result<(), ItemFault>
         requires { HoldsSomething self.old }
         ensures item { (h : Held) → Holds h self.old → MatchResult result
