@@ -1,37 +1,20 @@
 #!/usr/bin/env bash
 # Runs commands of all kinds on one store, each by a process of its own, and the same commands as one batch on a copy of the store:
 # the replies must be what the single runs answered, and both stores must show the same. Then the batch is ended by SIGKILL at
-# random moments: the store must load, and have the commit of each import and push whose reply was read. It takes the program that
-# `PROJ` names, or the built one; `COMMITS` is how many commits the store begins with, `ENTRIES` how many commands are run, and
-# `STOPS` how often the batch is ended.
+# random moments: the store must load, and have the commit of each import and push whose reply was read. `COMMITS` is how
+# many commits the store begins with, `ENTRIES` how many commands are run, and `STOPS` how often the batch is ended.
 set -u
 cd "$(dirname "$0")/.." || exit 1
-for tool in mktemp sleep cat cp cmp rm head tail wc; do
-    command -v "$tool" >/dev/null || { printf 'batches: not tried, for want of %s\n' "$tool"; exit 0; }
-done
-[ -n "${EPOCHREALTIME:-}" ] || { printf 'batches: not tried, for want of a bash with EPOCHREALTIME\n'; exit 0; }
-proj=${PROJ:-$PWD/crates/proj/out/proj}
-if [ ! -x "$proj" ]; then
-    (cd crates/proj && rt run -- name) </dev/null >/dev/null 2>&1
-    [ -x "$proj" ] || { printf 'batches: the program is not built\n'; exit 1; }
-fi
+label=batches
+. scripts/lib.sh
+needs mktemp sleep cat cp cmp rm wc
+needs_clock
+begin
 commits=${COMMITS:-300}
 entries=${ENTRIES:-200}
 wanted=${STOPS:-20}
 RANDOM=${SEED:-1}
-work=$(mktemp -d) || exit 1
-child=
-trap '[ -z "$child" ] || kill -KILL "$child" 2>/dev/null; rm -rf "$work"' EXIT
 main=refs/heads/main
-
-fail() {
-    printf 'batches: %s\n' "$1"
-    exit 1
-}
-
-micros() {
-    printf '%s' "${EPOCHREALTIME/[.,]/}"
-}
 
 # a commit at this second, upon the parent's line or nothing, that writes the content into a file
 commit() {

@@ -1,33 +1,17 @@
 #!/usr/bin/env bash
 # Makes the same histories with real Git and compares its names with those that `proj` prints and that the cases of pushes
-# expect. It takes the program that `PROJ` names, or the built one, and builds that where it isn't there: a gate that has
-# proved all of it before builds nothing.
+# expect.
 set -u
 cd "$(dirname "$0")/.." || exit 1
-proj=${PROJ:-$PWD/crates/proj/out/proj}
-if [ ! -x "$proj" ]; then
-    (cd crates/proj && rt run -- name) </dev/null >/dev/null 2>&1
-    [ -x "$proj" ] || { printf 'git: the program is not built\n'; exit 1; }
-fi
-work=$(mktemp -d) || exit 1
-trap 'rm -rf "$work"' EXIT
+label=git
+. scripts/lib.sh
+needs git mktemp awk cut tail mkdir mv ln rm
+begin
+own_settings
 export GIT_DIR=$work/repo GIT_INDEX_FILE=$work/index
-export GIT_CONFIG_NOSYSTEM=1 GIT_CONFIG_GLOBAL=/dev/null HOME=$work
 export GIT_AUTHOR_NAME=A GIT_AUTHOR_EMAIL=a@x GIT_AUTHOR_DATE='@1700000000 +0000'
 export GIT_COMMITTER_NAME=A GIT_COMMITTER_EMAIL=a@x GIT_COMMITTER_DATE='@1700000000 +0000'
 git init -q --bare "$GIT_DIR" || exit 1
-passed=0
-failed=0
-
-# what is compared, what Git says, what is said here
-same() {
-    if [ -n "$2" ] && [ "$2" = "$3" ]; then
-        passed=$((passed + 1))
-    else
-        failed=$((failed + 1))
-        printf 'git: %s: %s, but here: %s\n' "$1" "$2" "$3"
-    fi
-}
 
 # one commit of a stream: message, path, content, and the line of its parent or nothing
 commit() {
@@ -91,7 +75,7 @@ same 'a push of a new directory' "$anew $(upon push "$(with_file "$head" new/x x
 
 # Git outside of the repository above
 plain() {
-    env -u GIT_DIR -u GIT_INDEX_FILE git -c init.defaultBranch=main "$@"
+    env -u GIT_DIR -u GIT_INDEX_FILE git "$@"
 }
 
 # the store's ref through a filter, as a bare repository
@@ -132,5 +116,4 @@ same 'the tree of a push' "$(plain -C "$work/clone" rev-parse 'main^{tree}')" \
     "$(plain -C "$work/after" rev-parse main:a)"
 same 'what is not shown' "$hidden" "$(plain -C "$work/after" rev-parse main:b)"
 
-printf 'git: %d passed, %d failed\n' "$passed" "$failed"
-[ "$failed" -eq 0 ]
+counted

@@ -1,30 +1,19 @@
 #!/usr/bin/env bash
 # Imports what `git fast-export` writes of this repository, and of a history with merges, renames, modes and links, into
 # a store in several runs: the first commits, then the rest upon them, then all branches. Each ref must have Git's name;
-# the same streams again append nothing; a ref is moved to a commit of another root only where that is forced. It takes
-# the program that `PROJ` names, or the built one, and builds that where it isn't there.
+# the same streams again append nothing; a ref is moved to a commit of another root only where that is forced.
 set -u
 cd "$(dirname "$0")/.." || exit 1
-proj=${PROJ:-$PWD/crates/proj/out/proj}
-if [ ! -x "$proj" ]; then
-    (cd crates/proj && rt run -- name) </dev/null >/dev/null 2>&1
-    [ -x "$proj" ] || { printf 'imports: the program is not built\n'; exit 1; }
-fi
-work=$(mktemp -d) || exit 1
-trap 'rm -rf "$work"' EXIT
-export GIT_CONFIG_NOSYSTEM=1 GIT_CONFIG_GLOBAL=/dev/null HOME=$work
+label=imports
+. scripts/lib.sh
+needs git mktemp sed sort cmp grep wc mkdir chmod ln rm
+begin
+own_settings
 export GIT_AUTHOR_NAME=A GIT_AUTHOR_EMAIL=a@x GIT_COMMITTER_NAME=B GIT_COMMITTER_EMAIL=b@x
-passed=0
-failed=0
 
 # what it is, and whether it holds
 check() {
-    if [ "$2" -eq 0 ]; then
-        passed=$((passed + 1))
-    else
-        failed=$((failed + 1))
-        printf 'imports: not so: %s\n' "$1"
-    fi
+    if [ "$2" -eq 0 ]; then right; else wrong "not so: $1"; fi
 }
 
 # a repository with two branches that are merged now and then, and a third with a root of its own
@@ -69,7 +58,7 @@ exported() {
 
 # Imports the branches of the repository in three runs. The first ends so many commits before the main branch's end.
 tried() {
-    local repository=$1 name=$2 main=$3 back=$4 old size ref commit stored=0
+    local repository=$1 name=$2 main=$3 back=$4 old size ref stored=0
     old=$(git -C "$repository" rev-list --first-parent -n 1 --skip="$back" "$main") || exit 1
     exported "$old" | sed "s#^\(commit\|reset\) $old\$#\1 $main#" >"$work/first"
     exported "$main" "^$old" >"$work/rest"
@@ -83,7 +72,7 @@ tried() {
     git -C "$repository" for-each-ref --format='%(refname) %(objectname)' refs/heads | LC_ALL=C sort >"$work/wanted"
     LC_ALL=C sort "$work/out" | cmp -s - "$work/wanted"
     check "$name: each branch has Git's name" $?
-    while read -r ref commit; do
+    while read -r ref _; do
         [ "$("$proj" "$work/$name.store" export "$ref" :nop | grep -c '^commit ')" -gt 0 ] || stored=1
     done <"$work/wanted"
     check "$name: each branch is there" $stored
@@ -103,10 +92,9 @@ tried() {
 
 made
 tried "$work/made" made refs/heads/main 25
-if [ "$(git rev-parse --is-shallow-repository 2>/dev/null)" = false ]; then
+if has_history; then
     git clone -q --bare . "$work/here.git" 2>/dev/null &&
         branch=$(git -C "$work/here.git" symbolic-ref HEAD) &&
         git -C "$work/here.git" rev-parse -q --verify "$branch~30" >"$work/out" && tried "$work/here.git" here "$branch" 30
 fi
-printf 'imports: %d passed, %d failed\n' "$passed" "$failed"
-[ "$failed" -eq 0 ]
+counted

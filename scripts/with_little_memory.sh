@@ -1,25 +1,16 @@
 #!/usr/bin/env bash
 # Runs each command, alone and within a batch, with less and less memory, from what is ample down to what the program needs to begin
 # at all: each run must end as with ample memory, or with `out of memory`, and the store must load and show what it showed before or
-# what the command makes of it. It takes the program that `PROJ` names, or the built one; `STEPS` is how many sizes are tried for each
-# command.
+# what the command makes of it. `STEPS` is how many sizes are tried for each command.
 set -u
 cd "$(dirname "$0")/.." || exit 1
-for tool in mktemp cp cmp cat rm wc; do
-    command -v "$tool" >/dev/null || { printf 'memory: not tried, for want of %s\n' "$tool"; exit 0; }
-done
-(ulimit -v 4000000) 2>/dev/null || { printf 'memory: not tried, for want of ulimit -v\n'; exit 0; }
-proj=${PROJ:-$PWD/crates/proj/out/proj}
-[ -x "$proj" ] || { printf 'memory: the program is not built\n'; exit 1; }
+label=memory
+. scripts/lib.sh
+needs mktemp cp cmp cat rm sed wc
+(ulimit -v 4000000) 2>/dev/null || skip 'ulimit -v'
+begin
 steps=${STEPS:-4}
-work=$(mktemp -d) || exit 1
-trap 'rm -rf "$work"' EXIT
 main=refs/heads/main
-
-fail() {
-    printf 'memory: %s\n' "$1"
-    exit 1
-}
 
 # a commit with this message, upon the parent's line or nothing, that writes the content into a file
 commit() {
@@ -109,7 +100,7 @@ try() {
         esac
         runs=$((runs + 1))
         state "$work/copy" >"$work/now" || fail "$*: the store does not load after a run with $size KiB"
-        [ "$words" != "$work/copy" ] || [ "${words[1]}" = batch ] || cmp -s "$work/now" "$work/before" ||
+        [ "${words[0]}" != "$work/copy" ] || [ "${words[1]}" = batch ] || cmp -s "$work/now" "$work/before" ||
             cmp -s "$work/now" "$work/after" || fail "$*: another state with $size KiB"
     done
 }

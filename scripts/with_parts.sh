@@ -1,36 +1,15 @@
 #!/usr/bin/env bash
 # Compares what each directory of this very repository, and of a made one with merges, is projected to with what Git makes of
 # it: by rule 1 with commits that Git's plumbing writes one by one, by rule 2 with `git subtree split`; and what `export`
-# writes of it goes through `git fast-import`. It takes the program that `PROJ` names, or the built one, and builds that where
-# it isn't there.
+# writes of it goes through `git fast-import`.
 set -u
 cd "$(dirname "$0")/.." || exit 1
-proj=${PROJ:-$PWD/crates/proj/out/proj}
-if [ ! -x "$proj" ]; then
-    (cd crates/proj && rt run -- name) </dev/null >/dev/null 2>&1
-    [ -x "$proj" ] || { printf 'parts: the program is not built\n'; exit 1; }
-fi
-if [ ! -d .git ] || [ "$(git rev-parse --is-shallow-repository)" != false ]; then
-    printf 'parts: not tried, for want of a whole history\n'
-    exit 0
-fi
-work=$(mktemp -d) || exit 1
-trap 'rm -rf "$work"' EXIT
-export GIT_CONFIG_NOSYSTEM=1 GIT_CONFIG_GLOBAL=$work/config HOME=$work
-git config --file "$work/config" safe.directory '*'
-git config --file "$work/config" init.defaultBranch main
-passed=0
-failed=0
-
-# what is compared, what Git says, what is said here
-same() {
-    if [ -n "$2" ] && [ "$2" = "$3" ]; then
-        passed=$((passed + 1))
-    else
-        failed=$((failed + 1))
-        printf 'parts: %s: %s, but here: %s\n' "$1" "$2" "$3"
-    fi
-}
+label=parts
+. scripts/lib.sh
+needs git mktemp sed cut paste grep mkdir rm
+begin
+own_settings
+has_history || skip 'a whole history'
 
 # The name of the projection of `main` to a directory by rule 1, each of its commits written by Git: with the directory's
 # tree, upon the projections of the parents, each once; left out where that would be its only parent's tree again.
@@ -136,5 +115,4 @@ tried 'this repository'
 cd "$work/made" || exit 1
 tried 'a made one'
 
-printf 'parts: %d passed, %d failed\n' "$passed" "$failed"
-[ "$failed" -eq 0 ]
+counted

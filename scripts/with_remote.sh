@@ -1,47 +1,36 @@
 #!/usr/bin/env bash
-# Clones, fetches and pushes parts of a store with an ordinary Git, through contrib/git-remote-proj. It takes the
-# program that `PROJ` names, or the built one, and builds that where it isn't there.
+# Clones, fetches and pushes parts of a store with an ordinary Git, through contrib/git-remote-proj.
 set -u
 cd "$(dirname "$0")/.." || exit 1
-proj=${PROJ:-$PWD/crates/proj/out/proj}
-if [ ! -x "$proj" ]; then
-    (cd crates/proj && rt run -- name) </dev/null >/dev/null 2>&1
-    [ -x "$proj" ] || { printf 'remote: the program is not built\n'; exit 1; }
-fi
-work=$(mktemp -d) || exit 1
-trap 'rm -rf "$work"' EXIT
+label=remote
+. scripts/lib.sh
+needs git mktemp realpath awk sed grep cut paste sort head tail seq tee tr dirname mkdir chmod ln rm
+begin
+own_settings
 mkdir "$work/bin"
 ln -s "$(realpath "$proj")" "$work/bin/proj"
 ln -s "$PWD/contrib/git-remote-proj" "$work/bin/git-remote-proj"
-PATH=$work/bin:$PATH
-export PATH GIT_CONFIG_NOSYSTEM=1 GIT_CONFIG_GLOBAL=$work/config HOME=$work
+export PATH=$work/bin:$PATH
 git config --file "$work/config" user.name A
 git config --file "$work/config" user.email a@x
-git config --file "$work/config" init.defaultBranch main
 git config --file "$work/config" push.default simple
 git config --file "$work/config" pull.rebase true
 git config --file "$work/config" protocol.allow always
 git config --file "$work/config" core.quotePath false
 store=$work/store
 main=refs/heads/main
-passed=0
-failed=0
 
-right() {
-    passed=$((passed + 1))
-}
-
-wrong() {
-    failed=$((failed + 1))
-    printf 'remote: %s\n' "$1"
-    [ ! -s "$work/out" ] || sed 's/^/    /' "$work/out"
+# what is wrong of the words that were run, and what they wrote
+wrong_run() {
+    wrong "$1"
+    sed 's/^/    /' "$work/out"
 }
 
 # Runs the words, which must end well.
 does() {
     what=$1
     shift
-    if "$@" >"$work/out" 2>&1; then right; else wrong "$what"; fi
+    if "$@" >"$work/out" 2>&1; then right; else wrong_run "$what"; fi
 }
 
 # Runs the words, which must fail, and tell the text.
@@ -52,14 +41,8 @@ refused() {
     if ! "$@" >"$work/out" 2>&1 && grep -qF -- "$text" "$work/out"; then
         right
     else
-        wrong "$what: not refused by \`$text\`"
+        wrong_run "$what: not refused by \`$text\`"
     fi
-}
-
-# what is compared, what is expected, what is there
-same() {
-    : >"$work/out"
-    if [ -n "$2" ] && [ "$2" = "$3" ]; then right; else wrong "$1: $2, but here: $3"; fi
 }
 
 address() {
@@ -297,5 +280,4 @@ does 'the commands of README' bash -e commands
 same 'what they change' 'lib/notes' "$(git -C mono diff --name-only main~1 main)"
 same 'what the clone has' "$(git -C mono rev-parse main:lib)" "$(git -C lib rev-parse 'main^{tree}')"
 
-printf 'remote: %d passed, %d failed\n' "$passed" "$failed"
-[ "$failed" -eq 0 ]
+counted

@@ -1,27 +1,20 @@
 #!/usr/bin/env bash
 # Imports commit upon commit into one store, each by a process of its own, and ends most of these processes by SIGKILL at a
 # random moment. After each the store must load, and have every commit whose line was printed and at most one more. What it must
-# show is made in a second store, into which the same history is imported at once. It takes the program that `PROJ` names, or the
-# built one, and builds that where it isn't there.
+# show is made in a second store, into which the same history is imported at once. `STOPS` is how many processes are ended.
 set -u
 cd "$(dirname "$0")/.." || exit 1
-for tool in mktemp sleep cat rm; do
-    command -v "$tool" >/dev/null || { printf 'stops: not tried, for want of %s\n' "$tool"; exit 0; }
-done
-[ -n "${EPOCHREALTIME:-}" ] || { printf 'stops: not tried, for want of a bash with EPOCHREALTIME\n'; exit 0; }
-proj=${PROJ:-$PWD/crates/proj/out/proj}
-if [ ! -x "$proj" ]; then
-    (cd crates/proj && rt run -- name) </dev/null >/dev/null 2>&1
-    [ -x "$proj" ] || { printf 'stops: the program is not built\n'; exit 1; }
-fi
+label=stops
+. scripts/lib.sh
+needs mktemp sleep cat rm
+needs_clock
+begin
 wanted=${STOPS:-50}
-work=$(mktemp -d) || exit 1
-child=
-trap '[ -z "$child" ] || kill -KILL "$child" 2>/dev/null; rm -rf "$work"' EXIT
+# Building the program takes nothing of its time.
+SECONDS=0
 
-fail() {
-    printf 'stops: %s, after %d stops and %d commits: %s\n' "$1" "$stops" "$commits" "$(cat "$work/err")"
-    exit 1
+lost() {
+    fail "$1, after $stops stops and $commits commits: $(cat "$work/err")"
 }
 
 # the commit with this number, and the line of its parent or nothing
@@ -33,10 +26,6 @@ commit() {
 # the name of what the store of that path shows
 shown() {
     "$proj" "$1" project refs/heads/main :/a 2>"$work/err"
-}
-
-micros() {
-    printf '%s' "${EPOCHREALTIME/[.,]/}"
 }
 
 # Imports the stream into the store. The process is ended after so many microseconds.
@@ -63,9 +52,9 @@ while [ "$stops" -lt "$wanted" ] && [ "$commits" -lt 600 ] && [ "$SECONDS" -lt 5
     commit "$commits" '' >>"$work/history"
     rm -f "$work/whole"
     started=$(micros)
-    line=$("$proj" "$work/whole" import <"$work/history" 2>"$work/err") || fail 'the history is refused'
+    line=$("$proj" "$work/whole" import <"$work/history" 2>"$work/err") || lost 'the history is refused'
     span=$(($(micros) - started))
-    next=$(shown "$work/whole") || fail 'the history is not shown'
+    next=$(shown "$work/whole") || lost 'the history is not shown'
     commit "$commits" "${head:+from $head
 }" >"$work/stream"
     while :; do
@@ -76,18 +65,18 @@ while [ "$stops" -lt "$wanted" ] && [ "$commits" -lt 600 ] && [ "$SECONDS" -lt 5
         else
             import_until $((RANDOM * span / 32768))
         fi
-        seen=$(shown "$work/store") || fail 'the store does not load'
+        seen=$(shown "$work/store") || lost 'the store does not load'
         case $status in
-        0) [ "$(cat "$work/out")" = "$line" ] || fail 'an import did not print its line' ;;
+        0) [ "$(cat "$work/out")" = "$line" ] || lost 'an import did not print its line' ;;
         137) stops=$((stops + 1)) ;;
-        *) fail "an import ended with status $status" ;;
+        *) lost "an import ended with status $status" ;;
         esac
         if [ "$seen" = "$next" ]; then
             [ "$status" -eq 0 ] || landed=$((landed + 1))
             break
         fi
-        [ "$status" -ne 0 ] && [ ! -s "$work/out" ] || fail 'a commit whose line was printed is not there'
-        [ "$seen" = "$now" ] || fail "the store shows $seen and not $now or $next"
+        [ "$status" -ne 0 ] && [ ! -s "$work/out" ] || lost 'a commit whose line was printed is not there'
+        [ "$seen" = "$now" ] || lost "the store shows $seen and not $now or $next"
         [ "$stops" -lt "$wanted" ] && [ "$SECONDS" -lt 50 ] || break
     done
     [ "$seen" = "$next" ] || break

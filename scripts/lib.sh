@@ -1,0 +1,81 @@
+# shellcheck shell=bash
+# What the heads of these scripts and of some in bench/ have in common. A script goes to the top of the repository, says in `label`
+# what its lines begin with, and reads this file; then `needs` looks for its tools, and `begin` for the program.
+: "${label:?}"
+passed=0
+failed=0
+child=
+
+# Ends a script that can't be tried here, which is no failure: what is missing.
+skip() {
+    printf '%s: not tried, for want of %s\n' "$label" "$1"
+    exit 0
+}
+
+fail() {
+    printf '%s: %s\n' "$label" "$1"
+    exit 1
+}
+
+# Skips the script where one of these tools is missing.
+needs() {
+    local tool
+    for tool in "$@"; do
+        command -v "$tool" >/dev/null || skip "$tool"
+    done
+}
+
+# Skips the script where bash can't tell the time to `micros`.
+needs_clock() {
+    [ -n "${EPOCHREALTIME:-}" ] || skip 'a bash with EPOCHREALTIME'
+}
+
+# the time in microseconds
+micros() {
+    printf '%s' "${EPOCHREALTIME/[.,]/}"
+}
+
+# Finds the program `proj`: the one that `PROJ` names, or the built one, which is built where it isn't there. Makes the folder
+# `work`. When the script ends, that folder goes, and so does the process `child`, if there is one.
+begin() {
+    proj=${PROJ:-$PWD/crates/proj/out/proj}
+    if [ ! -x "$proj" ]; then
+        (cd crates/proj && rt run -- name) </dev/null >/dev/null 2>&1
+        [ -x "$proj" ] || fail 'the program is not built'
+    fi
+    work=$(mktemp -d) || exit 1
+    trap '[ -z "$child" ] || kill -KILL "$child" 2>/dev/null; rm -rf "$work"' EXIT
+}
+
+# Has Git read no settings but those of the file `config` in the folder `work`.
+own_settings() {
+    export GIT_CONFIG_NOSYSTEM=1 GIT_CONFIG_GLOBAL=$work/config HOME=$work
+    git config --file "$work/config" safe.directory '*'
+    git config --file "$work/config" init.defaultBranch main
+}
+
+# Whether this checkout has its whole history.
+has_history() {
+    [ -e .git ] && [ "$(git rev-parse --is-shallow-repository 2>/dev/null)" = false ]
+}
+
+right() {
+    passed=$((passed + 1))
+}
+
+# what is wrong
+wrong() {
+    failed=$((failed + 1))
+    printf '%s: %s\n' "$label" "$1"
+}
+
+# what is compared, what Git says, what is said here
+same() {
+    if [ -n "$2" ] && [ "$2" = "$3" ]; then right; else wrong "$1: $2, but here: $3"; fi
+}
+
+# Tells what was counted. Its status is the script's.
+counted() {
+    printf '%s: %d passed, %d failed\n' "$label" "$passed" "$failed"
+    [ "$failed" -eq 0 ]
+}
