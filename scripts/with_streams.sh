@@ -1,19 +1,15 @@
 #!/usr/bin/env bash
-# Replays streams of `git fast-export` and compares the names of all commits and refs with those that Git gives them: of a
-# history with merges, renames, modes, links, modules, odd names and empty commits, and of this repository, each exported
-# in several ways. It takes the program that `BENCH` names, or the built one, and builds that where it isn't there.
+# Imports streams of `git fast-export` and compares the names that `import` prints of all refs with those that Git gives them;
+# a ref's name stands for all commits below it. The streams are of a history with merges, renames, modes, links, modules, odd
+# names and a commit without a change, and of this repository, each exported in several ways. Then `project` and `name` must
+# print the same names, and Git must give them to what `export` writes.
 set -u
 cd "$(dirname "$0")/.." || exit 1
-bench=${BENCH:-$PWD/crates/proj_bench/out/proj_bench}
-if [ ! -x "$bench" ]; then
-    (cd crates/proj_bench && rt run -- all) </dev/null >/dev/null 2>&1
-    [ -x "$bench" ] || { printf 'streams: the program is not built\n'; exit 1; }
-fi
-work=$(mktemp -d) || exit 1
-trap 'rm -rf "$work"' EXIT
-export GIT_CONFIG_NOSYSTEM=1 GIT_CONFIG_GLOBAL=/dev/null HOME=$work
-passed=0
-failed=0
+label=streams
+. scripts/lib.sh
+needs git mktemp awk sort cmp diff head tr seq rm
+begin
+own_settings
 number=0
 
 ident() {
@@ -66,9 +62,9 @@ history() {
     printf 'merge :101\nmerge :102\nmerge :103\n'
     file 100644 side1/only 1
     printf '\n'
-    commit refs/heads/main 301 300
+    commit refs/heads/empty 301 300
     printf '\n'
-    commit refs/heads/main 302 301
+    commit refs/heads/main 302 300
     printf 'deleteall\n'
     file 100644 left alone
     printf '\n'
@@ -77,38 +73,82 @@ history() {
     printf '\nreset refs/heads/old\nfrom :3\n\n'
 }
 
-# what is replayed, and the repository that Git made of the stream in the file `stream`
+# the refs of a repository with their names
+refs() {
+    git -C "$1" for-each-ref --format='%(refname) %(objectname)' | LC_ALL=C sort
+}
+
+# what it is, and whether the refs of the file `found` are those of the file `wanted`
+agree() {
+    if [ -s "$work/wanted" ] && cmp -s "$work/wanted" "$work/found"; then
+        right
+    else
+        wrong "$1: $(diff "$work/wanted" "$work/found" | head -n 3 | tr '\n' ' ')"
+    fi
+}
+
+# what it is, of the stream in the file `stream`
 compare() {
-    rm -rf "$work/made"
+    rm -rf "$work/made" "$work/store"
     git init -q --bare "$work/made"
     if ! git -C "$work/made" fast-import --quiet <"$work/stream"; then
-        printf 'streams: %s: Git refuses it\n' "$1"
-        failed=$((failed + 1))
+        wrong "$1: Git refuses it"
         return
     fi
-    git -C "$work/made" rev-list --all | sort -u >"$work/wanted"
-    git -C "$work/made" for-each-ref --format='%(refname) %(objectname)' | LC_ALL=C sort >>"$work/wanted"
-    "$bench" replay <"$work/stream" >"$work/lines"
-    grep -E '^[0-9a-f]{40}$' "$work/lines" | sort -u >"$work/got"
-    grep '^refs/' "$work/lines" >>"$work/got"
-    if [ -s "$work/got" ] && cmp -s "$work/wanted" "$work/got"; then
-        passed=$((passed + 1))
-    else
-        failed=$((failed + 1))
-        printf 'streams: %s: %s\n' "$1" "$(diff "$work/wanted" "$work/got" | head -n 3 | tr '\n' ' ')"
-    fi
+    refs "$work/made" >"$work/wanted"
+    "$proj" "$work/store" import <"$work/stream" >"$work/found"
+    agree "$1"
+}
+
+# Whether each commit of a ref has a change. What is shown by `:nop` leaves out those that have none.
+has_changes() {
+    git -C "$work/made" log --format='%H %T %P' "$1" |
+        awk '{ tree[$1] = $2; parent[$1] = $3 } NF != 3 { parent[$1] = "" }
+            END { for (it in tree) if (parent[it] != "" && tree[it] == tree[parent[it]]) exit 1 }'
+}
+
+named() {
+    "$proj" name "$1" :nop <"$work/stream"
+}
+
+# For each of the refs the line that the words print, of which REF stands for it.
+each() {
+    local ref
+    while read -r ref _; do
+        printf '%s %s\n' "$ref" "$("${@/REF/$ref}")"
+    done <"$work/wanted" >"$work/found"
+}
+
+# what it is, and what is shown of the store to which it was compared, by each of the ways there are
+shown() {
+    local ref commit
+    refs "$work/made" | while read -r ref commit; do
+        ! has_changes "$ref" || printf '%s %s\n' "$ref" "$commit"
+    done >"$work/wanted"
+    each "$proj" "$work/store" project REF :nop
+    agree "$1, by project"
+    each named REF
+    agree "$1, by name"
+    rm -rf "$work/back"
+    git init -q --bare "$work/back"
+    while read -r ref _; do
+        "$proj" "$work/store" export "$ref" :nop | git -C "$work/back" fast-import --quiet
+    done <"$work/wanted"
+    refs "$work/back" >"$work/found"
+    agree "$1, by export"
 }
 
 # a repository, exported in several ways; `--all` would have HEAD too, where no branch is checked out
 export_all() {
-    git -C "$2" fast-export --glob='refs/*' >"$work/stream"
-    compare "$1"
     git -C "$2" fast-export --glob='refs/*' --full-tree >"$work/stream"
     compare "$1 by whole trees"
     git -C "$2" fast-export --glob='refs/*' -M -C >"$work/stream"
     compare "$1 with moves and copies"
     git -C "$2" fast-export --glob='refs/*' --signed-tags=strip --tag-of-filtered-object=drop --reencode=yes >"$work/stream"
     compare "$1 with messages encoded anew"
+    git -C "$2" fast-export --glob='refs/*' >"$work/stream"
+    compare "$1"
+    shown "$1"
 }
 
 history >"$work/stream"
@@ -116,8 +156,7 @@ compare 'a history as it is written'
 git init -q --bare "$work/history"
 history | git -C "$work/history" fast-import --quiet
 export_all 'a history' "$work/history"
-if [ -d .git ] && [ "$(git rev-parse --is-shallow-repository)" = false ]; then
+if has_history; then
     export_all 'this repository' .
 fi
-printf 'streams: %d passed, %d failed\n' "$passed" "$failed"
-[ "$failed" -eq 0 ]
+counted
