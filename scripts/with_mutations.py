@@ -2,7 +2,8 @@
 """Gives the program inputs that are changed at random: streams, batches, journals and filters.
 
 No run may end by a signal or with a status that has no meaning, and a store that loads must load behind every run. It
-takes the program that PROJ names, or the built one; INPUTS is how many inputs are tried, SEED where the numbers begin.
+takes the program that PROJ names, or the built one, and builds that where it isn't there; INPUTS is how many inputs are
+tried, SEED where the numbers begin.
 """
 import os
 import random
@@ -11,8 +12,8 @@ import subprocess
 import sys
 import tempfile
 
-HERE = os.path.dirname(os.path.dirname(os.path.abspath(__file__)))
-PROJ = os.environ.get("PROJ", os.path.join(HERE, "crates/proj/out/proj"))
+CRATE = os.path.join(os.path.dirname(os.path.dirname(os.path.abspath(__file__))), "crates/proj")
+PROJ = os.environ.get("PROJ") or os.path.join(CRATE, "out/proj")
 INPUTS = int(os.environ.get("INPUTS", "1000"))
 SEED = int(os.environ.get("SEED", "1"))
 MAIN = "refs/heads/main"
@@ -101,9 +102,17 @@ def loads(store):
     return run([store, "project", "refs/heads/none", ":/a"], b"") == 8
 
 
-def main():
+def build():
+    """Builds the program where it isn't there."""
+    if not os.access(PROJ, os.X_OK) and shutil.which("rt"):
+        none = subprocess.DEVNULL
+        subprocess.run(["rt", "run", "--", "name"], cwd=CRATE, stdin=none, stdout=none, stderr=none, check=False)
     if not os.access(PROJ, os.X_OK):
         sys.exit("mutations: the program is not built")
+
+
+def main():
+    build()
     work = tempfile.mkdtemp()
     try:
         seeds = [os.path.join(work, "seed%d" % i) for i in range(3)]
