@@ -1,17 +1,18 @@
 #!/usr/bin/env bash
 # Times entries of one batch on a journal, beside Git's commands for the same: a commit more, its projection, and a
-# pushed commit. Its words are the number of commits (5700) and how many entries of each kind (100). It takes the program
-# that `PROJ` names, or the built one. With `SUBTREE=1` it also times `git subtree split`, which takes minutes. Each entry
-# that changes the store waits for the disk twice: `TMPDIR=/dev/shm` leaves that out.
+# pushed commit. Its words are the number of commits (5700) and how many entries of each kind (100). With `SUBTREE=1` it also
+# times `git subtree split`, which takes minutes. Each entry that changes the store waits for the disk twice: `TMPDIR=/dev/shm`
+# leaves that out.
 set -u
 cd "$(dirname "$0")/.." || exit 1
-proj=${PROJ:-$PWD/crates/proj/out/proj}
-[ -x "$proj" ] || { printf 'the program is not built: (cd crates/proj && rt run -- name)\n'; exit 1; }
+label=batches
+. scripts/lib.sh
+needs git mktemp awk
+needs_clock
+begin
+own_settings
 commits=${1:-5700}
 entries=${2:-100}
-work=$(mktemp -d) || exit 1
-trap 'rm -rf "$work"' EXIT
-export GIT_CONFIG_NOSYSTEM=1 GIT_CONFIG_GLOBAL=/dev/null HOME=$work
 export GIT_AUTHOR_NAME=A GIT_AUTHOR_EMAIL=a@x GIT_COMMITTER_NAME=A GIT_COMMITTER_EMAIL=a@x
 main=refs/heads/main
 
@@ -41,8 +42,8 @@ batch() {
 }
 
 # microseconds of the clock that the batch takes on a copy of the store; of three runs the least
-micros() {
-    local best= begun took i
+taken() {
+    local best='' begun took i
     for i in 1 2 3; do
         cp "$work/first" "$work/store"
         begun=${EPOCHREALTIME/[.,]/}
@@ -59,11 +60,11 @@ batch import a/ '' >"$work/imports"
 batch import a/ "project $main :/a" >"$work/projects"
 batch "push $main :/a" '' '' >"$work/pushes"
 entries=1 batch "push $main :/a" '' '' >"$work/push"
-none=$(micros "$work/none" 0)
-imports=$(micros "$work/imports" "$entries")
-projects=$(micros "$work/projects" $((2 * entries)))
-pushes=$(micros "$work/pushes" "$entries")
-push=$(micros "$work/push" 1)
+none=$(taken "$work/none" 0)
+imports=$(taken "$work/imports" "$entries")
+projects=$(taken "$work/projects" $((2 * entries)))
+pushes=$(taken "$work/pushes" "$entries")
+push=$(taken "$work/push" 1)
 printf '%d commits; loading %d.%03d ms\n' "$commits" $((none / 1000)) $((none % 1000))
 printf 'a commit more, by import: %d us\n' $(((imports - none) / entries))
 printf 'its projection, which is kept: %d us\n' $(((projects - imports) / entries))

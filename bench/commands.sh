@@ -1,15 +1,15 @@
 #!/usr/bin/env bash
 # Times whole calls of `proj` on a journal, beside Git's of the same kind: commits of 3 changes over 1,000 files of some
 # 700 bytes, of which half lie below `a`; about ten objects and 2 KB of stream a commit. Its word is the number of commits
-# (5700). It takes the program that `PROJ` names, or the built one.
+# (5700).
 set -u
 cd "$(dirname "$0")/.." || exit 1
-proj=${PROJ:-$PWD/crates/proj/out/proj}
-[ -x "$proj" ] || { printf 'the program is not built: (cd crates/proj && rt run -- name)\n'; exit 1; }
+label=commands
+. scripts/lib.sh
+needs git mktemp awk
+begin
+own_settings
 commits=${1:-5700}
-work=$(mktemp -d) || exit 1
-trap 'rm -rf "$work"' EXIT
-export GIT_CONFIG_NOSYSTEM=1 GIT_CONFIG_GLOBAL=/dev/null HOME=$work
 main=refs/heads/main
 
 # The commits with these numbers, upon the one before the first.
