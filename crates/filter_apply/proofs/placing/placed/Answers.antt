@@ -27,8 +27,8 @@ taken_in-requires c =
     let t = rests (node S0 c.args.found) in
     let within = c.levels.invariant.within in
     let positive = c.levels-test.true in
-    line_fits S0 c.args.target.now t c.levels.level c.levels.store c.levels.found c.levels.invariant.placing (c.levels.level - 1) (omega arith) (omega arith) c.bytes-in-levels.result.now (ap is_component c.bytes-in-levels.ensures.bytes ∙ c.bytes-in-levels.ensures.component)
-    (read_at c.args.target.now c.args.target.now (c.levels.level - 1) c.index-target-level.result c.bytes-in-levels.result.now refl c.bytes-in-levels.ensures.bytes c.index-target-level.is)
+    line_fits S0 c.args.target.now t c.levels.level c.levels.store c.levels.found c.levels.invariant.placing (c.levels.level - 1) (omega arith) (omega arith) c.bytes.result.now (ap is_component c.bytes.ensures.bytes ∙ c.bytes.ensures.component)
+    (read_at c.args.target.now c.args.target.now (c.levels.level - 1) c.index-target-level.result c.bytes.result.now refl c.bytes.ensures.bytes c.index-target-level.is)
     c.deref.result.now (c.deref.ensures.value ∙ c.in_ok-body.ensures)
 
 pub returns-in_err-name-clause-err : goal.returns-in_err-name-clause-err
@@ -38,8 +38,8 @@ returns-in_err-name-clause-err c =
     let within = c.levels.invariant.within in
     let positive = c.levels-test.true in
     err_told (IsApplyFault (IsPlacedObject c.args.target.now t) c.taken_in.new.store) c.from_residual-in_err-name.result (fault_of c.in_err-name.field-0.0) c.from_residual-in_err-name.ensures.1
-    (line_refused S0 c.args.target.now t c.levels.level c.levels.store c.levels.found c.levels.invariant.placing (c.levels.level - 1) (omega arith) (omega arith) c.bytes-in-levels.result.now (ap is_component c.bytes-in-levels.ensures.bytes ∙ c.bytes-in-levels.ensures.component)
-    (read_at c.args.target.now c.args.target.now (c.levels.level - 1) c.index-target-level.result c.bytes-in-levels.result.now refl c.bytes-in-levels.ensures.bytes c.index-target-level.is)
+    (line_refused S0 c.args.target.now t c.levels.level c.levels.store c.levels.found c.levels.invariant.placing (c.levels.level - 1) (omega arith) (omega arith) c.bytes.result.now (ap is_component c.bytes.ensures.bytes ∙ c.bytes.ensures.component)
+    (read_at c.args.target.now c.args.target.now (c.levels.level - 1) c.index-target-level.result c.bytes.result.now refl c.bytes.ensures.bytes c.index-target-level.is)
     c.deref.result.now (c.deref.ensures.value ∙ c.in_ok-body.ensures) c.taken_in.new.store c.in_err-name.field-0.0 c.in_err-name.ensures.err.0 c.in_err-name.ensures.err.1)
 
 pub returns-in_err-name-clause-store : goal.returns-in_err-name-clause-store
@@ -48,8 +48,8 @@ returns-in_err-name-clause-store c =
     let t = rests (node S0 c.args.found) in
     let within = c.levels.invariant.within in
     let positive = c.levels-test.true in
-    line_kept S0 c.args.target.now t c.levels.level c.levels.store c.levels.found c.levels.invariant.placing (c.levels.level - 1) (omega arith) (omega arith) c.bytes-in-levels.result.now (ap is_component c.bytes-in-levels.ensures.bytes ∙ c.bytes-in-levels.ensures.component)
-    (read_at c.args.target.now c.args.target.now (c.levels.level - 1) c.index-target-level.result c.bytes-in-levels.result.now refl c.bytes-in-levels.ensures.bytes c.index-target-level.is)
+    line_kept S0 c.args.target.now t c.levels.level c.levels.store c.levels.found c.levels.invariant.placing (c.levels.level - 1) (omega arith) (omega arith) c.bytes.result.now (ap is_component c.bytes.ensures.bytes ∙ c.bytes.ensures.component)
+    (read_at c.args.target.now c.args.target.now (c.levels.level - 1) c.index-target-level.result c.bytes.result.now refl c.bytes.ensures.bytes c.index-target-level.is)
     c.deref.result.now (c.deref.ensures.value ∙ c.in_ok-body.ensures) c.taken_in.new.store c.in_err-name.ensures.err.0
 
 pub levels-preserved : goal.levels-preserved
@@ -60,8 +60,8 @@ levels-preserved c =
     let positive = c.levels-test.true in
     record {
       within = omega arith;
-      placing = line_placed S0 c.args.target.now t c.levels.level c.levels.store c.levels.found c.levels.invariant.placing (c.levels.level - 1) (omega arith) (omega arith) c.bytes-in-levels.result.now (ap is_component c.bytes-in-levels.ensures.bytes ∙ c.bytes-in-levels.ensures.component)
-          (read_at c.args.target.now c.args.target.now (c.levels.level - 1) c.index-target-level.result c.bytes-in-levels.result.now refl c.bytes-in-levels.ensures.bytes c.index-target-level.is)
+      placing = line_placed S0 c.args.target.now t c.levels.level c.levels.store c.levels.found c.levels.invariant.placing (c.levels.level - 1) (omega arith) (omega arith) c.bytes.result.now (ap is_component c.bytes.ensures.bytes ∙ c.bytes.ensures.component)
+          (read_at c.args.target.now c.args.target.now (c.levels.level - 1) c.index-target-level.result c.bytes.result.now refl c.bytes.ensures.bytes c.index-target-level.is)
           c.deref.result.now (c.deref.ensures.value ∙ c.in_ok-body.ensures) c.taken_in.new.store c.taken_in.ensures.store c.in_ok-name.ensures.ok.1 c.in_ok-name.name c.in_ok-name.ensures.ok.0;
       kind = inl refl;
     }

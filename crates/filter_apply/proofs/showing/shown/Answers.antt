@@ -18,13 +18,13 @@ pub returns-in-Some-clause-true_now : goal.returns-in-Some-clause-true_now
 returns-in-Some-clause-true_now g c =
     let S = c.args.store.now in
     let k : Key = (c.args.id, c.args.root.0) in
-    true_less S c.args.table.now c.args.id c.args.memo.now c.get-2.new.self (after_get c.args.memo.now c.get-2.new.self k c.get-2.ensures.used) c.requires.memo
+    true_less S c.args.table.now c.args.id c.args.memo.now c.get.new.self (after_get c.args.memo.now c.get.new.self k c.get.ensures.used) c.requires.memo
 
 pub returns-in-Some-clause-others : goal.returns-in-Some-clause-others
 returns-in-Some-clause-others g c =
     let S = c.args.store.now in
     let k : Key = (c.args.id, c.args.root.0) in
-    keeps_less c.args.id c.args.memo.now c.get-2.new.self (after_get c.args.memo.now c.get-2.new.self k c.get-2.ensures.used)
+    keeps_less c.args.id c.args.memo.now c.get.new.self (after_get c.args.memo.now c.get.new.self k c.get.ensures.used)
 
 pub returns-in-Some-clause-few : goal.returns-in-Some-clause-few
 returns-in-Some-clause-few g c = paid_same (shape c.args.table.now.filter) c.args.steps.now
@@ -33,14 +33,14 @@ pub returns-in_err-name-clause-true_now : goal.returns-in_err-name-clause-true_n
 returns-in_err-name-clause-true_now g c =
     let S = c.args.store.now in
     let k : Key = (c.args.id, c.args.root.0) in
-    true_less c.made.new.store c.args.table.now c.args.id c.args.memo.now c.get-2.new.self (after_get c.args.memo.now c.get-2.new.self k c.get-2.ensures.used)
+    true_less c.made.new.store c.args.table.now c.args.id c.args.memo.now c.get.new.self (after_get c.args.memo.now c.get.new.self k c.get.ensures.used)
     (true_grown S c.made.new.store c.args.table.now c.args.id c.args.memo.now c.in_err-name.ensures.store c.requires.memo)
 
 pub returns-in_err-name-clause-others : goal.returns-in_err-name-clause-others
 returns-in_err-name-clause-others g c =
     let S = c.args.store.now in
     let k : Key = (c.args.id, c.args.root.0) in
-    keeps_less c.args.id c.args.memo.now c.get-2.new.self (after_get c.args.memo.now c.get-2.new.self k c.get-2.ensures.used)
+    keeps_less c.args.id c.args.memo.now c.get.new.self (after_get c.args.memo.now c.get.new.self k c.get.ensures.used)
 
 pub returns-clause-true_now : goal.returns-clause-true_now
 returns-clause-true_now g c =
@@ -52,7 +52,7 @@ returns-clause-true_now g c =
       seen = subst (λ (u : Flat). StandsFor S1 c.in_ok-name.name.0 (seen_through (lens_of (shape c.args.table.now.filter)) u)) (sym (flat-grown S S1 c.args.root.0 c.in_ok-name.ensures.store c.requires.root)) c.in_ok-name.ensures.ok;
     } in
     true_more S1 c.args.table.now c.args.id c.args.root.0 c.in_ok-name.name.0 c.args.memo.now c.put.new.self
-    (after_put c.args.memo.now c.get-2.new.self c.put.new.self k k c.in_ok-name.name.0 c.get-2.ensures.used c.put.ensures.entered) is
+    (after_put c.args.memo.now c.get.new.self c.put.new.self k k c.in_ok-name.name.0 c.get.ensures.used c.put.ensures.entered) is
     (true_grown S S1 c.args.table.now c.args.id c.args.memo.now c.in_ok-name.ensures.store c.requires.memo)
 
 pub returns-clause-others : goal.returns-clause-others
@@ -60,4 +60,4 @@ returns-clause-others g c =
     let S = c.args.store.now in
     let k : Key = (c.args.id, c.args.root.0) in
     keeps_more c.args.id c.args.root.0 c.in_ok-name.name.0 c.args.memo.now c.put.new.self
-    (after_put c.args.memo.now c.get-2.new.self c.put.new.self k k c.in_ok-name.name.0 c.get-2.ensures.used c.put.ensures.entered)
+    (after_put c.args.memo.now c.get.new.self c.put.new.self k k c.in_ok-name.name.0 c.get.ensures.used c.put.ensures.entered)
