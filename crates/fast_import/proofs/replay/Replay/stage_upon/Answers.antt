@@ -14,4 +14,4 @@ returns-in_default g c =
 pub returns-in-None : goal.returns-in-None
 returns-in-None g c =
     IfOk-weaker c.empty-in-None.result _ _ (λ s p r h. subst (λ (t : Flat). Shows c.args.store.now s t)
-    (sym (upon_unknown (base_in c.args.store.now (g.B.Base.commits c.args.base.now) (g.B.Base.refs c.args.base.now) (g.B.Base.blobs c.args.base.now)) r c.args.first c.in-Some.name c.in-Some.is (sym (c.in-None.ensures.tree c.args.store.now r h)))) (p c.args.store.now c.look_at-in-None.ensures)) c.empty-in-None.ensures
+    (sym (upon_unknown (base_in c.args.store.now (g.B.Base.commits c.args.base.now) (g.B.Base.refs c.args.base.now) (g.B.Base.blobs c.args.base.now)) r c.args.first c.in-Some.name c.in-Some.is (sym (c.in-None.ensures.tree c.args.store.now r h)))) (p c.args.store.now c.store_law-in-None.ensures.store)) c.empty-in-None.ensures
