@@ -15,7 +15,6 @@ use Rattle.commit_map.specs.declared.rule.Rule.{Rule}
 use Rattle.commit_map.specs.declared.rule.Rule.TheVariants.{One, Two}
 use Rattle.git_objects.specs.Snapshots.{Snapshot, Graph, snapshot_name, has_name, has, is_graph, is_wanted, wanted_below, reached, add, add_all}
 use Rattle.projection_laws.specs.Projections.{shown_of, is_same, add_shown, distinct_from, distinct, members, leads, Choice, Nothing, Member, New, own, member_or, has_tree, chosen, projected, own_commit, choice_of, projections, projection, own_commits}
-use Rattle.projection_laws.specs.ProjectionLaws.{HistoryLaw}
 use Rattle.git_objects.specs.Lists.{Each}
 use Rattle.projection_laws.proofs.GraphLemmas.{IsGrown, add-graph, grown, has-newer}
 use Rattle.projection_laws.proofs.ProjectionLemmas.{projection-newer, projection-newest}
@@ -124,7 +123,7 @@ distinct-kept m b [] h = h
 distinct-kept m b (p ∷ ps) h = distinct-kept m (add_shown b p) ps (added-kept m p b h)
 
 -- what is in a list is in its distinct ones
-distinct-has : (m : Shown) (b ps : List Shown) → list_any (is_same m) ps ≡ true → list_any (is_same m) (distinct_from b ps) ≡ true
+pub distinct-has : (m : Shown) (b ps : List Shown) → list_any (is_same m) ps ≡ true → list_any (is_same m) (distinct_from b ps) ≡ true
 distinct-has m b [] h = absurd (true≢false (sym h))
 distinct-has m b (p ∷ ps) h = by (is_same m p) refl h (distinct-has m (add_shown b p) ps)
   where
@@ -264,9 +263,9 @@ module _ (k : Rule) (shown : Flat → Flat) where
   )
 
   -- the list of the history is that of the commits that were made, and they are a graph
-  record IsListed (g : Graph) (ws : List Bytes) : Type 0 where
-    same : map shown_of (reverse (made g ws)) ≡ hist g ws
-    graph : is_graph (made g ws) ≡ true
+  pub record IsListed (g : Graph) (ws : List Bytes) : Type 0 where
+    pub same : map shown_of (reverse (made g ws)) ≡ hist g ws
+    pub graph : is_graph (made g ws) ≡ true
 
   has-made : (g : Graph) (ws : List Bytes) → IsListed g ws → (m : Shown) → list_any (is_same m) (hist g ws) ≡ has (made g ws) m.commit
   has-made g ws i m =
@@ -336,7 +335,7 @@ module _ (k : Rule) (shown : Flat → Flat) where
   wanted-parents c ws true e h = ap (λ b. cond b (c.parents ++ ws) ws) e
   wanted-parents c ws false e h = absurd (true≢false (sym h))
 
-  listed : (g : Graph) → is_graph g ≡ true → (ws : List Bytes) → IsListed g ws
+  pub listed : (g : Graph) → is_graph g ≡ true → (ws : List Bytes) → IsListed g ws
   listed [] s ws = record { same = refl; graph = refl }
   listed (c ∷ g) s ws =
       let w : IsGrown c g = grown c g s in
@@ -346,12 +345,12 @@ module _ (k : Rule) (shown : Flat → Flat) where
       (subst (λ vs. Each (λ n. list_any (same_bytes n) vs ≡ true) c.parents) (sym (wanted-parents c ws (is_wanted ws c) refl h)) (self-wanted c.parents ws)))) in
       record { same = r.0; graph = r.1 }
 
+  -- the projection of what is reached has the name of one of the commits that are made
+  pub seen-made : (g : Graph) (ws : List Bytes) (n : Bytes) (p : Shown) → is_graph g ≡ true → P g n ≡ Some p → has (reached g ws) n ≡ true → has (made g ws) p.commit ≡ true
+  seen-made g ws n p s e h =
+      sym (has-made g ws (listed g s ws) p)
+      ∙ distinct-has p [] (seen g ws) (among (reverse (reached g ws)) g n p e (any-reverse (has_name n) (reached g ws) ∙ h))
+
   -- a commit's projection has the name of one of the commits that its history makes
   pub head-made : (g : Graph) (h : Bytes) (p : Shown) → is_graph g ≡ true → P g h ≡ Some p → has g h ≡ true → has (made g (h ∷ [])) p.commit ≡ true
   head-made g h p s e t = sym (has-made g (h ∷ []) (listed g s (h ∷ [])) p) ∙ in-history g (h ∷ []) h p e t (or_left (same_bytes h h) false (same_bytes-self h))
-
-pub the_law : HistoryLaw
-the_law = record {
-  commits = λ k shown g h s. (listed k shown g s (h ∷ [])).same;
-  graph = λ k shown g h s. (listed k shown g s (h ∷ [])).graph;
-}

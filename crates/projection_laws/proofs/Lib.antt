@@ -10,3 +10,4 @@ mod Bodies
 pub mod Rising
 pub mod OwnCommits
 mod OrderLemmas
+mod LastLemmas

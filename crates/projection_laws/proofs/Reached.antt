@@ -104,7 +104,7 @@ place-among f n (q ∷ ps) h = by (same_bytes n (f q)) refl (place-among f n ps)
         let l : w.1.0 < length ps = w.1.1 in
         (w.0, (suc w.1.0, omega (arith, l), w.1.2), w.2)
 
-wanted-cases : (n : Bytes) (xs ys : List Bytes) → list_any (same_bytes n) (xs ++ ys) ≡ true → (list_any (same_bytes n) xs ≡ true) ⊎ (list_any (same_bytes n) ys ≡ true)
+pub wanted-cases : (n : Bytes) (xs ys : List Bytes) → list_any (same_bytes n) (xs ++ ys) ≡ true → (list_any (same_bytes n) xs ≡ true) ⊎ (list_any (same_bytes n) ys ≡ true)
 wanted-cases n xs ys h = by (list_any (same_bytes n) xs) refl (sym (any-append (same_bytes n) xs ys) ∙ h)
   where
     by : (b : Bool) → list_any (same_bytes n) xs ≡ b → (b || list_any (same_bytes n) ys) ≡ true → (list_any (same_bytes n) xs ≡ true) ⊎ (list_any (same_bytes n) ys ≡ true)
@@ -120,7 +120,7 @@ any-commit test (d ∷ cs) n h t = by (has_name n d) refl h (λ k. any-commit te
     by true e h k = or_left (test (snapshot_name d)) (list_any (λ d. test (snapshot_name d)) cs) (ap test (sym ((bytes_decides n (snapshot_name d)).0 e)) ∙ t)
     by false e h k = or_right (test (snapshot_name d)) (list_any (λ d. test (snapshot_name d)) cs) (k h)
 
-commit-any : {P : Snapshot → Type 0} (test : Bytes → Bool) (cs : List Snapshot) → Each P cs → list_any (λ d. test (snapshot_name d)) cs ≡ true → (d : Snapshot) × P d × (test (snapshot_name d) ≡ true)
+pub commit-any : {P : Snapshot → Type 0} (test : Bytes → Bool) (cs : List Snapshot) → Each P cs → list_any (λ d. test (snapshot_name d)) cs ≡ true → (d : Snapshot) × P d × (test (snapshot_name d) ≡ true)
 commit-any test [] h e = absurd (true≢false (sym e))
 commit-any {P = P} test (d ∷ cs) h e = by (test (snapshot_name d)) refl e (commit-any test cs h.1)
   where

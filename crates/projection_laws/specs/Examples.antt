@@ -1,5 +1,6 @@
 -- Worked examples of projections and histories.
-use Rattle.std.specs.Prelude.{◌≡◌, refl, get_or, List, [], ◌∷◌, ◌++◌, map, reverse, codes, Option, None}
+use Rattle.std.specs.Prelude.{◌≡◌, refl, get_or, List, [], ◌∷◌, ◌++◌, map, reverse, codes, Option, Some, None}
+use Rattle.std.specs.List.{last_or}
 use Rattle.std.specs.Fmt.{digits}
 use Rattle.sha1.specs.Sha1.{sha1, first_words, schedule, rounds, compress, hash_after, digest_bytes}
 use Rattle.hex.specs.Hex.{encode_with}
@@ -15,9 +16,10 @@ use Rattle.filter_text.specs.Texts.{name_at, kept_name_at, target_at}
 use Rattle.filter_text.specs.Reading.{word_at, pieces_at, list_at}
 use Rattle.filter_text.specs.Items.{items, members}
 use Rattle.workspace.specs.Workspaces.{listed, next, resolve, shown, with_leaf}
+use Rattle.commit_map.specs.Shown.{Shown}
 use Rattle.commit_map.specs.declared.rule.Rule.{Rule}
 use Rattle.commit_map.specs.declared.rule.Rule.TheVariants.{One, Two}
-use Rattle.projection_laws.specs.Projections.{history_graph}
+use Rattle.projection_laws.specs.Projections.{shown_of, projection, history, history_graph}
 
 -- what a theorem about texts of files unfolds, so that it computes
 unfoldable pub reading : Option Path
@@ -140,6 +142,67 @@ the_second_rule_drops_a_merge_into_a_parent = λ i. get_or (histories i) 4 []
 -- neither root descends from the other
 pub the_second_rule_keeps_a_merge_of_roots : messages Two view (joined ∷ other ∷ root ∷ []) ≡ codes "root" ∷ codes "other" ∷ codes "joined" ∷ []
 the_second_rule_keeps_a_merge_of_roots = λ i. get_or (histories i) 5 []
+
+-- ---- the last of a history
+
+-- the same merge with its parents the other way round
+abbrev swapped : Snapshot
+swapped = commit (tree two one) (grown ∷ root ∷ []) (codes "merge")
+
+-- what `grown` says, with another file that isn't shown
+abbrev twin : Snapshot
+twin = commit (tree two two) (root ∷ []) (codes "grown")
+
+-- what `root` and `grown` become
+abbrev root_shown : Snapshot
+root_shown = commit ((codes "f" ∷ [], one) ∷ []) [] (codes "root")
+
+abbrev grown_shown : Snapshot
+grown_shown = commit ((codes "f" ∷ [], two) ∷ []) (root_shown ∷ []) (codes "grown")
+
+-- the last of the history of a graph's newest commit, and the commit's projection
+abbrev ends : Graph → List (Option Shown)
+ends [] = []
+ends (c ∷ older) =
+    last_or None (history Two (shown view) (c ∷ older) (snapshot_name c))
+    ∷ projection Two (shown view) (c ∷ older) (snapshot_name c)
+    ∷ []
+
+abbrev twice : Snapshot → List (Option Shown)
+twice c = Some (shown_of c) ∷ Some (shown_of c) ∷ []
+
+all_ends :
+    ends (merge ∷ grown ∷ root ∷ [])
+    ∷ ends (swapped ∷ grown ∷ root ∷ [])
+    ∷ ends (right ∷ grown ∷ root ∷ [])
+    ∷ ends (twin ∷ grown ∷ root ∷ [])
+    ∷ ends (hidden ∷ root ∷ [])
+    ∷ []
+    ≡ twice grown_shown
+    ∷ twice grown_shown
+    ∷ twice root_shown
+    ∷ twice grown_shown
+    ∷ (None ∷ None ∷ [])
+    ∷ []
+unfolding showing naming
+all_ends = refl
+
+pub the_history_of_a_dropped_merge_ends_with_its_second_parents_projection : ends (merge ∷ grown ∷ root ∷ []) ≡ twice grown_shown
+the_history_of_a_dropped_merge_ends_with_its_second_parents_projection = λ i. get_or (all_ends i) 0 []
+
+pub the_history_of_a_dropped_merge_ends_with_its_first_parents_projection : ends (swapped ∷ grown ∷ root ∷ []) ≡ twice grown_shown
+the_history_of_a_dropped_merge_ends_with_its_first_parents_projection = λ i. get_or (all_ends i) 1 []
+
+-- `grown` is newer than the commit that `right` becomes, and isn't an ancestor of `right`
+pub a_history_leaves_out_what_is_no_ancestor : ends (right ∷ grown ∷ root ∷ []) ≡ twice root_shown
+a_history_leaves_out_what_is_no_ancestor = λ i. get_or (all_ends i) 2 []
+
+-- `grown` is no ancestor of it
+pub a_history_ends_with_what_another_commit_becomes_too : ends (twin ∷ grown ∷ root ∷ []) ≡ twice grown_shown
+a_history_ends_with_what_another_commit_becomes_too = λ i. get_or (all_ends i) 3 []
+
+pub a_history_without_commits_has_no_last : ends (hidden ∷ root ∷ []) ≡ None ∷ None ∷ []
+a_history_without_commits_has_no_last = λ i. get_or (all_ends i) 4 []
 
 -- ---- a workspace's file
 

@@ -8,7 +8,8 @@ pub fn projection_law()
     ensures { ProjectionLaw }
 {}
 
-/// A history is the list of the commits that it makes, whose names are distinct and whose parents come before them.
+/// A history is the list of the commits that it makes, whose names are distinct and whose parents come before them. Its
+/// last one is the projection of its head, where no two different commits that it makes have one name.
 pub fn history_law()
     ensures { HistoryLaw }
 {}

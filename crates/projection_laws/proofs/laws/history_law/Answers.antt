@@ -1,4 +1,4 @@
-use Rattle.projection_laws.proofs.HistoryLemmas.{the_law}
+use Rattle.projection_laws.proofs.LastLemmas.{the_law}
 use Rattle.projection_laws.proofs.laws.history_law.Goals as goal
 
 pub returns : goal.returns
