@@ -30,9 +30,9 @@ pub record ProjectionLaw : Type 0 where
 abbrev pub AreOfDistinctNames : List Snapshot → Type 0
 AreOfDistinctNames cs = (c d : Snapshot) → Contains cs c → Contains cs d → snapshot_name c ≡ snapshot_name d → c ≡ d
 
--- A history is the list of the commits that it makes, whose names are distinct and whose parents come before them. Where no two
--- different commits that projecting the head and its ancestors makes have one name, its last one is the projection of the head, and
--- it has none where the head gives nothing.
+-- A history is the list of the commits that it makes, whose names are distinct and whose parents come before them.
+-- Where no two different commits that projecting the head and its ancestors makes have one name, its last one is the
+-- projection of the head, and it has none where the head gives nothing.
 pub record HistoryLaw : Type 0 where
   pub commits : (k : Rule) (shown : Flat → Flat) (g : Graph) (h : Bytes) → is_graph g ≡ true → map shown_of (reverse (history_graph k shown g h)) ≡ history k shown g h
   pub graph : (k : Rule) (shown : Flat → Flat) (g : Graph) (h : Bytes) → is_graph g ≡ true → is_graph (history_graph k shown g h) ≡ true
