@@ -31,7 +31,7 @@ put_on at a b bytes le =
     ∙ ap (λ (l : List ℕ). take at bytes ++ l) (sym (append_assoc a b last))
     ∙ ap (λ (l : List ℕ). take at bytes ++ ((a ++ b) ++ l)) (drop-drop (length b) (at + length a) bytes ∙ ap (λ (n : ℕ). drop n bytes) far)
 
-puts_on : (at : ℕ) (a b : List ℕ) (o m p : Option DiskView) → IfSome o (λ d. at ≤ length d.bytes) → Puts at a o m → Puts (at + length a) b m p → Puts at (a ++ b) o p
+pub puts_on : (at : ℕ) (a b : List ℕ) (o m p : Option DiskView) → IfSome o (λ d. at ≤ length d.bytes) → Puts at a o m → Puts (at + length a) b m p → Puts at (a ++ b) o p
 puts_on at a b None m p inside first second = puts_none (at + length a) b m p first second
 puts_on at a b (Some d) None p inside first second = absurd first
 puts_on at a b (Some d) (Some e) None inside first second = second

@@ -5,6 +5,7 @@ mod Keeping
 mod Making
 mod GateOpening
 mod Reached
+mod RecordBytes
 mod Staging
 mod Whole
 mod Writing

@@ -30,7 +30,7 @@ new_list (Some d) (Some e) (Some f) none is sync =
     let bytes : e.bytes ≡ header ++ (0 ∷ []) = ap (λ (v : DiskView). v.bytes) wrote ∙ ap (put 0 (header ++ (0 ∷ []))) none in
     let now : f ≡ stable (header ++ (0 ∷ [])) = made ∙ ap stable bytes in
     let list : listed f.bytes ≡ [] = ap (λ (v : DiskView). list_in (spelled v.bytes)) now ∙ ap list_in spelled-none in
-    (subst (λ (l : List (List ℕ)). StandsAt 8 l f) (sym list) (new_stands f now), list)
+    (subst (λ (l : List (List ℕ)). StandsAt 8 l f) (sym list) (new_stands f now), list, ap (λ (v : DiskView). v.bytes) now)
 
 known_map : (o p : Option DiskView) (f : DiskView → DiskView) → p ≡ option_map f o → IsSome p ↔ IsSome o
 known_map None None f is = (λ some. some, λ some. some)

@@ -12,7 +12,7 @@ use Rattle.proj_journal.specs.declared.opening.JournalError.TheVariants.{Failed,
 use Rattle.proj_journal.specs.Spelling.{header, records_of, AreItems, listed, spelled, placed}
 use Rattle.proj_journal.specs.declared.gate.Gate.{Gate}
 use Rattle.proj_journal.specs.Gates.{IsGate}
-use Rattle.proj_journal.specs.Rest.{StandsAt, Leaves}
+use Rattle.proj_journal.specs.Rest.{StandsAt, Leaves, new_bytes}
 
 -- the disk under a journal
 abbrev pub disk_of : {D : Type 0} → Journal D → D
@@ -108,6 +108,11 @@ TellsWhy disk OutOfMemory = ⊤
 abbrev pub IsReadAs : {D : Type 0} → Option DiskView → Result (Journal D) (NoJournal D) → Type 0
 IsReadAs disk (Ok journal) = SpellsItsItems disk
 IsReadAs disk (Err none) = TellsWhy disk none.error
+
+-- a journal with the bytes of a new one, where the disk is known
+abbrev pub IsNew : Option DiskView → Type 0
+IsNew None = ⊤
+IsNew (Some disk) = disk.bytes ≡ new_bytes
 
 -- a journal without items
 abbrev pub IsEmpty : Option DiskView → Type 0

@@ -4,7 +4,7 @@ use Rattle.std.specs.declared.option.Option.{Option}
 use Rattle.std.specs.Int.{w32, to_be_bytes}
 use Rattle.git_objects.specs.declared.limits.TheConstants.{ITEM_BYTES, ITEMS}
 use Rattle.proj_disk.specs.Disks.{DiskView, stable, put}
-use Rattle.proj_journal.specs.Spelling.{header, records_of, spelled, listed, AreItems}
+use Rattle.proj_journal.specs.Spelling.{header, record_of, records_of, spelled, listed, AreItems}
 
 -- each range begins there or further on
 abbrev pub AllBehind : ℕ → List (ℕ × ℕ) → Type 0
@@ -88,7 +88,19 @@ MayAddItem item old new = IfKnown old new (λ d e. (listed e.bytes ≡ listed d.
 abbrev pub Leaves : List ℕ → List (List ℕ) → Type 0
 Leaves image list = MatchResult (spelled image) (λ items. items ≡ list) (λ _. ⊤)
 
--- a known disk is at rest without items
+-- the bytes of a new journal: the header and a gate 0
+abbrev pub new_bytes : List ℕ
+new_bytes = header ++ 0 ∷ []
+
+-- a known disk is at rest without items, and has these bytes
 abbrev pub IsEmptyList : Option DiskView → Type 0
 IsEmptyList None = ⊤
-IsEmptyList (Some disk) = StandsAt 8 (listed disk.bytes) disk × (listed disk.bytes ≡ [])
+IsEmptyList (Some disk) = StandsAt 8 (listed disk.bytes) disk × (listed disk.bytes ≡ []) × (disk.bytes ≡ new_bytes)
+
+-- what stands at the end behind an append: the record of the item, and a gate 0
+abbrev pub record_and_gate : List ℕ → List ℕ
+record_and_gate item = record_of item ++ 0 ∷ []
+
+-- the same without the gate of the record, which is opened last
+abbrev pub behind_gate : List ℕ → List ℕ
+behind_gate item = to_be_bytes w32 (length item) ++ (item ++ 0 ∷ [])

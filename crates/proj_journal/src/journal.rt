@@ -3,7 +3,7 @@ ghost use Rattle.std.specs.Prelude.{◌≡◌, ◌≢◌, [], ◌<◌, ◌≤◌
 ghost use Rattle.std.specs.Prelude.{◌↔◌, IsErr, IfOk, IfErr, IfSome, MatchResult, false};
 ghost use Rattle.std.specs.Option.{option_map};
 ghost use Rattle.proj_io.specs.Stops.{OnlyAdds, Nothing};
-ghost use Rattle.proj_journal.specs.Journals.{AllFit, IsEmpty, IsOpen, IsReadAs, ListsLeft, disk_of, place_at};
+ghost use Rattle.proj_journal.specs.Journals.{AllFit, IsEmpty, IsNew, IsOpen, IsReadAs, ListsLeft, disk_of, place_at};
 ghost use Rattle.proj_journal.specs.Journals.{items_of, number_of, items_known, items_counted};
 ghost use Rattle.proj_io.specs.Counts.{Counts};
 ghost use Rattle.proj_disk.specs.Disks.{Elapses, front_at, stable};
@@ -39,6 +39,8 @@ impl<D: Disk> Journal<D> {
         requires { IfSome (D.content disk) (λ view. view.bytes ≡ []) }
         ensures created { IfOk result (λ journal. IsOpen D.content journal) }
         ensures empty { IfOk result (λ journal. IsEmpty (D.content (disk_of journal))) }
+        // Its bytes are those of a new journal, and nothing else.
+        ensures bytes { IfOk result (λ journal. IsNew (D.content (disk_of journal))) }
         ensures told { IfOk result (λ journal. IsSome (D.content (disk_of journal)) ↔ IsSome (D.content disk)) }
         ensures not_broken { IfErr result (λ none. (place : ℕ) → none.error ≢ JournalError.Broken place) }
         ensures cause { MatchResult result

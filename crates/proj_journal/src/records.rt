@@ -1,5 +1,5 @@
 // Writing a record behind the others, in two steps: the record behind a shut gate, and then the gate.
-ghost use Rattle.std.specs.Prelude.{List, ℕ, [], ◌≡◌, ◌<◌, ◌≤◌, ◌+◌, ◌^◌, ◌↔◌, length, OnOk, OnErr, IfSome, IsSome};
+ghost use Rattle.std.specs.Prelude.{List, ℕ, [], ◌∷◌, ◌≡◌, ◌<◌, ◌≤◌, ◌+◌, ◌^◌, ◌↔◌, length, OnOk, OnErr, IfSome, IsSome};
 ghost use Rattle.std.specs.Prelude.{IsErrOf};
 ghost use Rattle.git_objects.specs.declared.limits.TheConstants.{ITEM_BYTES, ITEMS};
 ghost use Rattle.proj_io.specs.Counts.{Counts};
@@ -8,6 +8,7 @@ ghost use Rattle.proj_io.specs.Stops.{OnlyAdds};
 ghost use Rattle.proj_journal.specs.Spelling.{listed};
 ghost use Rattle.proj_journal.specs.Rest.{IsAtRest, IsEmptyList, KeepsRest, IsStaged, KeepsList, Puts, Stages};
 ghost use Rattle.proj_journal.specs.Rest.{AddsItem, MayAddItem, SpellsSame, SpellsOneMore};
+ghost use Rattle.proj_journal.specs.Rest.{behind_gate, record_and_gate};
 
 use crate::parts::write_parts;
 use proj_disk::Disk;
@@ -68,6 +69,8 @@ pub(crate) fn stage<D: Disk>(
     requires empty { buffer.old.items ≡ [] }
     ensures staged { OnOk result (Stages end (joined parts.now) (D.content disk.old) (D.content disk.new)) }
     ensures memory { IsErrOf result SinkError.OutOfMemory → KeepsRest end (D.content disk.old) (D.content disk.new) }
+    ensures bytes { OnOk result (Puts (end + 1) (behind_gate (joined parts.now)) (D.content disk.old)
+        (D.content disk.new)) }
     ensures list { KeepsList (D.content disk.old) (D.content disk.new) }
     ensures stops { OnlyAdds (D.moment disk.old) (D.moment disk.new) (D.left_since disk.old) (D.left_since disk.new)
         (SpellsSame (D.content disk.old)) }
@@ -91,6 +94,7 @@ pub(crate) fn open_gate<D: Disk>(disk: &mut D, end: u64) -> Result<(), SinkError
     requires small { end + 1 ≤ 2 ^ 50 }
     ensures opened { (item : List ℕ) → IsStaged end item (D.content disk.old) →
         OnOk result (AddsItem end item (D.content disk.old) (D.content disk.new)) }
+    ensures bytes { OnOk result (Puts end (1 ∷ []) (D.content disk.old) (D.content disk.new)) }
     ensures memory { IsErrOf result SinkError.OutOfMemory → D.content disk.new ≡ D.content disk.old }
     ensures list { (item : List ℕ) → IsStaged end item (D.content disk.old) →
         MayAddItem item (D.content disk.old) (D.content disk.new) }
@@ -127,6 +131,8 @@ pub(crate) fn add_record<D: Disk>(
     requires total { total ≡ length (joined parts.now) }
     requires empty { buffer.old.items ≡ [] }
     ensures added { OnOk result (AddsItem end (joined parts.now) (D.content disk.old) (D.content disk.new)) }
+    ensures bytes { OnOk result (Puts end (record_and_gate (joined parts.now)) (D.content disk.old)
+        (D.content disk.new)) }
     ensures memory { IsErrOf result SinkError.OutOfMemory → KeepsRest end (D.content disk.old) (D.content disk.new) }
     ensures list { MayAddItem (joined parts.now) (D.content disk.old) (D.content disk.new) }
     ensures stops { OnlyAdds (D.moment disk.old) (D.moment disk.new) (D.left_since disk.old) (D.left_since disk.new)

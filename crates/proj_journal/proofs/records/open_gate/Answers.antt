@@ -1,11 +1,12 @@
-use Rattle.std.proofs.Common.{◌≡◌, refl, subst, arith, inl, inr}
+use Rattle.std.proofs.Common.{◌≡◌, ◌∷◌, [], refl, subst, arith, inl, inr}
 use Rattle.std.specs.declared.option.Option.{Option}
 use Rattle.proj_disk.specs.Disks.{DiskView, IsLeftBy}
 use Rattle.std.proofs.lemmas.Grind.{common_steps}
 use Rattle.proj_journal.specs.Rest.{SpellsSame, SpellsOneMore}
 use Rattle.proj_io.specs.Stops.{adds_on}
 use Rattle.proj_journal.proofs.GateOpening.{gate_images, gate_known, may_add, may_add_on, gate_done, done_images, staged_same}
-use Rattle.proj_journal.proofs.Writing.{adds}
+use Rattle.proj_journal.proofs.RecordBytes.{puts_synced}
+use Rattle.proj_journal.proofs.Writing.{adds, puts}
 use Rattle.proj_journal.proofs.records.open_gate.Goals as goal
 
 pub returns-in_err-write_at-clause-list : goal.returns-in_err-write_at-clause-list
@@ -59,3 +60,8 @@ pub returns-in_err-write_at-clause-stops_memory : goal.returns-in_err-write_at-c
 returns-in_err-write_at-clause-stops_memory g c memory item staged =
     let same : g.D.Disk.content c.write_at.new.self ≡ g.D.Disk.content c.args.disk.now = grind (arith, common_steps) in
     adds _ _ _ _ _ (SpellsSame (g.D.Disk.content c.args.disk.now)) c.write_at.ensures.time (staged_same c.args.end item _ _ staged same)
+
+pub returns-in-Ok-clause-bytes : goal.returns-in-Ok-clause-bytes
+returns-in-Ok-clause-bytes g c =
+    let p = g.D.Disk.content c.write_at.new.self in
+    puts_synced c.args.end (1 ∷ []) _ p _ (puts c.args.end (1 ∷ []) _ p c.in_ok-write_at.ensures.written) c.in-Ok.ensures.stable
