@@ -1,10 +1,10 @@
 #!/usr/bin/env bash
-# Tries plants: wrong bodies of a crate, `crates/NAME/plants/*.edit`, each of which the prover must refuse. They are no
-# part of the gate, which would take twice as long with them; whoever changes a crate tries its plants, and adds one where
-# the change can go wrong in a new way. `bash scripts/plants.sh NAME ..` tries those of these crates; no name, those of all,
-# which takes hours. Each crate takes one more proof of it and a check for each plant; libraries that were built in another
-# checkout on this machine are taken from there. `RT_JOBS=1` keeps it to one check at a time. A plant has the form of a
-# must-fail edit (`rt help`).
+# Tries plants: wrong bodies of a crate, `crates/NAME/plants/*.edit`, each of which the prover must refuse. They are
+# no part of the gate, which would take twice as long with them; whoever changes a crate tries its plants, and adds
+# one where the change can go wrong in a new way. `bash scripts/plants.sh NAME ..` tries those of these crates; no
+# name, those of all, which takes hours. Each crate takes one more proof of it and a check for each plant; libraries
+# that were built in another checkout on this machine are taken from there. `RT_JOBS=1` keeps it to one check at a
+# time. A plant has the form of a must-fail edit (`rt help`).
 set -u
 cd "$(dirname "$0")/.." || exit 1
 names=("$@")
