@@ -17,6 +17,7 @@ git config --file "$work/config" push.default simple
 git config --file "$work/config" pull.rebase true
 git config --file "$work/config" protocol.allow always
 git config --file "$work/config" core.quotePath false
+top=$PWD
 store=$work/store
 main=refs/heads/main
 
@@ -133,7 +134,7 @@ racing ''
 refused 'a push that comes second' 'fetch first' git -C "$work/late" push
 change a m again
 racing "cd '$work/late' && git fetch -q"
-refused 'a push that comes second, after a fetch' 'not at head' git -C "$work/late" push
+refused 'a push that comes second, after a fetch' 'fetch first' git -C "$work/late" push
 rm "$work/late/.git/hooks/pre-push"
 does 'a pull after that' git -C "$work/late" pull -q --rebase
 does 'a push after that' git -C "$work/late" push -q
@@ -266,6 +267,69 @@ does 'what is lost is fetched again' git -C "$work/cut" fetch -q
 does 'a clone that was cut off' git -C "$work/cut" reset -q --hard '@{upstream}'
 settled 'a clone that was cut off' cut :/a
 
+# ---- how often the program is called
+
+# A program that notes each call.
+mkdir "$work/noted"
+cat >"$work/noted/proj" <<END
+#!/bin/sh
+printf '%s\n' "\$2" >>"$work/calls"
+exec "$work/bin/proj" "\$@"
+END
+chmod +x "$work/noted/proj"
+
+# The calls while the words run, which must end well.
+calls() {
+    : >"$work/calls"
+    PATH=$work/noted:$PATH "$@" >"$work/out" 2>&1 || printf 'failed '
+    paste -sd ' ' <"$work/calls"
+}
+does 'a pull before calls are counted' git -C "$work/a" pull -q
+same 'the calls of a fetch of nothing new' project "$(calls git -C "$work/a" fetch -q)"
+same 'the calls of a push of nothing new' project "$(calls git -C "$work/a" push -q)"
+change a counted 'once'
+same 'the calls of a push' 'project push' "$(calls git -C "$work/a" push -q)"
+same 'the calls of a fetch' 'project export' "$(calls git -C "$work/late" fetch -q)"
+settled 'after calls that were counted' a :/a
+
+# ---- addresses
+
+cd "$work" || exit 1
+does 'a clone by a relative path' git clone -q "proj::store#$main#:/a" beside
+does 'a fetch of that' git -C "$work/beside" fetch -q
+settled 'a clone by a relative path' beside :/a
+does 'another name of a remote' git -C "$work/beside" remote add other "proj::../store#$main#:/a"
+does 'a fetch by a relative path' git -C "$work/beside" fetch -q other
+same 'a path that stays relative' "proj::../store#$main#:/a" "$(git -C "$work/beside" config remote.other.url)"
+mkdir -p 'place #1'
+cp store 'place #1/50%23 #store'
+does 'a clone by a path with #' git clone -q "proj::place %231/50%2523 %23store#$main#:/a" hash
+does 'a fetch of that' git -C "$work/hash" fetch -q
+settled 'a clone by a path with #' hash :/a
+cd 'place #1' || exit 1
+does 'a clone in a place with #' git clone -q 'proj::50%2523 %23store##:/a' ../inner
+does 'a fetch of that' git -C "$work/inner" fetch -q
+same 'what is asked without a repository' "$(git -C "$work/inner" rev-parse HEAD)" \
+    "$(git ls-remote -q "proj::$store##:/a" $main | cut -f 1)"
+cd "$top" || exit 1
+
+# ---- a store that another process has
+
+exec 8<"$store"
+flock -x 8 || wrong 'no lock is taken'
+refused 'a store that is in use' 'another process has it' env PROJ_WAIT=1 git -C "$work/a" fetch
+(sleep 1; flock -u 8) &
+does 'a fetch that waits' git -C "$work/a" fetch -q
+wait
+exec 8<&-
+(flock -x 9; sleep 1; : >"$work/over") 9<"$store.lock" &
+sleep 0.2
+change a turn 'in its turn'
+does 'a push that waits its turn' git -C "$work/a" push -q
+does 'it comes behind who was there' test -e "$work/over"
+wait
+settled 'a push that waits its turn' a :/a
+
 # ---- the commands that README tells first
 
 mkdir -p "$work/story"
@@ -275,7 +339,7 @@ mkdir mono/lib mono/other
 printf 'notes\n' | tee mono/lib/notes >mono/other/notes
 git -C mono add -A
 git -C mono commit -q -m first
-awk '/^## / { on = /from day to day/ } on && sub(/^    /, "")' "$OLDPWD/README.md" >commands
+awk '/^## / { on = /from day to day/ } on && sub(/^    /, "")' "$top/README.md" >commands
 does 'the commands of README' bash -e commands
 same 'what they change' 'lib/notes' "$(git -C mono diff --name-only main~1 main)"
 same 'what the clone has' "$(git -C mono rev-parse main:lib)" "$(git -C lib rev-parse 'main^{tree}')"
