@@ -1,8 +1,9 @@
 #!/usr/bin/env bash
-# Lets two and six processes want one store at once: imports onto refs of their own, a batch beside imports, and pushes by Git
-# through two filters (contrib/git-remote-proj). Of a store that another process has a call is told `store fault`, with status 24,
-# and nothing else. Every change that was answered with status 0 must be there afterwards. It takes the program that `PROJ` names,
-# or the built one; `ROUNDS` is how often all of this is done with two processes and with six.
+# Lets two and six processes want one store at once: imports onto refs of their own, a batch beside imports, and pushes
+# by Git through two filters (contrib/git-remote-proj). Of a store that another process has a call is told `store
+# fault`, with status 24, and nothing else. Every change that was answered with status 0 must be there afterwards. It
+# takes the program that `PROJ` names, or the built one, and builds that where it isn't there. `ROUNDS` is how often all
+# of this is done with two processes and with six.
 set -u
 cd "$(dirname "$0")/.." || exit 1
 for tool in mktemp sleep cat rm seq tail grep wc; do
@@ -88,8 +89,8 @@ all_there() {
     [ "$lost" -eq 0 ] || fail "$1: $lost of ${#at[@]} refs are not where an answer of status 0 said"
 }
 
-# Imports that get their input when all but one have ended, or after some seconds. So each wants the store while one has
-# it, and only that one is done.
+# Imports that get their input when all but one have ended, or after some seconds. So each wants the store while one
+# has it, and only that one is done.
 held_imports() {
     local own tries done=0
     rm -f "$work/go" "$work"/w*.status
