@@ -341,7 +341,10 @@ git -C mono add -A
 git -C mono commit -q -m first
 awk '/^## / { on = /from day to day/ } on && sub(/^    /, "")' "$top/README.md" >commands
 does 'the commands of README' bash -e commands
-same 'what they change' 'lib/notes' "$(git -C mono diff --name-only main~1 main)"
+same 'what they change' 'lib/notes' "$(git -C mono diff --name-only main~2 main~1)"
+same 'what the files are' "$(printf 'notes\na line more\nby all')" "$(cat mono/lib/notes)"
+same 'nothing else' clean "$(git -C mono status --porcelain; printf clean)"
+same 'what the store has' "$(git -C mono rev-parse main)" "$(proj mono.store project $main :nop)"
 same 'what the clone has' "$(git -C mono rev-parse main:lib)" "$(git -C lib rev-parse 'main^{tree}')"
 
 counted
