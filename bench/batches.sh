@@ -1,8 +1,8 @@
 #!/usr/bin/env bash
 # Times entries of one batch on a journal, beside Git's commands for the same: a commit more, its projection, and a
-# pushed commit. Its words are the number of commits (5700) and how many entries of each kind (100). With `SUBTREE=1` it also
-# times `git subtree split`, which takes minutes. Each entry that changes the store waits for the disk twice: `TMPDIR=/dev/shm`
-# leaves that out.
+# pushed commit. Its words are the number of commits (5700) and how many entries of each kind (100). With `SUBTREE=1`
+# it also times `git subtree split`, which takes minutes. Each entry that changes the store waits for the disk twice:
+# `TMPDIR=/dev/shm` leaves that out.
 set -u
 cd "$(dirname "$0")/.." || exit 1
 label=batches
@@ -34,8 +34,10 @@ awk -v last="$commits" 'BEGIN {
 batch() {
     local words=$1 dir=$2 after=$3 i input
     for ((i = 0; i < entries; i++)); do
-        input=$(printf 'commit %s\ncommitter A <a@x> %d +0000\ndata 2\nc\nfrom %s^0\nM 100644 inline %sd3/new\ndata %d\n%d' \
-            $main $((1800000000 + i)) $main "$dir" ${#i} "$i")
+        input=$(
+            printf 'commit %s\ncommitter A <a@x> %d +0000\ndata 2\nc\nfrom %s^0\n' $main $((1800000000 + i)) $main
+            printf 'M 100644 inline %sd3/new\ndata %d\n%d' "$dir" ${#i} "$i"
+        )
         printf '%s\nbytes %d\n%s\n' "$words" ${#input} "$input"
         [ -z "$after" ] || printf '%s\nbytes 0\n\n' "$after"
     done
@@ -72,7 +74,8 @@ printf 'the first pushed commit, for which the history is projected: %d us\n' $(
 printf 'a pushed commit behind it: %d us\n' $(((pushes - push) / (entries - 1)))
 
 # Git's own commands for a commit upon a part, each a process
-git init -q --bare "$work/git" && git -C "$work/git" -c core.compression=0 fast-import --quiet <"$work/stream" || exit 0
+git init -q --bare "$work/git" || exit 0
+git -C "$work/git" -c core.compression=0 fast-import --quiet <"$work/stream" || exit 0
 begun=${EPOCHREALTIME/[.,]/}
 for ((i = 0; i < 10; i++)); do
     blob=$(printf '%d' "$i" | git -C "$work/git" hash-object -w --stdin)

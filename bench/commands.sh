@@ -1,7 +1,7 @@
 #!/usr/bin/env bash
-# Times whole calls of `proj` on a journal, beside Git's of the same kind: commits of 3 changes over 1,000 files of some
-# 700 bytes, of which half lie below `a`; about ten objects and 2 KB of stream a commit. Its word is the number of commits
-# (5700).
+# Times whole calls of `proj` on a journal, beside Git's of the same kind: commits of 3 changes over 1,000 files of
+# some 700 bytes, of which half lie below `a`; about ten objects and 2 KB of stream a commit. Its word is the number
+# of commits (5700).
 set -u
 cd "$(dirname "$0")/.." || exit 1
 label=commands
@@ -28,7 +28,8 @@ history() {
                 k = (i * 7 + j * 101) % 1000
                 text = ""
                 for (n = 1; n <= 8; n++) {
-                    text = text "line " n " of " i " " j ", which is changed, and has a few words more than its number\n"
+                    text = text "line " n " of " i " " j
+                    text = text ", which is changed, and has a few words more than its number\n"
                 }
                 top = dir != "" ? dir : k % 2 ? "a/" : "b/"
                 printf "M 100644 inline %sd%d/f%d\ndata %d\n%s\n", top, int(k / 20), k, length(text), text
@@ -48,7 +49,8 @@ timed() {
 
 git_import() {
     rm -rf "${work:?}/$1"
-    git init -q --bare "$work/$1" && git -C "$work/$1" -c core.compression=0 -c pack.compression=0 fast-import --quiet --depth=0
+    git init -q --bare "$work/$1" &&
+        git -C "$work/$1" -c core.compression=0 -c pack.compression=0 fast-import --quiet --depth=0
 }
 
 ours() {
@@ -65,7 +67,8 @@ trees_by_git() {
 
 # It changes the repository that it works on.
 part_by_filter_repo() {
-    git clone -q --bare "$work/git" "$work/filtered" && git -C "$work/filtered" filter-repo --force --subdirectory-filter a
+    git clone -q --bare "$work/git" "$work/filtered" &&
+        git -C "$work/filtered" filter-repo --force --subdirectory-filter a
 }
 
 export_by_git() {
@@ -94,7 +97,8 @@ timed 'git fast-export -- a into git fast-import' part_by_git
 timed 'git fast-export --full-tree into git fast-import' trees_by_git
 if command -v git-filter-repo >/dev/null; then
     timed 'git filter-repo --subdirectory-filter a' part_by_filter_repo
-    [ "$(git -C "$work/filtered" rev-parse $main)" = "$(ours project $main :/a)" ] || printf 'its head has another name\n'
+    [ "$(git -C "$work/filtered" rev-parse $main)" = "$(ours project $main :/a)" ] ||
+        printf 'its head has another name\n'
 fi
 history 1 1 "$(ours project $main :/a)" d0/ >"$work/pushed"
 timed 'push of one commit through :/a' ours push $main :/a <"$work/pushed"

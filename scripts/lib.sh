@@ -1,6 +1,7 @@
 # shellcheck shell=bash
-# What the heads of these scripts and of some in bench/ have in common. A script goes to the top of the repository, says in `label`
-# what its lines begin with, and reads this file; then `needs` looks for its tools, and `begin` for the program.
+# What the heads of these scripts and of some in bench/ have in common. A script goes to the top of the repository,
+# says in `label` what its lines begin with, and reads this file; then `needs` looks for its tools, and `begin` for
+# the program.
 : "${label:?}"
 passed=0
 failed=0
@@ -35,8 +36,8 @@ micros() {
     printf '%s' "${EPOCHREALTIME/[.,]/}"
 }
 
-# Finds the program `proj`: the one that `PROJ` names, or the built one, which is built where it isn't there. Makes the folder
-# `work`. When the script ends, that folder goes, and so does the process `child`, if there is one.
+# Finds the program `proj`: the one that `PROJ` names, or the built one, which is built where it isn't there. Makes
+# the folder `work`. When the script ends, that folder goes, and so does the process `child`, if there is one.
 begin() {
     proj=${PROJ:-$PWD/crates/proj/out/proj}
     if [ ! -x "$proj" ]; then

@@ -1,8 +1,9 @@
 #!/usr/bin/env bash
-# Runs commands of all kinds on one store, each by a process of its own, and the same commands as one batch on a copy of the store:
-# the replies must be what the single runs answered, and both stores must show the same. Then the batch is ended by SIGKILL at
-# random moments: the store must load, and have the commit of each import and push whose reply was read. `COMMITS` is how
-# many commits the store begins with, `ENTRIES` how many commands are run, and `STOPS` how often the batch is ended.
+# Runs commands of all kinds on one store, each by a process of its own, and the same commands as one batch on a copy
+# of the store: the replies must be what the single runs answered, and both stores must show the same. Then the batch
+# is ended by SIGKILL at random moments: the store must load, and have the commit of each import and push whose reply
+# was read. `COMMITS` is how many commits the store begins with, `ENTRIES` how many commands are run, and `STOPS` how
+# often the batch is ended.
 set -u
 cd "$(dirname "$0")/.." || exit 1
 label=batches
@@ -31,7 +32,8 @@ dirs=(a a/b c d/e)
     done
     commit "$commits" '' ws/workspace.josh $'x = :/a\ny = :/c'
 } >"$work/history"
-head=$("$proj" "$work/first" import <"$work/history" 2>"$work/err") || fail "the history is refused: $(cat "$work/err")"
+head=$("$proj" "$work/first" import <"$work/history" 2>"$work/err") ||
+    fail "the history is refused: $(cat "$work/err")"
 head=${head#"$main" }
 head0=$head
 cp "$work/first" "$work/single"

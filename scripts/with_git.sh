@@ -1,6 +1,6 @@
 #!/usr/bin/env bash
-# Makes the same histories with real Git and compares its names with those that `proj` prints and that the cases of pushes
-# expect.
+# Makes the same histories with real Git and compares its names with those that `proj` prints and that the cases of
+# pushes expect.
 set -u
 cd "$(dirname "$0")/.." || exit 1
 label=git

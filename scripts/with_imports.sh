@@ -1,7 +1,8 @@
 #!/usr/bin/env bash
-# Imports what `git fast-export` writes of this repository, and of a history with merges, renames, modes and links, into
-# a store in several runs: the first commits, then the rest upon them, then all branches. Each ref must have Git's name;
-# the same streams again append nothing; a ref is moved to a commit of another root only where that is forced.
+# Imports what `git fast-export` writes of this repository, and of a history with merges, renames, modes and links,
+# into a store in several runs: the first commits, then the rest upon them, then all branches. Each ref must have
+# Git's name; the same streams again append nothing; a ref is moved to a commit of another root only where that is
+# forced.
 set -u
 cd "$(dirname "$0")/.." || exit 1
 label=imports
@@ -95,6 +96,7 @@ tried "$work/made" made refs/heads/main 25
 if has_history; then
     git clone -q --bare . "$work/here.git" 2>/dev/null &&
         branch=$(git -C "$work/here.git" symbolic-ref HEAD) &&
-        git -C "$work/here.git" rev-parse -q --verify "$branch~30" >"$work/out" && tried "$work/here.git" here "$branch" 30
+        git -C "$work/here.git" rev-parse -q --verify "$branch~30" >"$work/out" &&
+        tried "$work/here.git" here "$branch" 30
 fi
 counted

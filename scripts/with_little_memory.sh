@@ -1,7 +1,7 @@
 #!/usr/bin/env bash
-# Runs each command, alone and within a batch, with less and less memory, from what is ample down to what the program needs to begin
-# at all: each run must end as with ample memory, or with `out of memory`, and the store must load and show what it showed before or
-# what the command makes of it. `STEPS` is how many sizes are tried for each command.
+# Runs each command, alone and within a batch, with less and less memory, from what is ample down to what the program
+# needs to begin at all: each run must end as with ample memory, or with `out of memory`, and the store must load and
+# show what it showed before or what the command makes of it. `STEPS` is how many sizes are tried for each command.
 set -u
 cd "$(dirname "$0")/.." || exit 1
 label=memory
@@ -116,4 +116,5 @@ try "$work/none" COPY rule 2
 try "$work/batch" COPY batch
 try "$work/first" name $main :/a
 try "$work/none" trial 300
-printf 'memory: %d runs, %d of them without enough, and each store loads with the state before or after\n' "$runs" "$refused"
+printf 'memory: %d runs, %d of them without enough, and each store loads with the state before or after\n' \
+    "$runs" "$refused"

@@ -2,8 +2,8 @@
 """Gives the program inputs that are changed at random: streams, batches, journals and filters.
 
 No run may end by a signal or with a status that has no meaning, and a store that loads must load behind every run. It
-takes the program that PROJ names, or the built one, and builds that where it isn't there; INPUTS is how many inputs are
-tried, SEED where the numbers begin.
+takes the program that PROJ names, or the built one, and builds that where it isn't there; INPUTS is how many inputs
+are tried, SEED where the numbers begin.
 """
 import os
 import random
@@ -34,9 +34,14 @@ FILTERS = [
     b":/a", b"::a/", b"::a", b":prefix=lib", b":nop", b":[x=:/a,y=:/c]", b":exclude[::a/,::b]", b":/a:prefix=x:/x",
     b":workspace=ws", b":[::a/,:[z=:/b/c]]", b":/\"a b\"", b":[ x = :/a , # c\n y = :/b ]", b":[" * 17,
 ]
-WORDS = [b"import", b"import --force", b"project", b"export", b"push", b"name", b"rule 1", b"rule 2", b"batch", b"trial 1"]
-PIECES = [b"\n", b" ", b"\0", b"\"", b"\\", b"/", b":", b"[", b"]", b",", b"from ", b"merge :1\n", b"data 3\n", b"0", b"9" * 19,
-          b"M 100644 inline a\ndata 1\nx\n", b"refs/heads/main", b"deleteall\n", b"bytes 4\n", b"\xff", b"..", b".git", b"\1"]
+WORDS = [
+    b"import", b"import --force", b"project", b"export", b"push", b"name", b"rule 1", b"rule 2", b"batch", b"trial 1",
+]
+PIECES = [
+    b"\n", b" ", b"\0", b"\"", b"\\", b"/", b":", b"[", b"]", b",", b"from ", b"merge :1\n", b"data 3\n", b"0",
+    b"9" * 19, b"M 100644 inline a\ndata 1\nx\n", b"refs/heads/main", b"deleteall\n", b"bytes 4\n", b"\xff", b"..",
+    b".git", b"\1",
+]
 random.seed(SEED)
 
 
@@ -132,7 +137,8 @@ def main():
             if kind == 0:
                 status = run([store, "import"] + random.choice([[], ["--force"]]), mutated(random.choice(STREAMS)))
             elif kind == 1:
-                status = run([store, "push", MAIN, random.choice([":/a", "::a/", ":nop"])], mutated(random.choice(STREAMS)))
+                words = [store, "push", MAIN, random.choice([":/a", "::a/", ":nop"])]
+                status = run(words, mutated(random.choice(STREAMS)))
             elif kind == 2:
                 status = run([store, "batch"], batch())
             elif kind == 3:

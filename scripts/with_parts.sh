@@ -1,7 +1,7 @@
 #!/usr/bin/env bash
-# Compares what each directory of this very repository, and of a made one with merges, is projected to with what Git makes of
-# it: by rule 1 with commits that Git's plumbing writes one by one, by rule 2 with `git subtree split`; and what `export`
-# writes of it goes through `git fast-import`.
+# Compares what each directory of this very repository, and of a made one with merges, is projected to with what Git
+# makes of it: by rule 1 with commits that Git's plumbing writes one by one, by rule 2 with `git subtree split`; and
+# what `export` writes of it goes through `git fast-import`.
 set -u
 cd "$(dirname "$0")/.." || exit 1
 label=parts
@@ -11,8 +11,9 @@ begin
 own_settings
 has_history || skip 'a whole history'
 
-# The name of the projection of `main` to a directory by rule 1, each of its commits written by Git: with the directory's
-# tree, upon the projections of the parents, each once; left out where that would be its only parent's tree again.
+# The name of the projection of `main` to a directory by rule 1, each of its commits written by Git: with the
+# directory's tree, upon the projections of the parents, each once; left out where that would be its only parent's
+# tree again.
 by_hand() {
     local empty commit parents parent tree one new head
     local -A shown=() trees=()
@@ -45,8 +46,8 @@ by_hand() {
     printf '%s' "$head"
 }
 
-# A repository of three directories, whose branches change one or two of them and are merged now and then, also at once or
-# into one another; a root of its own joins, and some merges take one side as it is.
+# A repository of three directories, whose branches change one or two of them and are merged now and then, also at
+# once or into one another; a root of its own joins, and some merges take one side as it is.
 made() {
     local i date=1700000000 side
     tick() {

@@ -1,7 +1,8 @@
 #!/usr/bin/env bash
-# Imports commit upon commit into one store, each by a process of its own, and ends most of these processes by SIGKILL at a
-# random moment. After each the store must load, and have every commit whose line was printed and at most one more. What it must
-# show is made in a second store, into which the same history is imported at once. `STOPS` is how many processes are ended.
+# Imports commit upon commit into one store, each by a process of its own, and ends most of these processes by SIGKILL
+# at a random moment. After each the store must load, and have every commit whose line was printed and at most one
+# more. What it must show is made in a second store, into which the same history is imported at once. `STOPS` is how
+# many processes are ended.
 set -u
 cd "$(dirname "$0")/.." || exit 1
 label=stops

@@ -1,8 +1,8 @@
 #!/usr/bin/env bash
-# Imports streams of `git fast-export` and compares the names that `import` prints of all refs with those that Git gives them;
-# a ref's name stands for all commits below it. The streams are of a history with merges, renames, modes, links, modules, odd
-# names and a commit without a change, and of this repository, each exported in several ways. Then `project` and `name` must
-# print the same names, and Git must give them to what `export` writes.
+# Imports streams of `git fast-export` and compares the names that `import` prints of all refs with those that Git
+# gives them; a ref's name stands for all commits below it. The streams are of a history with merges, renames, modes,
+# links, modules, odd names and a commit without a change, and of this repository, each exported in several ways. Then
+# `project` and `name` must print the same names, and Git must give them to what `export` writes.
 set -u
 cd "$(dirname "$0")/.." || exit 1
 label=streams
@@ -144,7 +144,8 @@ export_all() {
     compare "$1 by whole trees"
     git -C "$2" fast-export --glob='refs/*' -M -C >"$work/stream"
     compare "$1 with moves and copies"
-    git -C "$2" fast-export --glob='refs/*' --signed-tags=strip --tag-of-filtered-object=drop --reencode=yes >"$work/stream"
+    git -C "$2" fast-export --glob='refs/*' --signed-tags=strip --tag-of-filtered-object=drop --reencode=yes \
+        >"$work/stream"
     compare "$1 with messages encoded anew"
     git -C "$2" fast-export --glob='refs/*' >"$work/stream"
     compare "$1"
