@@ -4,7 +4,7 @@ set -u
 cd "$(dirname "$0")/.." || exit 1
 label=remote
 . scripts/lib.sh
-needs git mktemp realpath awk sed grep cut paste sort head tail seq tee tr dirname mkdir chmod ln rm
+needs git mktemp flock realpath awk sed grep cut paste sort head tail seq tee tr dirname sleep mkdir chmod cat cp ln rm
 begin
 own_settings
 mkdir "$work/bin"

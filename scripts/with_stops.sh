@@ -14,8 +14,10 @@ wanted=${STOPS:-50}
 # Building the program takes nothing of its time.
 SECONDS=0
 
-lost() {
-    fail "$1, after $stops stops and $commits commits: $(cat "$work/err")"
+# It is told how far this was.
+fail() {
+    printf 'stops: %s, after %d stops and %d commits: %s\n' "$1" "$stops" "$commits" "$(cat "$work/err")"
+    exit 1
 }
 
 # the commit with this number, and the line of its parent or nothing
@@ -53,9 +55,9 @@ while [ "$stops" -lt "$wanted" ] && [ "$commits" -lt 600 ] && [ "$SECONDS" -lt 5
     commit "$commits" '' >>"$work/history"
     rm -f "$work/whole"
     started=$(micros)
-    line=$("$proj" "$work/whole" import <"$work/history" 2>"$work/err") || lost 'the history is refused'
+    line=$("$proj" "$work/whole" import <"$work/history" 2>"$work/err") || fail 'the history is refused'
     span=$(($(micros) - started))
-    next=$(shown "$work/whole") || lost 'the history is not shown'
+    next=$(shown "$work/whole") || fail 'the history is not shown'
     commit "$commits" "${head:+from $head
 }" >"$work/stream"
     while :; do
@@ -66,18 +68,18 @@ while [ "$stops" -lt "$wanted" ] && [ "$commits" -lt 600 ] && [ "$SECONDS" -lt 5
         else
             import_until $((RANDOM * span / 32768))
         fi
-        seen=$(shown "$work/store") || lost 'the store does not load'
+        seen=$(shown "$work/store") || fail 'the store does not load'
         case $status in
-        0) [ "$(cat "$work/out")" = "$line" ] || lost 'an import did not print its line' ;;
+        0) [ "$(cat "$work/out")" = "$line" ] || fail 'an import did not print its line' ;;
         137) stops=$((stops + 1)) ;;
-        *) lost "an import ended with status $status" ;;
+        *) fail "an import ended with status $status" ;;
         esac
         if [ "$seen" = "$next" ]; then
             [ "$status" -eq 0 ] || landed=$((landed + 1))
             break
         fi
-        [ "$status" -ne 0 ] && [ ! -s "$work/out" ] || lost 'a commit whose line was printed is not there'
-        [ "$seen" = "$now" ] || lost "the store shows $seen and not $now or $next"
+        [ "$status" -ne 0 ] && [ ! -s "$work/out" ] || fail 'a commit whose line was printed is not there'
+        [ "$seen" = "$now" ] || fail "the store shows $seen and not $now or $next"
         [ "$stops" -lt "$wanted" ] && [ "$SECONDS" -lt 50 ] || break
     done
     [ "$seen" = "$next" ] || break

@@ -1,24 +1,18 @@
 #!/usr/bin/env bash
 # Lets two and six processes want one store at once: imports onto refs of their own, a batch beside imports, and pushes
 # by Git through two filters (contrib/git-remote-proj). Of a store that another process has a call is told `store
-# fault`, with status 24, and nothing else. Every change that was answered with status 0 must be there afterwards. It
-# takes the program that `PROJ` names, or the built one, and builds that where it isn't there. `ROUNDS` is how often all
-# of this is done with two processes and with six.
+# fault`, with status 24, and nothing else. Every change that was answered with status 0 must be there afterwards.
+# `ROUNDS` is how often all of this is done with two processes and with six.
 set -u
 cd "$(dirname "$0")/.." || exit 1
-for tool in mktemp sleep cat rm seq tail grep wc; do
-    command -v "$tool" >/dev/null || { printf 'two: not tried, for want of %s\n' "$tool"; exit 0; }
-done
-proj=${PROJ:-$PWD/crates/proj/out/proj}
-if [ ! -x "$proj" ]; then
-    (cd crates/proj && rt run -- name) </dev/null >/dev/null 2>&1
-    [ -x "$proj" ] || { printf 'two: the program is not built\n'; exit 1; }
-fi
+label=two
+. scripts/lib.sh
+needs mktemp sleep cat rm seq tail grep wc
+begin
 rounds=${ROUNDS:-2}
-work=$(mktemp -d) || exit 1
-trap 'rm -rf "$work"' EXIT
 store=$work/store
 
+# It is told in which round.
 fail() {
     printf 'two: round %d, %d processes: %s\n' "$round" "$count" "$1"
     exit 1
@@ -169,7 +163,8 @@ if with_git; then
     mkdir "$work/bin"
     ln -s "$(realpath "$proj")" "$work/bin/proj"
     ln -s "$PWD/contrib/git-remote-proj" "$work/bin/git-remote-proj"
-    export PATH=$work/bin:$PATH GIT_CONFIG_NOSYSTEM=1 GIT_CONFIG_GLOBAL=/dev/null HOME=$work
+    export PATH=$work/bin:$PATH
+    own_settings
     export GIT_AUTHOR_NAME=A GIT_AUTHOR_EMAIL=a@x GIT_COMMITTER_NAME=A GIT_COMMITTER_EMAIL=a@x
 fi
 filters=(:/a :/b)
