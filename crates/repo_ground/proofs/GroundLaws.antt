@@ -125,7 +125,7 @@ ground-commits h s w g =
 
 ground-base : (h : Held) (s : Contents) → Spells h s → IsGround s.basis
     → base_in s.basis.store (trees_of s.basis.graph) h.refs (reverse s.blobs)
-      ≡ record { commits = map named_tree (repo h).commits; refs = h.refs; blobs = (repo h).blobs }
+    ≡ record { commits = map named_tree (repo h).commits; refs = h.refs; blobs = (repo h).blobs }
 ground-base h s w g =
     let i : AreIn s.basis.store h.objects = are-in s.basis.store h.objects w.within in
     let trees : trees_by s.basis.store s.basis.graph ≡ map named_tree (snapshots_in h.objects) =

@@ -30,7 +30,7 @@ pub record GroundLaw : Type 0 where
   pub commits : (h : Held) (s : Contents) → Spells h s → IsGround s.basis → commits_of s.basis ≡ (repo h).commits
   pub base : (h : Held) (s : Contents) → Spells h s → IsGround s.basis
       → base_in s.basis.store (trees_of s.basis.graph) h.refs (reverse s.blobs)
-        ≡ record { commits = map named_tree (repo h).commits; refs = h.refs; blobs = (repo h).blobs }
+      ≡ record { commits = map named_tree (repo h).commits; refs = h.refs; blobs = (repo h).blobs }
 
 -- Where its ground has grown, the store by any objects and the map by entries behind those that are there, a state has what items hold
 -- still; and a ground whose store has grown is a ground.
