@@ -1,8 +1,11 @@
-#!/bin/sh
-# Times the replay of streams into a store in memory beside `git fast-import` without compression and without deltas, in one run:
-# seconds of each, and how many times faster this is. Run it at the top of the repository; a word picks one of the streams.
+#!/usr/bin/env bash
+# Times `proj`'s import of streams into a new store beside `git fast-import` without compression and without deltas, in
+# one run: seconds of each, and how many times faster `proj` is. A word picks one of the streams. It takes the program
+# that `PROJ` names, or the built one.
 set -e
-. "$(dirname "$0")/program.sh"
+cd "$(dirname "$0")/.." || exit 1
+proj=${PROJ:-$PWD/crates/proj/out/proj}
+[ -x "$proj" ] || { printf 'the program is not built: (cd crates/proj && rt run -- name)\n'; exit 1; }
 room=$(mktemp -d)
 trap 'rm -rf "$room"' EXIT
 export GIT_CONFIG_NOSYSTEM=1 GIT_CONFIG_GLOBAL=/dev/null HOME=$room
@@ -19,8 +22,10 @@ stream() {
     blobs) awk 'BEGIN { for (i = 0; i < 100000; i++) printf "blob\nmark :%d\ndata 12\nblob %07d\n", i + 1, i }' ;;
     commits) awk "$head"' BEGIN { for (n = 1; n <= 5000; n++) { head(n, n - 1)
         for (i = 0; i < 10; i++) { k = (n * 7 + i * 131) % 1000; file("d" k % 20 "/e" k % 10 "/f" k, n " " i) } print "" } }' ;;
-    directories) awk "$head"' BEGIN { head(1); for (i = 0; i < 100000; i++) file(sprintf("d%02d/e%02d/f%06d", i / 2000, i / 50 % 40, i), i) }' ;;
-    # Git looks through the whole directory for each file, so that a million of them take it hours: `million` is replayed here alone.
+    directories) awk "$head"' BEGIN { head(1)
+        for (i = 0; i < 100000; i++) file(sprintf("d%02d/e%02d/f%06d", i / 2000, i / 50 % 40, i), i) }' ;;
+    # Git looks through the whole directory for each file, so that a million of them take it hours: `million` is imported
+    # by `proj` alone.
     files) awk "$head"' BEGIN { head(1); for (i = 0; i < 20000; i++) file(sprintf("f%07d", i), i % 1000) }' ;;
     million) awk "$head"' BEGIN { head(1); for (i = 0; i < 1000000; i++) file(sprintf("f%07d", i), i % 1000) }' ;;
     deep) awk "$head"' BEGIN { p = "a"; for (i = 0; i < 126; i++) p = p "/a"
@@ -40,11 +45,13 @@ seconds() {
 by_git() {
     rm -rf "$room/git"
     git init -q --bare "$room/git"
-    git -C "$room/git" -c core.compression=0 -c pack.compression=0 -c fastimport.unpackLimit=0 fast-import --quiet --depth=0 <"$room/stream"
+    git -C "$room/git" -c core.compression=0 -c pack.compression=0 -c fastimport.unpackLimit=0 \
+        fast-import --quiet --depth=0 <"$room/stream"
 }
 
 here() {
-    "$PROGRAM" replay <"$room/stream"
+    rm -f "$room/store"
+    "$proj" "$room/store" import <"$room/stream"
 }
 
 for kind in ${1:-blobs commits directories files million deep renames}; do
@@ -52,5 +59,6 @@ for kind in ${1:-blobs commits directories files million deep renames}; do
     git=0
     [ "$kind" = million ] || git=$(seconds by_git)
     own=$(seconds here)
-    echo "$kind $(wc -c <"$room/stream") $git $own" | awk '{ printf "%-12s %11d bytes: git %7.2f s, here %7.2f s, ratio %.1f\n", $1, $2, $3, $4, $3 / ($4 + 0.005) }'
+    echo "$kind $(wc -c <"$room/stream") $git $own" |
+        awk '{ printf "%-12s %11d bytes: git %7.2f s, here %7.2f s, ratio %.1f\n", $1, $2, $3, $4, $3 / ($4 + 0.005) }'
 done
