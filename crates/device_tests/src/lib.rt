@@ -1,4 +1,5 @@
-//! Tests of the devices, of the disks and of the journal. The libraries themselves have none.
+//! Tests of the devices, of the disks and of the journal, and of a source that is made as it is read. The libraries
+//! themselves have none.
 #![tactic(auto)]
 
 #[cfg(test)]
@@ -9,6 +10,8 @@ mod devices;
 mod disks;
 #[cfg(test)]
 mod journals;
+#[cfg(test)]
+mod long;
 #[cfg(test)]
 mod opened;
 #[cfg(test)]
