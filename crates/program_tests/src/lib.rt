@@ -6,8 +6,6 @@ mod batches;
 #[cfg(test)]
 mod calls;
 #[cfg(test)]
-mod damaged;
-#[cfg(test)]
 mod serving;
 #[cfg(test)]
 mod stops;

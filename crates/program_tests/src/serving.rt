@@ -70,25 +70,6 @@ fn a_store_stays(rt: HostRuntime) -> Result<(), Fail> {
     Ok(())
 }
 
-// Bytes that are no journal, and the text of that.
-const BROKEN: [(&[u8], &[u8]); 4] = [
-    (b"proj 02\n\0", b"damaged: journal at 0\n"),
-    (b"proj 01x\0", b"damaged: journal at 0\n"),
-    (b"proj 01x", b"damaged: journal at 0\n"),
-    (b"proj 01\n\x01\0\0\0", b"damaged: journal at 8\n"),
-];
-
-#[test]
-fn other_files_are_damaged(rt: HostRuntime) -> Result<(), Fail> {
-    let alloc = rt.alloc();
-    for (bytes, text) in &BROKEN {
-        let refused = served(alloc, disk_of(alloc, bytes)?, IMPORT, FIRST)?;
-        assert!(rt; refused.is(25, b"", text));
-        assert!(rt; refused.disk.bytes() == *bytes);
-    }
-    Ok(())
-}
-
 #[test]
 fn a_disk_that_fails_is_a_fault_of_the_store(rt: HostRuntime) -> Result<(), Fail> {
     let alloc = rt.alloc();
