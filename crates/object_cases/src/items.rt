@@ -1,11 +1,14 @@
 // Items of a keeper, loaded.
 use crate::keepers::Misjudging;
 use crate::stores::{count, held};
-use crate::values::{digits_or_none, word_and_digits};
+use crate::values::word_and_digits;
 use case_lines::{
-    Fault, Texts, Word, add_item, failing_of, number_of, ref_name_of, reopened, text_of,
+    Fault, Texts, Word, add_item, digits_of, failing_of, number_of, ref_name_of, reopened, text_of,
 };
-use proj_io::{Keeper, MemKeeper};
+use commit_map::Shown;
+use filter_text::parse;
+use git_objects::Name;
+use proj_io::MemKeeper;
 use repo_ground::{LoadError, State};
 use std::alloc::{AllocError, Global};
 
@@ -35,56 +38,86 @@ pub fn answer(
     words: &[Word],
 ) -> Result<Option<String>, Fault> {
     match form {
-        "new" => renew(alloc, kept, words),
-        "add" => add(alloc, texts, kept, words),
+        "new" => {
+            let failing = failing_of(alloc, words)?;
+            *kept = Kept::new(alloc)?;
+            kept.keeper = MemKeeper::new(alloc, failing);
+            Ok(None)
+        }
+        "add" => {
+            let item = texts.spelled(words)?;
+            add_item(alloc, &mut kept.keeper, &item)?;
+            Ok(None)
+        }
         "load" => load(alloc, kept).map(Some),
         "judged" => judged(alloc, kept, words).map(Some),
-        _ => asked(alloc, texts, kept, form, words).map(Some),
+        "fronts" => fronts(alloc, &kept.keeper, &texts.spelled(words)?).map(Some),
+        _ => asked(alloc, texts, &mut kept.state, form, words).map(Some),
     }
 }
 
-// What is asked of a keeper and a state that stay.
+// What is asked of what was loaded.
 fn asked(
     alloc: Global,
     texts: &Texts,
-    kept: &Kept,
+    state: &mut State,
     form: &str,
     words: &[Word],
 ) -> Result<String, Fault> {
     match form {
-        "fronts" => fronts(alloc, texts, words),
-        "get" => held(alloc, texts, &kept.state.ground.store, words),
-        "count" => count(alloc, &kept.state.ground.store),
-        "head" => head(alloc, &kept.state, words),
+        "get" => held(alloc, texts, &state.ground.store, words),
+        "count" => count(alloc, &state.ground.store),
+        "rule" => Ok(format!(in alloc; "{}", state.ground.rule.number())?),
+        "kept" => projections(alloc, state, &texts.spelled(words)?),
+        "head" => head(alloc, state, words),
         _ => Err(Fault::BadLine),
     }
-}
-
-fn renew(alloc: Global, kept: &mut Kept, words: &[Word]) -> Result<Option<String>, Fault> {
-    let failing = failing_of(alloc, words)?;
-    let mut other = Kept::new(alloc)?;
-    other.keeper = MemKeeper::new(alloc, failing);
-    *kept = other;
-    Ok(None)
-}
-
-fn add(
-    alloc: Global,
-    texts: &Texts,
-    kept: &mut Kept,
-    words: &[Word],
-) -> Result<Option<String>, Fault> {
-    let item = texts.spelled(words)?;
-    add_item(alloc, &mut kept.keeper, &item)?;
-    Ok(None)
 }
 
 fn head(alloc: Global, state: &State, words: &[Word]) -> Result<String, Fault> {
     let [refname] = words else {
         return Err(Fault::BadLine);
     };
-    let refname = ref_name_of(alloc, refname)?;
-    digits_or_none(alloc, state.head(&refname))
+    match state.head(&ref_name_of(alloc, refname)?) {
+        None => text_of(alloc, "none"),
+        Some(name) => digits_of(alloc, &name),
+    }
+}
+
+// The projections that are kept for the filter of a text and the rule that was set last, a line each.
+fn projections(alloc: Global, state: &mut State, text: &[u8]) -> Result<String, Fault> {
+    let Ok(filter) = &parse(alloc, text) else {
+        return Err(Fault::BadLine);
+    };
+    state.select(filter)?;
+    let mut lines = String::new(alloc);
+    for i in 0..state.ground.map.len() {
+        let (original, shown) = state.ground.map.entry(i);
+        add_projection(alloc, &mut lines, &original, shown)?;
+    }
+    if lines.is_empty() {
+        lines.push_str("none are kept")?;
+    }
+    Ok(lines)
+}
+
+// Adds the name of an original, and the names of its projection and of the projection's tree, or `none`.
+fn add_projection(
+    alloc: Global,
+    lines: &mut String,
+    original: &Name,
+    shown: Option<Shown>,
+) -> Result<(), Fault> {
+    let original = digits_of(alloc, original)?;
+    let line = match shown {
+        None => format!(in alloc; "{original} none\n")?,
+        Some(shown) => {
+            let commit = digits_of(alloc, &shown.commit)?;
+            let tree = digits_of(alloc, &shown.tree)?;
+            format!(in alloc; "{original} {commit} {tree}\n")?
+        }
+    };
+    Ok(lines.push_str(line.as_str())?)
 }
 
 // Why items are not loaded.
@@ -132,16 +165,14 @@ fn judged(alloc: Global, kept: &mut Kept, words: &[Word]) -> Result<String, Faul
     state_text(alloc, &loaded)
 }
 
-// What comes of loading this item alone.
-fn load_one(alloc: Global, item: &[u8]) -> Result<String, Fault> {
-    if item.is_empty() || item.len() > 2_000_000 {
-        return Err(Fault::BadLine);
-    }
+// What comes of loading the items of a keeper and this one behind them.
+fn load_behind(alloc: Global, behind: &MemKeeper, item: &[u8]) -> Result<String, Fault> {
     let mut keeper = MemKeeper::new(alloc, Vec::new(alloc));
-    if keeper.append(item).is_err() {
-        return Err(Fault::OutOfMemory);
+    for held in behind.items() {
+        add_item(alloc, &mut keeper, held.bytes())?;
     }
-    let loaded = State::load(alloc, &mut keeper);
+    add_item(alloc, &mut keeper, item)?;
+    let loaded = State::load(alloc, &mut reopened(alloc, &mut keeper));
     state_text(alloc, &loaded)
 }
 
@@ -173,23 +204,18 @@ impl Runs {
     }
 }
 
-// What comes of loading each front of an item that is shorter than it, a line for each run of sizes.
-fn fronts(alloc: Global, texts: &Texts, words: &[Word]) -> Result<String, Fault> {
-    let item = texts.spelled(words)?;
+// What comes of loading each front of an item that is shorter than it, behind the items of a keeper: a line for each run
+// of sizes.
+fn fronts(alloc: Global, keeper: &MemKeeper, item: &[u8]) -> Result<String, Fault> {
     let mut runs = Runs {
         lines: String::new(alloc),
         first: 1,
         said: String::new(alloc),
     };
-    load_fronts(alloc, &mut runs, &item)?;
-    runs.end(item.len().saturating_sub(1))?;
-    Ok(runs.lines)
-}
-
-fn load_fronts(alloc: Global, runs: &mut Runs, item: &[u8]) -> Result<(), Fault> {
     for size in 1..item.len() {
-        let said = load_one(alloc, item.get(..size).unwrap_or(&[]))?;
+        let said = load_behind(alloc, keeper, item.get(..size).unwrap_or(&[]))?;
         runs.take(size, said)?;
     }
-    Ok(())
+    runs.end(item.len().saturating_sub(1))?;
+    Ok(runs.lines)
 }

@@ -1,9 +1,7 @@
 // What lines of cases work on.
 use crate::items::Kept;
-use crate::refs::TwoRefs;
-use crate::{bodies, graphs, items, names, refs, stores, trees};
+use crate::{bodies, items, stores};
 use case_lines::{Answers, Fault, Texts, Word, number_of};
-use commit_graph::Graph;
 use object_store::Store;
 use std::alloc::Global;
 
@@ -11,8 +9,6 @@ use std::alloc::Global;
 #[derive(Drop)]
 pub struct Session {
     store: Store,
-    graph: Graph,
-    refs: TwoRefs,
     kept: Kept,
 }
 
@@ -21,8 +17,6 @@ impl Session {
         let kept = Kept::new(alloc)?;
         Ok(Session {
             store: Store::new(alloc),
-            graph: Graph::new(alloc),
-            refs: TwoRefs::new(alloc),
             kept,
         })
     }
@@ -35,9 +29,6 @@ impl Session {
         count: u64,
         words: &[Word],
     ) -> Result<Option<String>, Fault> {
-        if words.is_empty() {
-            return Err(Fault::BadLine);
-        }
         let mut answer = None;
         for _ in 0..count {
             answer = self.asked(alloc, texts, words)?;
@@ -45,7 +36,6 @@ impl Session {
         Ok(answer)
     }
 
-    // The texts get the names of trees that `tree` lines make.
     fn asked(
         &mut self,
         alloc: Global,
@@ -55,15 +45,10 @@ impl Session {
         let [subject, form, words @ ..] = words else {
             return Err(Fault::BadLine);
         };
-        let form = form.text();
         match subject.text() {
-            "object" => names::answer(alloc, texts, form, words).map(Some),
-            "body" => bodies::answer(alloc, texts, form, words).map(Some),
-            "store" => stores::answer(alloc, texts, &mut self.store, form, words),
-            "tree" => trees::answer(alloc, texts, &mut self.store, form, words).map(Some),
-            "graph" => graphs::answer(alloc, texts, &mut self.graph, form, words),
-            "refs" => refs::answer(alloc, texts, &self.graph, &mut self.refs, form, words),
-            "items" => items::answer(alloc, texts, &mut self.kept, form, words),
+            "body" => bodies::answer(alloc, texts, form.text(), words).map(Some),
+            "store" => stores::answer(alloc, texts, &mut self.store, form.text(), words),
+            "items" => items::answer(alloc, texts, &mut self.kept, form.text(), words),
             _ => Err(Fault::BadLine),
         }
     }

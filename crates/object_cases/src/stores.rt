@@ -3,7 +3,7 @@ use crate::values::{kind_of, word_and_digits};
 use case_lines::{Fault, Texts, Word, name_of, printed, text_of};
 use git_objects::{Kind, Name};
 use object_store::{PutError, Store};
-use std::alloc::{AllocError, Global};
+use std::alloc::Global;
 
 /// The answer to a line on the store.
 pub fn answer(
@@ -36,8 +36,6 @@ fn asked(
         "get" => held(alloc, texts, store, words),
         "count" => count(alloc, store),
         "stats" => stats(alloc, store, object_name(texts, words)?),
-        "fronts" => fronts(alloc, texts, words),
-        "flips" => flips(alloc, texts, words),
         _ => Err(Fault::BadLine),
     }
 }
@@ -50,15 +48,6 @@ fn object_name(texts: &Texts, words: &[Word]) -> Result<Name, Fault> {
     }
 }
 
-// A kind, and the body that pieces spell.
-fn object_of(texts: &Texts, words: &[Word]) -> Result<(Kind, Vec<u8>), Fault> {
-    let [kind, pieces @ ..] = words else {
-        return Err(Fault::BadLine);
-    };
-    let kind = kind_of(kind)?;
-    Ok((kind, texts.spelled(pieces)?))
-}
-
 // Puts an object, owned or lent. Its name's bytes are the text `last` then.
 fn put(
     alloc: Global,
@@ -67,8 +56,11 @@ fn put(
     words: &[Word],
     is_lent: bool,
 ) -> Result<String, Fault> {
-    let (kind, body) = object_of(texts, words)?;
-    let result = taken(store, kind, body, is_lent);
+    let [kind, pieces @ ..] = words else {
+        return Err(Fault::BadLine);
+    };
+    let body = texts.spelled(pieces)?;
+    let result = taken(store, kind_of(kind)?, body, is_lent);
     if let Ok(name) = result {
         texts.set(b"last", name.bytes().to_vec(alloc)?)?;
     }
@@ -124,51 +116,4 @@ fn stats(alloc: Global, store: &Store, name: Name) -> Result<String, Fault> {
             sizes.files, sizes.depth, sizes.longest
         )?),
     }
-}
-
-// A sign for whether a store without objects finds the bytes to be a body.
-fn sign(alloc: Global, kind: Kind, body: &[u8]) -> char {
-    let mut store = Store::new(alloc);
-    if store.put_slice(kind, body) == Err(PutError::NotCanonical) {
-        '-'
-    } else {
-        '+'
-    }
-}
-
-// A sign for each front of a body that is shorter than it, and for the body: whether it is a body.
-fn fronts(alloc: Global, texts: &Texts, words: &[Word]) -> Result<String, Fault> {
-    let (kind, body) = object_of(texts, words)?;
-    Ok(front_signs(alloc, kind, &body)?)
-}
-
-fn front_signs(alloc: Global, kind: Kind, body: &[u8]) -> Result<String, AllocError> {
-    let mut signs = String::new(alloc);
-    for size in 0..body.len() {
-        signs.push(sign(alloc, kind, body.get(..size).unwrap_or(&[])))?;
-    }
-    signs.push(sign(alloc, kind, body))?;
-    Ok(signs)
-}
-
-// A sign for each byte of a body: whether it is a body where the lowest bit of that byte is another.
-fn flips(alloc: Global, texts: &Texts, words: &[Word]) -> Result<String, Fault> {
-    let (kind, body) = object_of(texts, words)?;
-    Ok(flip_signs(alloc, kind, &body)?)
-}
-
-fn flip_signs(alloc: Global, kind: Kind, body: &[u8]) -> Result<String, AllocError> {
-    let mut signs = String::new(alloc);
-    for at in 0..body.len() {
-        signs.push(flip_sign(alloc, kind, body, at)?)?;
-    }
-    Ok(signs)
-}
-
-fn flip_sign(alloc: Global, kind: Kind, body: &[u8], at: usize) -> Result<char, AllocError> {
-    let mut other = body.to_vec(alloc)?;
-    if let Some(byte) = other.get_mut(at) {
-        *byte ^= 1;
-    }
-    Ok(sign(alloc, kind, &other))
 }

@@ -1,5 +1,5 @@
 // Values that words stand for.
-use case_lines::{Fault, Word, digits_of, text_of};
+use case_lines::{Fault, Word, digits_of};
 use git_objects::{Kind, Mode, Name};
 use std::alloc::Global;
 
@@ -20,25 +20,6 @@ pub fn mode_of(word: &Word) -> Result<Mode, Fault> {
         "160000" => Ok(Mode::Module),
         "40000" => Ok(Mode::Dir),
         _ => Err(Fault::BadLine),
-    }
-}
-
-/// The digits of a mode.
-pub fn mode_digits(mode: Mode) -> &'static str {
-    match mode {
-        Mode::File => "100644",
-        Mode::Exec => "100755",
-        Mode::Link => "120000",
-        Mode::Module => "160000",
-        Mode::Dir => "40000",
-    }
-}
-
-/// The digits of a name, or `none`.
-pub fn digits_or_none(alloc: Global, name: Option<Name>) -> Result<String, Fault> {
-    match name {
-        None => text_of(alloc, "none"),
-        Some(name) => digits_of(alloc, &name),
     }
 }
 
