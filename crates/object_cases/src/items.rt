@@ -172,7 +172,8 @@ fn load_behind(alloc: Global, behind: &MemKeeper, item: &[u8]) -> Result<String,
         add_item(alloc, &mut keeper, held.bytes())?;
     }
     add_item(alloc, &mut keeper, item)?;
-    let loaded = State::load(alloc, &mut reopened(alloc, &mut keeper));
+    let mut keeper = reopened(alloc, &mut keeper);
+    let loaded = State::load(alloc, &mut keeper);
     state_text(alloc, &loaded)
 }
 
