@@ -1,6 +1,0 @@
-use Rattle.git_objects.specs.Trees.{Flat}
-use Rattle.stage_tree.specs.Stages.{Shows}
-use Rattle.stage_cases.proofs.cases.edited.Given as goal
-
-abbrev pub invariant-loop-word : goal.invariant-loop-word
-invariant-loop-word l = (t : Flat) × Shows l.store l.stage t
