@@ -2,7 +2,7 @@
 use crate::calls::{FIRST, IMPORT, PROJECT, sink, source, strings};
 use proj_cli::serve;
 use proj_disk::MemDisk;
-use proj_io::{MemSink, MemSource};
+use proj_io::MemSink;
 use std::alloc::{AllocError, Global};
 use std::test::Fail;
 
