@@ -10,6 +10,7 @@ label=streams
 needs git mktemp awk sort cmp diff head tr seq rm
 begin
 own_settings
+git config --file "$work/config" core.compression 0
 number=0
 
 ident() {
@@ -91,7 +92,7 @@ agree() {
 compare() {
     rm -rf "$work/made" "$work/store"
     git init -q --bare "$work/made"
-    if ! git -C "$work/made" fast-import --quiet <"$work/stream"; then
+    if ! git -C "$work/made" fast-import --quiet --depth=0 <"$work/stream"; then
         wrong "$1: Git refuses it"
         return
     fi
@@ -132,7 +133,7 @@ shown() {
     rm -rf "$work/back"
     git init -q --bare "$work/back"
     while read -r ref _; do
-        "$proj" "$work/store" export "$ref" :nop | git -C "$work/back" fast-import --quiet
+        "$proj" "$work/store" export "$ref" :nop | git -C "$work/back" fast-import --quiet --depth=0
     done <"$work/wanted"
     refs "$work/back" >"$work/found"
     agree "$1, by export"
