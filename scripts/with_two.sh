@@ -183,7 +183,7 @@ push_of() {
 
 # Each clone pushes a commit of its own. Through each filter one is done, and the others are told to fetch first.
 pushes() {
-    local own done=(0 0)
+    local own won=(0 0)
     for own in $(seq "$count"); do
         clone_of "$own"
         git -C "$work/clone$own" pull -q 2>"$work/err" || fail "no pull: $(cat "$work/err")"
@@ -197,7 +197,7 @@ pushes() {
     wait
     for own in $(seq "$count"); do
         if [ "$(cat "$work/clone$own.status")" -eq 0 ]; then
-            done[own % 2]=$((done[own % 2] + 1))
+            won[own % 2]=$((won[own % 2] + 1))
             changes=$((changes + 1))
             [ "$("$proj" "$store" project refs/heads/main "${filters[own % 2]}" 2>&1)" = \
                 "$(git -C "$work/clone$own" rev-parse HEAD)" ] || fail 'a push that was done is not there'
@@ -206,7 +206,7 @@ pushes() {
             git -C "$work/clone$own" reset -q --hard '@{upstream}'
         fi
     done
-    [ "${done[*]}" = '1 1' ] || fail "${done[*]} pushes were done through the two filters"
+    [ "${won[*]}" = '1 1' ] || fail "${won[*]} pushes were done through the two filters"
     # A push through the other filter moved the ref on: it is no longer where the import before said.
     at[main]=$("$proj" "$store" project refs/heads/main :nop 2>"$work/err") || fail "$(cat "$work/err")"
     all_there 'pushes at once'
