@@ -1,7 +1,8 @@
 #!/usr/bin/env python3
 """Gives the program inputs that are changed at random: streams, batches, journals and filters.
 
-No run may end by a signal or with a status that has no meaning, and a store that loads must load behind every run. It
+No run may end by a signal or with a status that has no meaning, and a store that loads must load behind every run.
+Words of which one isn't UTF-8 must be answered by the usage, and a text that can't be printed by `write fault`. It
 takes the program that PROJ names, or the built one, and builds that where it isn't there; INPUTS is how many inputs
 are tried, SEED where the numbers begin.
 """
@@ -102,6 +103,28 @@ def run(words, data):
     return done.returncode
 
 
+def told(words, out=subprocess.PIPE):
+    """The status and the text on the error stream."""
+    done = subprocess.run([PROJ] + words, stdin=subprocess.DEVNULL, stdout=out, stderr=subprocess.PIPE, check=False)
+    return done.returncode, done.stderr
+
+
+def odd_words(work):
+    """Words that are no text, and an output that takes nothing."""
+    store = os.path.join(work, "none")
+    usage = told([])
+    if usage[0] != 2 or not usage[1].startswith(b"usage: "):
+        fail("no words are told %r" % (usage,), [], b"")
+    for words in ([b"\xff"], [store, b"\xff"], [store, "project", MAIN, b":/\xc3"], ["--help", b"\xff"]):
+        if told(words) != usage or os.path.exists(store):
+            fail("words that are no text are told %r" % (told(words),), words, b"")
+    if os.path.exists("/dev/full"):
+        with open("/dev/full", "wb") as full:
+            for words in (["--help"], ["--version"]):
+                if told(words, full) != (23, b"write fault\n"):
+                    fail("an output that takes nothing", words, b"")
+
+
 def loads(store):
     """Whether the store loads: only then a ref is looked for in it."""
     return run([store, "project", "refs/heads/none", ":/a"], b"") == 8
@@ -120,6 +143,7 @@ def main():
     build()
     work = tempfile.mkdtemp()
     try:
+        odd_words(work)
         seeds = [os.path.join(work, "seed%d" % i) for i in range(3)]
         for seed in seeds:
             for stream in STREAMS:
@@ -153,13 +177,13 @@ def main():
                     fail("a journal that loaded does not", ["batch"], b"")
                 continue
             else:
-                text = mutated(random.choice(FILTERS)).replace(b"\0", b"").decode("utf-8", "ignore")
+                text = mutated(random.choice(FILTERS)).replace(b"\0", b"")
                 status = run([store, random.choice(["project", "export"]), MAIN, text], b"")
             counts[status] = counts.get(status, 0) + 1
             if kind != 4 and not loads(store):
                 fail("a store that loaded does not", ["status %d" % status], b"")
-        told = ", ".join("%s: %d" % (key, counts[key]) for key in sorted(counts, key=str))
-        print("mutations: %d inputs, none ended by a signal, each store loads (%s)" % (INPUTS, told))
+        counted = ", ".join("%s: %d" % (key, counts[key]) for key in sorted(counts, key=str))
+        print("mutations: %d inputs, none ended by a signal, each store loads (%s)" % (INPUTS, counted))
     finally:
         shutil.rmtree(work)
 
