@@ -330,6 +330,27 @@ does 'it comes behind who was there' test -e "$work/over"
 wait
 settled 'a push that waits its turn' a :/a
 
+# A program whose first push is told a store fault, made or not.
+mkdir "$work/faulty"
+cat >"$work/faulty/proj" <<END
+#!/bin/sh
+[ "\$2" = push ] && [ -e "$work/fault" ] || exec "$work/bin/proj" "\$@"
+[ ! -s "$work/fault" ] || "$work/bin/proj" "\$@" >/dev/null
+rm "$work/fault"
+printf 'store fault\n' >&2
+exit 24
+END
+chmod +x "$work/faulty/proj"
+: >"$work/fault"
+change a fault 'not made at first'
+does 'a push behind a fault' env PATH="$work/faulty:$PATH" git -C "$work/a" push -q
+settled 'a push behind a fault' a :/a
+printf 'made\n' >"$work/fault"
+change a fault 'made, and told a fault'
+does 'a push that was made with a fault' env PATH="$work/faulty:$PATH" git -C "$work/a" push -q
+settled 'a push that was made with a fault' a :/a
+same 'both faults came' gone "$([ -e "$work/fault" ] || printf gone)"
+
 # ---- the commands that README tells first
 
 mkdir -p "$work/story"
