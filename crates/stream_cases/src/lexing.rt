@@ -1,12 +1,9 @@
 // Lines and blocks of a text.
 ghost use Rattle.std.specs.Prelude.{◌≡◌, ◌<◌, ◌∷◌, [], false};
 
-use case_lines::{Fault, Texts, Word, count_of, printed};
+use case_lines::{Fault, Texts, Word, printed};
 use std::alloc::{AllocError, Global};
-use stream_lex::{
-    BlockAnswer, LexFault, Lexer, LimitFault, LineAnswer, LineView, Stop, any_line, block,
-    is_comment, line,
-};
+use stream_lex::{BlockAnswer, LexFault, Lexer, LineAnswer};
 
 // What is asked of a lexer.
 #[derive(Clone, Copy)]
@@ -146,92 +143,6 @@ fn with_pieces(alloc: Global, text: &[u8], asks: &[u8], whole: &str) -> Result<S
             all.push_str("in pieces:\n")?;
             all.push_str(pieces.as_str())?;
         }
-    }
-    Ok(all)
-}
-
-// A line with its place, or the end, and the place behind it.
-fn line_text(alloc: Global, found: Option<LineView<'_>>, to: u64) -> Result<String, AllocError> {
-    match found {
-        None => format!(in alloc; "end, to {to}\n"),
-        Some(found) => found_text(alloc, found, to),
-    }
-}
-
-fn found_text(alloc: Global, found: LineView<'_>, to: u64) -> Result<String, AllocError> {
-    let word = if is_comment(found.bytes) {
-        "comment"
-    } else {
-        "line"
-    };
-    let bytes = printed(alloc, found.bytes)?;
-    format!(in alloc; "{word} at {} [{bytes}], to {to}\n", found.at)
-}
-
-fn stop_text(alloc: Global, stop: Stop<LimitFault>) -> Result<String, AllocError> {
-    format!(in alloc; "{stop:?}\n")
-}
-
-// The next line, a comment or not, which stays.
-fn lent_any(alloc: Global, lexer: &Lexer) -> Result<String, AllocError> {
-    match any_line(lexer.has_ended(), lexer.cursor()) {
-        Ok((found, after)) => line_text(alloc, found, after.at),
-        Err(stop) => stop_text(alloc, stop),
-    }
-}
-
-// The next line, which is passed over. One that may be a comment isn't.
-fn lent_line(alloc: Global, lexer: &mut Lexer) -> Result<String, AllocError> {
-    match line(lexer.has_ended(), lexer.cursor()) {
-        Ok((found, after)) => {
-            let to = after.at;
-            let text = line_text(alloc, found, to)?;
-            lexer.pass(to);
-            Ok(text)
-        }
-        Err(stop) => stop_text(alloc, stop),
-    }
-}
-
-// A block of so many bytes, which is passed over.
-fn lent_block(alloc: Global, lexer: &mut Lexer, size: usize) -> Result<String, AllocError> {
-    match block(size, lexer.has_ended(), lexer.cursor()) {
-        Ok((Some(found), after)) => {
-            let to = after.at;
-            let bytes = printed(alloc, found)?;
-            lexer.pass(to);
-            format!(in alloc; "block [{bytes}], to {to}\n")
-        }
-        Ok((None, _)) => String::from_str(alloc, "short\n"),
-        Err(stop) => stop_text(alloc, stop),
-    }
-}
-
-// The answer to one ask of what a lexer holds, which is lent.
-fn lent_one(alloc: Global, lexer: &mut Lexer, ask: &Word) -> Result<String, Fault> {
-    match ask.text() {
-        "end" => {
-            lexer.end();
-            Ok(String::new(alloc))
-        }
-        "any" => Ok(lent_any(alloc, lexer)?),
-        "line" => Ok(lent_line(alloc, lexer)?),
-        _ => Ok(lent_block(alloc, lexer, count_of(ask)?)?),
-    }
-}
-
-/// The answers to asks of a text that was fed whole, read without copies: `any` for the next line, a comment or not,
-/// which stays; `line`, or a number for a block of so many bytes; `end` tells that nothing more comes. The text stands
-/// first.
-pub fn lent(alloc: Global, texts: &Texts, words: &[Word]) -> Result<String, Fault> {
-    let [piece, asks @ ..] = words else {
-        return Err(Fault::BadLine);
-    };
-    let mut lexer = Lexer::new(alloc);
-    lexer.feed(&texts.word(piece)?)?;
-    let mut all = String::new(alloc);
-    for ask in asks {
-        all.push_str(lent_one(alloc, &mut lexer, ask)?.as_str())?;
     }
     Ok(all)
 }

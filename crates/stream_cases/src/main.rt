@@ -1,5 +1,4 @@
-//! Answers cases of streams, of lines and blocks, of paths, ref names, quoting and numbers, a line each, from standard
-//! input.
+//! Answers cases of streams, of lines and blocks, of paths, ref names and quoting, a line each, from standard input.
 #![tactic(auto)]
 
 mod commands;

@@ -27,7 +27,6 @@ fn answered(alloc: Global, texts: &Texts, form: &str, words: &[Word]) -> Result<
         "more" => reading::told_before_the_end(alloc, &texts.spelled(words)?),
         "replay" => replays::replayed(alloc, &texts.spelled(words)?),
         "lexer" => lexing::answer(alloc, texts, words),
-        "lent" => lexing::lent(alloc, texts, words),
-        form => names::answer(alloc, texts, form, words),
+        form => names::read(alloc, form, &texts.spelled(words)?),
     }
 }
