@@ -1,4 +1,4 @@
-//! Answers cases of filters and of trees, a line each, from standard input: texts, soundness, tables and ways of paths;
+//! Answers cases of filters and of trees, a line each, from standard input: texts, soundness and ways of paths;
 //! the filter for a tree, what filters show of trees, and what is laid back into them; and edits of a stage.
 #![tactic(auto)]
 

@@ -1,4 +1,4 @@
-// Filters of texts, their soundness, decision lists, tables, and the ways of paths.
+// Filters of texts, their soundness, decision lists, and the ways of paths.
 ghost use Rattle.std.specs.Prelude.{◌≡◌, ◌≤◌, true, IfOk};
 ghost use Rattle.git_objects.specs.declared.limits.TheConstants.{FILTER_PIECES};
 ghost use Rattle.filter_text.specs.Filters.{has_paths, pieces};
@@ -6,7 +6,7 @@ ghost use Rattle.filter_text.specs.Shapes.{shape};
 ghost use Rattle.workspace.specs.Laws.{IsUsable};
 
 use case_lines::{Fault, Texts, Word, count_of, path_of, path_text, printed, text_of};
-use filter_routes::{RouteFault, Table, Tables, check, is_sound, list_within};
+use filter_routes::{RouteFault, Table, check, is_sound, list_within};
 use filter_text::{Filter, parse, print};
 use filter_unapply::image_of;
 use path_names::Path;
@@ -126,50 +126,7 @@ pub fn origin(alloc: Global, texts: &Texts, words: &[Word]) -> Result<String, Fa
     Ok(path_text(alloc, &Path::of_parts(alloc, front, rest)?)?)
 }
 
-/// How many tables there are, the table with a number, or the number of a filter's table.
-pub fn tables(
-    alloc: Global,
-    texts: &Texts,
-    tables: &mut Tables,
-    words: &[Word],
-) -> Result<String, Fault> {
-    match words {
-        [form] if form.text() == "count" && tables.is_empty() => text_of(alloc, "none"),
-        [form] if form.text() == "count" => Ok(format!(in alloc; "{}", tables.len())?),
-        [form, number] if form.text() == "get" => shown(alloc, tables, count_of(number)?),
-        [form, pieces @ ..] if form.text() == "intern" => {
-            interned(alloc, tables, &texts.spelled(pieces)?)
-        }
-        _ => Err(Fault::BadLine),
-    }
-}
-
-// The filter of the table with that number.
-fn shown(alloc: Global, tables: &Tables, number: usize) -> Result<String, Fault> {
-    match tables.get(number) {
-        None => text_of(alloc, "none"),
-        Some(table) => filter_line(alloc, table),
-    }
-}
-
 /// The canonical text of a table's filter.
 pub fn filter_line(alloc: Global, table: &Table) -> Result<String, Fault> {
     Ok(printed(alloc, &print(alloc, table.filter())?)?)
-}
-
-fn interned(alloc: Global, tables: &mut Tables, text: &[u8]) -> Result<String, Fault> {
-    let filter = filter_of(alloc, text)?;
-    let before = tables.len();
-    match tables.intern(&filter) {
-        Ok(number) => {
-            let table = shown(alloc, tables, number)?;
-            Ok(format!(in alloc; "{number} of {}: {table}", tables.len())?)
-        }
-        Err(fault) => {
-            let count = tables.len();
-            let change = if count == before { "as before" } else { "now" };
-            let fault = verdict(alloc, Err(fault), "")?;
-            Ok(format!(in alloc; "{fault}\n{count} {change}")?)
-        }
-    }
 }

@@ -71,7 +71,6 @@ impl Answers for Session {
             "list" => routes::listed(alloc, texts, words),
             "image" => routes::image(alloc, texts, words),
             "origin" => routes::origin(alloc, texts, words),
-            "tables" => routes::tables(alloc, texts, &mut self.tables, words),
             form => self.asked(alloc, texts, form, words),
         };
         answer.map(Some)
