@@ -1,22 +1,24 @@
 // Keepers in memory, as lines set them up.
 ghost use Rattle.std.specs.Prelude.{◌≡◌, false};
 
-use crate::{Fault, Texts, Word, number_of, printed};
+use crate::{Fault, Texts, Word, add_printed, number_of, text_of};
 use proj_io::{Failing, Keeper, MemKeeper};
-use std::alloc::Global;
+use std::alloc::{AllocError, Global};
 use std::mem;
 
 /// The number of the call that fails, and `landed` where its item is left there. No words: none fails.
 pub fn failing_of(alloc: Global, words: &[Word]) -> Result<Vec<Failing>, Fault> {
+    match words {
+        [] => Ok(Vec::new(alloc)),
+        [call] => failing(alloc, call, false),
+        [call, word] if word.text() == "landed" => failing(alloc, call, true),
+        _ => Err(Fault::BadLine),
+    }
+}
+
+fn failing(alloc: Global, call: &Word, landed: bool) -> Result<Vec<Failing>, Fault> {
+    let call = number_of(&call.bytes)?;
     let mut failing = Vec::new(alloc);
-    let (call, landed) = match words {
-        [] => return Ok(failing),
-        [call] => (number_of(&call.bytes)?, false),
-        [call, word] if word.bytes.as_slice() == b"landed".as_slice() => {
-            (number_of(&call.bytes)?, true)
-        }
-        _ => return Err(Fault::BadLine),
-    };
     failing.push(Failing { call, landed })?;
     Ok(failing)
 }
@@ -45,16 +47,29 @@ pub fn add_item(alloc: Global, keeper: &mut MemKeeper, item: &[u8]) -> Result<()
 /// The names of the texts that a keeper's items are. An item that is no text is told in hex.
 pub fn items_said(alloc: Global, texts: &Texts, keeper: &MemKeeper) -> Result<String, Fault> {
     if keeper.items().is_empty() {
-        return Ok(String::from_str(alloc, "no items")?);
+        return text_of(alloc, "no items");
     }
     let mut said = String::from_str(alloc, "items")?;
-    for item in keeper.items() {
-        let name = match texts.name_of(item.bytes()) {
-            Some(name) => printed(alloc, name)?,
-            None => hex::encode(alloc, item.bytes())?,
-        };
-        said.push(' ')?;
-        said.push_str(name.as_str())?;
-    }
+    add_items(&mut said, texts, keeper)?;
     Ok(said)
+}
+
+fn add_items(said: &mut String, texts: &Texts, keeper: &MemKeeper) -> Result<(), AllocError> {
+    for item in keeper.items() {
+        said.push(' ')?;
+        add_item_name(said, texts, item.bytes())?;
+    }
+    Ok(())
+}
+
+fn add_item_name(said: &mut String, texts: &Texts, item: &[u8]) -> Result<(), AllocError> {
+    match texts.name_of(item) {
+        Some(name) => add_printed(said, name),
+        None => add_hex(said, item),
+    }
+}
+
+fn add_hex(said: &mut String, item: &[u8]) -> Result<(), AllocError> {
+    let digits = hex::encode(*said.allocator(), item)?;
+    said.push_str(digits.as_str())
 }

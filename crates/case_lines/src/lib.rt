@@ -16,7 +16,7 @@ pub use answers::{Answers, answer_lines};
 pub use fault::Fault;
 pub use keepers::{add_item, failing_of, items_said, reopened};
 pub use objects::put_object;
-pub use printing::{path_text, printed, text_of};
+pub use printing::{add_digits, add_path, add_printed, path_text, printed, text_of};
 pub use texts::Texts;
 pub use values::{digits_of, name_of, path_of, ref_name_of};
 pub use word::{Word, count_of, number_of};

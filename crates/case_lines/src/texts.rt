@@ -1,5 +1,4 @@
 // Named texts, and texts that pieces spell.
-use crate::word::number_of;
 use crate::{Fault, Word};
 use std::alloc::{AllocError, Global};
 
@@ -28,12 +27,13 @@ impl Texts {
 
     /// The text of that name.
     pub fn get(&self, name: &[u8]) -> Option<&[u8]> {
-        for text in self.texts.iter().rev() {
+        let mut found = None;
+        for text in &self.texts {
             if text.name.as_slice() == name {
-                return Some(&text.bytes);
+                found = Some(text.bytes.as_slice());
             }
         }
-        None
+        found
     }
 
     /// The first name that a text with these bytes was given.
@@ -57,9 +57,8 @@ impl Texts {
     pub fn add_line(&mut self, line: &[u8]) -> Result<(), Fault> {
         match self.texts.last_mut() {
             Some(text) => {
-                text.bytes.extend_from_slice(line)?;
-                text.bytes.push(b'\n')?;
-                Ok(())
+                add_bytes(&mut text.bytes, line)?;
+                add_bytes(&mut text.bytes, b"\n")
             }
             None => Err(Fault::BadLine),
         }
@@ -83,79 +82,94 @@ impl Texts {
 
     // Adds what a piece stands for: `upto:N` as many LF as make N bytes of all, `N*PIECE` so many times the piece.
     fn add_piece(&self, bytes: &mut Vec<u8>, piece: &Word) -> Result<(), Fault> {
-        let text = piece.bytes.as_slice();
         if piece.is_quoted {
-            bytes.extend_from_slice(text)?;
-            return Ok(());
+            return add_bytes(bytes, &piece.bytes);
         }
-        if let Some(size) = text.strip_prefix(b"upto:") {
-            return fill(bytes, number_of(size)?);
+        match piece.text().strip_prefix("upto:") {
+            Some(size) => fill(bytes, size),
+            None => self.add_times(bytes, piece.text()),
         }
-        let Some((count, inner)) = times(text) else {
-            return self.add_plain(bytes, text);
-        };
+    }
+
+    // Adds a piece so many times as the number in front of a star says, and once where there is none.
+    fn add_times(&self, bytes: &mut Vec<u8>, text: &str) -> Result<(), Fault> {
+        let (count, inner) = times(text);
         for _ in 0..count {
             self.add_plain(bytes, inner)?;
         }
         Ok(())
     }
 
-    // Adds what a word stands for: `$NAME` a text, `hex:DIGITS` bytes, `u8:N`, `u16:N` and `u32:N` a number whose
-    // highest byte comes first, and any other word itself.
-    fn add_plain(&self, bytes: &mut Vec<u8>, text: &[u8]) -> Result<(), Fault> {
-        if let Some(name) = text.strip_prefix(b"$") {
-            bytes.extend_from_slice(self.get(name).ok_or(Fault::BadLine)?)?;
-            return Ok(());
+    // Adds what a word stands for: `hex:DIGITS` bytes, `u8:N`, `u16:N` and `u32:N` a number whose highest byte comes
+    // first, and any other word what `add_named` adds.
+    fn add_plain(&self, bytes: &mut Vec<u8>, text: &str) -> Result<(), Fault> {
+        match text.split_once(':') {
+            Some(("hex", digits)) => add_hex(bytes, digits),
+            Some(("u8", digits)) => add_u8(bytes, digits),
+            Some(("u16", digits)) => add_u16(bytes, digits),
+            Some(("u32", digits)) => add_u32(bytes, digits),
+            _ => self.add_named(bytes, text),
         }
-        if let Some(digits) = text.strip_prefix(b"hex:") {
-            bytes.extend_from_slice(&from_hex(self.alloc, digits)?)?;
-            return Ok(());
+    }
+
+    // Adds the text that `$NAME` names, and any other word itself.
+    fn add_named(&self, bytes: &mut Vec<u8>, text: &str) -> Result<(), Fault> {
+        let Some(name) = text.strip_prefix('$') else {
+            return add_bytes(bytes, text.as_bytes());
+        };
+        match self.get(name.as_bytes()) {
+            Some(named) => add_bytes(bytes, named),
+            None => Err(Fault::BadLine),
         }
-        if let Some(digits) = text.strip_prefix(b"u8:") {
-            return add_number(bytes, number_of(digits)?, 1);
-        }
-        if let Some(digits) = text.strip_prefix(b"u16:") {
-            return add_number(bytes, number_of(digits)?, 2);
-        }
-        if let Some(digits) = text.strip_prefix(b"u32:") {
-            return add_number(bytes, number_of(digits)?, 4);
-        }
-        bytes.extend_from_slice(text)?;
-        Ok(())
     }
 }
 
-// The number in front of a star, and what follows the star.
-fn times(text: &[u8]) -> Option<(u64, &[u8])> {
-    let mut parts = text.splitn(2, |byte| *byte == b'*');
-    let count = number_of(parts.next()?).ok()?;
-    Some((count, parts.next()?))
+// The number in front of a star, and what follows the star; or once the whole.
+fn times(text: &str) -> (u64, &str) {
+    if let Some((count, inner)) = text.split_once('*') {
+        if let Ok(count) = count.parse::<u64>() {
+            return (count, inner);
+        }
+    }
+    (1, text)
+}
+
+fn add_bytes(bytes: &mut Vec<u8>, more: &[u8]) -> Result<(), Fault> {
+    bytes.extend_from_slice(more).map_err(Fault::from)
 }
 
 // Adds LF until there are so many bytes.
-fn fill(bytes: &mut Vec<u8>, size: u64) -> Result<(), Fault> {
-    let size = usize::try_from(size).ok().ok_or(Fault::BadLine)?;
-    if size < bytes.len() {
-        return Err(Fault::BadLine);
+fn fill(bytes: &mut Vec<u8>, size: &str) -> Result<(), Fault> {
+    match size.parse::<usize>() {
+        Ok(size) if bytes.len() <= size => bytes.resize(size, b'\n').map_err(Fault::from),
+        _ => Err(Fault::BadLine),
     }
-    bytes.resize(size, b'\n')?;
-    Ok(())
 }
 
-fn from_hex(alloc: Global, digits: &[u8]) -> Result<Vec<u8>, Fault> {
-    hex::decode(alloc, digits).ok().ok_or(Fault::BadLine)
+fn add_hex(bytes: &mut Vec<u8>, digits: &str) -> Result<(), Fault> {
+    match &hex::decode(*bytes.allocator(), digits.as_bytes()) {
+        Ok(read) => add_bytes(bytes, read),
+        Err(_) => Err(Fault::BadLine),
+    }
 }
 
-// Adds the last so many of a number's eight bytes, where the others are zero.
-fn add_number(bytes: &mut Vec<u8>, number: u64, size: usize) -> Result<(), Fault> {
-    let all = number.to_be_bytes();
-    let front = all.len().saturating_sub(size);
-    let Some((zeros, rest)) = all.split_at_checked(front) else {
-        return Err(Fault::BadLine);
-    };
-    if zeros.iter().any(|byte| *byte != 0) {
-        return Err(Fault::BadLine);
+fn add_u8(bytes: &mut Vec<u8>, digits: &str) -> Result<(), Fault> {
+    match digits.parse::<u8>() {
+        Ok(number) => add_bytes(bytes, &number.to_be_bytes()),
+        Err(_) => Err(Fault::BadLine),
     }
-    bytes.extend_from_slice(rest)?;
-    Ok(())
+}
+
+fn add_u16(bytes: &mut Vec<u8>, digits: &str) -> Result<(), Fault> {
+    match digits.parse::<u16>() {
+        Ok(number) => add_bytes(bytes, &number.to_be_bytes()),
+        Err(_) => Err(Fault::BadLine),
+    }
+}
+
+fn add_u32(bytes: &mut Vec<u8>, digits: &str) -> Result<(), Fault> {
+    match digits.parse::<u32>() {
+        Ok(number) => add_bytes(bytes, &number.to_be_bytes()),
+        Err(_) => Err(Fault::BadLine),
+    }
 }

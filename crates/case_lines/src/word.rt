@@ -19,16 +19,15 @@ impl Word {
 
 /// The words of a line, which spaces part. One that begins with a double quote is read as git-fast-import(1) quotes
 /// paths.
-pub fn words_of(alloc: Global, line: &[u8]) -> Result<Vec<Word>, Fault> {
+pub fn words_of(alloc: Global, line: &str) -> Result<Vec<Word>, Fault> {
     let mut words = Vec::new(alloc);
     let mut rest = line;
     for _ in 0..line.len() {
-        let Some(start) = rest.iter().position(|byte| *byte != b' ') else {
+        rest = rest.trim_start_matches(' ');
+        if rest.is_empty() {
             break;
-        };
-        let (word, after) = first_word(alloc, behind(rest, start))?;
-        words.push(word)?;
-        rest = after;
+        }
+        rest = add_first(&mut words, rest)?;
     }
     Ok(words)
 }
@@ -41,44 +40,37 @@ pub fn number_of(digits: &[u8]) -> Result<u64, Fault> {
 
 /// The count that a word's decimal digits write.
 pub fn count_of(word: &Word) -> Result<usize, Fault> {
-    let count = number_of(&word.bytes)?;
-    usize::try_from(count).ok().ok_or(Fault::BadLine)
+    word.text().parse::<usize>().ok().ok_or(Fault::BadLine)
 }
 
-// What follows the first bytes.
-fn behind(text: &[u8], count: usize) -> &[u8] {
-    text.get(count..).unwrap_or(&[])
-}
-
-// The word that the text begins with, and what follows it.
-fn first_word(alloc: Global, text: &[u8]) -> Result<(Word, &[u8]), Fault> {
-    if text.starts_with(b"\"") {
-        return quoted_word(alloc, text);
+// Adds the word that the text begins with. What follows it is handed out.
+fn add_first<'a>(words: &mut Vec<Word>, text: &'a str) -> Result<&'a str, Fault> {
+    if text.starts_with('"') {
+        return add_quoted(words, text);
     }
-    let end = text
-        .iter()
-        .position(|byte| *byte == b' ')
-        .unwrap_or(text.len());
-    let Some((front, after)) = text.split_at_checked(end) else {
-        return Err(Fault::BadLine);
-    };
-    let word = Word {
-        bytes: front.to_vec(alloc)?,
-        is_quoted: false,
-    };
-    Ok((word, after))
+    let (word, behind) = text.split_once(' ').unwrap_or((text, ""));
+    add_word(words, word.as_bytes(), false)?;
+    Ok(behind)
 }
 
-fn quoted_word(alloc: Global, text: &[u8]) -> Result<(Word, &[u8]), Fault> {
-    match unquote(alloc, text) {
+fn add_quoted<'a>(words: &mut Vec<Word>, text: &'a str) -> Result<&'a str, Fault> {
+    let used = add_unquoted(words, text.as_bytes())?;
+    text.get(used..).ok_or(Fault::BadLine)
+}
+
+// How long the text between quotes is, with them, is handed out.
+fn add_unquoted(words: &mut Vec<Word>, text: &[u8]) -> Result<usize, Fault> {
+    match &unquote(*words.allocator(), text) {
         Ok(inner) => {
-            let word = Word {
-                bytes: inner.bytes.bytes().to_vec(alloc)?,
-                is_quoted: true,
-            };
-            Ok((word, behind(text, inner.used)))
+            add_word(words, inner.bytes.bytes(), true)?;
+            Ok(inner.used)
         }
         Err(QuoteFault::Bad) => Err(Fault::BadLine),
         Err(QuoteFault::OutOfMemory) => Err(Fault::OutOfMemory),
     }
+}
+
+fn add_word(words: &mut Vec<Word>, text: &[u8], is_quoted: bool) -> Result<(), Fault> {
+    let bytes = text.to_vec(*words.allocator())?;
+    Ok(words.push(Word { bytes, is_quoted })?)
 }
