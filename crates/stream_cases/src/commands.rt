@@ -1,102 +1,99 @@
 // How the commands of a stream are printed.
-use crate::names::bracketed;
-use case_lines::{Fault, digits_of, path_text, printed, text_of};
+use crate::names::add_bracketed;
+use case_lines::{add_digits, add_path, add_printed};
 use fast_import::{BlobRef, Change, Command, CommitHead, CommitRef, Placed, Target};
 use git_objects::Mode;
 use path_names::Path;
-use std::alloc::{AllocError, Global};
+use std::alloc::AllocError;
 
-/// A command behind its place.
-pub fn line_of(alloc: Global, placed: &Placed) -> Result<String, Fault> {
-    let command = command_text(alloc, &placed.command)?;
-    Ok(format!(in alloc; "{} {command}", placed.at)?)
+/// Adds the line of a command behind its place.
+pub fn add_line(out: &mut String, placed: &Placed) -> Result<(), AllocError> {
+    write!(out, "{} ", placed.at)?;
+    add_command(out, &placed.command)?;
+    out.push('\n')
 }
 
-fn command_text(alloc: Global, command: &Command) -> Result<String, Fault> {
+fn add_command(out: &mut String, command: &Command) -> Result<(), AllocError> {
     match command {
-        Command::Blob { mark, content } => mark_and_content(alloc, *mark, content.bytes()),
-        Command::Commit(head) => head_text(alloc, head),
-        Command::Change(change) => change_text(alloc, change),
-        Command::CommitEnd => text_of(alloc, "commit end"),
-        Command::Reset { refname, from } => reset_text(alloc, refname.text(), from),
-        Command::Done => text_of(alloc, "done"),
+        Command::Blob { mark, content } => add_blob(out, *mark, content.bytes()),
+        Command::Commit(head) => add_head(out, head),
+        Command::Change(change) => add_change(out, change),
+        Command::CommitEnd => out.push_str("commit end"),
+        Command::Reset { refname, from } => add_reset(out, refname.text(), from),
+        Command::Done => out.push_str("done"),
     }
 }
 
-fn mark_and_content(alloc: Global, mark: Option<u64>, content: &[u8]) -> Result<String, Fault> {
-    let mark = mark_text(alloc, mark)?;
-    let content = printed(alloc, content)?;
-    Ok(format!(in alloc; "blob {mark} [{content}]")?)
+fn add_blob(out: &mut String, mark: Option<u64>, content: &[u8]) -> Result<(), AllocError> {
+    out.push_str("blob ")?;
+    add_mark(out, mark)?;
+    out.push(' ')?;
+    add_bracketed(out, content)
 }
 
-fn reset_text(alloc: Global, refname: &[u8], from: &Option<CommitRef>) -> Result<String, Fault> {
-    let refname = printed(alloc, refname)?;
-    let from = from_text(alloc, from)?;
-    Ok(format!(in alloc; "reset {refname} {from}")?)
+fn add_reset(out: &mut String, refname: &[u8], from: &Option<CommitRef>) -> Result<(), AllocError> {
+    out.push_str("reset ")?;
+    add_printed(out, refname)?;
+    out.push(' ')?;
+    add_from(out, from)
 }
 
 // A mark, or `-` for none.
-fn mark_text(alloc: Global, mark: Option<u64>) -> Result<String, Fault> {
+fn add_mark(out: &mut String, mark: Option<u64>) -> Result<(), AllocError> {
     match mark {
-        None => text_of(alloc, "-"),
-        Some(mark) => Ok(format!(in alloc; "{mark}")?),
+        None => out.push('-'),
+        Some(mark) => write!(out, "{mark}"),
     }
 }
 
 // A commit behind the place of the line that names it.
-fn ref_text(alloc: Global, found: &CommitRef) -> Result<String, Fault> {
-    let target = target_text(alloc, &found.target)?;
-    Ok(format!(in alloc; "{}:{target}", found.at)?)
+fn add_ref(out: &mut String, found: &CommitRef) -> Result<(), AllocError> {
+    write!(out, "{}:", found.at)?;
+    add_target(out, &found.target)
 }
 
-fn target_text(alloc: Global, target: &Target) -> Result<String, Fault> {
+fn add_target(out: &mut String, target: &Target) -> Result<(), AllocError> {
     match target {
-        Target::Mark(mark) => Ok(format!(in alloc; "{mark}")?),
-        Target::Digits(name) => digits_of(alloc, name),
-        Target::Ref(refname) => Ok(printed(alloc, refname.text())?),
+        Target::Mark(mark) => write!(out, "{mark}"),
+        Target::Digits(name) => add_digits(out, name),
+        Target::Ref(refname) => add_printed(out, refname.text()),
     }
 }
 
-fn from_text(alloc: Global, from: &Option<CommitRef>) -> Result<String, Fault> {
+fn add_from(out: &mut String, from: &Option<CommitRef>) -> Result<(), AllocError> {
     match from {
-        None => text_of(alloc, "-"),
-        Some(found) => ref_text(alloc, found),
+        None => out.push('-'),
+        Some(found) => add_ref(out, found),
     }
 }
 
 // Ref, mark, author, committer and message, and then the parents.
-fn head_text(alloc: Global, head: &CommitHead) -> Result<String, Fault> {
-    let mut text = front_text(alloc, head)?;
-    add_bracketed(&mut text, head.author.bytes())?;
-    add_bracketed(&mut text, head.committer.bytes())?;
-    add_bracketed(&mut text, head.message.bytes())?;
-    add_parents(alloc, &mut text, head)?;
-    Ok(text)
+fn add_head(out: &mut String, head: &CommitHead) -> Result<(), AllocError> {
+    out.push_str("commit ")?;
+    add_printed(out, head.refname.text())?;
+    out.push(' ')?;
+    add_mark(out, head.mark)?;
+    add_texts(out, head)?;
+    add_parents(out, head)
 }
 
-fn front_text(alloc: Global, head: &CommitHead) -> Result<String, Fault> {
-    let refname = printed(alloc, head.refname.text())?;
-    let mark = mark_text(alloc, head.mark)?;
-    Ok(format!(in alloc; "commit {refname} {mark}")?)
+fn add_texts(out: &mut String, head: &CommitHead) -> Result<(), AllocError> {
+    out.push(' ')?;
+    add_bracketed(out, head.author.bytes())?;
+    out.push(' ')?;
+    add_bracketed(out, head.committer.bytes())?;
+    out.push(' ')?;
+    add_bracketed(out, head.message.bytes())
 }
 
-fn add_bracketed(text: &mut String, bytes: &[u8]) -> Result<(), AllocError> {
-    let alloc = *text.allocator();
-    let bytes = printed(alloc, bytes)?;
-    text.push_str(format!(in alloc; " [{bytes}]")?.as_str())
-}
-
-fn add_parents(alloc: Global, text: &mut String, head: &CommitHead) -> Result<(), Fault> {
-    add_word(text, from_text(alloc, &head.from)?.as_str())?;
+fn add_parents(out: &mut String, head: &CommitHead) -> Result<(), AllocError> {
+    out.push(' ')?;
+    add_from(out, &head.from)?;
     for merge in head.merges.refs() {
-        add_word(text, ref_text(alloc, merge)?.as_str())?;
+        out.push(' ')?;
+        add_ref(out, merge)?;
     }
     Ok(())
-}
-
-fn add_word(text: &mut String, word: &str) -> Result<(), AllocError> {
-    text.push(' ')?;
-    text.push_str(word)
 }
 
 fn mode_text(mode: Mode) -> &'static str {
@@ -109,38 +106,39 @@ fn mode_text(mode: Mode) -> &'static str {
     }
 }
 
-fn blob_text(alloc: Global, blob: &BlobRef) -> Result<String, Fault> {
+fn add_blob_ref(out: &mut String, blob: &BlobRef) -> Result<(), AllocError> {
     match blob {
-        BlobRef::Mark(mark) => Ok(format!(in alloc; "{mark}")?),
-        BlobRef::Digits(name) => digits_of(alloc, name),
-        BlobRef::Inline(bytes) => Ok(bracketed(alloc, bytes.bytes())?),
+        BlobRef::Mark(mark) => write!(out, "{mark}"),
+        BlobRef::Digits(name) => add_digits(out, name),
+        BlobRef::Inline(bytes) => add_bracketed(out, bytes.bytes()),
     }
 }
 
-fn change_text(alloc: Global, change: &Change) -> Result<String, Fault> {
+fn add_change(out: &mut String, change: &Change) -> Result<(), AllocError> {
     match change {
-        Change::Modify { mode, blob, path } => modify_text(alloc, *mode, blob, path),
-        Change::Delete { path } => delete_text(alloc, path),
-        Change::Rename { from, to } => moved_text(alloc, "R", from, to),
-        Change::Copy { from, to } => moved_text(alloc, "C", from, to),
-        Change::DeleteAll => text_of(alloc, "deleteall"),
+        Change::Modify { mode, blob, path } => add_modify(out, *mode, blob, path),
+        Change::Delete { path } => add_delete(out, path),
+        Change::Rename { from, to } => add_moved(out, "R ", from, to),
+        Change::Copy { from, to } => add_moved(out, "C ", from, to),
+        Change::DeleteAll => out.push_str("deleteall"),
     }
 }
 
-fn modify_text(alloc: Global, mode: Mode, blob: &BlobRef, path: &Path) -> Result<String, Fault> {
-    let mode = mode_text(mode);
-    let blob = blob_text(alloc, blob)?;
-    let path = path_text(alloc, path)?;
-    Ok(format!(in alloc; "M {mode} {blob} {path}")?)
+fn add_modify(out: &mut String, mode: Mode, blob: &BlobRef, path: &Path) -> Result<(), AllocError> {
+    write!(out, "M {} ", mode_text(mode))?;
+    add_blob_ref(out, blob)?;
+    out.push(' ')?;
+    add_path(out, path)
 }
 
-fn delete_text(alloc: Global, path: &Path) -> Result<String, Fault> {
-    let path = path_text(alloc, path)?;
-    Ok(format!(in alloc; "D {path}")?)
+fn add_delete(out: &mut String, path: &Path) -> Result<(), AllocError> {
+    out.push_str("D ")?;
+    add_path(out, path)
 }
 
-fn moved_text(alloc: Global, word: &str, from: &Path, to: &Path) -> Result<String, Fault> {
-    let from = path_text(alloc, from)?;
-    let to = path_text(alloc, to)?;
-    Ok(format!(in alloc; "{word} {from} > {to}")?)
+fn add_moved(out: &mut String, word: &str, from: &Path, to: &Path) -> Result<(), AllocError> {
+    out.push_str(word)?;
+    add_path(out, from)?;
+    out.push_str(" > ")?;
+    add_path(out, to)
 }

@@ -1,108 +1,80 @@
 // Paths, ref names and texts between quotes.
-use case_lines::{Fault, printed, text_of};
+use case_lines::{Fault, add_printed};
 use git_objects::Component;
-use path_names::{
-    Path, PathFault, QuoteFault, RefFault, RefName, Unquoted, is_ref_name, quote, quoted, unquote,
-};
-use std::alloc::{AllocError, Global};
+use path_names::{Path, PathFault, QuoteFault, RefFault, RefName, quote, quoted, unquote};
+use std::alloc::AllocError;
 
-/// What is read of one text.
-pub fn read(alloc: Global, form: &str, text: &[u8]) -> Result<String, Fault> {
+/// Adds what is read of one text.
+pub fn add_read(out: &mut String, form: &str, text: &[u8]) -> Result<(), Fault> {
     match form {
-        "path" => path_answer(alloc, text),
-        "ref" => ref_answer(alloc, text),
-        "quote" => quoted_answer(alloc, text),
-        "unquote" => unquoted_answer(alloc, text),
+        "path" => add_path(out, text),
+        "ref" => add_ref(out, text),
+        "quote" => add_quoted(out, text).map_err(Fault::from),
+        "unquote" => add_unquoted(out, text),
         _ => Err(Fault::BadLine),
     }
 }
 
-/// Bytes as they are printed, between brackets.
-pub fn bracketed(alloc: Global, bytes: &[u8]) -> Result<String, AllocError> {
-    let bytes = printed(alloc, bytes)?;
-    format!(in alloc; "[{bytes}]")
+/// Adds bytes as they are printed, between brackets.
+pub fn add_bracketed(out: &mut String, bytes: &[u8]) -> Result<(), AllocError> {
+    out.push('[')?;
+    add_printed(out, bytes)?;
+    out.push(']')
 }
 
-// The number of components, the components where the text is short, and whether the path writes the text again.
-fn path_answer(alloc: Global, text: &[u8]) -> Result<String, Fault> {
-    match &Path::parse(alloc, text) {
-        Ok(path) => Ok(path_text(alloc, text, path)?),
+// The number of components, and the components where the text is short.
+fn add_path(out: &mut String, text: &[u8]) -> Result<(), Fault> {
+    match &Path::parse(*out.allocator(), text) {
+        Ok(path) => add_components(out, path.components(), text.len()).map_err(Fault::from),
         Err(PathFault::OutOfMemory) => Err(Fault::OutOfMemory),
-        Err(fault) => Ok(format!(in alloc; "{fault:?}")?),
+        Err(fault) => write!(out, "{fault:?}").map_err(Fault::from),
     }
-}
-
-fn path_text(alloc: Global, text: &[u8], path: &Path) -> Result<String, AllocError> {
-    let mut answer = format!(in alloc; "{}", path.components().len())?;
-    if text.len() <= 100 {
-        add_components(alloc, &mut answer, path.components())?;
-    }
-    if path.text(alloc)?.as_slice() != text {
-        answer.push_str(", written otherwise")?;
-    }
-    Ok(answer)
 }
 
 fn add_components(
-    alloc: Global,
-    answer: &mut String,
+    out: &mut String,
     components: &[Component],
+    length: usize,
 ) -> Result<(), AllocError> {
-    for component in components {
-        answer.push(' ')?;
-        answer.push_str(bracketed(alloc, component.bytes())?.as_str())?;
+    write!(out, "{}", components.len())?;
+    if length <= 100 {
+        for component in components {
+            out.push(' ')?;
+            add_bracketed(out, component.bytes())?;
+        }
     }
     Ok(())
 }
 
 // The copy of a ref name.
-fn ref_answer(alloc: Global, text: &[u8]) -> Result<String, Fault> {
-    match &RefName::parse(alloc, text) {
-        Ok(name) => Ok(copied(alloc, name)?),
-        Err(RefFault::Bad) => text_of(alloc, "Bad"),
+fn add_ref(out: &mut String, text: &[u8]) -> Result<(), Fault> {
+    match &RefName::parse(*out.allocator(), text) {
+        Ok(name) => add_copy(out, name).map_err(Fault::from),
+        Err(RefFault::Bad) => out.push_str("Bad").map_err(Fault::from),
         Err(RefFault::OutOfMemory) => Err(Fault::OutOfMemory),
     }
 }
 
-fn copied(alloc: Global, name: &RefName) -> Result<String, AllocError> {
-    let copy = name.copy(alloc)?;
-    if !is_ref_name(copy.text()) || copy != *name {
-        return String::from_str(alloc, "copied otherwise");
-    }
-    printed(alloc, copy.text())
+fn add_copy(out: &mut String, name: &RefName) -> Result<(), AllocError> {
+    let copy = name.copy(*out.allocator())?;
+    add_printed(out, copy.text())
 }
 
-// A text as a line has it: quoted where it must be, and quoted always, and whether that is read again.
-fn quoted_answer(alloc: Global, text: &[u8]) -> Result<String, Fault> {
-    let always = quoted(alloc, text)?;
-    let again = if is_read_again(alloc, &always, text)? {
-        ""
-    } else {
-        "\nread otherwise"
-    };
-    let written = printed(alloc, &quote(alloc, text)?)?;
-    let always = printed(alloc, &always)?;
-    Ok(format!(in alloc; "{written}\n{always}{again}")?)
+// A text as a line has it: quoted where it must be, and quoted always.
+fn add_quoted(out: &mut String, text: &[u8]) -> Result<(), AllocError> {
+    let alloc = *out.allocator();
+    add_printed(out, &quote(alloc, text)?)?;
+    out.push('\n')?;
+    add_printed(out, &quoted(alloc, text)?)
 }
 
-// Whether a quoted text is read as this text.
-fn is_read_again(alloc: Global, quoted: &[u8], text: &[u8]) -> Result<bool, Fault> {
-    match &unquote(alloc, quoted) {
-        Ok(read) => Ok(read.bytes.bytes() == text && read.used == quoted.len()),
-        Err(QuoteFault::Bad) => Ok(false),
+fn add_unquoted(out: &mut String, text: &[u8]) -> Result<(), Fault> {
+    match &unquote(*out.allocator(), text) {
+        Ok(read) => {
+            add_bracketed(out, read.bytes.bytes())?;
+            write!(out, " of {} bytes", read.used).map_err(Fault::from)
+        }
+        Err(QuoteFault::Bad) => out.push_str("Bad").map_err(Fault::from),
         Err(QuoteFault::OutOfMemory) => Err(Fault::OutOfMemory),
     }
-}
-
-fn unquoted_answer(alloc: Global, text: &[u8]) -> Result<String, Fault> {
-    match &unquote(alloc, text) {
-        Ok(read) => Ok(read_text(alloc, read)?),
-        Err(QuoteFault::Bad) => text_of(alloc, "Bad"),
-        Err(QuoteFault::OutOfMemory) => Err(Fault::OutOfMemory),
-    }
-}
-
-fn read_text(alloc: Global, read: &Unquoted) -> Result<String, AllocError> {
-    let bytes = bracketed(alloc, read.bytes.bytes())?;
-    format!(in alloc; "{bytes} of {} bytes", read.used)
 }

@@ -2,63 +2,48 @@
 ghost use Rattle.std.specs.Prelude.{◌≡◌, ◌≢◌, ◌<◌, IfOk, Some, true, false};
 ghost use Rattle.stream_cases.specs.Told.{what_follows};
 
-use crate::commands::line_of;
+use crate::commands::add_line;
 use case_lines::Fault;
-use fast_import::{Next, Placed, Reader, StreamFault};
+use fast_import::{Next, Reader, StreamFault};
 use std::alloc::{AllocError, Global};
 
-// Adds the line of what a reader told; that more must come has none. Behind a command the next one follows; else it is
-// said whether more must come.
-fn add_answer(
-    alloc: Global,
-    lines: &mut String,
-    answer: &Result<Next, StreamFault>,
-) -> Result<Option<bool>, Fault>
-    ensures { IfOk result (λ told. told ≡ what_follows answer.now) }
-{
+// Adds the line of what a reader told; that more must come has none.
+fn add_answer(lines: &mut String, answer: &Result<Next, StreamFault>) -> Result<(), AllocError> {
     match answer {
-        Ok(Next::Command(placed)) => {
-            add_command(alloc, lines, placed)?;
-            Ok(None)
-        }
-        Ok(Next::More) => Ok(Some(true)),
-        Ok(Next::Ended) => {
-            lines.push_str("end\n")?;
-            Ok(Some(false))
-        }
-        Err(fault) => {
-            add_fault(alloc, lines, fault)?;
-            Ok(Some(false))
-        }
+        Ok(Next::Command(placed)) => add_line(lines, placed),
+        Ok(Next::More) => Ok(()),
+        Ok(Next::Ended) => lines.push_str("end\n"),
+        Err(fault) => writeln!(lines, "{fault:?}"),
     }
 }
 
-fn add_command(alloc: Global, lines: &mut String, placed: &Placed) -> Result<(), Fault> {
-    let line = line_of(alloc, placed)?;
-    lines.push_str(line.as_str())?;
-    lines.push('\n')?;
-    Ok(())
-}
-
-fn add_fault(alloc: Global, lines: &mut String, fault: &StreamFault) -> Result<(), AllocError> {
-    let line = format!(in alloc; "{fault:?}\n")?;
-    lines.push_str(line.as_str())
+// Behind a command the next one follows; else it is said whether more must come.
+fn follower(answer: &Result<Next, StreamFault>) -> Option<bool>
+    ensures { result ≡ what_follows answer.now }
+{
+    match answer {
+        Ok(Next::Command(_)) => None,
+        Ok(Next::More) => Some(true),
+        Ok(Next::Ended) => Some(false),
+        Err(_) => Some(false),
+    }
 }
 
 // Adds the line of what a reader tells next.
-fn add_next(alloc: Global, reader: &mut Reader, lines: &mut String) -> Result<Option<bool>, Fault>
+fn add_next(reader: &mut Reader, lines: &mut String) -> Result<Option<bool>, AllocError>
     ensures { IfOk result (λ told. told ≢ Some false → reader.new.ended ≡ reader.old.ended) }
 {
     let answer = reader.next();
-    add_answer(alloc, lines, &answer)
+    add_answer(lines, &answer)?;
+    Ok(follower(&answer))
 }
 
 // What a reader tells, a line each, up to the end, a fault, or that more must come, which is true.
-fn drained(alloc: Global, reader: &mut Reader, lines: &mut String) -> Result<bool, Fault>
+fn drained(reader: &mut Reader, lines: &mut String) -> Result<bool, AllocError>
     ensures { IfOk result (λ more. more ≡ true → reader.new.ended ≡ reader.old.ended) }
 {
     'commands: for _ in 0..u64::MAX {
-        if let Some(is_more) = add_next(alloc, reader, lines)? {
+        if let Some(is_more) = add_next(reader, lines)? {
             return Ok(is_more);
         }
     }
@@ -66,102 +51,117 @@ fn drained(alloc: Global, reader: &mut Reader, lines: &mut String) -> Result<boo
 }
 
 // Asks again behind the end or a fault, before the end of the stream was told and after it: the same must come.
-fn asked_again(alloc: Global, reader: &mut Reader, lines: &mut String) -> Result<(), Fault> {
-    let last = last_line(alloc, lines)?;
-    for ask in 0..4u64 {
-        if ask == 2 {
-            reader.end();
-        }
-        let mut again = String::new(alloc);
-        drained(alloc, reader, &mut again)?;
-        add_other(lines, "then ", again.as_str(), last.as_str())?;
-    }
-    Ok(())
+fn add_asked_again(lines: &mut String, reader: &mut Reader) -> Result<(), AllocError> {
+    let last = last_line(lines)?;
+    add_twice(lines, reader, last.as_str())?;
+    reader.end();
+    add_twice(lines, reader, last.as_str())
+}
+
+fn add_twice(lines: &mut String, reader: &mut Reader, last: &str) -> Result<(), AllocError> {
+    add_again(lines, reader, last)?;
+    add_again(lines, reader, last)
+}
+
+// Adds what a reader tells, where it is another than what it told last.
+fn add_again(lines: &mut String, reader: &mut Reader, last: &str) -> Result<(), AllocError> {
+    let mut again = String::new(*lines.allocator());
+    drained(reader, &mut again)?;
+    add_other(lines, "then ", again.as_str(), last)
 }
 
 // Adds a text behind a word, where it is another than what came before.
 fn add_other(lines: &mut String, word: &str, text: &str, before: &str) -> Result<(), AllocError> {
-    if text != before {
-        lines.push_str(word)?;
-        lines.push_str(text)?;
+    if text == before {
+        return Ok(());
     }
-    Ok(())
+    lines.push_str(word)?;
+    lines.push_str(text)
 }
 
-fn last_line(alloc: Global, lines: &String) -> Result<String, Fault> {
+fn last_line(lines: &String) -> Result<String, AllocError> {
+    let alloc = *lines.allocator();
     let last = lines.as_str().lines().last().unwrap_or("");
-    Ok(format!(in alloc; "{last}\n")?)
+    format!(in alloc; "{last}\n")
 }
 
 // What is told of a text in pieces of at most so many bytes.
-fn told_in_pieces(alloc: Global, text: &[u8], most: usize) -> Result<String, Fault>
+fn told_in_pieces(alloc: Global, text: &[u8], most: usize) -> Result<String, AllocError>
     requires { 0 < most }
 {
-    let mut reader = Reader::new(alloc);
     let mut lines = String::new(alloc);
-    if !has_ended(alloc, &mut reader, &mut lines, text, most)? {
-        reader.end();
-        drained(alloc, &mut reader, &mut lines)?;
-    }
-    asked_again(alloc, &mut reader, &mut lines)?;
+    add_told_in_pieces(&mut lines, text, most)?;
     Ok(lines)
+}
+
+fn add_told_in_pieces(lines: &mut String, text: &[u8], most: usize) -> Result<(), AllocError>
+    requires { 0 < most }
+{
+    let mut reader = Reader::new(*lines.allocator());
+    if !has_ended(&mut reader, lines, text, most)? {
+        reader.end();
+        drained(&mut reader, lines)?;
+    }
+    add_asked_again(lines, &mut reader)
 }
 
 // Feeds a text in pieces. Whether the end or a fault came before more was wanted behind all of them.
 fn has_ended(
-    alloc: Global,
     reader: &mut Reader,
     lines: &mut String,
     text: &[u8],
     most: usize,
-) -> Result<bool, Fault>
+) -> Result<bool, AllocError>
     requires most { 0 < most }
     requires open { reader.old.ended ≡ false }
 {
     'pieces: for piece in text.chunks(most) {
         reader.feed(piece)?;
-        if !drained(alloc, reader, lines)? {
+        if !drained(reader, lines)? {
             return Ok(true);
         }
     }
     Ok(false)
 }
 
-/// What is told of a text that is fed whole, by 7 bytes, and byte by byte: once where it is the same. A text of more
-/// than 10,000 bytes is fed by 1,000 bytes in place of byte by byte.
-pub fn told(alloc: Global, text: &[u8]) -> Result<String, Fault> {
-    let whole = told_in_pieces(alloc, text, usize::MAX)?;
-    let mut all = String::from_str(alloc, whole.as_str())?;
-    add_told(alloc, &mut all, text, 7, whole.as_str())?;
-    let most = if text.len() <= 10_000 { 1 } else { 1000 };
-    add_told(alloc, &mut all, text, most, whole.as_str())?;
-    Ok(all)
+/// Adds what is told of a text that is fed whole, by 7 bytes, and byte by byte: once where it is the same. A text of
+/// more than 10,000 bytes is fed by 1,000 bytes in place of byte by byte.
+pub fn add_told(out: &mut String, text: &[u8]) -> Result<(), Fault> {
+    let whole = told_in_pieces(*out.allocator(), text, usize::MAX)?;
+    add_with_pieces(out, text, whole.as_str()).map_err(Fault::from)
+}
+
+fn add_with_pieces(out: &mut String, text: &[u8], whole: &str) -> Result<(), AllocError> {
+    out.push_str(whole)?;
+    add_told_by(out, text, 7, whole)?;
+    add_told_by(
+        out,
+        text,
+        if text.len() <= 10_000 { 1 } else { 1000 },
+        whole,
+    )
 }
 
 // Adds what is told of a text in pieces of at most so many bytes, where it is another than what is told of the whole.
-fn add_told(
-    alloc: Global,
-    all: &mut String,
-    text: &[u8],
-    most: usize,
-    whole: &str,
-) -> Result<(), Fault>
+fn add_told_by(out: &mut String, text: &[u8], most: usize, whole: &str) -> Result<(), AllocError>
     requires { 0 < most }
 {
-    let pieces = told_in_pieces(alloc, text, most)?;
-    Ok(add_other(all, "in pieces:\n", pieces.as_str(), whole)?)
+    let pieces = told_in_pieces(*out.allocator(), text, most)?;
+    add_other(out, "in pieces:\n", pieces.as_str(), whole)
 }
 
-/// What is told of a text before the end is told, and then: `more` stands where more must come.
-pub fn told_before_the_end(alloc: Global, text: &[u8]) -> Result<String, Fault> {
-    let mut reader = Reader::new(alloc);
-    let mut lines = String::new(alloc);
+/// Adds what is told of a text before the end is told, and then: `more` stands where more must come.
+pub fn add_told_before_the_end(out: &mut String, text: &[u8]) -> Result<(), Fault> {
+    let mut reader = Reader::new(*out.allocator());
     reader.feed(text)?;
-    if drained(alloc, &mut reader, &mut lines)? {
-        lines.push_str("more\n")?;
+    add_up_to_the_end(out, &mut reader).map_err(Fault::from)
+}
+
+fn add_up_to_the_end(out: &mut String, reader: &mut Reader) -> Result<(), AllocError> {
+    if drained(reader, out)? {
+        out.push_str("more\n")?;
         reader.end();
-        drained(alloc, &mut reader, &mut lines)?;
+        drained(reader, out)?;
     }
-    asked_again(alloc, &mut reader, &mut lines)?;
-    Ok(lines)
+    add_asked_again(out, reader)
 }

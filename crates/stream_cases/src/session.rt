@@ -14,19 +14,29 @@ impl Answers for Session {
         texts: &mut Texts,
         words: &[Word],
     ) -> Result<Option<String>, Fault> {
-        match words {
-            [form, inner @ ..] => answered(alloc, texts, form.text(), inner).map(Some),
-            [] => Err(Fault::BadLine),
-        }
+        let [form, inner @ ..] = words else {
+            return Err(Fault::BadLine);
+        };
+        let mut out = String::new(alloc);
+        add_answer(&mut out, texts, form.text(), inner)?;
+        Ok(Some(out))
     }
 }
 
-fn answered(alloc: Global, texts: &Texts, form: &str, words: &[Word]) -> Result<String, Fault> {
+// Adds the answer to a line of that form.
+fn add_answer(out: &mut String, texts: &Texts, form: &str, words: &[Word]) -> Result<(), Fault> {
     match form {
-        "stream" => reading::told(alloc, &texts.spelled(words)?),
-        "more" => reading::told_before_the_end(alloc, &texts.spelled(words)?),
-        "replay" => replays::replayed(alloc, &texts.spelled(words)?),
-        "lexer" => lexing::answer(alloc, texts, words),
-        form => names::read(alloc, form, &texts.spelled(words)?),
+        "lexer" => lexing::add_asked(out, texts, words),
+        form => add_read(out, form, &texts.spelled(words)?),
+    }
+}
+
+// Adds the answer to a line of which only the text matters that its words spell.
+fn add_read(out: &mut String, form: &str, text: &[u8]) -> Result<(), Fault> {
+    match form {
+        "stream" => reading::add_told(out, text),
+        "more" => reading::add_told_before_the_end(out, text),
+        "replay" => replays::add_replayed(out, text),
+        form => names::add_read(out, form, text),
     }
 }
