@@ -5,7 +5,7 @@ ghost use Rattle.git_objects.specs.declared.kind.Kind.TheVariants.{Blob, Tree};
 ghost use Rattle.object_store.specs.Objects.{has};
 ghost use Rattle.stage_tree.specs.Stages.{Shows};
 
-use crate::words::Edit;
+use crate::words::Deed;
 use git_objects::{Kind, Mode, Name, Steps};
 use object_store::{Store, store_law};
 use path_names::Path;
@@ -99,19 +99,21 @@ pub fn edit(
     store: &Store,
     blob: Name,
     stored: Option<Name>,
-    edit: &Edit,
+    deed: &Deed,
+    from: &Path,
+    to: &Path,
 ) -> Result<(), StageFault>
     requires blob { has Blob store.now blob.0 ≡ true }
     requires stored { IfSome stored (λ n. has Tree store.now n.0 ≡ true) }
     requires shows { (t : Flat) × Shows store.now stage.old t }
     ensures { (t : Flat) × Shows store.now stage.new t }
 {
-    match edit {
-        Edit::Set(path) => set(stage, store, path, blob),
-        Edit::Remove(path) => removed(stage, store, path),
-        Edit::Rename(from, to) => renamed::<Brand>(stage, store, from, to, Blank::new(1)),
-        Edit::Copy(from, to) => copied(stage, store, from, to),
-        Edit::Put(from, to) => put(stage, store, stored, from, to),
-        Edit::Clear => cleared(stage, store),
+    match deed {
+        Deed::Set => set(stage, store, to, blob),
+        Deed::Remove => removed(stage, store, to),
+        Deed::Rename => renamed::<Brand>(stage, store, from, to, Blank::new(1)),
+        Deed::Copy => copied(stage, store, from, to),
+        Deed::Put => put(stage, store, stored, from, to),
+        Deed::Clear => cleared(stage, store),
     }
 }

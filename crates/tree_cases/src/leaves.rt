@@ -3,7 +3,7 @@ ghost use Rattle.std.specs.Prelude.{◌≡◌, ◌<◌, true, length, IfOk};
 ghost use Rattle.git_objects.specs.declared.kind.Kind.TheVariants.{Tree};
 ghost use Rattle.object_store.specs.Objects.{has};
 
-use case_lines::{Fault, Texts, Word, path_of, path_text, put_object};
+use case_lines::{Fault, Texts, Word, add_digits, add_path, path_of, put_object};
 use filter_routes::Table;
 use filter_unapply::image_of;
 use git_objects::{Kind, Mode, Name};
@@ -24,11 +24,11 @@ fn mode_of(word: &Word) -> Result<Mode, Fault> {
 
 fn mode_word(mode: Mode) -> &'static str {
     match mode {
-        Mode::File => "file",
-        Mode::Exec => "exec",
-        Mode::Link => "link",
-        Mode::Module => "module",
-        Mode::Dir => "directory",
+        Mode::File => "file ",
+        Mode::Exec => "exec ",
+        Mode::Link => "link ",
+        Mode::Module => "module ",
+        Mode::Dir => "directory ",
     }
 }
 
@@ -62,9 +62,14 @@ fn grown(
         return Err(Fault::BadLine);
     };
     let mode = mode_of(mode)?;
-    let path = path_of(alloc, texts, path)?;
     let name = put_object(store, Kind::Blob, &texts.word(text)?)?;
-    with_leaf(alloc, store, root, &path, Found { mode, name })
+    with_leaf(
+        alloc,
+        store,
+        root,
+        &path_of(alloc, texts, path)?,
+        Found { mode, name },
+    )
 }
 
 /// The tree of leaves of three words each: mode, path and text.
@@ -114,32 +119,49 @@ pub fn two_trees(
     }
 }
 
+/// Adds a path, and another one behind words.
+pub fn add_both(
+    out: &mut String,
+    path: &Path,
+    words: &str,
+    other: &Path,
+) -> Result<(), AllocError> {
+    add_path(out, path)?;
+    out.push_str(words)?;
+    add_path(out, other)
+}
+
 // Adds the line of a leaf: its mode and its path, or, where a table is given, its path and its image, if it has one.
 fn add_leaf(
-    alloc: Global,
-    lines: &mut String,
+    out: &mut String,
     table: Option<&Table>,
     mode: Mode,
     path: &Path,
 ) -> Result<(), AllocError> {
-    let text = path_text(alloc, path)?;
-    let Some(table) = table else {
-        let mode = mode_word(mode);
-        return lines.push_str(format!(in alloc; "{mode} {text}\n")?.as_str());
-    };
-    match table.image(path) {
-        None => Ok(()),
-        Some(hit) => {
-            let image = path_text(alloc, &image_of(alloc, table, path, &hit)?)?;
-            lines.push_str(format!(in alloc; "{text} as {image}\n")?.as_str())
-        }
+    match table {
+        None => add_mode(out, mode, path),
+        Some(table) => add_image(out, table, path),
     }
+}
+
+fn add_mode(out: &mut String, mode: Mode, path: &Path) -> Result<(), AllocError> {
+    out.push_str(mode_word(mode))?;
+    add_path(out, path)?;
+    out.push('\n')
+}
+
+fn add_image(out: &mut String, table: &Table, path: &Path) -> Result<(), AllocError> {
+    let Some(hit) = table.image(path) else {
+        return Ok(());
+    };
+    let image = image_of(*out.allocator(), table, path, &hit)?;
+    add_both(out, path, " as ", &image)?;
+    out.push('\n')
 }
 
 // Adds the line of the walk's next leaf. False: there is none.
 fn add_next(
-    alloc: Global,
-    lines: &mut String,
+    out: &mut String,
     table: Option<&Table>,
     walk: &mut Walk<'_>,
 ) -> Result<bool, AllocError>
@@ -148,14 +170,13 @@ fn add_next(
     if !walk.next()? {
         return Ok(false);
     }
-    add_leaf(alloc, lines, table, walk.leaf().mode, walk.path())?;
+    add_leaf(out, table, walk.leaf().mode, walk.path())?;
     Ok(true)
 }
 
 /// Adds a line for each leaf of a tree, or, where a table is given, for each that has an image.
 pub fn add_leaves(
-    alloc: Global,
-    lines: &mut String,
+    out: &mut String,
     table: Option<&Table>,
     store: &Store,
     root: Name,
@@ -163,7 +184,14 @@ pub fn add_leaves(
     if !store.has(Kind::Tree, &root) {
         return Err(Fault::BadLine);
     }
-    let mut walk = Walk::new(alloc, store, root)?;
-    while add_next(alloc, lines, table, &mut walk)? {}
+    let mut walk = Walk::new(*out.allocator(), store, root)?;
+    while add_next(out, table, &mut walk)? {}
     Ok(())
+}
+
+/// Adds the name of a tree, and its leaves.
+pub fn add_tree(out: &mut String, store: &Store, root: Name) -> Result<(), Fault> {
+    add_digits(out, &root)?;
+    out.push('\n')?;
+    add_leaves(out, None, store, root)
 }

@@ -5,9 +5,9 @@ ghost use Rattle.filter_text.specs.Filters.{has_paths, pieces};
 ghost use Rattle.filter_text.specs.Shapes.{shape};
 ghost use Rattle.workspace.specs.Laws.{IsUsable};
 
-use case_lines::{Fault, Texts, Word, count_of, path_of, path_text, printed, text_of};
+use case_lines::{Fault, Texts, Word, add_path, count_of, path_of};
 use filter_routes::{RouteFault, Table, check, is_sound, list_within};
-use filter_text::{Filter, parse, print};
+use filter_text::{Filter, parse};
 use filter_unapply::image_of;
 use path_names::Path;
 use std::alloc::{AllocError, Global};
@@ -35,98 +35,85 @@ pub fn sound_filter(alloc: Global, texts: &Texts, word: &Word) -> Result<Filter,
     }
 }
 
-// What a call says of a filter that is sound, or its fault.
-fn verdict(
-    alloc: Global,
-    answer: Result<(), RouteFault>,
-    good: &str,
-) -> Result<String, AllocError> {
+fn add_verdict(out: &mut String, answer: &Result<(), RouteFault>) -> Result<(), AllocError> {
     match answer {
-        Ok(()) => String::from_str(alloc, good),
-        Err(RouteFault::NotKeeping { piece }) => {
-            format!(in alloc; "piece {piece} is not keeping")
-        }
+        Ok(()) => out.push_str("sound"),
+        Err(RouteFault::NotKeeping { piece }) => write!(out, "piece {piece} is not keeping"),
         Err(
             RouteFault::Overlap {
                 list,
                 first,
                 second,
             },
-        ) => format!(in alloc; "branches {first} and {second} of list {list} overlap"),
-        Err(RouteFault::OutOfMemory) => String::from_str(alloc, "want of memory"),
+        ) => write!(out, "branches {first} and {second} of list {list} overlap"),
+        Err(RouteFault::OutOfMemory) => out.push_str("want of memory"),
     }
 }
 
-// Whether a table is made of a filter.
-fn made(alloc: Global, filter: &Filter) -> Result<(), RouteFault>
-    requires { pieces (shape filter.now) ≤ FILTER_PIECES }
-{
-    Table::compile(alloc, filter)?;
-    Ok(())
-}
-
-/// Whether the filter of a text is sound, what a check says of it, and whether it has a table.
-pub fn soundness(alloc: Global, text: &[u8]) -> Result<String, Fault> {
+/// Adds what a check says of the filter of a text: that it is sound, or its fault.
+pub fn add_soundness(out: &mut String, text: &[u8]) -> Result<(), Fault> {
+    let alloc = *out.allocator();
     let filter = filter_of(alloc, text)?;
-    let checked = verdict(alloc, check(alloc, &filter), "sound")?;
-    let table = verdict(alloc, made(alloc, &filter), "made")?;
-    let sound = if is_sound(alloc, &filter)? {
-        "sound"
-    } else {
-        "not sound"
-    };
-    Ok(format!(in alloc; "{sound}\ncheck: {checked}\ntable: {table}")?)
+    add_verdict(out, &check(alloc, &filter)).map_err(Fault::from)
 }
 
-/// How many entries the decision list of a filter has, or `none` where it has more than the number in front.
-pub fn listed(alloc: Global, texts: &Texts, words: &[Word]) -> Result<String, Fault> {
-    let [most, pieces @ ..] = words else {
-        return Err(Fault::BadLine);
-    };
-    let filter = filter_of(alloc, &texts.spelled(pieces)?)?;
-    match &list_within(alloc, count_of(most)?, &filter) {
-        Err(_) => text_of(alloc, "none"),
-        Ok(list) => Ok(format!(in alloc; "{} entries", list.len())?),
+/// Adds how many entries the decision list of a filter has, or `none` where it has more than the number in front.
+pub fn add_listed(out: &mut String, texts: &Texts, words: &[Word]) -> Result<(), Fault> {
+    match words {
+        [most, pieces @ ..] => add_length(out, count_of(most)?, &texts.spelled(pieces)?),
+        [] => Err(Fault::BadLine),
     }
 }
 
-// A sound filter's table, and a path.
-fn table_and_path(alloc: Global, texts: &Texts, words: &[Word]) -> Result<(Table, Path), Fault> {
-    let [filter, path] = words else {
-        return Err(Fault::BadLine);
-    };
-    let filter = filter_of(alloc, &texts.word(filter)?)?;
-    let path = path_of(alloc, texts, path)?;
+fn add_length(out: &mut String, most: usize, text: &[u8]) -> Result<(), Fault> {
+    let alloc = *out.allocator();
+    let filter = filter_of(alloc, text)?;
+    match &list_within(alloc, most, &filter) {
+        Err(_) => out.push_str("none").map_err(Fault::from),
+        Ok(list) => write!(out, "{} entries", list.len()).map_err(Fault::from),
+    }
+}
+
+// The table of a sound filter.
+fn table_of(alloc: Global, text: &[u8]) -> Result<Table, Fault> {
+    let filter = filter_of(alloc, text)?;
     match Table::compile(alloc, &filter) {
-        Ok(table) => Ok((table, path)),
+        Ok(table) => Ok(table),
         Err(_) => Err(Fault::BadLine),
     }
 }
 
-/// The image of a path under a sound filter.
-pub fn image(alloc: Global, texts: &Texts, words: &[Word]) -> Result<String, Fault> {
-    let (table, path) = table_and_path(alloc, texts, words)?;
-    match table.image(&path) {
-        None => text_of(alloc, "none"),
-        Some(hit) => Ok(path_text(alloc, &image_of(alloc, &table, &path, &hit)?)?),
+/// Adds the image of a path under a sound filter, or the path with that image.
+pub fn add_way(out: &mut String, texts: &Texts, form: &str, words: &[Word]) -> Result<(), Fault> {
+    let [filter, path] = words else {
+        return Err(Fault::BadLine);
+    };
+    let alloc = *out.allocator();
+    let table = table_of(alloc, &texts.word(filter)?)?;
+    let path = path_of(alloc, texts, path)?;
+    match form {
+        "image" => add_image(out, &table, &path).map_err(Fault::from),
+        _ => add_origin(out, &table, &path),
     }
 }
 
-/// The path with an image under a sound filter.
-pub fn origin(alloc: Global, texts: &Texts, words: &[Word]) -> Result<String, Fault> {
-    let (table, image) = table_and_path(alloc, texts, words)?;
-    let Some(hit) = table.origin(&image) else {
-        return text_of(alloc, "none");
+fn add_image(out: &mut String, table: &Table, path: &Path) -> Result<(), AllocError> {
+    let Some(hit) = table.image(path) else {
+        return out.push_str("none");
+    };
+    let image = image_of(*out.allocator(), table, path, &hit)?;
+    add_path(out, &image)
+}
+
+fn add_origin(out: &mut String, table: &Table, image: &Path) -> Result<(), Fault> {
+    let Some(hit) = table.origin(image) else {
+        return out.push_str("none").map_err(Fault::from);
     };
     let rest = &image.components()[hit.cut..];
     let front = table.source(hit.route);
     if front.is_empty() && rest.is_empty() {
         return Err(Fault::BadLine);
     }
-    Ok(path_text(alloc, &Path::of_parts(alloc, front, rest)?)?)
-}
-
-/// The canonical text of a table's filter.
-pub fn filter_line(alloc: Global, table: &Table) -> Result<String, Fault> {
-    Ok(printed(alloc, &print(alloc, table.filter())?)?)
+    let path = Path::of_parts(*out.allocator(), front, rest)?;
+    add_path(out, &path).map_err(Fault::from)
 }

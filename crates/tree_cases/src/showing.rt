@@ -1,25 +1,41 @@
 // The filter for a tree, and what filters show of trees.
-ghost use Rattle.std.specs.Prelude.{◌≡◌, ◌<◌, ◌≤◌, true};
+ghost use Rattle.std.specs.Prelude.{◌≡◌, ◌<◌, true};
 ghost use Rattle.git_objects.specs.declared.kind.Kind.TheVariants.{Tree};
 ghost use Rattle.object_store.specs.Objects.{has};
 ghost use Rattle.filter_text.specs.Shapes.{shape};
 ghost use Rattle.workspace.specs.Laws.{IsUsable};
 ghost use Rattle.workspace.specs.Views.{IsHeldLeaf};
 
-use crate::leaves::{add_leaves, tree};
-use crate::routes::{filter_line, sound_filter};
-use case_lines::{Fault, Texts, Word, digits_of, path_text, text_of};
+use crate::leaves::{add_leaves, add_tree, tree};
+use crate::routes::sound_filter;
+use crate::texts::add_filter;
+use case_lines::{Fault, Texts, Word, add_path};
 use filter_apply::shown;
 use filter_cache::Memo;
 use filter_routes::{Table, Tables};
 use filter_text::Filter;
-use git_objects::{Kind, Name, Steps};
+use git_objects::{Name, Steps};
 use object_store::Store;
 use path_names::Path;
 use path_trees::Leaf;
-use std::alloc::Global;
+use std::alloc::{AllocError, Global};
 use std::sync::ledger::{Blank, Ledger};
 use workspace::{file_place, leaf_at, resolve, resolve_leaf};
+
+/// The number of the table of a sound filter for that tree.
+pub fn table_number(
+    alloc: Global,
+    texts: &Texts,
+    store: &Store,
+    tables: &mut Tables,
+    filter: &Word,
+    root: Name,
+) -> Result<usize, Fault>
+    requires { has Tree store.now root.0 ≡ true }
+{
+    let filter = sound_filter(alloc, texts, filter)?;
+    resolve(alloc, store, &filter, root, tables).map_err(Fault::from)
+}
 
 // The leaf at a place of that tree.
 fn leaf_where(store: &Store, root: Name, place: &Option<Path>) -> Option<Leaf>
@@ -32,81 +48,79 @@ fn leaf_where(store: &Store, root: Name, place: &Option<Path>) -> Option<Leaf>
     }
 }
 
-/// The workspace place, whether the leaf there is readable, the filter for the tree of these leaves, and each path of
-/// the tree that it shows, with its image.
-pub fn resolved(
+/// Adds the workspace place, whether the leaf there is readable, the filter for the tree of these leaves, and each path
+/// of the tree that it shows, with its image.
+pub fn add_resolved(
     alloc: Global,
+    out: &mut String,
     texts: &Texts,
     store: &mut Store,
     tables: &mut Tables,
     words: &[Word],
-) -> Result<String, Fault> {
+) -> Result<(), Fault> {
     let [filter, leaves @ ..] = words else {
         return Err(Fault::BadLine);
     };
-    let filter = sound_filter(alloc, texts, filter)?;
     let root = tree(alloc, texts, store, leaves)?;
-    let number = resolve(alloc, store, &filter, root, tables)?;
-    let mut lines = placed(alloc, store, tables, &filter, root, number)?;
-    add_table(alloc, &mut lines, tables, number, store, root)?;
-    Ok(lines)
+    let filter = sound_filter(alloc, texts, filter)?;
+    let number = add_placed(alloc, out, store, tables, &filter, root)?;
+    let table = tables.get(number).ok_or(Fault::BadLine)?;
+    add_table(out, table, store, root)
 }
 
 // Adds the filter of a table, and the paths that it shows.
-fn add_table(
-    alloc: Global,
-    lines: &mut String,
-    tables: &Tables,
-    number: usize,
-    store: &Store,
-    root: Name,
-) -> Result<(), Fault> {
-    let table = tables.get(number).ok_or(Fault::BadLine)?;
-    lines.push_str(filter_line(alloc, table)?.as_str())?;
-    lines.push('\n')?;
-    add_leaves(alloc, lines, Some(table), store, root)
+fn add_table(out: &mut String, table: &Table, store: &Store, root: Name) -> Result<(), Fault> {
+    add_filter(out, table.filter())?;
+    out.push('\n')?;
+    add_leaves(out, Some(table), store, root)
 }
 
-// The workspace place, and what is said of the leaf there.
-fn placed(
+// Adds the workspace place, and what is said of the leaf there. The number of the filter's table for the tree is handed
+// out.
+fn add_placed(
     alloc: Global,
+    out: &mut String,
     store: &Store,
     tables: &mut Tables,
     filter: &Filter,
     root: Name,
-    number: usize,
-) -> Result<String, Fault>
+) -> Result<usize, Fault>
     requires usable { IsUsable (shape filter.now) }
     requires root { has Tree store.now root.0 ≡ true }
 {
     let place = file_place(alloc, filter)?;
     let leaf = leaf_where(store, root, &place);
-    let by_leaf = resolve_leaf(alloc, store, filter, leaf, tables)?;
-    if by_leaf.table != number {
-        return text_of(alloc, "two filters\n");
-    }
-    let readable = if by_leaf.readable {
-        "readable"
-    } else {
-        "unreadable"
-    };
-    let place = match &place {
-        None => text_of(alloc, "no place,")?,
-        Some(path) => path_text(alloc, path)?,
-    };
-    Ok(format!(in alloc; "{place} {readable}\n")?)
+    add_place(out, &place)?;
+    let found = resolve_leaf(alloc, store, filter, leaf, tables)?;
+    add_readable(out, found.readable)?;
+    Ok(found.table)
 }
 
-/// The name of the tree that a filter shows of the tree of these leaves, and its leaves. It is asked for twice with a
-/// memo of one pair, and twice with a memo of many.
-pub fn shown_tree<L: Ledger>(
+fn add_place(out: &mut String, place: &Option<Path>) -> Result<(), AllocError> {
+    match place {
+        None => out.push_str("no place,"),
+        Some(path) => add_path(out, path),
+    }
+}
+
+fn add_readable(out: &mut String, readable: bool) -> Result<(), AllocError> {
+    if readable {
+        out.push_str(" readable\n")
+    } else {
+        out.push_str(" unreadable\n")
+    }
+}
+
+/// Adds the name of the tree that a filter shows of the tree of these leaves, and its leaves.
+pub fn add_shown<L: Ledger>(
     alloc: Global,
+    out: &mut String,
     texts: &Texts,
     store: &mut Store,
     tables: &mut Tables,
     words: &[Word],
     blank: Blank,
-) -> Result<String, Fault>
+) -> Result<(), Fault>
     requires name { blank.name ≡ L.name }
     requires parts { blank.parts ≡ L.parts }
     requires some { 0 < blank.parts }
@@ -114,51 +128,26 @@ pub fn shown_tree<L: Ledger>(
     let [filter, leaves @ ..] = words else {
         return Err(Fault::BadLine);
     };
-    let filter = sound_filter(alloc, texts, filter)?;
     let root = tree(alloc, texts, store, leaves)?;
-    let number = resolve(alloc, store, &filter, root, tables)?;
+    let number = table_number(alloc, texts, store, tables, filter, root)?;
     let table = tables.get(number).ok_or(Fault::BadLine)?;
     let mut steps = Steps::<L>::new(blank);
-    let name = shown_twice(alloc, store, table, number, root, 1, &mut steps)?;
-    let again = shown_twice(alloc, store, table, number, root, 1000, &mut steps)?;
-    if again != name {
-        return Err(Fault::BadLine);
-    }
-    named(alloc, store, name)
+    let name = shown_by(alloc, store, table, number, root, &mut steps)?;
+    add_tree(out, store, name)
 }
 
-/// The name of a tree, and its leaves.
-pub fn named(alloc: Global, store: &Store, name: Name) -> Result<String, Fault> {
-    let mut lines = digits_of(alloc, &name)?;
-    lines.push('\n')?;
-    add_leaves(alloc, &mut lines, None, store, name)?;
-    Ok(lines)
-}
-
-// What is shown, the first time and again, with a memo of that capacity.
-fn shown_twice<L: Ledger>(
+// What is shown with a memo of one pair.
+fn shown_by<L: Ledger>(
     alloc: Global,
     store: &mut Store,
     table: &Table,
     number: usize,
     root: Name,
-    capacity: usize,
     steps: &mut Steps<L>,
 ) -> Result<Name, Fault>
-    requires capacity { 1 ≤ capacity }
+    requires { has Tree store.old root.0 ≡ true }
 {
-    if !store.has(Kind::Tree, &root) {
-        return Err(Fault::BadLine);
-    }
-    let mut memo = Memo::new(alloc, capacity)?;
-    let Ok(first) = shown(alloc, store, table, number, root, &mut memo, steps) else {
-        return Err(Fault::BadLine);
-    };
-    if !store.has(Kind::Tree, &root) {
-        return Err(Fault::BadLine);
-    }
-    match shown(alloc, store, table, number, root, &mut memo, steps) {
-        Ok(again) if again == first => Ok(first),
-        _ => Err(Fault::BadLine),
-    }
+    let mut memo = Memo::new(alloc, 1)?;
+    let name = shown(alloc, store, table, number, root, &mut memo, steps);
+    name.ok().ok_or(Fault::BadLine)
 }

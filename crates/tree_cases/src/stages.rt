@@ -8,36 +8,62 @@ ghost use Rattle.stage_tree.specs.Stages.{Shows};
 use crate::edits::edit;
 use crate::leaves::parted;
 use crate::words::edit_of;
-use case_lines::{Fault, Word, digits_of, put_object};
+use case_lines::{Fault, Word, add_digits, put_object};
 use git_objects::{Kind, Name};
 use object_store::{Store, store_law};
+use path_names::Path;
 use stage_tree::{Stage, StageFault};
-use std::alloc::Global;
+use std::alloc::{AllocError, Global};
 
-// The line of an edit: how many nodes the stage then has, or why it wasn't edited.
+// Adds the line of an edit: how many nodes the stage then has, or why it wasn't edited.
 fn add_line(
-    alloc: Global,
-    lines: &mut String,
+    out: &mut String,
     word: &str,
     answer: Result<(), StageFault>,
     nodes: usize,
-) -> Result<(), Fault> {
-    let line = match answer {
-        Ok(()) => format!(in alloc; "{word} nodes {nodes}\n")?,
-        Err(fault) => format!(in alloc; "{word} {fault:?}, nodes {nodes}\n")?,
-    };
-    Ok(lines.push_str(line.as_str())?)
+) -> Result<(), AllocError> {
+    match answer {
+        Ok(()) => writeln!(out, "{word} nodes {nodes}"),
+        Err(fault) => writeln!(out, "{word} {fault:?}, nodes {nodes}"),
+    }
+}
+
+fn path(alloc: Global, text: &str) -> Result<Path, Fault> {
+    let path = Path::parse(alloc, text.as_bytes());
+    path.ok().ok_or(Fault::BadLine)
+}
+
+// Edits a stage by a word, and adds the line for it.
+fn edited_by(
+    alloc: Global,
+    out: &mut String,
+    stage: &mut Stage,
+    store: &Store,
+    blob: Name,
+    stored: Option<Name>,
+    word: &str,
+) -> Result<(), Fault>
+    requires blob { has Blob store.now blob.0 ≡ true }
+    requires stored { IfSome stored (λ n. has Tree store.now n.0 ≡ true) }
+    requires shows { (t : Flat) × Shows store.now stage.old t }
+    ensures { (t : Flat) × Shows store.now stage.new t }
+{
+    let (deed, from, to) = edit_of(word).ok_or(Fault::BadLine)?;
+    let from = path(alloc, from)?;
+    let to = path(alloc, to)?;
+    let answer = edit(stage, store, blob, stored, &deed, &from, &to);
+    add_line(out, word, answer, stage.nodes()).map_err(Fault::from)
 }
 
 // Edits a stage by each word, and adds a line for each.
 fn edited(
     alloc: Global,
+    out: &mut String,
     stage: &mut Stage,
     store: &Store,
     blob: Name,
     stored: Option<Name>,
     words: &[Word],
-    lines: &mut String,
 ) -> Result<(), Fault>
     requires blob { has Blob store.now blob.0 ≡ true }
     requires stored { IfSome stored (λ n. has Tree store.now n.0 ≡ true) }
@@ -45,9 +71,7 @@ fn edited(
     ensures { (t : Flat) × Shows store.now stage.new t }
 {
     for word in words {
-        let asked = edit_of(alloc, word.text())?;
-        let answer = edit(stage, store, blob, stored, &asked);
-        add_line(alloc, lines, word.text(), answer, stage.nodes())?;
+        edited_by(alloc, out, stage, store, blob, stored, word.text())?;
     }
     Ok(())
 }
@@ -59,47 +83,41 @@ fn base(alloc: Global, store: &mut Store, blob: Name, words: &[Word]) -> Result<
     store_law(store);
     let mut stage = Stage::empty(alloc)?;
     let mut lines = String::new(alloc);
-    edited(alloc, &mut stage, store, blob, None, words, &mut lines)?;
+    edited(alloc, &mut lines, &mut stage, store, blob, None, words)?;
     stage.finish(store).ok().ok_or(Fault::BadLine)
 }
 
-// Edits the stored tree, a line for each edit, and the name of the tree then.
+// Edits the stored tree, a line for each edit. The name of the tree then is handed out.
 fn upon(
     alloc: Global,
+    out: &mut String,
     store: &mut Store,
     blob: Name,
     root: Name,
     words: &[Word],
-) -> Result<String, Fault> {
+) -> Result<Name, Fault> {
     if !store.has(Kind::Tree, &root) || !store.has(Kind::Blob, &blob) {
         return Err(Fault::BadLine);
     }
-    let mut lines = String::new(alloc);
     let mut stage = Stage::begin(alloc, store, root)?;
-    edited(
-        alloc,
-        &mut stage,
-        store,
-        blob,
-        Some(root),
-        words,
-        &mut lines,
-    )?;
-    let name = stage.finish(store).ok().ok_or(Fault::BadLine)?;
-    lines.push_str("tree ")?;
-    lines.push_str(digits_of(alloc, &name)?.as_str())?;
-    Ok(lines)
+    edited(alloc, out, &mut stage, store, blob, Some(root), words)?;
+    stage.finish(store).ok().ok_or(Fault::BadLine)
 }
 
 /// `EDIT .. begin EDIT ..`: the tree of the first edits is stored, and a stage of it edited by the others.
-pub fn staged(alloc: Global, store: &mut Store, words: &[Word]) -> Result<String, Fault> {
-    let Some((front, behind)) = parted(words, "begin") else {
-        return Err(Fault::BadLine);
-    };
+pub fn add_staged(
+    alloc: Global,
+    out: &mut String,
+    store: &mut Store,
+    words: &[Word],
+) -> Result<(), Fault> {
+    let (front, behind) = parted(words, "begin").ok_or(Fault::BadLine)?;
     let blob = put_object(store, Kind::Blob, b"x")?;
     if !store.has(Kind::Blob, &blob) {
         return Err(Fault::BadLine);
     }
     let root = base(alloc, store, blob, front)?;
-    upon(alloc, store, blob, root, behind)
+    let name = upon(alloc, out, store, blob, root, behind)?;
+    out.push_str("tree ")?;
+    add_digits(out, &name).map_err(Fault::from)
 }

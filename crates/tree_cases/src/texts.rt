@@ -1,64 +1,54 @@
 // Texts of filters and of workspace files.
-use case_lines::{Fault, path_text, printed, text_of};
-use filter_text::{Filter, Item, ItemsFault, copy, parse, parse_items, print, same};
-use std::alloc::{AllocError, Global};
+use case_lines::{Fault, add_path, add_printed};
+use filter_text::{Filter, Item, ItemsFault, parse, parse_items, print};
+use std::alloc::AllocError;
 
-/// The canonical text of the filter that a text is, and what is read of that; or the text's fault.
-pub fn parsed(alloc: Global, text: &[u8]) -> Result<String, Fault> {
-    match &parse(alloc, text) {
-        Ok(filter) => read_again(alloc, text, filter),
-        Err(fault) => Ok(format!(in alloc; "{fault}")?),
+/// Adds the canonical text of the filter that a text is, or the text's fault.
+pub fn add_parsed(out: &mut String, text: &[u8]) -> Result<(), Fault> {
+    match &parse(*out.allocator(), text) {
+        Ok(filter) => add_canonical(out, text, filter).map_err(Fault::from),
+        Err(fault) => write!(out, "{fault}").map_err(Fault::from),
     }
 }
 
-// The canonical text, and whether it, a copy and another text are the filter.
-fn read_again(alloc: Global, text: &[u8], filter: &Filter) -> Result<String, Fault> {
-    let canonical = print(alloc, filter)?;
-    let said = printed(alloc, &canonical)?;
+fn add_canonical(out: &mut String, text: &[u8], filter: &Filter) -> Result<(), AllocError> {
+    let canonical = print(*out.allocator(), filter)?;
+    add_printed(out, &canonical)?;
     // Of a long text only its length is printed.
-    let is_given = if canonical.len() > 1000 && canonical.as_slice() == text {
-        " as they are given"
-    } else {
-        ""
-    };
-    let again = compared(alloc, filter, &canonical)?;
-    let copied = sameness(same(filter, &copy(alloc, filter)?));
-    let other = compared(alloc, filter, b"::other")?;
-    Ok(format!(in alloc; "{said}{is_given}\nagain: {again}, a copy: {copied}, ::other: {other}")?)
-}
-
-fn sameness(is_same: bool) -> &'static str {
-    if is_same { "the same" } else { "another" }
-}
-
-// Whether a text is read as this filter, or its fault.
-fn compared(alloc: Global, filter: &Filter, text: &[u8]) -> Result<String, AllocError> {
-    match &parse(alloc, text) {
-        Ok(other) => String::from_str(alloc, sameness(same(filter, other))),
-        Err(fault) => format!(in alloc; "{fault}"),
+    if canonical.len() > 1000 && canonical.as_slice() == text {
+        out.push_str(" as they are given")?;
     }
+    Ok(())
 }
 
-/// The place and the filter of each item of a workspace file.
-pub fn items(alloc: Global, text: &[u8]) -> Result<String, Fault> {
-    match &parse_items(alloc, text) {
-        Err(ItemsFault::Unreadable) => text_of(alloc, "unreadable"),
+/// Adds the canonical text of a filter.
+pub fn add_filter(out: &mut String, filter: &Filter) -> Result<(), AllocError> {
+    let text = print(*out.allocator(), filter)?;
+    add_printed(out, &text)
+}
+
+/// Adds the place and the filter of each item of a workspace file.
+pub fn add_items(out: &mut String, text: &[u8]) -> Result<(), Fault> {
+    match &parse_items(*out.allocator(), text) {
+        Err(ItemsFault::Unreadable) => out.push_str("unreadable").map_err(Fault::from),
         Err(ItemsFault::OutOfMemory) => Err(Fault::OutOfMemory),
-        Ok(items) => {
-            let mut lines = String::new(alloc);
-            for item in items {
-                add_item(alloc, &mut lines, item)?;
-            }
-            if lines.is_empty() {
-                lines.push_str("no items")?;
-            }
-            Ok(lines)
-        }
+        Ok(items) => add_each(out, items).map_err(Fault::from),
     }
 }
 
-fn add_item(alloc: Global, lines: &mut String, item: &Item) -> Result<(), AllocError> {
-    let place = path_text(alloc, &item.place)?;
-    let filter = printed(alloc, &print(alloc, &item.filter)?)?;
-    lines.push_str(format!(in alloc; "{place} {filter}\n")?.as_str())
+fn add_each(out: &mut String, items: &[Item]) -> Result<(), AllocError> {
+    if items.is_empty() {
+        return out.push_str("no items");
+    }
+    for item in items {
+        add_item(out, item)?;
+    }
+    Ok(())
+}
+
+fn add_item(out: &mut String, item: &Item) -> Result<(), AllocError> {
+    add_path(out, &item.place)?;
+    out.push(' ')?;
+    add_filter(out, &item.filter)?;
+    out.push('\n')
 }

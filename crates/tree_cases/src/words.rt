@@ -1,54 +1,46 @@
 // What a word asks of a stage.
-use case_lines::Fault;
-use path_names::Path;
-use std::alloc::Global;
 
-/// One edit.
+/// What an edit does.
 #[derive(Drop)]
-pub enum Edit {
+pub enum Deed {
     /// `+PATH`
-    Set(Path),
+    Set,
     /// `-PATH`
-    Remove(Path),
+    Remove,
     /// `PATH>PATH`
-    Rename(Path, Path),
+    Rename,
     /// `PATH*PATH`
-    Copy(Path, Path),
+    Copy,
     /// `PATH=PATH`: what the stored tree has at the first, put at the second by its name
-    Put(Path, Path),
+    Put,
     /// `clear`
     Clear,
 }
 
-fn path(alloc: Global, text: &str) -> Result<Path, Fault> {
-    Path::parse(alloc, text.as_bytes())
-        .ok()
-        .ok_or(Fault::BadLine)
+/// An edit and the texts of its paths. One that has a path alone gives it twice, and `clear` itself.
+pub fn edit_of(word: &str) -> Option<(Deed, &str, &str)> {
+    if word == "clear" {
+        return Some((Deed::Clear, word, word));
+    }
+    if let Some(path) = word.strip_prefix('+') {
+        return Some((Deed::Set, path, path));
+    }
+    if let Some(path) = word.strip_prefix('-') {
+        return Some((Deed::Remove, path, path));
+    }
+    edit_of_paths(word)
 }
 
-// A word of two paths, or of one behind a sign.
-fn edit_of_paths(alloc: Global, word: &str) -> Result<Edit, Fault> {
+// An edit of two paths.
+fn edit_of_paths(word: &str) -> Option<(Deed, &str, &str)> {
     if let Some((from, to)) = word.split_once('>') {
-        return Ok(Edit::Rename(path(alloc, from)?, path(alloc, to)?));
+        return Some((Deed::Rename, from, to));
     }
     if let Some((from, to)) = word.split_once('*') {
-        return Ok(Edit::Copy(path(alloc, from)?, path(alloc, to)?));
+        return Some((Deed::Copy, from, to));
     }
     if let Some((from, to)) = word.split_once('=') {
-        return Ok(Edit::Put(path(alloc, from)?, path(alloc, to)?));
+        return Some((Deed::Put, from, to));
     }
-    Err(Fault::BadLine)
-}
-
-pub fn edit_of(alloc: Global, word: &str) -> Result<Edit, Fault> {
-    if word == "clear" {
-        return Ok(Edit::Clear);
-    }
-    if let Some(text) = word.strip_prefix('+') {
-        return Ok(Edit::Set(path(alloc, text)?));
-    }
-    if let Some(text) = word.strip_prefix('-') {
-        return Ok(Edit::Remove(path(alloc, text)?));
-    }
-    edit_of_paths(alloc, word)
+    None
 }
