@@ -1,9 +1,7 @@
-//! Answers cases of objects and of items, a line each, from standard input.
+//! Answers cases of trees of entries and of a store of objects, a line each, from standard input.
 #![tactic(auto)]
 
 mod bodies;
-mod items;
-mod keepers;
 mod session;
 mod stores;
 mod values;
@@ -12,5 +10,5 @@ use case_lines::{Fault, answer_lines};
 use session::Session;
 
 fn main(rt: HostRuntime) -> Result<(), Fault> {
-    answer_lines(&rt, &mut Session::new(rt.alloc())?)
+    answer_lines(&rt, &mut Session::new(rt.alloc()))
 }

@@ -1,6 +1,5 @@
 // What lines of cases work on.
-use crate::items::Kept;
-use crate::{bodies, items, stores};
+use crate::{bodies, stores};
 use case_lines::{Answers, Fault, Texts, Word, number_of};
 use object_store::Store;
 use std::alloc::Global;
@@ -9,16 +8,13 @@ use std::alloc::Global;
 #[derive(Drop)]
 pub struct Session {
     store: Store,
-    kept: Kept,
 }
 
 impl Session {
-    pub fn new(alloc: Global) -> Result<Session, Fault> {
-        let kept = Kept::new(alloc)?;
-        Ok(Session {
+    pub fn new(alloc: Global) -> Session {
+        Session {
             store: Store::new(alloc),
-            kept,
-        })
+        }
     }
 
     // Asks so many times, and answers what came last.
@@ -48,7 +44,6 @@ impl Session {
         match subject.text() {
             "body" => bodies::answer(alloc, texts, form.text(), words).map(Some),
             "store" => stores::answer(alloc, texts, &mut self.store, form.text(), words),
-            "items" => items::answer(alloc, texts, &mut self.kept, form.text(), words),
             _ => Err(Fault::BadLine),
         }
     }

@@ -85,8 +85,8 @@ fn told(alloc: Global, answer: Result<Name, PutError>) -> Result<String, Fault> 
     }
 }
 
-/// The kind and the body of the object whose name is the only word.
-pub fn held(alloc: Global, texts: &Texts, store: &Store, words: &[Word]) -> Result<String, Fault> {
+// The kind and the body of the object whose name is the only word.
+fn held(alloc: Global, texts: &Texts, store: &Store, words: &[Word]) -> Result<String, Fault> {
     match store.get(&object_name(texts, words)?) {
         None => text_of(alloc, "none"),
         Some(object) => object_text(alloc, object.kind, object.body),
@@ -103,8 +103,8 @@ fn object_text(alloc: Global, kind: Kind, body: &[u8]) -> Result<String, Fault> 
     Ok(format!(in alloc; "{kind} {body}")?)
 }
 
-/// How many objects there are.
-pub fn count(alloc: Global, store: &Store) -> Result<String, Fault> {
+// How many objects there are.
+fn count(alloc: Global, store: &Store) -> Result<String, Fault> {
     Ok(format!(in alloc; "{} objects", store.len())?)
 }
 

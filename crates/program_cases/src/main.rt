@@ -1,6 +1,8 @@
 //! Answers cases of the program, a line each, from standard input: calls of `run` on devices in memory.
 #![tactic(auto)]
 
+mod fronts;
+mod keepers;
 mod outcomes;
 mod runs;
 mod session;

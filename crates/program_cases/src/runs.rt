@@ -1,10 +1,11 @@
 // Calls of the program.
-ghost use Rattle.std.specs.Prelude.{◌≡◌, ◌<◌, false};
+ghost use Rattle.std.specs.Prelude.{◌<◌};
 
+use crate::keepers::Misjudging;
 use crate::session::{FailingCalls, Session};
-use case_lines::{Fault, Texts, Word, items_said, printed, reopened};
+use case_lines::{Fault, Texts, Word, items_said, number_of, printed, reopened};
 use proj_cli::{Outcome, outcome_code, run};
-use proj_io::{MemKeeper, MemSink, MemSource};
+use proj_io::{Keeper, MemKeeper, MemSink, MemSource};
 use std::alloc::Global;
 use std::mem;
 
@@ -33,6 +34,29 @@ pub fn run_words(
     with_items(alloc, texts, &session.keeper, said)
 }
 
+/// Calls the program without input on a store that says one size of all its items: the size, and then the words. Says
+/// what `run_words` says.
+pub fn run_judged(
+    alloc: Global,
+    texts: &Texts,
+    session: &mut Session,
+    words: &[Word],
+) -> Result<String, Fault> {
+    let [size, words @ ..] = words else {
+        return Err(Fault::BadLine);
+    };
+    let size = u32::try_from(number_of(&size.bytes)?);
+    let size = size.ok().ok_or(Fault::BadLine)?;
+    let words = strings(alloc, texts, words)?;
+    let mut keeper = Misjudging {
+        inner: reopened(alloc, &mut session.keeper),
+        size,
+    };
+    let said = called_plainly(alloc, &words, &mut keeper);
+    session.keeper = keeper.inner;
+    with_items(alloc, texts, &session.keeper, said)
+}
+
 // Adds the items of the store.
 fn with_items(
     alloc: Global,
@@ -46,17 +70,29 @@ fn with_items(
     Ok(text)
 }
 
+/// What a call of the program without input, of which only the store may fail, comes to, and what it writes.
+pub fn called_plainly<K: Keeper>(
+    alloc: Global,
+    words: &[String],
+    keeper: &mut K,
+) -> Result<String, Fault>
+    requires { K.is_open keeper.old }
+{
+    let failing = FailingCalls::new(alloc);
+    called(alloc, words, Vec::new(alloc), 64, failing, keeper)
+}
+
 // What one call of the program comes to, and what it writes.
-fn called(
+fn called<K: Keeper>(
     alloc: Global,
     words: &[String],
     input: Vec<u8>,
     most: usize,
     failing: FailingCalls,
-    keeper: &mut MemKeeper,
+    keeper: &mut K,
 ) -> Result<String, Fault>
     requires most { 0 < most }
-    requires open { keeper.old.broken ≡ false }
+    requires open { K.is_open keeper.old }
 {
     let mut input = MemSource::new(input, most, failing.input);
     let mut out = MemSink::new(alloc, most, failing.out);
@@ -72,8 +108,8 @@ fn told(alloc: Global, outcome: &Outcome, out: &[u8], err: &[u8]) -> Result<Stri
     Ok(text)
 }
 
-// The words of a call, and the pieces of its input.
-fn parted(words: &[Word]) -> (&[Word], &[Word]) {
+/// The words of a call, and the pieces of its input.
+pub fn parted(words: &[Word]) -> (&[Word], &[Word]) {
     let place = words
         .iter()
         .position(|word| !word.is_quoted && word.text() == "<");
@@ -84,7 +120,8 @@ fn parted(words: &[Word]) -> (&[Word], &[Word]) {
     }
 }
 
-fn strings(alloc: Global, texts: &Texts, words: &[Word]) -> Result<Vec<String>, Fault> {
+/// Words as the program gets them.
+pub fn strings(alloc: Global, texts: &Texts, words: &[Word]) -> Result<Vec<String>, Fault> {
     let mut all = Vec::new(alloc);
     for word in words {
         let text = String::from_utf8(texts.word(word)?);

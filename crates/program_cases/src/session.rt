@@ -1,6 +1,7 @@
 // What lines of cases work on.
+use crate::fronts::run_fronts;
 use crate::outcomes::outcome;
-use crate::runs::run_words;
+use crate::runs::{run_judged, run_words};
 use case_lines::{Answers, Fault, Texts, Word, add_item, count_of, failing_of, number_of};
 use proj_io::MemKeeper;
 use std::alloc::Global;
@@ -69,6 +70,8 @@ impl Answers for Session {
         };
         match first.bytes.as_slice() {
             b"run" => Ok(Some(run_words(alloc, texts, self, inner)?)),
+            b"judged" => Ok(Some(run_judged(alloc, texts, self, inner)?)),
+            b"fronts" => Ok(Some(run_fronts(alloc, texts, &self.keeper, inner)?)),
             b"outcome" => Ok(Some(outcome(alloc, texts, inner)?)),
             b"store" => {
                 self.keeper = MemKeeper::new(alloc, failing_of(alloc, inner)?);
