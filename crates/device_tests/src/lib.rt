@@ -1,5 +1,5 @@
-//! Tests of the devices, of the disks and of the journal, and of a source that is made as it is read. The libraries
-//! themselves have none.
+//! Tests of the devices, of the disks and of the journal, of a source that is made as it is read, and of the memo of
+//! what is shown. The libraries themselves have none.
 #![tactic(auto)]
 
 #[cfg(test)]
@@ -12,6 +12,8 @@ mod disks;
 mod journals;
 #[cfg(test)]
 mod long;
+#[cfg(test)]
+mod memo;
 #[cfg(test)]
 mod opened;
 #[cfg(test)]

@@ -1,12 +1,10 @@
-//! Tests of the program over disks in memory, and of the memo below it.
+//! Tests of the program over disks in memory.
 #![tactic(auto)]
 
 #[cfg(test)]
 mod batches;
 #[cfg(test)]
 mod calls;
-#[cfg(test)]
-mod memo;
 #[cfg(test)]
 mod serving;
 #[cfg(test)]

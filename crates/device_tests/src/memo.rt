@@ -1,5 +1,6 @@
 // The memo of what is shown of trees: it has what was shown last.
 ghost use Rattle.std.specs.Prelude.{◌≡◌, ◌<◌};
+ghost use Rattle.filter_apply.specs.Truth.{IsTrueFor};
 
 use filter_apply::shown;
 use filter_cache::Memo;
@@ -43,44 +44,55 @@ fn stored(alloc: Global) -> Option<Store> {
     Some(store)
 }
 
-// What is shown of the root with a new memo of one pair, once or twice. None: the memo has something else for it then.
-fn shown_if_held<L: Ledger>(alloc: Global, twice: bool, blank: Blank) -> Option<Name>
+// What the table shows of a tree. None: the store hasn't the tree, or nothing is answered.
+fn asked<L: Ledger>(
+    alloc: Global,
+    store: &mut Store,
+    table: &Table,
+    root: &Name,
+    memo: &mut Memo,
+    blank: Blank,
+) -> Option<Name>
     requires name { blank.name ≡ L.name }
     requires parts { blank.parts ≡ L.parts }
     requires some { 0 < blank.parts }
+    requires memo { IsTrueFor store.old table.now 0 memo.old }
+    ensures { IsTrueFor store.new table.now 0 memo.new }
 {
-    let mut store = stored(alloc)?;
-    let root = Name::from_hex(ROOT)?;
-    let table = table_of(alloc, b":/a")?;
-    let mut memo = Memo::new(alloc, 1).ok()?;
-    let mut steps = Steps::<L>::new(blank);
-    if !store.has(Kind::Tree, &root) {
+    if !store.has(Kind::Tree, root) {
         return None;
     }
-    let mut name = shown(alloc, &mut store, &table, 0, root, &mut memo, &mut steps).ok()?;
-    if twice {
-        if !store.has(Kind::Tree, &root) {
-            return None;
-        }
-        name = shown(alloc, &mut store, &table, 0, root, &mut memo, &mut steps).ok()?;
-    }
-    if memo.get(0, &root) == Some(name) {
-        Some(name)
+    let mut steps = Steps::<L>::new(blank);
+    shown(alloc, store, table, 0, *root, memo, &mut steps).ok()
+}
+
+// What is shown of a tree with a new memo of one pair, once or twice. None: the memo has something else for it then.
+fn answer(alloc: Global, store: &mut Store, table: &Table, twice: bool) -> Option<Name> {
+    let root = Name::from_hex(ROOT)?;
+    let mut memo = Memo::new(alloc, 1).ok()?;
+    let first = asked::<Brand>(alloc, store, table, &root, &mut memo, Blank::new(1))?;
+    let last = if twice {
+        asked::<Brand>(alloc, store, table, &root, &mut memo, Blank::new(1))?
+    } else {
+        first
+    };
+    if memo.get(0, &root) == Some(last) {
+        Some(last)
     } else {
         None
     }
 }
 
-fn answer(alloc: Global, twice: bool) -> Option<Name> {
-    shown_if_held::<Brand>(alloc, twice, Blank::new(1))
-}
-
 // Where the memo has the tree, `shown` takes no step by its contract: so the second time takes none.
 #[test]
 fn what_was_shown_is_held(rt: HostRuntime) -> Result<(), Fail> {
+    let alloc = rt.alloc();
+    let (Some(mut store), Some(table)) = (stored(alloc), table_of(alloc, b":/a")) else {
+        return Err(Fail::from("no tree"));
+    };
     let below = Name::from_hex(BELOW);
     assert!(rt; below.is_some());
-    assert!(rt; answer(rt.alloc(), false) == below);
-    assert!(rt; answer(rt.alloc(), true) == below);
+    assert!(rt; answer(alloc, &mut store, &table, false) == below);
+    assert!(rt; answer(alloc, &mut store, &table, true) == below);
     Ok(())
 }
