@@ -36,13 +36,13 @@ const ENTRIES: [(&[u8], &[u8], &[u8]); 4] = [
     ),
 ];
 
-// The commit of the ref after each number of the entries, as Git names it.
+// What is told of the ref after each number of the entries: the name that Git gives its commit.
 const HEADS: [&[u8]; 5] = [
     b"",
-    b"5990ba6163d77f77071ca2e8e9899c368dbc6eb7",
-    b"592cd3665c8a2250cf7988e22686ce308524df8c",
-    b"fcfc493607bfc8dbf616768af28cd698dfb8108a",
-    b"c0087f5ed9a3c59cccefdc3ba1fe9cbbb5ab8376",
+    b"5990ba6163d77f77071ca2e8e9899c368dbc6eb7\n",
+    b"592cd3665c8a2250cf7988e22686ce308524df8c\n",
+    b"fcfc493607bfc8dbf616768af28cd698dfb8108a\n",
+    b"c0087f5ed9a3c59cccefdc3ba1fe9cbbb5ab8376\n",
 ];
 
 // The reply to an entry at which the store fails. It is the last one.

@@ -48,6 +48,9 @@ pub(crate) const PUSH: &[&str] = &["push", "refs/heads/main", ":/a"];
 
 pub(crate) const PROJECT: &[&str] = &["project", "refs/heads/main", ":/a"];
 
+// What all of each tree is shown as.
+pub(crate) const WHOLE: &[&str] = &["project", "refs/heads/main", ":nop"];
+
 pub(crate) const RULE: &[&str] = &["rule", "2"];
 
 pub(crate) const BATCH: &[&str] = &["batch"];

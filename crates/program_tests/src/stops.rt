@@ -4,15 +4,13 @@ ghost use Rattle.proj_disk.specs.MemDisks.{MemDiskState, view_of};
 ghost use Rattle.proj_journal.specs.Journals.{IsOpen};
 
 use crate::calls::{
-    FIRST, IMPORT, PROJECT, PUSH, PUSHED, RULE, SECOND, THIRD, sink, source, strings,
+    FIRST, IMPORT, PROJECT, PUSH, PUSHED, RULE, SECOND, THIRD, WHOLE, sink, source, strings,
 };
-use git_objects::Name;
-use path_names::RefName;
+use crate::serving::{disk_of, served};
 use proj_cli::{Outcome, run};
 use proj_disk::{Fill, MemDisk};
 use proj_io::{Keeper, MemSink};
 use proj_journal::Journal;
-use repo_ground::State;
 use std::alloc::{AllocError, Global};
 use std::test::Fail;
 
@@ -26,36 +24,35 @@ const COMMANDS: [(&[&str], &[u8]); 6] = [
     (PUSH, PUSHED),
 ];
 
-// The commit of the ref after each number of the commands, as Git names it.
+// What is told of the ref after each number of the commands: the name that Git gives its commit.
 const HEADS: [&[u8]; 7] = [
     b"",
-    b"5990ba6163d77f77071ca2e8e9899c368dbc6eb7",
-    b"592cd3665c8a2250cf7988e22686ce308524df8c",
-    b"592cd3665c8a2250cf7988e22686ce308524df8c",
-    b"fcfc493607bfc8dbf616768af28cd698dfb8108a",
-    b"fcfc493607bfc8dbf616768af28cd698dfb8108a",
-    b"c0087f5ed9a3c59cccefdc3ba1fe9cbbb5ab8376",
+    b"5990ba6163d77f77071ca2e8e9899c368dbc6eb7\n",
+    b"592cd3665c8a2250cf7988e22686ce308524df8c\n",
+    b"592cd3665c8a2250cf7988e22686ce308524df8c\n",
+    b"fcfc493607bfc8dbf616768af28cd698dfb8108a\n",
+    b"fcfc493607bfc8dbf616768af28cd698dfb8108a\n",
+    b"c0087f5ed9a3c59cccefdc3ba1fe9cbbb5ab8376\n",
 ];
 
 // What a stop leaves of writes that weren't synced.
 const FILLS: [Fill; 3] = [Fill::Old, Fill::Written, Fill::Ones];
 
 // Runs a command, and says how it ended.
-pub(crate) fn outcome_of(
+pub(crate) fn outcome_of<K: Keeper>(
     alloc: Global,
-    journal: &mut Journal<MemDisk>,
+    store: &mut K,
     words: &[&str],
     input: &[u8],
     out: &mut MemSink,
 ) -> Result<Outcome, AllocError>
-    requires { IsOpen (λ (s : MemDiskState). Some (view_of s)) journal.old }
-    ensures { IfOk result (λ outcome. outcome ≢ Outcome.StoreFault →
-        IsOpen (λ (s : MemDiskState). Some (view_of s)) journal.new) }
+    requires { K.is_open store.old }
+    ensures { IfOk result (λ outcome. outcome ≢ Outcome.StoreFault → K.is_open store.new) }
 {
     let words = strings(alloc, words)?;
     let mut input = source(alloc, input)?;
     let mut err = sink(alloc);
-    Ok(run(alloc, &words, &mut input, out, &mut err, journal))
+    Ok(run(alloc, &words, &mut input, out, &mut err, store))
 }
 
 // Runs a command, and says whether it is done.
@@ -74,33 +71,35 @@ fn is_done(
     }
 }
 
-// Whether that is the commit of the ref after so many commands. After none there is no ref.
-fn is_head(head: Option<Name>, heads: &[&[u8]], number: usize) -> bool {
-    match head {
-        None => number == 0,
-        Some(head) => heads.get(number) == Some(&head.hex().as_slice()),
-    }
+// How many items the journal on a disk has, if there is one.
+fn item_count(alloc: Global, disk: MemDisk) -> Option<u32> {
+    Journal::open(alloc, disk).ok()?.count().ok()
+}
+
+// What the program, on a disk, tells of the ref: the name of its commit, which is what all of its tree is shown as.
+// Nothing where there is no ref.
+fn has_head(alloc: Global, disk: MemDisk, head: &[u8]) -> Result<bool, AllocError> {
+    let answer = served(alloc, disk, WHOLE, b"")?;
+    let err: &[u8] = if head.is_empty() {
+        b"unknown ref\n"
+    } else {
+        b""
+    };
+    Ok(answer.out.bytes() == head && answer.err.bytes() == err)
 }
 
 // Whether a disk with these bytes has the state after so many commands.
 fn has_state(
     alloc: Global,
-    bytes: Vec<u8>,
+    bytes: &[u8],
     heads: &[&[u8]],
     number: usize,
 ) -> Result<bool, AllocError> {
-    let Ok(mut journal) = Journal::open(alloc, MemDisk::new(alloc, bytes, Vec::new(alloc))) else {
-        return Ok(false);
-    };
-    let Ok(count) = journal.count() else {
-        return Ok(false);
-    };
-    let Ok(refname) = RefName::parse(alloc, b"refs/heads/main") else {
-        return Ok(false);
-    };
-    match State::load(alloc, &mut journal) {
-        Ok(state) => Ok(count as usize == number && is_head(state.head(&refname), heads, number)),
-        Err(_) => Ok(false),
+    match (item_count(alloc, disk_of(alloc, bytes)?), heads.get(number)) {
+        (Some(count), Some(head)) if count as usize == number => {
+            has_head(alloc, disk_of(alloc, bytes)?, head)
+        }
+        _ => Ok(false),
     }
 }
 
@@ -115,7 +114,7 @@ fn leaves(
 ) -> Result<bool, AllocError>
     requires { calls ≤ disk.now.calls }
 {
-    has_state(alloc, disk.image(calls, fill)?, heads, number)
+    has_state(alloc, &disk.image(calls, fill)?, heads, number)
 }
 
 // Whether a stop leaves the state after so many commands where the disk had made `before` calls, the state after one
