@@ -7,11 +7,11 @@ use Rattle.std.specs.declared.option.Option.{Option}
 use Rattle.std.specs.Int.{w32, to_be_bytes}
 use Rattle.proj_io.specs.Items.{item_of}
 use Rattle.proj_io.specs.Stops.{OnlyAdds, IsBeforeOrAfter}
-use Rattle.proj_disk.specs.Disks.{DiskView, IsImage}
+use Rattle.proj_disk.specs.Disks.{DiskView, IsImage, put}
 use Rattle.proj_journal.specs.declared.place.Place.{Place}
 use Rattle.proj_journal.specs.Spelling.{header, record_of, records_of, listed, spelled, placed}
 use Rattle.proj_journal.specs.Spelled.{length-record}
-use Rattle.proj_journal.specs.Rest.{StandsAt, Leaves, SpellsOneMore, AddsItem}
+use Rattle.proj_journal.specs.Rest.{StandsAt, Leaves, SpellsOneMore, AddsItem, GetsRecord, Puts, record_and_gate}
 use Rattle.proj_journal.specs.Resting.{whole}
 use Rattle.proj_journal.specs.Journals.{AllFit, ListsLeft, StandsIn, items_of, number_of, place_at}
 
@@ -180,3 +180,9 @@ if_ok P Q (Err e) to is = tt
 pub all_ok : {T E : Type 0} (Q : T → Type 0) (result : Result T E) → ((x : T) → Q x) → IfOk result Q
 all_ok Q (Ok x) is = is x
 all_ok Q (Err e) is = tt
+
+-- a record that is put where the list ended
+pub record_got : (o p : Option DiskView) (end : ℕ) (places : List Place) (item : List ℕ) → StandsIn o end places → Puts end (record_and_gate item) o p → GetsRecord item o p
+record_got None p end places item stands puts = puts
+record_got (Some d) None end places item stands puts = puts
+record_got (Some d) (Some e) end places item stands puts = puts ∙ ap (λ (n : ℕ). put n (record_and_gate item) d.bytes) stands.0.ends

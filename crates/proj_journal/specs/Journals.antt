@@ -1,6 +1,7 @@
 -- A journal over a disk, as a keeper of items.
-use Rattle.std.specs.Prelude.{◌≡◌, ◌≤◌, ◌+◌, ◌*◌, ◌^◌, ℕ, List, [], ◌∷◌, false, length, slice_get, unwrap_or, take, drop, ◌++◌, Result, Ok, Err, Some, None, ⊤, IsSome, IfSome}
+use Rattle.std.specs.Prelude.{◌≡◌, ◌≤◌, ◌⊎◌, ◌+◌, ◌*◌, ◌^◌, ℕ, List, [], ◌∷◌, false, length, slice_get, unwrap_or, take, drop, ◌++◌, Result, Ok, Err, Some, None, ⊤, IsSome, IfSome}
 use Rattle.std.proofs.Common.{refl}
+use Rattle.std.specs.Option.{option_map}
 use Rattle.std.specs.declared.option.Option.{Option}
 use Rattle.git_objects.specs.declared.limits.TheConstants.{ITEM_BYTES, ITEMS}
 use Rattle.proj_disk.specs.Disks.{DiskView, stable}
@@ -27,6 +28,13 @@ items_of (Some disk) = Some (listed disk.bytes)
 abbrev pub number_of : Option DiskView → List Place → ℕ
 number_of None places = length places
 number_of (Some disk) places = length (listed disk.bytes)
+
+-- the items of a journal, where its disk is known, and how many they are
+abbrev pub items_in : {D : Type 0} → (D → Option DiskView) → Journal D → Option (List (List ℕ))
+items_in content journal = items_of (content journal.disk)
+
+abbrev pub number_in : {D : Type 0} → (D → Option DiskView) → Journal D → ℕ
+number_in content journal = number_of (content journal.disk) journal.places.items
 
 -- each item has a length that may be kept, and stands below a bound that no journal reaches
 abbrev pub AllFit : List Place → Type 0
@@ -108,6 +116,10 @@ TellsWhy disk OutOfMemory = ⊤
 abbrev pub IsReadAs : {D : Type 0} → Option DiskView → Result (Journal D) (NoJournal D) → Type 0
 IsReadAs disk (Ok journal) = SpellsItsItems disk
 IsReadAs disk (Err none) = TellsWhy disk none.error
+
+-- a disk as it was, or as after a sync: with the same bytes, all of them stable
+abbrev pub IsSameOrSynced : Option DiskView → Option DiskView → Type 0
+IsSameOrSynced old new = (new ≡ old) ⊎ (new ≡ option_map (λ disk. stable disk.bytes) old)
 
 -- a journal with the bytes of a new one, where the disk is known
 abbrev pub IsNew : Option DiskView → Type 0

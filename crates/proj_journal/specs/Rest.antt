@@ -101,6 +101,11 @@ IsEmptyList (Some disk) = StandsAt 8 (listed disk.bytes) disk × (listed disk.by
 abbrev pub record_and_gate : List ℕ → List ℕ
 record_and_gate item = record_of item ++ 0 ∷ []
 
+-- a known disk got the record of an item where its list ended, and a gate 0 behind it
+abbrev pub GetsRecord : List ℕ → Option DiskView → Option DiskView → Type 0
+GetsRecord item old new =
+    IfKnown old new (λ d e. e.bytes ≡ put (8 + length (records_of (listed d.bytes))) (record_and_gate item) d.bytes)
+
 -- the same without the gate of the record, which is opened last
 abbrev pub behind_gate : List ℕ → List ℕ
 behind_gate item = to_be_bytes w32 (length item) ++ (item ++ 0 ∷ [])

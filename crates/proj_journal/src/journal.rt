@@ -1,12 +1,16 @@
 // The journal, a keeper of items over a disk.
 ghost use Rattle.std.specs.Prelude.{◌≡◌, ◌≢◌, [], ◌<◌, ◌≤◌, ◌+◌, ◌^◌, ◌⊎◌, List, ℕ, length, take, drop, IsSome};
-ghost use Rattle.std.specs.Prelude.{◌↔◌, IsErr, IfOk, IfErr, IfSome, MatchResult, false};
+ghost use Rattle.std.specs.Prelude.{◌↔◌, IsErr, IfOk, IfErr, IfSome, IsErrOf, MatchResult, OnOk, false};
 ghost use Rattle.std.specs.Option.{option_map};
-ghost use Rattle.proj_io.specs.Stops.{OnlyAdds, Nothing};
+ghost use Rattle.git_objects.specs.declared.limits.TheConstants.{ITEM_BYTES, ITEMS};
+ghost use Rattle.proj_io.specs.Items.{Gets, Stays, joined};
+ghost use Rattle.proj_io.specs.Stops.{IsBeforeOrAfter, IsPresent, OnlyAdds, Nothing};
 ghost use Rattle.proj_journal.specs.Journals.{AllFit, IsEmpty, IsNew, IsOpen, IsReadAs, ListsLeft, disk_of, place_at};
-ghost use Rattle.proj_journal.specs.Journals.{items_of, number_of, items_known, items_counted};
+ghost use Rattle.proj_journal.specs.Journals.{IsSameOrSynced, items_in, items_of, number_in, number_of, items_known};
+ghost use Rattle.proj_journal.specs.Journals.{items_counted};
 ghost use Rattle.proj_io.specs.Counts.{Counts};
-ghost use Rattle.proj_disk.specs.Disks.{Elapses, front_at, stable};
+ghost use Rattle.proj_disk.specs.Disks.{Elapses, IsTornIfKnown, front_at, stable};
+ghost use Rattle.proj_journal.specs.Rest.{GetsRecord, new_bytes};
 ghost use Rattle.proj_journal.specs.Settled.{settled_list};
 
 use crate::opening::{JournalError, find_places};
@@ -42,6 +46,11 @@ impl<D: Disk> Journal<D> {
         // Its bytes are those of a new journal, and nothing else.
         ensures bytes { IfOk result (λ journal. IsNew (D.content (disk_of journal))) }
         ensures told { IfOk result (λ journal. IsSome (D.content (disk_of journal)) ↔ IsSome (D.content disk)) }
+        // A write that failed may have put any bytes where those of a new journal go. Want of memory changes nothing.
+        ensures begun { IfErr result (λ none. none.error ≡ JournalError.Failed →
+            IsTornIfKnown 0 (length new_bytes) (D.content disk) (D.content none.disk)) }
+        ensures memory { IfErr result (λ none. none.error ≡ JournalError.OutOfMemory →
+            D.content none.disk ≡ D.content disk) }
         ensures not_broken { IfErr result (λ none. (place : ℕ) → none.error ≢ JournalError.Broken place) }
         ensures cause { MatchResult result
             (λ journal. D.faults disk ≤ D.faults (disk_of journal))
@@ -73,6 +82,8 @@ impl<D: Disk> Journal<D> {
             D.content (disk_of journal) ≡ option_map (λ view. stable view.bytes) (D.content disk)) }
         // It is Broken exactly where the bytes spell no list, with the place.
         ensures read { IsReadAs (D.content disk) result }
+        // Where there is no journal, the bytes on the disk are what they were.
+        ensures kept { IfErr result (λ none. IsSameOrSynced (D.content disk) (D.content none.disk)) }
         // A stop leaves nothing that it wouldn't have left before.
         ensures stops { MatchResult result
             (λ journal. OnlyAdds (D.moment disk) (D.moment (disk_of journal))
@@ -157,11 +168,80 @@ impl<D: Disk> Keeper for Journal<D> {
         read_part(&mut self.disk, place.at + from as u64, buf, count)
     }
 
-    fn append(&mut self, bytes: &[u8]) -> Result<(), KeepError> {
+    fn append(&mut self, bytes: &[u8]) -> Result<(), KeepError>
+        requires is_open { IsOpen D.content self.old }
+        requires some { 0 < length bytes.now }
+        requires size { length bytes.now ≤ ITEM_BYTES }
+        requires room { number_in D.content self.old < ITEMS }
+        ensures number { OnOk result (number_in D.content self.new ≡ number_in D.content self.old + 1) }
+        ensures items { OnOk result (Gets (items_in D.content self.old) (items_in D.content self.new) bytes.now) }
+        ensures failed { IsErrOf result KeepError.Failed →
+            ((number_in D.content self.new ≡ number_in D.content self.old)
+            × Stays (items_in D.content self.old) (items_in D.content self.new))
+            ⊎ ((number_in D.content self.new ≡ number_in D.content self.old + 1)
+            × Gets (items_in D.content self.old) (items_in D.content self.new) bytes.now) }
+        ensures memory { IsErrOf result KeepError.OutOfMemory →
+            (number_in D.content self.new ≡ number_in D.content self.old)
+            × Stays (items_in D.content self.old) (items_in D.content self.new) }
+        ensures closed { IsErrOf result KeepError.Failed → ¬ IsOpen D.content self.new }
+        ensures is_open { MatchResult result
+            (λ _. IsOpen D.content self.new)
+            (λ error. error ≡ KeepError.OutOfMemory → IsOpen D.content self.new) }
+        ensures told { IsSome (D.content (disk_of self.new)) ↔ IsSome (D.content (disk_of self.old)) }
+        ensures stops { OnlyAdds (D.moment (disk_of self.old)) (D.moment (disk_of self.new))
+            (ListsLeft (D.left_since (disk_of self.old))) (ListsLeft (D.left_since (disk_of self.new)))
+            (IsBeforeOrAfter (items_in D.content self.old) bytes.now) }
+        ensures stops_memory { IsErrOf result KeepError.OutOfMemory →
+            OnlyAdds (D.moment (disk_of self.old)) (D.moment (disk_of self.new))
+            (ListsLeft (D.left_since (disk_of self.old))) (ListsLeft (D.left_since (disk_of self.new)))
+            (IsPresent (items_in D.content self.old)) }
+        ensures cause { Counts (D.faults (disk_of self.old)) (D.faults (disk_of self.new))
+            (IsErrOf result KeepError.Failed) }
+        ensures calm { IsErrOf result KeepError.OutOfMemory →
+            D.faults (disk_of self.new) ≡ D.faults (disk_of self.old) }
+        // The record stands where the list ended, with a gate 0 behind it.
+        ensures bytes { OnOk result (GetsRecord bytes.now (D.content (disk_of self.old))
+            (D.content (disk_of self.new))) }
+    {
         self.append_parts(&[bytes])
     }
 
-    fn append_parts(&mut self, parts: &[&[u8]]) -> Result<(), KeepError> {
+    fn append_parts(&mut self, parts: &[&[u8]]) -> Result<(), KeepError>
+        requires is_open { IsOpen D.content self.old }
+        requires some { 0 < length (joined parts.now) }
+        requires size { length (joined parts.now) ≤ ITEM_BYTES }
+        requires room { number_in D.content self.old < ITEMS }
+        ensures number { OnOk result (number_in D.content self.new ≡ number_in D.content self.old + 1) }
+        ensures items { OnOk result (Gets (items_in D.content self.old) (items_in D.content self.new)
+            (joined parts.now)) }
+        ensures failed { IsErrOf result KeepError.Failed →
+            ((number_in D.content self.new ≡ number_in D.content self.old)
+            × Stays (items_in D.content self.old) (items_in D.content self.new))
+            ⊎ ((number_in D.content self.new ≡ number_in D.content self.old + 1)
+            × Gets (items_in D.content self.old) (items_in D.content self.new) (joined parts.now)) }
+        ensures memory { IsErrOf result KeepError.OutOfMemory →
+            (number_in D.content self.new ≡ number_in D.content self.old)
+            × Stays (items_in D.content self.old) (items_in D.content self.new) }
+        ensures closed { IsErrOf result KeepError.Failed → ¬ IsOpen D.content self.new }
+        ensures is_open { MatchResult result
+            (λ _. IsOpen D.content self.new)
+            (λ error. error ≡ KeepError.OutOfMemory → IsOpen D.content self.new) }
+        ensures told { IsSome (D.content (disk_of self.new)) ↔ IsSome (D.content (disk_of self.old)) }
+        ensures stops { OnlyAdds (D.moment (disk_of self.old)) (D.moment (disk_of self.new))
+            (ListsLeft (D.left_since (disk_of self.old))) (ListsLeft (D.left_since (disk_of self.new)))
+            (IsBeforeOrAfter (items_in D.content self.old) (joined parts.now)) }
+        ensures stops_memory { IsErrOf result KeepError.OutOfMemory →
+            OnlyAdds (D.moment (disk_of self.old)) (D.moment (disk_of self.new))
+            (ListsLeft (D.left_since (disk_of self.old))) (ListsLeft (D.left_since (disk_of self.new)))
+            (IsPresent (items_in D.content self.old)) }
+        ensures cause { Counts (D.faults (disk_of self.old)) (D.faults (disk_of self.new))
+            (IsErrOf result KeepError.Failed) }
+        ensures calm { IsErrOf result KeepError.OutOfMemory →
+            D.faults (disk_of self.new) ≡ D.faults (disk_of self.old) }
+        // The record stands where the list ended, with a gate 0 behind it.
+        ensures bytes { OnOk result (GetsRecord (joined parts.now) (D.content (disk_of self.old))
+            (D.content (disk_of self.new))) }
+    {
         let Ok(mut buffer) = buffer_for(*self.places.allocator(), parts) else {
             return Err(KeepError::OutOfMemory);
         };

@@ -1,6 +1,6 @@
 // Reading where the items of a journal stand.
 ghost use Rattle.std.specs.Prelude.{◌≡◌, ◌<◌, ◌≤◌, ◌+◌, ◌*◌, ◌^◌, ℕ, length, [], ◌-◌, take, ◌↔◌, IsTrue, OnOk, Err};
-ghost use Rattle.std.specs.Prelude.{IsErr, IfOk, IfSome};
+ghost use Rattle.std.specs.Prelude.{IsErr, IfOk, IfSome, OnErr};
 ghost use Rattle.std.specs.Option.{option_map};
 ghost use Rattle.git_objects.specs.declared.limits.TheConstants.{ITEM_BYTES, ITEMS};
 ghost use Rattle.proj_io.specs.Counts.{Counts};
@@ -8,7 +8,7 @@ ghost use Rattle.proj_io.specs.Stops.{OnlyAdds, Nothing};
 ghost use Rattle.proj_disk.specs.Disks.{stable};
 ghost use Rattle.proj_journal.specs.Spelling.{header};
 ghost use Rattle.proj_journal.specs.Gates.{MayBeOpen};
-ghost use Rattle.proj_journal.specs.Journals.{AllFit, GateAt, IsBrokenAt, IsRead, Reaches};
+ghost use Rattle.proj_journal.specs.Journals.{AllFit, GateAt, IsBrokenAt, IsRead, IsSameOrSynced, Reaches};
 ghost use Rattle.proj_journal.specs.Windows.{IsWindow};
 
 use crate::gate::{Gate, read_gate};
@@ -114,6 +114,7 @@ pub(crate) fn find_places<D: Disk>(alloc: Global, disk: &mut D) -> Result<Found,
     ensures room { IfOk result (λ found. found.end ≤ 8 + length found.places.items * (ITEM_BYTES + 5)) }
     ensures fit { IfOk result (λ found. AllFit found.places.items) }
     ensures stable { OnOk result (D.content disk.new ≡ option_map (λ view. stable view.bytes) (D.content disk.old)) }
+    ensures kept { OnErr result (IsSameOrSynced (D.content disk.old) (D.content disk.new)) }
     ensures broken { (place : ℕ) → result ≡ Err (JournalError.Broken place) → IsBrokenAt place (D.content disk.old) }
     ensures stops { OnlyAdds (D.moment disk.old) (D.moment disk.new)
         (D.left_since disk.old) (D.left_since disk.new) Nothing }

@@ -1,14 +1,15 @@
 // Writing a record behind the others, in two steps: the record behind a shut gate, and then the gate.
-ghost use Rattle.std.specs.Prelude.{List, ℕ, [], ◌∷◌, ◌≡◌, ◌<◌, ◌≤◌, ◌+◌, ◌^◌, ◌↔◌, length, OnOk, OnErr, IfSome, IsSome};
-ghost use Rattle.std.specs.Prelude.{IsErrOf};
+ghost use Rattle.std.specs.Prelude.{List, ℕ, [], ◌∷◌, ◌≡◌, ◌<◌, ◌≤◌, ◌+◌, ◌^◌, ◌↔◌, length, OnOk, OnErr, IfSome};
+ghost use Rattle.std.specs.Prelude.{IsErrOf, IsSome};
 ghost use Rattle.git_objects.specs.declared.limits.TheConstants.{ITEM_BYTES, ITEMS};
 ghost use Rattle.proj_io.specs.Counts.{Counts};
 ghost use Rattle.proj_io.specs.Items.{joined};
 ghost use Rattle.proj_io.specs.Stops.{OnlyAdds};
+ghost use Rattle.proj_disk.specs.Disks.{IsTornIfKnown};
 ghost use Rattle.proj_journal.specs.Spelling.{listed};
 ghost use Rattle.proj_journal.specs.Rest.{IsAtRest, IsEmptyList, KeepsRest, IsStaged, KeepsList, Puts, Stages};
 ghost use Rattle.proj_journal.specs.Rest.{AddsItem, MayAddItem, SpellsSame, SpellsOneMore};
-ghost use Rattle.proj_journal.specs.Rest.{behind_gate, record_and_gate};
+ghost use Rattle.proj_journal.specs.Rest.{behind_gate, new_bytes, record_and_gate};
 
 use crate::parts::write_parts;
 use proj_disk::Disk;
@@ -19,6 +20,9 @@ pub(crate) fn write_header<D: Disk>(disk: &mut D) -> Result<(), SinkError>
     requires { IfSome (D.content disk.old) (λ view. view.bytes ≡ []) }
     ensures made { OnOk result (IsEmptyList (D.content disk.new)) }
     ensures told { OnOk result (IsSome (D.content disk.new) ↔ IsSome (D.content disk.old)) }
+    ensures failed { IsErrOf result SinkError.Failed →
+        IsTornIfKnown 0 (length new_bytes) (D.content disk.old) (D.content disk.new) }
+    ensures memory { IsErrOf result SinkError.OutOfMemory → D.content disk.new ≡ D.content disk.old }
     ensures cause { Counts (D.faults disk.old) (D.faults disk.new) (IsErrOf result SinkError.Failed) }
 {
     disk.write_at(0, b"proj 01\n\0")?;

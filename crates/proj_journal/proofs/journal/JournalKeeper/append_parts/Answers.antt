@@ -2,7 +2,7 @@ use Rattle.std.proofs.Common.{◌+◌, length, sym, ◌∙◌, ap, subst, arith,
 use Rattle.proj_io.specs.Items.{joined}
 use Rattle.proj_journal.specs.declared.place.Place.{Place}
 use Rattle.proj_journal.specs.Journals.{AllFit}
-use Rattle.proj_journal.proofs.Keeping.{number_is, fit-push, told_sized}
+use Rattle.proj_journal.proofs.Keeping.{number_is, fit-push, record_got, told_sized}
 use Rattle.proj_journal.proofs.journal.JournalKeeper.append_parts.Goals as goal
 
 pub returns-in-Ok-add_record-clause-is_open : goal.returns-in-Ok-add_record-clause-is_open
@@ -20,3 +20,7 @@ returns-in-Ok-add_record-clause-is_open g c =
       fit = subst AllFit (sym c.in-Ok-push.ensures.items) (fit-push places place was.fit (omega (arith, total, c.requires.size)) (omega (arith, was.room, was.few, total, c.requires.size)));
       told = told_sized c.args.self.now.end c.joined_len-size.result (joined c.args.parts.now) _ _ places _ total was.told c.in-Ok-add_record.ensures.added c.in-Ok-push.ensures.items;
     }
+
+pub returns-in-Ok-add_record-clause-bytes : goal.returns-in-Ok-add_record-clause-bytes
+returns-in-Ok-add_record-clause-bytes g c =
+    record_got _ _ c.args.self.now.end c.args.self.now.places.items (joined c.args.parts.now) c.requires.is_open.told c.in-Ok-add_record.ensures.bytes
