@@ -1,5 +1,5 @@
 -- What a push brings, and why it brings nothing.
-use Rattle.std.proofs.Common.{◌≡◌, inl, inr, ℕ, suc, ◌+◌, ◌≤◌, true, List, [], ◌∷◌, length, map, Option, Some, None, Result, Ok, Err, IfSome, IfOk, IfErr, IsSome, refl, sym, ap, subst, ◌∙◌}
+use Rattle.std.proofs.Common.{◌≡◌, inl, inr, ℕ, suc, ◌+◌, ◌≤◌, true, List, [], ◌∷◌, length, map, Option, Some, None, Result, Ok, Err, IfSome, IfOk, IfErr, IsSome, refl, sym, ap, subst, ◌∙◌, arith}
 use Rattle.std.specs.Prelude.{IsErrOf, OnOk}
 use Rattle.std.specs.Option.{option_map, option_or, unwrap_or}
 use Rattle.std.specs.Global.{Vec}
@@ -46,6 +46,7 @@ use Rattle.push_laws.specs.PushReplays as replays
 use Rattle.push_laws.specs.PushVerdicts.{Refusal, Pair as PairOf, Verdict, original_of, original_tree, upon, verdict, verdict_from, with_pair}
 use Rattle.push_back.specs.Refusals.{IsRefusedBy}
 use Rattle.push_back.specs.Replaying.{IsPushError, IsPushedWhole, Tells, told}
+use Rattle.push_back.specs.Waited.{IsTakenTo, plan_waited, push_waited}
 use Rattle.push_back.specs.declared.error.PushError.{PushError}
 use Rattle.push_back.specs.declared.error.PushError.TheVariants as errors
 use Rattle.push_back.specs.declared.fault.PushFault.{PushFault}
@@ -128,6 +129,25 @@ quiet-plan m n l p = record { later = l; rose = λ i. absurd cc }
 
 pub told-fault : (m n : ℕ) (s : Result ReplayedNames PushError) (e : PushError) → Counts m n (IsErrOf s errors.ReadFault) → s ≡ Err e → (r : Result Plan PushFault) (d : PushFault) → r ≡ Err d → d ≡ of_stream e → Counts m n (IsErrOf r faults.ReadFault)
 told-fault m n s e c w r d p q = record { later = c.later; rose = λ i. c.rose (w ∙ ap Err (stream-reads e (sym q ∙ error-is r d faults.ReadFault p i))) }
+
+-- ---- how much of a source was taken
+
+-- nothing, before the stream is read
+pub none-taken : (waited : Bytes → ℕ) (o : Option Bytes) (r : Result Plan PushFault) (d : PushFault) → r ≡ Err d → IsTakenTo waited o o r
+none-taken waited None r d q = tt
+none-taken waited (Some all) (Ok p) d q = absurd cc
+none-taken waited (Some all) (Err e) d q = ([], refl, omega arith, tt)
+
+-- what the stream's replay took
+pub err-taken : (waited : Bytes → ℕ) (o p : Option Bytes) (s : Result ReplayedNames PushError) → IsTakenTo waited o p s → (r : Result Plan PushFault) (d : PushFault) → r ≡ Err d → IsTakenTo waited o p r
+err-taken waited None p s k r d q = tt
+err-taken waited (Some all) p s k (Ok x) d q = absurd cc
+err-taken waited (Some all) p s k (Err e) d q = (k.0, k.1, k.2, tt)
+
+pub plan-taken : (waited : Bytes → ℕ) (o p : Option Bytes) (s : Result ReplayedNames PushError) → IsTakenTo waited o p s → (v : ReplayedNames) → s ≡ Ok v → (x : Plan) → IsTakenTo {E = PushFault} waited o p (Ok x)
+plan-taken waited None p s k v q x = tt
+plan-taken waited (Some all) p (Ok w) k v q x = (k.0, k.1, k.2, k.3)
+plan-taken waited (Some all) p (Err e) k v q x = absurd cc
 
 -- ---- how many there are
 
@@ -233,6 +253,16 @@ module _ (f : Filter) (refname n : Bytes) (g : Ground) where
       subst (λ (t : Flat). IsPushedWhole refname from t h.store T all r) same-seen
       (subst (λ (k : Option Bytes). IsPushedWhole refname k (flat h.store b.shown.0) h.store T all r) same-from
       (subst (λ (k : Bytes). IsPushedWhole k (from_of b) (flat h.store b.shown.0) h.store T all r) q₁ whole))
+
+  -- how much of it was taken
+  pub upon-waited : (h : Ground) (y : Seen) → IsSeen f g n h.store y → (b : Base) → b.refname ≡ refname → b.from ≡ y.from → b.shown ≡ y.tree
+      → (o p : Option Bytes) (r : Result ReplayedNames PushError) → IsTakenTo (push_waited b.refname (from_of b) (flat h.store b.shown.0)) o p r → IsTakenTo (plan_waited f g refname n) o p r
+  upon-waited h y s b q₁ q₂ q₃ o p r taken =
+      let same-from : from_of b ≡ from = ap (option_map name_bytes) q₂ ∙ s.projected in
+      let same-seen : flat h.store b.shown.0 ≡ seen = ap (λ (k : Name). flat h.store k.0) q₃ ∙ s.stands.map in
+      subst (λ (t : Flat). IsTakenTo (push_waited refname from t) o p r) same-seen
+      (subst (λ (k : Option Bytes). IsTakenTo (push_waited refname k (flat h.store b.shown.0)) o p r) same-from
+      (subst (λ (k : Bytes). IsTakenTo (push_waited k (from_of b) (flat h.store b.shown.0)) o p r) q₁ taken))
 
   module _ (y : Ran StreamRefusal) where
     abbrev pub x : Pushing

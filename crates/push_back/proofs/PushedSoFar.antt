@@ -1,13 +1,15 @@
 -- A pushed stream so far, and how it ends.
-use Rattle.std.proofs.Common.{◌≡◌, ◌⊎◌, true, false, List, [], Option, Some, None, Result, Ok, Err, IfSome, refl, sym, subst, ◌∙◌}
-use Rattle.std.specs.Prelude.{ℕ, IsOkAnd}
+use Rattle.std.proofs.Common.{◌≡◌, ◌⊎◌, ◌+◌, ◌≤◌, true, false, length, List, [], Option, Some, None, Result, Ok, Err, IfSome, refl, sym, subst, ◌∙◌}
+use Rattle.std.specs.Prelude.{ℕ, IsOkAnd, OnOk}
+use Rattle.std.specs.Io.KnownBytes.{Consumes}
 use Rattle.std.specs.Result.{result_err}
 use Rattle.git_objects.specs.Paths.{Bytes, is_bytes}
 use Rattle.git_objects.specs.Trees.{Flat}
 use Rattle.object_store.specs.Growth.{IsGrownBy}
 use Rattle.object_store.specs.Objects.{Object, IsStore}
-use Rattle.stream_reader.specs.Readers.{IsBefore, MayFollow, Reading, verdict_with}
+use Rattle.stream_reader.specs.Readers.{IsBefore, MayFollow, Reading, came, next_command, verdict_with}
 use Rattle.stream_reader.specs.Verdicts.{Verdict, start, stopped, verdict, with_command}
+use Rattle.stream_reader.specs.Waited.{IsNear}
 use Rattle.stream_reader.specs.declared.command.Placed.{Placed}
 use Rattle.stream_reader.specs.declared.fault.StreamFault.{StreamFault}
 use Rattle.stream_reader.specs.declared.fault.StreamFault.TheVariants.{OutOfMemory}
@@ -15,15 +17,16 @@ use Rattle.fast_import.specs.Made.{IsMadeAt}
 use Rattle.fast_import.specs.Replaying.{Replaying}
 use Rattle.fast_import.specs.Replays.{Base, Ran, Replay, branch, given_by, nothing_yet}
 use Rattle.fast_import.specs.Standing.{IsReplayOf, IsReplayedOf}
-use Rattle.fast_import.specs.Whole.{IsFed}
+use Rattle.fast_import.specs.Whole.{IsFed, IsGiven}
 use Rattle.fast_import.specs.declared.replayed.Replayed.{Replayed as ReplayedNames}
 use Rattle.fast_import.proofs.Running.{with_all}
 use Rattle.push_laws.specs.PushReplays.{StreamRefusal, end_refusal, push_base, push_replay, push_step}
 use Rattle.push_back.specs.Replaying.{IsPushFault, IsPushedWhole, Tells}
+use Rattle.push_back.specs.Waited.{IsTakenTo, push_waited, waited_by}
 use Rattle.push_back.specs.declared.error.PushError.{PushError}
 use Rattle.push_back.specs.declared.error.PushError.TheVariants as errors
 use Rattle.push_laws.proofs.PushSteps.{goes-on}
-use Rattle.push_back.proofs.Running.{Goes, IsRunSoFar, all, all_bytes, all_told, fed_run, may_rest, nothing_run, one_run, rest}
+use Rattle.push_back.proofs.Running.{Goes, IsRunSoFar, all, all_bytes, all_told, fed_run, may_rest, nothing_run, one_run, rest, run_taken, run_taken_feeding, run_taken_whole}
 use Rattle.push_back.proofs.RunEnds.{IsRunWhole, closed, ran_at, run_closed, run_given, run_refused, run_unfed, run_unread}
 
 -- what a push makes of one command
@@ -60,6 +63,19 @@ module _ (refname : Bytes) (from : Option Bytes) (shown : Flat) where
   goes : Goes base one
   goes r s p e = goes-on refname from shown r s p (push_one-is refname from shown r p ∙ e)
 
+  -- the place up to which is read
+  abbrev waited : Bytes → ℕ
+  waited = push_waited refname from shown
+
+  waited-is-so : (input : Bytes) → waited_by one input ≡ waited input
+  unfolding push_one
+  waited-is-so input = refl
+
+  taken-as : (result : Result ReplayedNames PushError) (o p : Option Bytes) → IsTakenTo (waited_by one) o p result → IsTakenTo waited o p result
+  taken-as result None p k = tt
+  taken-as result (Some all) p k =
+      subst (λ (n : ℕ). (given : Bytes) × Consumes (Some all) p given × (length given ≤ n + 33554432) × OnOk result (n ≤ length given)) (waited-is-so all) k
+
   -- S and before are the store and what the source had at first; T, now, rd and v are the store, the source, the reader and the
   -- replay as they are.
   abbrev pub IsPushSoFar : List Object → List Object → Option Bytes → Option Bytes → Reading → Replaying → Type 0
@@ -81,15 +97,26 @@ module _ (refname : Bytes) (from : Option Bytes) (shown : Flat) where
 
   module _ (S T : List Object) (before now : Option Bytes) (rd : Reading) (v : Replaying) (h : IsPushSoFar S T before now rd v) where
     -- a command was carried out
-    pub one_more : (p : Placed) (new : Reading) → new.ended ≡ rd.ended → ((more : Bytes) → MayFollow rd more true → verdict_with more rd ≡ with_command p (verdict_with more new)) →
+    pub one_more : (p : Placed) (new : Reading) → next_command rd ≡ Ok (record { command = Some p; progress = new.progress }, new.input) → new.ended ≡ rd.ended → came new ≡ came rd → ((more : Bytes) → MayFollow rd more true → verdict_with more rd ≡ with_command p (verdict_with more new)) →
         (R : List Object) (w : Replaying) → IsOkAnd (push_step (push_base refname from shown) refname from h.state p) (IsReplayOf R w) → IsGrownBy (IsMadeAt h.state p.command) T R → IsPushSoFar S R before now new w
-    one_more p new ended follows R w d g =
-        one_run base one S T before now rd v h goes p new ended follows R w (subst (λ (x : Result Replay StreamRefusal). IsOkAnd x (IsReplayOf R w)) (push_one-is refname from shown h.state p) d) g
+    one_more p new told ended came_same follows R w d g =
+        one_run base one S T before now rd v h goes p new told ended came_same follows R w (subst (λ (x : Result Replay StreamRefusal). IsOkAnd x (IsReplayOf R w)) (push_one-is refname from shown h.state p) d) g
 
     -- more was waited for, and then fed
-    pub fed_waiting : (later : Option Bytes) (fed new : Reading) (most : ℕ) → IsBefore rd fed → ((more : Bytes) → MayFollow rd more true → verdict_with more rd ≡ verdict_with more fed) → fed.ended ≡ false → IsFed now later fed new most
+    pub fed_waiting : (later : Option Bytes) (fed new : Reading) (most : ℕ) → most ≤ 65536 → IsBefore rd fed → IsNear rd → ((more : Bytes) → MayFollow rd more true → verdict_with more rd ≡ verdict_with more fed) → fed.ended ≡ false → IsFed now later fed new most
         → IsPushSoFar S T before later new v
-    fed_waiting later fed new most b follows un k = fed_run base one S T before now rd v h later fed new most b follows un k
+    fed_waiting later fed new most few b n follows un k = fed_run base one S T before now rd v h later fed most few b n follows un new k
+
+    -- ---- how much was given
+
+    pub taken_refused : (e : PushError) → IsTakenTo {A = ReplayedNames} waited before now (Err e)
+    taken_refused e = taken-as (Err e) before now (run_taken base one S T before now rd v h e)
+
+    pub taken_given : (new : Reading) → next_command rd ≡ Ok (record { command = None; progress = new.progress }, new.input) → came new ≡ came rd → (x : ReplayedNames) → IsTakenTo {E = PushError} waited before now (Ok x)
+    taken_given new told c x = taken-as (Ok x) before now (run_taken_whole base one S T before now rd v h new told c x)
+
+    pub taken_feeding : IsNear rd → rd.ended ≡ false → (after : Option Bytes) → IsGiven now after 65536 → (e : PushError) → IsTakenTo {A = ReplayedNames} waited before after (Err e)
+    taken_feeding n un after g e = taken-as (Err e) before after (run_taken_feeding base one S T before now rd v h n un after g e)
 
     -- ---- how it ends
 

@@ -4,3 +4,5 @@ pub mod Grounds
 pub mod Replaying
 pub mod Faults
 pub mod Planning
+pub mod Waited
+pub mod Examples

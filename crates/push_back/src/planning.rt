@@ -6,6 +6,7 @@ ghost use Rattle.filter_text.specs.Shapes.{shape};
 ghost use Rattle.projection_ground.specs.Grounds.{IsGround};
 ghost use Rattle.proj_io.specs.Counts.{Counts};
 ghost use Rattle.push_back.specs.Planning.{IsPlanned};
+ghost use Rattle.push_back.specs.Waited.{IsTakenTo, plan_waited};
 ghost use Rattle.workspace.specs.Laws.{IsUsable};
 
 use crate::{Pair, Plan, PushBase, PushFault, originals, replay_push};
@@ -34,6 +35,8 @@ pub fn plan<S: Source>(
     requires head { IsSome (place_of head.now.0 ground.old.graph) }
     ensures planned { (all : Bytes) × (is_bytes all ≡ true) × IfSome (S.left input.old) (λ bytes. bytes ≡ all) ×
         IsPlanned (shape filter.now) refname.now head.now.0 all ground.old ground.new result }
+    ensures taken { IsTakenTo (plan_waited (shape filter.now) ground.old refname.now head.now.0) (S.left input.old)
+        (S.left input.new) result }
     ensures told { S.tells input.new ↔ S.tells input.old }
     ensures cause { Counts (S.faults input.old) (S.faults input.new) (IsErrOf result PushFault.ReadFault) }
 {

@@ -5,9 +5,10 @@ ghost use Rattle.git_objects.specs.Paths.{Bytes, is_bytes};
 ghost use Rattle.git_objects.specs.declared.limits.TheConstants.{STREAM_BYTES};
 ghost use Rattle.object_store.specs.Unfolding.{flat};
 ghost use Rattle.proj_io.specs.Counts.{Counts};
-ghost use Rattle.fast_import.specs.Whole.{IsFed};
+ghost use Rattle.fast_import.specs.Whole.{IsFed, IsGiven};
 ghost use Rattle.push_back.specs.Grounds.{IsGroundIn, from_of};
 ghost use Rattle.push_back.specs.Replaying.{IsPushedWhole};
+ghost use Rattle.push_back.specs.Waited.{IsTakenTo, push_waited};
 ghost use Rattle.stream_reader.specs.declared.fault.StreamFault.TheVariants.{OutOfMemory};
 
 use crate::commands::{end_judged, push_on};
@@ -33,6 +34,8 @@ pub fn replay_push<S: Source>(
     ensures stream { (all : Bytes) × (is_bytes all ≡ true) × IfSome (S.left input.old) (λ bytes. bytes ≡ all) ×
         IsPushedWhole base.now.refname (from_of base.now) (flat store.old base.now.shown.0)
         store.old store.new all result }
+    ensures taken { IsTakenTo (push_waited base.now.refname (from_of base.now) (flat store.old base.now.shown.0))
+        (S.left input.old) (S.left input.new) result }
     ensures few { IfOk result (λ g. length g.commits.items ≤ STREAM_BYTES) }
     ensures told { S.tells input.new ↔ S.tells input.old }
     ensures cause { Counts (S.faults input.old) (S.faults input.new) (IsErrOf result PushError.ReadFault) }
@@ -55,6 +58,8 @@ fn replay_by<S: Source>(
     ensures stream { (all : Bytes) × (is_bytes all ≡ true) × IfSome (S.left input.old) (λ bytes. bytes ≡ all) ×
         IsPushedWhole base.now.refname (from_of base.now) (flat store.old base.now.shown.0)
         store.old store.new all result }
+    ensures taken { IsTakenTo (push_waited base.now.refname (from_of base.now) (flat store.old base.now.shown.0))
+        (S.left input.old) (S.left input.new) result }
     ensures few { IfOk result (λ g. length g.commits.items ≤ STREAM_BYTES) }
     ensures told { S.tells input.new ↔ S.tells input.old }
     ensures cause { Counts (S.faults input.old) (S.faults input.new) (IsErrOf result PushError.ReadFault) }
@@ -87,6 +92,7 @@ fn feed<S: Source>(input: &mut S, reader: &mut Reader, piece: &mut [u8]) -> Resu
     requires room { 0 < length piece.old }
     ensures fed { OnOk result (IsFed (S.left input.old) (S.left input.new) reader.old reader.new (length piece.old)) }
     ensures err { IfErr result (λ e. (e ≡ PushError.ReadFault) ⊎ (e ≡ PushError.Stream OutOfMemory)) }
+    ensures given { OnErr result (IsGiven (S.left input.old) (S.left input.new) (length piece.old)) }
     ensures told { S.tells input.new ↔ S.tells input.old }
     ensures cause { Counts (S.faults input.old) (S.faults input.new) (IsErrOf result PushError.ReadFault) }
 {

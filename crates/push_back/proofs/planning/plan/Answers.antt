@@ -6,10 +6,11 @@ use Rattle.filter_text.specs.Shapes.{shape}
 use Rattle.fast_import.specs.Standing.{AreCommitsIn}
 use Rattle.fast_import.specs.declared.replayed.Made.{Made}
 use Rattle.push_back.specs.Faults.{of_apply, of_original, of_stream}
+use Rattle.push_back.specs.Waited.{plan_waited}
 use Rattle.push_laws.specs.PushReplays.{push_replay}
 use Rattle.push_back.specs.declared.fault.PushFault.TheVariants.{OutOfMemory}
 use Rattle.push_back.specs.declared.brought.Plan.{Plan}
-use Rattle.push_back.proofs.Planned.{apply-reads, as-many, as-planned, commits-there, early, from, handed, no-base, no-pairs, not-replayed, not-seen, not-worked, original-reads, planned, quiet-fault, quiet-memory, quiet-plan, replayed-head, replayed-same, replayed-tree, seen, told-fault, upon-base, whole-as}
+use Rattle.push_back.proofs.Planned.{apply-reads, as-many, as-planned, commits-there, early, err-taken, from, handed, no-base, no-pairs, none-taken, not-replayed, not-seen, not-worked, original-reads, plan-taken, planned, quiet-fault, quiet-memory, quiet-plan, replayed-head, replayed-same, replayed-tree, seen, told-fault, upon-base, upon-waited, whole-as}
 use Rattle.push_back.proofs.planning.plan.Goals as goal
 
 pub seen_head-requires-clause-usable : goal.seen_head-requires-clause-usable
@@ -344,3 +345,59 @@ returns-clause-told g c = c.replay_push.ensures.told
 pub returns-clause-cause : goal.returns-clause-cause
 returns-clause-cause g c =
     quiet-plan (g.S.Source.faults c.args.input.now) (g.S.Source.faults c.replay_push.new.input) c.replay_push.ensures.cause.later (record { blobs = c.in_ok-replayed.replayed.blobs; commits = c.in_ok-commits.commits })
+
+-- ---- how much was taken
+
+pub returns-in_err-seen-clause-taken : goal.returns-in_err-seen-clause-taken
+returns-in_err-seen-clause-taken g c =
+    let p = err_from_is_err_and c.from_residual.result c.from_residual.ensures.1 in
+    none-taken (plan_waited (shape c.args.filter.now) c.args.ground.now c.args.refname.now c.args.head.now.0) (g.S.Source.left c.args.input.now) c.from_residual.result p.0 p.1
+
+pub returns-in_err-copy-clause-taken : goal.returns-in_err-copy-clause-taken
+returns-in_err-copy-clause-taken g c =
+    let p = err_from_is_err_and c.from_residual-in_err-copy.result c.from_residual-in_err-copy.ensures.1 in
+    none-taken (plan_waited (shape c.args.filter.now) c.args.ground.now c.args.refname.now c.args.head.now.0) (g.S.Source.left c.args.input.now) c.from_residual-in_err-copy.result p.0 p.1
+
+pub returns-in_err-base-clause-taken : goal.returns-in_err-base-clause-taken
+returns-in_err-base-clause-taken g c =
+    let p = err_from_is_err_and c.from_residual-in_err-base.result c.from_residual-in_err-base.ensures.1 in
+    none-taken (plan_waited (shape c.args.filter.now) c.args.ground.now c.args.refname.now c.args.head.now.0) (g.S.Source.left c.args.input.now) c.from_residual-in_err-base.result p.0 p.1
+
+pub returns-in_err-replayed-clause-taken : goal.returns-in_err-replayed-clause-taken
+returns-in_err-replayed-clause-taken g c =
+    let b = c.in_ok-base.ensures in
+    let o = g.S.Source.left c.args.input.now in
+    let l = g.S.Source.left c.replay_push.new.input in
+    let r = c.replay_push.result in
+    let taken = upon-waited (shape c.args.filter.now) c.args.refname.now c.args.head.now.0 c.args.ground.now c.seen_head.new.ground c.in_ok-seen.seen c.in_ok-seen.ensures.ok c.in_ok-base.base (b.refname ∙ c.in_ok-copy.ensures) b.from b.shown o l r c.replay_push.ensures.taken in
+    let p = err_from_is_err_and c.from_residual-in_err-replayed.result c.from_residual-in_err-replayed.ensures.1 in
+    err-taken (plan_waited (shape c.args.filter.now) c.args.ground.now c.args.refname.now c.args.head.now.0) o l r taken c.from_residual-in_err-replayed.result p.0 p.1
+
+pub returns-in_err-names-clause-taken : goal.returns-in_err-names-clause-taken
+returns-in_err-names-clause-taken g c =
+    let b = c.in_ok-base.ensures in
+    let o = g.S.Source.left c.args.input.now in
+    let l = g.S.Source.left c.replay_push.new.input in
+    let r = c.replay_push.result in
+    let taken = upon-waited (shape c.args.filter.now) c.args.refname.now c.args.head.now.0 c.args.ground.now c.seen_head.new.ground c.in_ok-seen.seen c.in_ok-seen.ensures.ok c.in_ok-base.base (b.refname ∙ c.in_ok-copy.ensures) b.from b.shown o l r c.replay_push.ensures.taken in
+    let p = err_from_is_err_and c.from_residual-in_err-names.result c.from_residual-in_err-names.ensures.1 in
+    err-taken (plan_waited (shape c.args.filter.now) c.args.ground.now c.args.refname.now c.args.head.now.0) o l r taken c.from_residual-in_err-names.result p.0 p.1
+
+pub returns-in_err-commits-clause-taken : goal.returns-in_err-commits-clause-taken
+returns-in_err-commits-clause-taken g c =
+    let b = c.in_ok-base.ensures in
+    let o = g.S.Source.left c.args.input.now in
+    let l = g.S.Source.left c.replay_push.new.input in
+    let r = c.replay_push.result in
+    let taken = upon-waited (shape c.args.filter.now) c.args.refname.now c.args.head.now.0 c.args.ground.now c.seen_head.new.ground c.in_ok-seen.seen c.in_ok-seen.ensures.ok c.in_ok-base.base (b.refname ∙ c.in_ok-copy.ensures) b.from b.shown o l r c.replay_push.ensures.taken in
+    let p = err_from_is_err_and c.from_residual-in_err-commits.result c.from_residual-in_err-commits.ensures.1 in
+    err-taken (plan_waited (shape c.args.filter.now) c.args.ground.now c.args.refname.now c.args.head.now.0) o l r taken c.from_residual-in_err-commits.result p.0 p.1
+
+pub returns-clause-taken : goal.returns-clause-taken
+returns-clause-taken g c =
+    let b = c.in_ok-base.ensures in
+    let o = g.S.Source.left c.args.input.now in
+    let l = g.S.Source.left c.replay_push.new.input in
+    let r = c.replay_push.result in
+    let taken = upon-waited (shape c.args.filter.now) c.args.refname.now c.args.head.now.0 c.args.ground.now c.seen_head.new.ground c.in_ok-seen.seen c.in_ok-seen.ensures.ok c.in_ok-base.base (b.refname ∙ c.in_ok-copy.ensures) b.from b.shown o l r c.replay_push.ensures.taken in
+    plan-taken (plan_waited (shape c.args.filter.now) c.args.ground.now c.args.refname.now c.args.head.now.0) o l r taken c.in_ok-replayed.replayed c.in_ok-replayed.was (record { blobs = c.in_ok-replayed.replayed.blobs; commits = c.in_ok-commits.commits })

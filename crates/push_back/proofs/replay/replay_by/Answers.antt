@@ -1,9 +1,10 @@
-use Rattle.std.proofs.Common.{◌≡◌, ◌<◌, ◌≤◌, Ok, Result, sym, subst, ap, arith}
+use Rattle.std.proofs.Common.{◌≡◌, ◌<◌, ◌≤◌, ◌∙◌, Ok, Result, sym, subst, ap, arith}
 use Rattle.std.specs.Prelude.{IsOkAnd}
 use Rattle.std.specs.Result.{result_err}
 use Rattle.git_objects.specs.declared.limits.TheConstants.{STREAM_BYTES}
 use Rattle.object_store.specs.Unfolding.{flat}
 use Rattle.stream_reader.specs.Readers.{Follows, OnMore, Reading, TellsNext, came}
+use Rattle.stream_reader.specs.Waited.{IsNear}
 use Rattle.stream_reader.specs.declared.reader.Next.{Next}
 use Rattle.fast_import.specs.Made.{IsMadeAt, IsMadeBy}
 use Rattle.fast_import.specs.Replays.{Replay, nothing_yet}
@@ -12,8 +13,9 @@ use Rattle.fast_import.proofs.Stopping.{ahead, ahead_fed, more_open, within_fed}
 use Rattle.push_back.specs.Grounds.{from_of}
 use Rattle.push_laws.specs.PushReplays.{StreamRefusal, push_base}
 use Rattle.push_back.specs.Replaying.{IsPushFault}
+use Rattle.push_back.specs.declared.error.PushError.TheVariants as errors
 use Rattle.push_back.proofs.Grounding.{ground-grown, step-grown}
-use Rattle.push_back.proofs.PushedSoFar.{IsPushSoFar, all_given, end_refused, fed_waiting, feeding_refused, nothing_so_far, one_more, reading_refused, step_refused}
+use Rattle.push_back.proofs.PushedSoFar.{IsPushSoFar, all_given, end_refused, fed_waiting, feeding_refused, nothing_so_far, one_more, reading_refused, step_refused, taken_feeding, taken_given, taken_refused}
 use Rattle.push_back.proofs.replay.replay_by.Goals as goal
 
 pub stream-init : goal.stream-init
@@ -62,7 +64,7 @@ stream-preserved-in-Ok-push_on g c =
     let t = subst (λ (n : Next). TellsNext (Ok n) c.stream.reader c.next.new.self) c.in-Ok-Command.field-0-is c.in-Ok-Command.ensures.told in
     let k = c.in-Ok-push_on.ensures.stepped h.state h.stands in
     record {
-      so_far = one_more c.args.base.now.refname (from_of c.args.base.now) (flat c.args.store.now c.args.base.now.shown.0) c.args.store.now c.stream.store (g.S.Source.left c.args.input.now) (g.S.Source.left c.stream.input) c.stream.reader c.stream.replay h p c.next.new.self t.1
+      so_far = one_more c.args.base.now.refname (from_of c.args.base.now) (flat c.args.store.now c.args.base.now.shown.0) c.args.store.now c.stream.store (g.S.Source.left c.args.input.now) (g.S.Source.left c.stream.input) c.stream.reader c.stream.replay h p c.next.new.self t.0 t.1 c.in-Ok-Command.ensures.came
           (subst (λ (n : Next). Follows (Ok n) c.stream.reader c.next.new.self) c.in-Ok-Command.field-0-is c.in-Ok-Command.ensures.follows)
           c.push_on.new.store c.push_on.new.replay
           (subst (λ (x : Result Replay StreamRefusal). IsOkAnd x (IsReplayOf c.push_on.new.store c.push_on.new.replay)) (step-grown {made = IsMadeBy (push_base c.args.base.now.refname (from_of c.args.base.now) (flat c.args.store.now c.args.base.now.shown.0)) nothing_yet h.commands} c.args.store.now c.stream.store h.grown c.args.base.now c.requires.base h.state p) k.done)
@@ -94,10 +96,42 @@ stream-preserved g c =
     let t = subst (λ (n : Next). TellsNext (Ok n) c.stream.reader c.next.new.self) c.in-Ok-More.field-0-is c.in-Ok-More.ensures.told in
     let w = subst (λ (n : Next). OnMore (Ok n) (came c.stream.reader ≤ STREAM_BYTES)) c.in-Ok-More.field-0-is c.in-Ok-More.ensures.more in
     record {
-      so_far = fed_waiting c.args.base.now.refname (from_of c.args.base.now) (flat c.args.store.now c.args.base.now.shown.0) c.args.store.now c.stream.store (g.S.Source.left c.args.input.now) (g.S.Source.left c.stream.input) c.stream.reader c.stream.replay h (g.S.Source.left c.feed.new.input) c.next.new.self c.feed.new.reader _ t.1
+      so_far = fed_waiting c.args.base.now.refname (from_of c.args.base.now) (flat c.args.store.now c.args.base.now.shown.0) c.args.store.now c.stream.store (g.S.Source.left c.args.input.now) (g.S.Source.left c.stream.input) c.stream.reader c.stream.replay h (g.S.Source.left c.feed.new.input) c.next.new.self c.feed.new.reader _ (omega (arith, c.requires.few, c.stream.auto.piece)) t.1
+          (subst (λ (n : Next). OnMore (Ok n) (IsNear c.stream.reader)) c.in-Ok-More.field-0-is c.in-Ok-More.ensures.near)
           (subst (λ (n : Next). Follows (Ok n) c.stream.reader c.next.new.self) c.in-Ok-More.field-0-is c.in-Ok-More.ensures.follows)
           (more_open c.stream.reader c.next.new.self t) c.in-Ok-feed.ensures.fed;
       told = (λ x. c.stream.invariant.told.0 (c.in-Ok-feed.ensures.told.0 x), λ x. c.in-Ok-feed.ensures.told.1 (c.stream.invariant.told.1 x));
       later = omega (arith, c.stream.invariant.later, c.in-Ok-feed.ensures.cause.later);
       within = within_fed (g.S.Source.left c.stream.input) (g.S.Source.left c.feed.new.input) c.next.new.self c.feed.new.reader _ (omega (arith, w, c.in-Ok-More.ensures.came)) c.in-Ok-feed.ensures.fed (omega (arith, c.requires.few, c.stream.auto.piece));
     }
+
+-- ---- how much was given
+
+pub returns-in-Err-clause-taken : goal.returns-in-Err-clause-taken
+returns-in-Err-clause-taken g c =
+    let h = c.stream.invariant.so_far in
+    taken_refused c.args.base.now.refname (from_of c.args.base.now) (flat c.args.store.now c.args.base.now.shown.0) c.args.store.now c.stream.store (g.S.Source.left c.args.input.now) (g.S.Source.left c.stream.input) c.stream.reader c.stream.replay h (errors.Stream c.in-Err.fault)
+
+pub returns-in-Err-end_judged-clause-taken : goal.returns-in-Err-end_judged-clause-taken
+returns-in-Err-end_judged-clause-taken g c =
+    let h = c.stream.invariant.so_far in
+    taken_refused c.args.base.now.refname (from_of c.args.base.now) (flat c.args.store.now c.args.base.now.shown.0) c.args.store.now c.stream.store (g.S.Source.left c.args.input.now) (g.S.Source.left c.stream.input) c.stream.reader c.stream.replay h c.in-Err-end_judged.error
+
+pub returns-in-Ok-clause-taken : goal.returns-in-Ok-clause-taken
+returns-in-Ok-clause-taken g c =
+    let h = c.stream.invariant.so_far in
+    let t = subst (λ (n : Next). TellsNext (Ok n) c.stream.reader c.next.new.self) c.in-Ok-Ended.field-0-is c.in-Ok-Ended.ensures.told in
+    taken_given c.args.base.now.refname (from_of c.args.base.now) (flat c.args.store.now c.args.base.now.shown.0) c.args.store.now c.stream.store (g.S.Source.left c.args.input.now) (g.S.Source.left c.stream.input) c.stream.reader c.stream.replay h c.next.new.self t.0 c.in-Ok-Ended.ensures.came c.finish.result
+
+pub returns-in-Err-push_on-clause-taken : goal.returns-in-Err-push_on-clause-taken
+returns-in-Err-push_on-clause-taken g c =
+    let h = c.stream.invariant.so_far in
+    taken_refused c.args.base.now.refname (from_of c.args.base.now) (flat c.args.store.now c.args.base.now.shown.0) c.args.store.now c.stream.store (g.S.Source.left c.args.input.now) (g.S.Source.left c.stream.input) c.stream.reader c.stream.replay h c.in-Err-push_on.error
+
+pub returns-in-Err-feed-clause-taken : goal.returns-in-Err-feed-clause-taken
+returns-in-Err-feed-clause-taken g c =
+    let h = c.stream.invariant.so_far in
+    let t = subst (λ (n : Next). TellsNext (Ok n) c.stream.reader c.next.new.self) c.in-Ok-More.field-0-is c.in-Ok-More.ensures.told in
+    taken_feeding c.args.base.now.refname (from_of c.args.base.now) (flat c.args.store.now c.args.base.now.shown.0) c.args.store.now c.stream.store (g.S.Source.left c.args.input.now) (g.S.Source.left c.stream.input) c.stream.reader c.stream.replay h (subst (λ (n : Next). OnMore (Ok n) (IsNear c.stream.reader)) c.in-Ok-More.field-0-is c.in-Ok-More.ensures.near)
+    (sym t.1.ended ∙ more_open c.stream.reader c.next.new.self t) (g.S.Source.left c.feed.new.input)
+    (c.in-Err-feed.ensures.given.0, c.in-Err-feed.ensures.given.1, omega (arith, c.in-Err-feed.ensures.given.2, c.requires.few, c.stream.auto.piece)) c.in-Err-feed.error
