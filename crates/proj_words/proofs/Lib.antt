@@ -1,4 +1,3 @@
 mod Reading
-mod Lines
+mod Cuts
 mod Commits
-mod Spelled

@@ -2,8 +2,6 @@
 use Rattle.std.specs.Prelude.{◌≡◌, refl, true, false, [], ◌∷◌}
 use Rattle.std.specs.Prelude.{◌++◌, codes, replicate, Some, None, Ok, Err}
 use Rattle.std.specs.Fmt.{digits}
-use Rattle.std.specs.Str.{chars, is_utf8}
-use lib.Utf8.{encode}
 use Rattle.hex.specs.Hex.{encode_with}
 use Rattle.git_objects.specs.Paths.{Bytes, Path}
 use Rattle.git_objects.specs.declared.name.Name.{Name as ObjectName}
@@ -111,20 +109,28 @@ pub a_line_of_one_word : line_words (codes "import") ≡ codes "import" ∷ []
 a_line_of_one_word = refl
 
 pub a_batch_in_a_batch : line_command (codes "batch") ≡ Unknown
-unfolding is_utf8 chars encode
 a_batch_in_a_batch = refl
 
 pub a_trial_in_a_batch : line_command (codes "trial 1") ≡ Unknown
-unfolding number is_utf8 chars encode
+unfolding number
 a_trial_in_a_batch = refl
 
 pub a_forced_import_in_a_batch : line_command (codes "import --force") ≡ Import true
-unfolding is_utf8 chars encode
 a_forced_import_in_a_batch = refl
 
-pub a_line_that_is_no_text : line_command (255 ∷ []) ≡ Unknown
-unfolding is_utf8 chars
-a_line_that_is_no_text = refl
+-- bytes that are no UTF-8 are told from a word as others are
+pub a_word_that_is_no_text : line_command (255 ∷ []) ≡ Unknown
+a_word_that_is_no_text = refl
+
+pub a_filter_that_is_no_text : line_command (codes "push refs/heads/main :/" ++ 255 ∷ []) ≡
+    Push main (codes ":/" ++ 255 ∷ [])
+unfolding is_ref_name
+a_filter_that_is_no_text = refl
+
+pub a_ref_that_is_no_text : line_command (codes "export refs/" ++ 255 ∷ codes " :/a") ≡
+    Export (codes "refs/" ++ 255 ∷ []) (codes ":/a")
+unfolding is_ref_name
+a_ref_that_is_no_text = refl
 
 -- ---- the input of a batch
 

@@ -3,7 +3,6 @@ use Rattle.std.specs.Prelude.{ℕ, Bool, true, false, ◌&&◌, ◌||◌, ◌==�
 use Rattle.std.specs.Prelude.{List, [], ◌∷◌, codes, Option, Some, None}
 use Rattle.std.specs.List.{starts_with}
 use Rattle.std.specs.Option.{option_and_then}
-use Rattle.std.specs.Str.{is_utf8}
 use Rattle.git_objects.specs.Paths.{Bytes, same_bytes}
 use Rattle.git_objects.specs.Idents.{cut_at}
 use Rattle.path_names.specs.RefNames.{is_ref_name}
@@ -90,9 +89,9 @@ in_batch Batch = Unknown
 in_batch (Trial n) = Unknown
 in_batch c = c
 
--- the command of a batch's line; a line that is no UTF-8 has none
+-- the command of a batch's line
 abbrev pub line_command : Bytes → Command
-line_command t = if is_utf8 t then in_batch (command (line_words t)) else Unknown
+line_command t = in_batch (command (line_words t))
 
 -- ---- devices
 

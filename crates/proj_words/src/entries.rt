@@ -7,7 +7,7 @@ ghost use Rattle.proj_words.specs.Entries.{byte_count, entries, has_bytes, is_en
 ghost use Rattle.proj_words.specs.Views.{GivesEntry, IsLineFault, entry_value, line_value, spot_value};
 
 use crate::Outcome;
-use memchr::memchr;
+use crate::cut::cut;
 use path_names::{number, strip};
 use std::alloc::{AllocError, Global};
 
@@ -44,27 +44,24 @@ fn next_line<'a>(spot: Spot<'a>) -> Option<TextLine<'a>>
     if spot.rest.is_empty() {
         return None;
     }
-    match memchr(b'\n', spot.rest) {
-        None => {
-            let size = spot.rest.len();
-            Some(TextLine {
-                bytes: spot.rest,
-                ended: false,
-                next: Spot {
-                    at: spot.at + size as u64,
-                    rest: &spot.rest[size..],
-                },
-            })
-        }
-        Some(n) => Some(TextLine {
-            bytes: &spot.rest[..n],
+    Some(match cut(b'\n', spot.rest) {
+        None => TextLine {
+            bytes: spot.rest,
+            ended: false,
+            next: Spot {
+                at: spot.at + spot.rest.len() as u64,
+                rest: &[],
+            },
+        },
+        Some((bytes, rest)) => TextLine {
+            bytes,
             ended: true,
             next: Spot {
-                at: spot.at + n as u64 + 1,
-                rest: &spot.rest[n + 1..],
+                at: spot.at + bytes.len() as u64 + 1,
+                rest,
             },
-        }),
-    }
+        },
+    })
 }
 
 // How many bytes a line `bytes N` says, in 1 to 9 digits.

@@ -1,6 +1,7 @@
 //! What the words of a command line and the entries of a batch ask for, how a command ends, and the texts of a trial.
 #![tactic(auto)]
 
+mod cut;
 mod entries;
 mod faults;
 mod outcome;

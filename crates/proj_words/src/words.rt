@@ -1,26 +1,25 @@
 // The forms of the words.
 ghost use Rattle.std.specs.Prelude.{◌≡◌, true, map, string_bytes, IfSome};
-ghost use Rattle.std.specs.Option.{option_map};
-ghost use Rattle.git_objects.specs.Idents.{cut_at};
 ghost use Rattle.proj_words.specs.Views.{command_of};
 ghost use Rattle.proj_words.specs.Words.{command, is_formed, one_word, rule_word, two_words, three_words, trial_number};
 ghost use Rattle.proj_words.specs.Words.{Trial};
 ghost use Rattle.proj_words.specs.Words.{in_batch, line_command, line_words};
 
+use crate::cut::cut;
 use path_names::{is_ref_name, number};
 
 // The most commits of a trial.
 const TRIAL_COMMITS: u64 = 100_000;
 
-/// What the words ask for. A ref stands before the text of a filter, and is a ref name.
+/// What the words ask for. A ref stands before the text of a filter, and is a ref name. Each may have any bytes.
 #[derive(Clone, Copy)]
 pub enum Command<'a> {
     /// Whether a ref may move anywhere.
     Import(bool),
-    Project(&'a str, &'a str),
-    Push(&'a str, &'a str),
-    Export(&'a str, &'a str),
-    Name(&'a str, &'a str),
+    Project(&'a [u8], &'a [u8]),
+    Push(&'a [u8], &'a [u8]),
+    Export(&'a [u8], &'a [u8]),
+    Name(&'a [u8], &'a [u8]),
     Batch,
     /// How many commits, from 1 to 100,000.
     Trial(u64),
@@ -30,13 +29,13 @@ pub enum Command<'a> {
     Unknown,
 }
 
-fn one_word<'a>(word: &'a str) -> Command<'a>
+fn one_word<'a>(word: &[u8]) -> Command<'a>
     ensures { command_of result ≡ one_word word.now }
 {
-    if word == "import" {
+    if word == b"import".as_slice() {
         return Command::Import(false);
     }
-    if word == "batch" {
+    if word == b"batch".as_slice() {
         return Command::Batch;
     }
     Command::Unknown
@@ -57,49 +56,57 @@ fn trial_number(text: &[u8]) -> Option<u64>
 }
 
 // The digit 1 or 2.
-fn rule_word<'a>(word: &str) -> Command<'a>
+fn rule_word<'a>(word: &[u8]) -> Command<'a>
     ensures command { command_of result ≡ rule_word word.now }
     ensures formed { is_formed (command_of result) ≡ true }
 {
-    match word {
-        "1" => Command::Rule(1),
-        "2" => Command::Rule(2),
-        _ => Command::Unknown,
+    if word == b"1".as_slice() {
+        return Command::Rule(1);
     }
+    if word == b"2".as_slice() {
+        return Command::Rule(2);
+    }
+    Command::Unknown
 }
 
-fn two_words<'a>(word: &'a str, next: &'a str) -> Command<'a>
+fn two_words<'a>(word: &[u8], next: &[u8]) -> Command<'a>
     ensures command { command_of result ≡ two_words word.now next.now }
     ensures formed { is_formed (command_of result) ≡ true }
 {
-    if word == "import" {
-        if next == "--force" {
+    if word == b"import".as_slice() {
+        if next == b"--force".as_slice() {
             return Command::Import(true);
         }
         return Command::Unknown;
     }
-    if word == "trial" {
-        return match trial_number(next.as_bytes()) {
+    if word == b"trial".as_slice() {
+        return match trial_number(next) {
             Some(n) => Command::Trial(n),
             None => Command::Unknown,
         };
     }
-    if word == "rule" {
+    if word == b"rule".as_slice() {
         return rule_word(next);
     }
     Command::Unknown
 }
 
-fn three_words<'a>(word: &'a str, refname: &'a str, filter: &'a str) -> Command<'a>
+fn three_words<'a>(word: &[u8], refname: &'a [u8], filter: &'a [u8]) -> Command<'a>
     ensures { command_of result ≡ three_words word.now refname.now filter.now }
 {
-    match word {
-        "project" => Command::Project(refname, filter),
-        "push" => Command::Push(refname, filter),
-        "export" => Command::Export(refname, filter),
-        "name" => Command::Name(refname, filter),
-        _ => Command::Unknown,
+    if word == b"project".as_slice() {
+        return Command::Project(refname, filter);
     }
+    if word == b"push".as_slice() {
+        return Command::Push(refname, filter);
+    }
+    if word == b"export".as_slice() {
+        return Command::Export(refname, filter);
+    }
+    if word == b"name".as_slice() {
+        return Command::Name(refname, filter);
+    }
+    Command::Unknown
 }
 
 /// What the words ask for, by their form alone: no device is looked at, and a filter's text isn't read.
@@ -108,34 +115,27 @@ pub fn read_command<'a>(words: &'a [String]) -> Command<'a>
     ensures formed { is_formed (command_of result) ≡ true }
 {
     match words {
-        [word] => one_word(word.as_str()),
-        [word, next] => two_words(word.as_str(), next.as_str()),
+        [word] => one_word(word.as_bytes()),
+        [word, next] => two_words(word.as_bytes(), next.as_bytes()),
         [word, refname, filter] if is_ref_name(refname.as_bytes()) => {
-            three_words(word.as_str(), refname.as_str(), filter.as_str())
+            three_words(word.as_bytes(), refname.as_bytes(), filter.as_bytes())
         }
         _ => Command::Unknown,
     }
 }
 
-// What stands before the first space, and what behind it.
-fn cut<'a>(text: &'a str) -> Option<(&'a str, &'a str)>
-    ensures { option_map (λ r. (r.0.now, r.1.now)) result ≡ cut_at 32 text.now }
-{
-    text.split_once(' ')
-}
-
 // What the words of a line ask for: the third is all that stands behind the second space.
-fn spaced_words<'a>(line: &'a str) -> Command<'a>
+fn spaced_words<'a>(line: &'a [u8]) -> Command<'a>
     ensures command { command_of result ≡ command (line_words line.now) }
     ensures formed { is_formed (command_of result) ≡ true }
 {
-    let Some((word, others)) = cut(line) else {
+    let Some((word, others)) = cut(b' ', line) else {
         return one_word(line);
     };
-    let Some((refname, filter)) = cut(others) else {
+    let Some((refname, filter)) = cut(b' ', others) else {
         return two_words(word, others);
     };
-    if !is_ref_name(refname.as_bytes()) {
+    if !is_ref_name(refname) {
         return Command::Unknown;
     }
     three_words(word, refname, filter)
@@ -159,8 +159,5 @@ pub fn line_command<'a>(line: &'a [u8]) -> Command<'a>
     ensures command { command_of result ≡ line_command line.now }
     ensures formed { is_formed (command_of result) ≡ true }
 {
-    match str::from_utf8(line) {
-        Ok(text) => in_batch(spaced_words(text)),
-        Err(_) => Command::Unknown,
-    }
+    in_batch(spaced_words(line))
 }
