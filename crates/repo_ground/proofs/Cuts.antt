@@ -11,7 +11,7 @@ use Rattle.state_items.specs.Changes.{NoPlan, Plan, passed, plan_items, plan_of}
 use Rattle.state_items.specs.Items.{Held}
 use Rattle.proj_io.specs.declared.keeper.KeepError.{KeepError}
 use Rattle.proj_io.specs.declared.keeper.KeepError.TheVariants.{Failed, OutOfMemory as NoMemory}
-use Rattle.repo_ground.specs.Changes.{Appends, GetsItems, IsCommitted, IsRefusal, IsRefused, IsStopOf, KeepsItems, keep_error, keep_error_result}
+use Rattle.repo_ground.specs.Changes.{Appends, GetsItems, IsAppended, IsCommitted, IsRefusal, IsRefused, IsStopOf, KeepsItems, keep_error, keep_error_result}
 use Rattle.proj_io.specs.Views.{KeeperView}
 use Rattle.repo_ground.proofs.ItemRuns.{stays-self}
 use Rattle.repo_ground.specs.declared.commit.CommitError.{CommitError}
@@ -52,47 +52,50 @@ cut-same names blobs commits s after a b d h =
 -- a draft that is taken up
 pub draft-committed : (h : Held) (p : Plan) (s after : Contents) (d : Draft) → HasMore s after → IsDraft h p s after d → IsCommitted h p s (with_draft after d)
 draft-committed h p s after d m w = record {
-  within = w.fits;
-  spells = record {
-    store = w.spells.store;
-    room = w.spells.room;
-    within = w.spells.within;
-    names = w.spells.names;
-    graph = w.spells.graph;
-    known = w.spells.known;
-    distinct = w.spells.distinct;
-    refs = w.spells.refs;
-    heads = w.spells.heads;
-    entries = w.spells.entries;
-    few = w.spells.few;
-    rule = w.spells.rule;
+  appended = record {
+    within = w.fits;
+    spells = record {
+      store = w.spells.store;
+      room = w.spells.room;
+      within = w.spells.within;
+      names = w.spells.names;
+      graph = w.spells.graph;
+      known = w.spells.known;
+      distinct = w.spells.distinct;
+      refs = w.spells.refs;
+      heads = w.spells.heads;
+      entries = w.spells.entries;
+      few = w.spells.few;
+      rule = w.spells.rule;
+    };
+    number = ap (λ (x : Contents). x.number + 1) m.same ∙ ap (λ (k : ℕ). s.number + k) (sym w.one);
+    size = ap (λ (x : Contents). x.size + d.size) m.same ∙ ap (λ (k : ℕ). s.size + k) w.size;
+    store = ap (λ (x : Contents). x.basis.store) m.same;
+    tables = ap (λ (x : Contents). x.basis.tables) m.same;
+    memo = ap (λ (x : Contents). x.basis.memo) m.same;
+    true_maps = ap (λ (x : Contents). x.basis.true_maps) m.same;
   };
-  number = ap (λ (x : Contents). x.number + 1) m.same ∙ ap (λ (k : ℕ). s.number + k) (sym w.one);
-  size = ap (λ (x : Contents). x.size + d.size) m.same ∙ ap (λ (k : ℕ). s.size + k) w.size;
-  store = ap (λ (x : Contents). x.basis.store) m.same;
-  tables = ap (λ (x : Contents). x.basis.tables) m.same;
-  memo = ap (λ (x : Contents). x.basis.memo) m.same;
-  true_maps = ap (λ (x : Contents). x.basis.true_maps) m.same;
   map = ap (λ (x : Contents). x.basis.map) m.same;
   selected = ap (λ (x : Contents). x.selected) m.same;
 }
 
--- without an item, nothing is committed
+-- without an item, the state is as it was
+pub none-appended : (h : Held) (s : Contents) → Spells h s → IsAppended h NoPlan s s
+none-appended h s w = record {
+  within = refl;
+  spells = w;
+  number = let q : s.number ≡ s.number + 0 = omega arith in q;
+  size = let q : s.size ≡ s.size + 0 = omega arith in q;
+  store = refl;
+  tables = refl;
+  memo = refl;
+  true_maps = refl;
+}
+
 pub none-committed : (h : Held) (p : Plan) (s after : Contents) → Spells h s → p ≡ NoPlan → after ≡ s → IsCommitted h p s after
 none-committed h p s after w e f =
     subst (λ (x : Contents). IsCommitted h p s x) (sym f)
-    (subst (λ (q : Plan). IsCommitted h q s s) (sym e) (record {
-      within = refl;
-      spells = w;
-      number = let q : s.number ≡ s.number + 0 = omega arith in q;
-      size = let q : s.size ≡ s.size + 0 = omega arith in q;
-      store = refl;
-      tables = refl;
-      memo = refl;
-      true_maps = refl;
-      map = refl;
-      selected = refl;
-    }))
+    (subst (λ (q : Plan). IsCommitted h q s s) (sym e) (record { appended = none-appended h s w; map = refl; selected = refl }))
 
 -- what a stop of the keeper leaves while the item is appended
 pub stop-is : (h : Held) (s : Contents) (p : Plan) (item : Bytes) (items : Option (List Bytes)) (list : List Bytes) → passed h (room_in s) p ≡ None → plan_items p ≡ item ∷ [] → IsBeforeOrAfter items item list → IsStopOf h s p items list

@@ -261,14 +261,16 @@ keep-committed h s text item w g e = by (may_keep h s text)
         → IsCommitted h (if b then news h s text else NoPlan) s (with_kept s (length item))
     by false f l = cc
     by true f l = record {
-      within = l;
-      spells = spells-kept h s text (length item) w g chosen;
-      number = refl;
-      size = let q : s.size + length item ≡ s.size + sum_by length (item ∷ []) = omega arith in q ∙ ap (λ (xs : List Bytes). s.size + sum_by length xs) (sym f);
-      store = refl;
-      tables = refl;
-      memo = refl;
-      true_maps = refl;
+      appended = record {
+        within = l;
+        spells = spells-kept h s text (length item) w g chosen;
+        number = refl;
+        size = let q : s.size + length item ≡ s.size + sum_by length (item ∷ []) = omega arith in q ∙ ap (λ (xs : List Bytes). s.size + sum_by length xs) (sym f);
+        store = refl;
+        tables = refl;
+        memo = refl;
+        true_maps = refl;
+      };
       map = refl;
       selected = refl;
     }

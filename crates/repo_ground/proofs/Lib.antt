@@ -24,6 +24,7 @@ pub mod MovedRefs
 pub mod Prepared
 pub mod Cuts
 pub mod MapFronts
+pub mod Selections
 pub mod Reaching
 pub mod CommitsEntered
 pub mod TestedMoves

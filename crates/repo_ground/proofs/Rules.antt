@@ -1,5 +1,5 @@
 -- Setting a rule.
-use Rattle.std.proofs.Common.{◌≡◌, ◌+◌, ◌<◌, ◌≤◌, ℕ, Bool, true, false, List, filter, length, map, Option, None, refl, sym, ap, subst, ◌∙◌, arith, nat_le}
+use Rattle.std.proofs.Common.{◌≡◌, ◌+◌, ◌<◌, ◌≤◌, ℕ, Bool, true, false, List, [], filter, length, map, Option, None, refl, sym, ap, subst, ◌∙◌, arith, nat_le, eq-eqb}
 use Rattle.std.specs.Bool.{if◌then◌else◌}
 use Rattle.std.specs.Prelude.{◌==◌}
 use Rattle.std.proofs.lemmas.List.{length-map, length-reverse}
@@ -13,11 +13,13 @@ use Rattle.object_store.specs.Fits.{is_commit}
 use Rattle.object_store.specs.Objects.{Object, object_name}
 use Rattle.commit_map.specs.Rules.{rule_number}
 use Rattle.commit_map.specs.declared.rule.Rule.{Rule}
-use Rattle.state_items.specs.Changes.{NoPlan, Plan, Room, RulePlan, held_after, or_else, passed, passed_by_item, passed_by_objects, rule_plan}
+use Rattle.state_items.specs.Changes.{NoPlan, Plan, Room, RulePlan, held_after, or_else, passed, passed_by_item, passed_by_objects, plan_items, rule_plan}
 use Rattle.state_items.specs.Items.{Held}
 use Rattle.state_items.proofs.RowsHeld.{rows-number}
-use Rattle.repo_ground.specs.Changes.{IsCommitted}
+use Rattle.repo_ground.specs.Changes.{IsRuleSet}
 use Rattle.repo_ground.specs.Contents.{Contents, Spells, room_in}
+use Rattle.repo_ground.specs.Selecting.{IsPutAway}
+use Rattle.repo_ground.proofs.Cuts.{none-appended}
 
 -- ---- how many are held
 
@@ -76,17 +78,33 @@ spells-rule h s r w = record {
   rule = refl;
 }
 
-pub rule-committed : (h : Held) (s : Contents) (r : Rule) → Spells h s → (h.rule == rule_number r) ≡ false → passed h (room_in s) (RulePlan (rule_number r)) ≡ None
-    → IsCommitted h (rule_plan h (rule_number r)) s (with_rule s r)
-rule-committed h s r w e f = subst (λ (p : Plan). IsCommitted h p s (with_rule s r)) (sym (other-rule h (rule_number r) e)) (record {
-  within = f;
-  spells = spells-rule h s r w;
-  number = refl;
-  size = refl;
-  store = refl;
-  tables = refl;
-  memo = refl;
-  true_maps = refl;
-  map = refl;
-  selected = refl;
+-- another rule is set, and the map that was selected is put away
+pub rule-set : (h : Held) (s s1 : Contents) (r : Rule) → Spells h s → (h.rule == rule_number r) ≡ false → passed h (room_in s) (RulePlan (rule_number r)) ≡ None → IsPutAway s s1
+    → IsRuleSet h (rule_plan h (rule_number r)) s (with_rule s1 r)
+rule-set h s s1 r w e f away = subst (λ (p : Plan). IsRuleSet h p s (with_rule s1 r)) (sym (other-rule h (rule_number r) e)) (record {
+  appended = record {
+    within = f;
+    spells = spells-rule h s1 r (away.spells h w);
+    number = ap (λ (x : Contents). x.number + 1) away.same;
+    size = ap (λ (x : Contents). x.size + 3) away.same;
+    store = ap (λ (x : Contents). x.basis.store) away.same;
+    tables = ap (λ (x : Contents). x.basis.tables) away.same;
+    memo = ap (λ (x : Contents). x.basis.memo) away.same;
+    true_maps = ap (λ (x : Contents). x.basis.true_maps) away.same;
+  };
+  none = λ q. away.none;
+  empty = λ q. away.empty;
+  same = λ q. absurd (some-item q);
+})
+  where
+    some-item : plan_items (RulePlan (rule_number r)) ≡ [] → ⊥
+    some-item q = cc
+
+-- the rule that is set already changes nothing
+pub rule-same : (h : Held) (s : Contents) (r : Rule) → Spells h s → rule_number s.basis.rule ≡ rule_number r → IsRuleSet h (rule_plan h (rule_number r)) s s
+rule-same h s r w e = subst (λ (p : Plan). IsRuleSet h p s s) (sym (ap (λ b. if b then NoPlan else RulePlan (rule_number r)) (eq-eqb h.rule (rule_number r) (sym w.rule ∙ e)))) (record {
+  appended = none-appended h s w;
+  none = λ q. absurd (q refl);
+  empty = λ q. absurd (q refl);
+  same = λ q. refl;
 })

@@ -8,17 +8,18 @@ use Rattle.proj_io.specs.Items.{Stays}
 use Rattle.state_items.specs.Items.{Held}
 use Rattle.state_items.specs.Readings.{Gathered, Holds}
 use Rattle.repo_ground.specs.Contents.{Contents, Spells}
-use Rattle.repo_ground.specs.Loads.{IsLoaded}
+use Rattle.repo_ground.specs.Loads.{IsLoaded, new_memo}
 use Rattle.repo_ground.specs.Steps.{AreRead}
 use Rattle.repo_ground.specs.declared.state.LoadError.{LoadError}
 use Rattle.repo_ground.specs.declared.state.LoadError.TheVariants.{StoreFault, OutOfMemory}
 
--- a state that has what was read, and no filter selected yet
+-- a state that has what was read, and no filter selected yet, with a new memo
 pub record IsFresh (v : Gathered) (count size : ℕ) (s : Contents) : Type 0 where
   pub spells : (h : Held) → Holds h v → Spells h s × IsGround s.basis
   pub store : s.basis.store ≡ v.objects
   pub none : s.selected ≡ None
   pub empty : s.basis.map ≡ []
+  pub memo : s.basis.memo ≡ new_memo
   pub many : s.number ≡ count
   pub long : s.size ≡ size
 
@@ -42,6 +43,7 @@ loaded o q count n size v s st l e r f =
       ground = w.1;
       none = f.none;
       empty = f.empty;
+      memo = f.memo;
       counted = f.many ∙ e;
     }
 

@@ -52,8 +52,9 @@ batch_plan h b blobs cs = change_plan h (objects_of blobs cs) (settings_of b)
 
 -- ---- what comes of a plan
 
--- The state has what the plan says, behind its items; the store and all that is no part of the plan are as they were.
-pub record IsCommitted (h : Held) (p : Plan) (before after : Contents) : Type 0 where
+-- The state has what the plan says, behind its items. The store and all else that is no part of the plan are as they were, but for the
+-- ground's map and the filter that is selected, of which nothing is said.
+pub record IsAppended (h : Held) (p : Plan) (before after : Contents) : Type 0 where
   pub within : passed h (room_in before) p ≡ None
   pub spells : Spells (held_after h p) after
   pub number : after.number ≡ before.number + length (plan_items p)
@@ -62,8 +63,20 @@ pub record IsCommitted (h : Held) (p : Plan) (before after : Contents) : Type 0 
   pub tables : after.basis.tables ≡ before.basis.tables
   pub memo : after.basis.memo ≡ before.basis.memo
   pub true_maps : after.basis.true_maps ≡ before.basis.true_maps
+
+-- The state has what the plan says, and the same filter is selected with the same map.
+pub record IsCommitted (h : Held) (p : Plan) (before after : Contents) : Type 0 where
+  pub appended : IsAppended h p before after
   pub map : after.basis.map ≡ before.basis.map
   pub selected : after.selected ≡ before.selected
+
+-- The state has what a plan of a rule says. Where the plan has an item, no filter is selected any more and the ground's map has nothing;
+-- where it has none, nothing has changed.
+pub record IsRuleSet (h : Held) (p : Plan) (before after : Contents) : Type 0 where
+  pub appended : IsAppended h p before after
+  pub none : plan_items p ≢ [] → after.selected ≡ None
+  pub empty : plan_items p ≢ [] → after.basis.map ≡ []
+  pub same : plan_items p ≡ [] → after ≡ before
 
 -- Why a plan is refused: the first limit that it passes, or want of memory, and then the state is as before. After a fault of the
 -- keeper the state is of no more use.

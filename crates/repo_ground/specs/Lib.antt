@@ -2,6 +2,7 @@ pub mod Contents
 pub mod Loads
 pub mod Steps
 pub mod Selecting
+pub mod Choices
 pub mod Changes
 pub mod Moves
 pub mod Reaching

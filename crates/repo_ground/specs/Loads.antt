@@ -1,6 +1,7 @@
 -- What is loaded from a keeper's items.
 use Rattle.std.specs.Prelude.{◌≡◌, ⊤, ℕ, List, [], None, Option, Result, Err, IfSome}
 use Rattle.git_objects.specs.Paths.{Bytes}
+use Rattle.filter_cache.specs.Memos.{Memo}
 use Rattle.projection_ground.specs.Grounds.{IsGround}
 use Rattle.state_items.specs.Fields.{BrokenAt, Clash}
 use Rattle.state_items.specs.Items.{Held, Break, nothing}
@@ -8,17 +9,23 @@ use Rattle.repo_ground.specs.Contents.{Contents, IsCurrent, Spells}
 use Rattle.repo_ground.specs.declared.state.LoadError.{LoadError}
 use Rattle.repo_ground.specs.declared.state.LoadError.TheVariants.{StoreFault, Damaged, Collision, OutOfMemory}
 
--- nothing is held, nothing is in the store, there are no items, and no filter is selected yet
+-- a memo with room for so many pairs, which has none
+abbrev pub new_memo : Memo
+new_memo = record { capacity = 65536; entries = [] }
+
+-- nothing is held, nothing is in the store, there are no items, no filter is selected yet, and the memo has no pairs
 pub record IsEmpty (s : Contents) : Type 0 where
   pub spells : Spells nothing s
   pub ground : IsGround s.basis
   pub store : s.basis.store ≡ []
   pub none : s.selected ≡ None
   pub map : s.basis.map ≡ []
+  pub memo : s.basis.memo ≡ new_memo
   pub number : s.number ≡ 0
   pub size : s.size ≡ 0
 
--- it has what some items hold, which are the keeper's where it tells them, and nothing else; no filter is selected yet
+-- it has what some items hold, which are the keeper's where it tells them, and nothing else; no filter is selected yet, and the memo has
+-- no pairs
 pub record IsLoaded (told : Option (List Bytes)) (number : ℕ) (s : Contents) : Type 0 where
   pub items : List Bytes
   pub keeps : IfSome told (λ all. items ≡ all)
@@ -29,6 +36,7 @@ pub record IsLoaded (told : Option (List Bytes)) (number : ℕ) (s : Contents) :
   pub ground : IsGround s.basis
   pub none : s.selected ≡ None
   pub empty : s.basis.map ≡ []
+  pub memo : s.basis.memo ≡ new_memo
   pub counted : s.number ≡ number
 
 -- the first break of the items, want of memory, or a fault of the keeper

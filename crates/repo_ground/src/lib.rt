@@ -4,6 +4,7 @@
 mod commit;
 mod draft;
 mod enter;
+mod filter_maps;
 mod holding;
 mod keep;
 mod laws;

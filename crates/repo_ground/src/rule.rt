@@ -8,7 +8,7 @@ ghost use Rattle.proj_io.specs.Uses.{IsUsed};
 ghost use Rattle.proj_io.specs.Views.{keeper_view};
 ghost use Rattle.state_items.specs.Changes.{RulePlan, passed, rule_plan};
 ghost use Rattle.state_items.specs.Items.{Held};
-ghost use Rattle.repo_ground.specs.Changes.{Appends, IsCommitted, IsRefusal, IsRefused, IsStopOf, keep_error};
+ghost use Rattle.repo_ground.specs.Changes.{Appends, IsRefusal, IsRefused, IsRuleSet, IsStopOf, keep_error};
 ghost use Rattle.repo_ground.specs.Contents.{Spells, SpellsSomething, room_in};
 
 use crate::{CommitError, State};
@@ -18,12 +18,21 @@ use proj_io::{KeepError, Keeper};
 use state_items::{first_passed, rule_item};
 
 impl State {
-    /// Appends an item with the rule, where it isn't the state's. A filter has to be selected again then.
+    /// The rule by which commits are projected.
+    pub fn rule(&self) -> Rule
+        ensures rule { result ≡ self.now.basis.rule }
+        ensures held { (h : Held) → Spells h self.now → rule_number result ≡ h.rule }
+    {
+        self.ground.rule
+    }
+
+    /// Appends an item with the rule, where it isn't the state's. The ground's map is empty then until a filter is
+    /// selected. Memory is taken by the keeper alone.
     pub fn set_rule<K: Keeper>(&mut self, keeper: &mut K, rule: Rule) -> Result<(), CommitError>
         requires open { K.is_open keeper.old × (self.old.number ≡ K.number keeper.old) }
         requires spells { SpellsSomething self.old }
         ensures state { (h : Held) → Spells h self.old → let p = rule_plan h (rule_number rule) in
-            MatchResult result (λ _. IsCommitted h p self.old self.new) (λ e. IsRefused h p self.old self.new e) }
+            MatchResult result (λ _. IsRuleSet h p self.old self.new) (λ e. IsRefused h p self.old self.new e) }
         ensures store { self.new.basis.store ≡ self.old.basis.store }
         ensures items { let seen = keeper_view K.items K.number K.faults in (h : Held) → Spells h self.old →
             Appends (rule_plan h (rule_number rule)) (seen keeper.old) (seen keeper.new) result }
@@ -46,6 +55,7 @@ impl State {
         match keeper.append(&rule_item(rule)) {
             Err(error) => Err(keep_error(error)),
             Ok(()) => {
+                self.put_away();
                 self.ground.rule = rule;
                 self.number += 1;
                 self.size += 3;

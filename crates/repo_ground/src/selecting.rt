@@ -1,54 +1,40 @@
-// Maps of filters that are selected no more.
-ghost use Rattle.std.specs.Prelude.{◌≡◌, ℕ, true, take, IfOk, OnOk, if◌then◌else◌};
-ghost use Rattle.std.specs.Option.{option_map};
-ghost use Rattle.commit_map.specs.Rules.{rule_number};
-ghost use Rattle.commit_map.specs.Shown.{kept_at};
-ghost use Rattle.git_objects.specs.Paths.{Bytes};
-ghost use Rattle.state_items.specs.Items.{is_rule};
-ghost use Rattle.state_items.specs.KeptMaps.{entries_at};
-ghost use Rattle.repo_ground.specs.Contents.{is_selected};
+// Selecting the filter whose map the ground has.
+ghost use Rattle.std.specs.Prelude.{◌≡◌, OnErr, OnOk};
+ghost use Rattle.filter_text.specs.Printing.{printed};
+ghost use Rattle.filter_text.specs.Shapes.{shape};
+ghost use Rattle.repo_ground.specs.Selecting.{IsPutAway, IsSelected};
 
-use crate::state::Selected;
+use crate::State;
 use commit_map::CommitMap;
-use state_items::KeptMaps;
-use std::alloc::{AllocError, Global};
+use filter_text::{Filter, print};
+use std::alloc::AllocError;
 
-// A map with what the first `kept` entries of `map` have.
-fn front(alloc: Global, map: CommitMap, kept: usize) -> Result<CommitMap, AllocError>
-    ensures { IfOk result (λ front. (n : Bytes) → kept_at n front ≡ kept_at n (take kept map)) }
-{
-    if kept >= map.len() {
-        return Ok(map);
-    }
-    let mut front = CommitMap::new(alloc);
-    for i in 0..kept {
-        let (original, shown) = map.entry(i);
-        if front.get(&original).is_none() {
-            front.set(original, shown)?;
+impl State {
+    /// Makes the ground's map that of a filter under the ground's rule, with the entries that items hold, unless it is
+    /// that already. For want of memory nothing changes.
+    pub fn select(&mut self, filter: &Filter) -> Result<(), AllocError>
+        ensures selected { OnOk result (IsSelected (printed (shape filter.now)) self.old self.new) }
+        ensures same { OnErr result (self.new ≡ self.old) }
+    {
+        let text = print(self.alloc, filter)?;
+        let rule = self.ground.rule;
+        if self.maps.is_selected(&text, rule) {
+            return Ok(());
         }
+        let map = &mut self.ground.map;
+        self.maps.select(self.alloc, text, rule, map, self.kept)?;
+        self.kept = self.ground.map.len();
+        Ok(())
     }
-    Ok(front)
-}
 
-// Puts the first `kept` entries of `map` back under the text and rule that were selected last, if any were.
-pub(crate) fn put_back(
-    alloc: Global,
-    maps: &mut KeptMaps,
-    last: Option<Selected>,
-    map: CommitMap,
-    kept: usize,
-) -> Result<(), AllocError>
-    ensures { OnOk result ((text : Bytes) (rule : ℕ) (n : Bytes) → is_rule rule ≡ true →
-        kept_at n (entries_at rule text maps.new)
-        ≡ kept_at n (if is_selected (option_map (λ f. (f.text.items, rule_number f.rule)) last) text rule
-        then take kept map else entries_at rule text maps.old)) }
-{
-    match last {
-        None => Ok(()),
-        Some(last) => {
-            let front = front(alloc, map, kept)?;
-            maps.set(&last.text, last.rule, front)?;
-            Ok(())
-        }
+    /// Makes the ground's map empty, so that no filter is selected. The entries that items hold are there again when
+    /// their filter is selected. Needs no memory.
+    pub fn put_away(&mut self)
+        ensures { IsPutAway self.old self.new }
+    {
+        let empty = CommitMap::new(self.alloc);
+        let map = std::mem::replace(&mut self.ground.map, empty);
+        self.maps.put_away(map, self.kept);
+        self.kept = 0;
     }
 }

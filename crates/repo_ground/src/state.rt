@@ -1,35 +1,30 @@
 // What a keeper's items spell.
-ghost use Rattle.std.specs.Prelude.{◌≡◌, [], Err, None, IfErr, IfOk, IfSome, OnOk};
+ghost use Rattle.std.specs.Prelude.{◌≡◌, [], Err, None, IfErr, IfOk, IfSome};
 ghost use Rattle.std.specs.FinMap.{find};
 ghost use Rattle.std.specs.Option.{option_map};
 ghost use Rattle.git_objects.specs.Parts.{name_bytes};
 ghost use Rattle.git_objects.specs.Refs.{bytes_cmp};
-ghost use Rattle.filter_text.specs.Printing.{printed};
-ghost use Rattle.filter_text.specs.Shapes.{shape};
 ghost use Rattle.projection_ground.specs.Grounds.{IsGround};
 ghost use Rattle.proj_io.specs.Counts.{Counts};
 ghost use Rattle.proj_io.specs.Uses.{IsOnlyRead};
 ghost use Rattle.ref_store.specs.Refs.{head_of};
 ghost use Rattle.state_items.specs.Items.{Held, read_items};
 ghost use Rattle.state_items.specs.Readings.{Holds};
-ghost use Rattle.commit_map.specs.Rules.{rule_number};
-ghost use Rattle.repo_ground.specs.Contents.{Spells, is_selected};
+ghost use Rattle.repo_ground.specs.Contents.{Spells};
 ghost use Rattle.repo_ground.specs.Loads.{IsEmpty, IsLoaded, IsLoadFault};
-ghost use Rattle.repo_ground.specs.Selecting.{IsPutAway, IsSelected};
 
+use crate::filter_maps::FilterMaps;
 use crate::loading::{load_items, reserve_items};
-use crate::selecting::put_back;
-use commit_map::{CommitMap, Rule};
+use commit_map::CommitMap;
 use filter_cache::Memo;
 use filter_routes::Tables;
-use filter_text::{Filter, print};
 use git_objects::Name;
 use indexmap::IndexSet;
 use path_names::RefName;
 use proj_io::Keeper;
 use projection_ground::{Ground, TrueMaps};
 use ref_store::Refs;
-use state_items::{KeptMaps, Loaded, Reading};
+use state_items::{Loaded, Reading};
 use std::alloc::{AllocError, Global};
 use std::marker::Model;
 
@@ -48,28 +43,19 @@ pub enum LoadError {
     OutOfMemory,
 }
 
-// The filter whose map the ground has.
-#[derive(Drop)]
-pub(crate) struct Selected {
-    // Its canonical text.
-    pub(crate) text: Vec<u8>,
-    pub(crate) rule: Rule,
-}
-
 /// What a keeper's items hold: commits upon which projections are made, refs, and the names of the known blobs.
 #[derive(Drop)]
 pub struct State {
     /// All objects, also some that no item holds, and the commits that items hold. The map is that of the filter that
-    /// was selected last, and empty before.
+    /// is selected, and empty where none is.
     pub ground: Ground,
     pub refs: Refs,
     /// The names of the blobs that items hold.
     pub blobs: IndexSet<Name>,
     // The names of the objects that items hold, in order of arrival.
     pub(crate) held: IndexSet<Name>,
-    // The maps of filters that aren't selected, with exactly the entries that items hold.
-    pub(crate) maps: KeptMaps,
-    pub(crate) selected: Option<Selected>,
+    // The map of the filter that is selected is the ground's.
+    pub(crate) maps: FilterMaps,
     // How many of the first entries of the ground's map items hold.
     pub(crate) kept: usize,
     // How many items there are, and their bytes together.
@@ -81,10 +67,8 @@ pub struct State {
 impl Model for State {
     ghost use Rattle.std.specs.Coded.{codes};
     ghost use Rattle.std.specs.Prelude.{map};
-    ghost use Rattle.std.specs.Option.{option_map};
     ghost use Rattle.filter_text.specs.contracts.filter.Filter as filters;
     ghost use Rattle.git_objects.specs.Parts.{name_bytes};
-    ghost use Rattle.commit_map.specs.Rules.{rule_number};
     ghost use Rattle.repo_ground.specs.Contents.{Contents};
 
     ghost Value = { Contents };
@@ -96,8 +80,8 @@ impl Model for State {
       refs = s.refs;
       blobs = map name_bytes s.blobs.keys;
       names = map name_bytes s.held.keys;
-      maps = s.maps;
-      selected = option_map (λ f. (f.text.items, rule_number f.rule)) s.selected;
+      maps = s.maps.maps;
+      selected = s.maps.selected;
       kept = s.kept;
       number = s.number;
       size = s.size;
@@ -120,6 +104,7 @@ impl State {
         ensures store { result.basis.store ≡ reading.objects }
         ensures selected { result.selected ≡ None }
         ensures map { result.basis.map ≡ [] }
+        ensures memo { result.basis.memo ≡ memo }
         ensures number { result.number ≡ number }
         ensures size { result.size ≡ size }
     {
@@ -146,8 +131,7 @@ impl State {
             refs,
             blobs,
             held: names,
-            maps: kept,
-            selected: None,
+            maps: FilterMaps::of(kept),
             kept: 0,
             number,
             size,
@@ -189,56 +173,5 @@ impl State {
             option_map name_bytes result ≡ find bytes_cmp refname.now h.refs }
     {
         self.refs.get(refname)
-    }
-
-    /// Makes the ground's map that of a filter under the ground's rule, with the entries that items hold, unless it is
-    /// that already. After want of memory the state is of no more use.
-    pub fn select(&mut self, filter: &Filter) -> Result<(), AllocError>
-        ensures selected { OnOk result (IsSelected (printed (shape filter.now)) self.old self.new) }
-        ensures store { self.new.basis.store ≡ self.old.basis.store }
-    {
-        let text = print(self.alloc, filter)?;
-        if self.is_selected(&text) {
-            return Ok(());
-        }
-        let rule = self.ground.rule;
-        let empty = CommitMap::new(self.alloc);
-        let found = match self.maps.set(&text, rule, empty)? {
-            None => CommitMap::new(self.alloc),
-            Some(found) => found,
-        };
-        let kept = found.len();
-        let map = std::mem::replace(&mut self.ground.map, found);
-        let selected = Some(Selected { text, rule });
-        let last = std::mem::replace(&mut self.selected, selected);
-        put_back(self.alloc, &mut self.maps, last, map, self.kept)?;
-        self.kept = kept;
-        Ok(())
-    }
-
-    /// Puts the map of the filter that is selected back among the others, with the entries that items hold, so that
-    /// none is selected. After want of memory the state is of no more use.
-    pub fn put_away(&mut self) -> Result<(), AllocError>
-        ensures away { OnOk result (IsPutAway self.old self.new) }
-        ensures store { self.new.basis.store ≡ self.old.basis.store }
-    {
-        let empty = CommitMap::new(self.alloc);
-        let map = std::mem::replace(&mut self.ground.map, empty);
-        let last = std::mem::replace(&mut self.selected, None);
-        put_back(self.alloc, &mut self.maps, last, map, self.kept)?;
-        self.kept = 0;
-        Ok(())
-    }
-
-    // Whether the ground's map is that of the filter with that text under the ground's rule.
-    fn is_selected(&self, text: &[u8]) -> bool
-        ensures { result ≡ is_selected self.now.selected text.now (rule_number self.now.basis.rule) }
-    {
-        match &self.selected {
-            None => false,
-            Some(last) => {
-                last.text.as_slice() == text && last.rule.number() == self.ground.rule.number()
-            }
-        }
     }
 }

@@ -1,16 +1,16 @@
 -- Maps by the texts of filters, in the code's table and in what it stands for.
-use Rattle.std.proofs.Common.{◌≡◌, ◌⊎◌, inl, inr, ◌&&◌, ◌||◌, ℕ, Bool, true, false, cond, List, [], ◌∷◌, Some, None, refl, sym, ap, subst₂, ◌∙◌, true≢false}
+use Rattle.std.proofs.Common.{◌≡◌, ◌⊎◌, inl, inr, ◌&&◌, ◌||◌, ℕ, Bool, true, false, cond, List, [], ◌∷◌, Some, None, refl, sym, ap, subst₂, ◌∙◌, true≢false, IsSome, is_some}
 use Rattle.std.specs.Prelude.{◌==◌}
 use Rattle.std.specs.Cmp.Lexicographic.{bytes_decides}
 use Rattle.std.proofs.lemmas.Bool.{eqb-true}
 use Rattle.git_objects.proofs.Basics.{same_bytes-back, same_bytes-self}
 use Rattle.state_items.specs.Items.{is_rule}
 use Rattle.std.specs.Option.{unwrap_or}
-use Rattle.std.specs.Map.{lookup}
+use Rattle.std.specs.Map.{lookup, set_value}
 use Rattle.indexmap.specs.IndexMap.{insert_entry}
 use Rattle.git_objects.specs.Paths.{Bytes, same_bytes}
 use Rattle.commit_map.specs.Shown.{Entries}
-use Rattle.state_items.specs.KeptMaps.{RuleMaps, TextMaps, entries_at, map_of, with_map_by, text_maps, with_map}
+use Rattle.state_items.specs.KeptMaps.{RuleMaps, TextMaps, entries_at, map_of, maps_by, with_map_by, text_maps, with_map}
 
 module _ {K : Type 0} (text : K → Bytes) where
   pub map-lookup : (n : Bytes) (es : List (K × Entries)) → lookup (λ k. same_bytes n (text k)) es ≡ map_of n (text_maps text es)
@@ -25,6 +25,16 @@ module _ {K : Type 0} (text : K → Bytes) where
         | true ↦ refl
         | false ↦ ap (λ (ms : TextMaps). (text e.0, e.1) ∷ ms) (maps-insert k m es)
       ]
+
+  -- the map of a text that is there, written in its place
+  pub maps-exchange : (n : Bytes) (m : Entries) (es : List (K × Entries)) → IsSome (map_of n (text_maps text es)) → text_maps text (set_value (λ k. same_bytes n (text k)) es m) ≡ with_map (text_maps text es) n m
+  maps-exchange n m [] h = absurd (true≢false (sym h))
+  maps-exchange n m (e ∷ es) h =
+      elim (same_bytes n (text e.0)) as (λ b. IsSome (cond b (Some e.1) (map_of n (text_maps text es))) → text_maps text (cond b ((e.0, m) ∷ es) (e ∷ set_value (λ k. same_bytes n (text k)) es m))
+      ≡ cond b ((text e.0, m) ∷ text_maps text es) ((text e.0, e.1) ∷ with_map (text_maps text es) n m)) [
+        | true ↦ λ k. refl
+        | false ↦ λ k. ap (λ (ms : TextMaps). (text e.0, e.1) ∷ ms) (maps-exchange n m es k)
+      ] h
 
 -- ---- a text's map, set
 
@@ -65,6 +75,30 @@ map-twice rule maps text es ds = by (rule == 1)
     by : (b : Bool) → set_in b (set_in b maps text ds) text es ≡ set_in b maps text es
     by true = λ i. record { first = twice text es ds maps.first i; second = maps.second }
     by false = λ i. record { first = maps.first; second = twice text es ds maps.second i }
+
+-- a text has a map once it is set, and still has one where another text's is set
+there-with : (text m : Bytes) (es : Entries) (ms : TextMaps) → IsSome (map_of m ms) → IsSome (map_of m (with_map ms text es))
+there-with text m es ms h =
+    ap is_some (map_of-set text es m ms) ∙ elim (same_bytes text m) as (λ b. is_some (cond b (Some es) (map_of m ms)) ≡ true) [ true ↦ refl | false ↦ h ]
+
+pub map-there : (rule : ℕ) (text : Bytes) (maps : RuleMaps) (es : Entries) → IsSome (map_of text (maps_by rule (with_map_by rule maps text es)))
+map-there rule text maps es = by (rule == 1)
+  where
+    one : (ms : TextMaps) → IsSome (map_of text (with_map ms text es))
+    one ms = ap is_some (map_of-set text es text ms ∙ ap (λ b. cond b (Some es) (map_of text ms)) (same_bytes-self text))
+
+    by : (b : Bool) → IsSome (map_of text (cond b (set_in b maps text es).first (set_in b maps text es).second))
+    by true = one maps.first
+    by false = one maps.second
+
+pub map-stays : (rule k : ℕ) (text m : Bytes) (maps : RuleMaps) (es : Entries) → IsSome (map_of m (maps_by k maps)) → IsSome (map_of m (maps_by k (with_map_by rule maps text es)))
+map-stays rule k text m maps es h = by (rule == 1) (k == 1) h
+  where
+    by : (a b : Bool) → IsSome (map_of m (cond b maps.first maps.second)) → IsSome (map_of m (cond b (set_in a maps text es).first (set_in a maps text es).second))
+    by true true g = there-with text m es maps.first g
+    by true false g = g
+    by false true g = g
+    by false false g = there-with text m es maps.second g
 
 -- what is kept of a text and a rule after a map was set
 pub entries-set : (rule k : ℕ) (maps : RuleMaps) (text m : Bytes) (es : Entries) → is_rule rule ≡ true → is_rule k ≡ true

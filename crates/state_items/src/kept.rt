@@ -1,5 +1,5 @@
 // Kept projections of each filter and rule.
-ghost use Rattle.std.specs.Prelude.{◌≡◌, IfOk, OnErr, OnOk};
+ghost use Rattle.std.specs.Prelude.{◌≡◌, IfOk, IsSome, OnErr, OnOk, Some};
 ghost use Rattle.std.specs.Option.{option_copied};
 ghost use Rattle.commit_map.specs.Rules.{rule_number};
 ghost use Rattle.state_items.specs.KeptMaps.{map_of, maps_by, no_maps, text_maps, with_map, with_map_by};
@@ -43,6 +43,19 @@ fn put(
     Ok(old)
 }
 
+// Puts a text's map in the place of its old one, and gives the old one.
+fn exchange(maps: &mut IndexMap<Vec<u8>, CommitMap>, text: &[u8], map: CommitMap) -> CommitMap
+    requires { IsSome (map_of text.now (text_maps (λ t. t.items) maps.old.entries)) }
+    ensures old { Some result ≡ map_of text.now (text_maps (λ t. t.items) maps.old.entries) }
+    ensures new { text_maps (λ t. t.items) maps.new.entries
+        ≡ with_map (text_maps (λ t. t.items) maps.old.entries) text.now map }
+{
+    match maps.get_mut(text) {
+        None => unreachable!(),
+        Some(place) => std::mem::replace(place, map),
+    }
+}
+
 impl KeptMaps {
     /// Nothing is kept.
     pub fn new(alloc: Global) -> KeptMaps
@@ -78,6 +91,18 @@ impl KeptMaps {
         match rule {
             Rule::One => put(&mut self.first, text, map),
             Rule::Two => put(&mut self.second, text, map),
+        }
+    }
+
+    /// Puts a map in the place of what was kept for that text and rule, and gives what was. Needs no memory.
+    pub fn exchange(&mut self, text: &[u8], rule: Rule, map: CommitMap) -> CommitMap
+        requires { IsSome (map_of text.now (maps_by (rule_number rule) self.old)) }
+        ensures old { Some result ≡ map_of text.now (maps_by (rule_number rule) self.old) }
+        ensures new { self.new ≡ with_map_by (rule_number rule) self.old text.now map }
+    {
+        match rule {
+            Rule::One => exchange(&mut self.first, text, map),
+            Rule::Two => exchange(&mut self.second, text, map),
         }
     }
 }

@@ -11,6 +11,7 @@ returns c =
       store = c.of.ensures.store ∙ c.new-2.ensures.holds.objects;
       none = c.of.ensures.selected;
       map = c.of.ensures.map;
+      memo = c.of.ensures.memo ∙ c.in_ok-memo.ensures;
       number = c.of.ensures.number;
       size = c.of.ensures.size;
     }

@@ -48,4 +48,4 @@ returns-in-Ok-new-clause-ok g c =
     c.load_items.new.reading c.of.result
     (stays-on (g.K.Keeper.items c.args.keeper.now) (g.K.Keeper.items c.count.new.self) (g.K.Keeper.items c.reserve_items.new.keeper) c.in-Ok.ensures.items c.in-Ok-reserve_items.ensures.kept.items)
     (g.met.K.Keeper.counted c.args.keeper.now) c.in-Ok.ensures.number c.in-Ok-load_items.ensures.read
-    (record { spells = c.of.ensures.spells; store = c.of.ensures.store; none = c.of.ensures.selected; empty = c.of.ensures.map; many = c.of.ensures.number; long = c.of.ensures.size })
+    (record { spells = c.of.ensures.spells; store = c.of.ensures.store; none = c.of.ensures.selected; empty = c.of.ensures.map; memo = c.of.ensures.memo ∙ c.in-Ok-new.ensures; many = c.of.ensures.number; long = c.of.ensures.size })
