@@ -1,5 +1,6 @@
 -- What is made of a form, and what came of writing its report, is an answer for these items and this input.
 use Rattle.std.proofs.Common.{◌≡◌, ◌≢◌, ◌⊎◌, inl, inr, ◌++◌, List, [], ◌∷◌, All, Some, Result, Ok, Err, IfSome, refl, sym, ap, subst, ◌∙◌}
+use Rattle.std.specs.Prelude.{IsOk}
 use Rattle.std.specs.Option.{option_to_list}
 use Rattle.std.specs.Result.{result_ok}
 use Rattle.std.proofs.KnownBytes.{Keeps-refl}
@@ -14,15 +15,14 @@ use Rattle.proj_words.specs.Words.{Command}
 use Rattle.proj_words.specs.declared.outcome.Outcome.{Outcome}
 use Rattle.proj_words.specs.declared.outcome.Outcome.TheVariants.{Done, StoreFault}
 use Rattle.proj_cli.specs.Answers.{ArePlanned, Follows, IsAnswered, IsDelivered, IsLonger, IsOutcome, IsSafe, IsStepDelivered}
-use Rattle.proj_cli.specs.Cases.{Case, ImportCase, ProjectCase, ExportCase, PushCase, NameCase, RuleCase, Made, case, loaded, made}
+use Rattle.proj_cli.specs.Cases.{Case, ProjectCase, Made, loaded}
+use Rattle.proj_cli.specs.Steps.{case, made, IsLawful, IsPlanOf, cases, step}
 use Rattle.proj_cli.specs.Forms.{FormPlan, IsFormMade, IsFormPlanned}
 use Rattle.proj_cli.specs.Hands.{IsInHands}
-use Rattle.proj_cli.specs.Lawful.{IsLawful}
-use Rattle.proj_cli.specs.Makes.{IsGoodPlan, IsRefusal, IsReported, IsStored, hands_of, recalled_made, step_in}
-use Rattle.proj_cli.specs.Plans.{IsPlanOf, RecallLaw}
+use Rattle.proj_cli.specs.Makes.{IsGoodPlan, IsPlanned, IsRefusal, IsReported, IsStored, hands_of, recalled_made, step_in}
+use Rattle.proj_cli.specs.Plans.{HoldWhatTheyShould, RecallLaw}
 use Rattle.proj_cli.specs.Sent.{IsSent}
-use Rattle.proj_cli.specs.Steps.{cases, step}
-use Rattle.proj_cli.proofs.CasePlans.{HoldWhatTheyShould, all-one, from, kept-plan, lawful-plan, own-planned, own_plan, recalled-made, stays-plan}
+use Rattle.proj_cli.proofs.CasePlans.{all-one, from, kept-plan, lawful-plan, own-planned, own_plan, recalled-made, stays-plan}
 use Rattle.proj_cli.proofs.Delivering.{after, before, done-outcome, fault-delivered, got-follows, got-if, idle-delivered, idle-step, kept-follows, kept-if, longer, refusal-outcome, sent-delivered, sent-outcome}
 use Rattle.proj_cli.proofs.Refusing.{refusal-of}
 
@@ -30,15 +30,28 @@ use Rattle.proj_cli.proofs.Refusing.{refusal-of}
 
 one-outcome : (H : Object → Type 0) (e : Outcome) (room : Room) (c : Case) → IsOutcome H e (recalled_made room c) → IsOutcome H e (made room c)
 one-outcome H e room (ProjectCase h f n) a = done-outcome H e _ _ a
-one-outcome H e room (ImportCase force h x) a = a
-one-outcome H e room (ExportCase h f refname n) a = a
-one-outcome H e room (PushCase h f refname n p) a = a
-one-outcome H e room (NameCase f refname x) a = a
-one-outcome H e room (RuleCase h k) a = a
+one-outcome H e room _ a = a
 
 pub refused-outcome : (H : Object → Type 0) (e : Outcome) (room : Room) (r : Result Case Outcome) → IsOutcome H e (step_in room r) → IsOutcome H e (r >>= made room)
 refused-outcome H e room (Ok c) a = one-outcome H e room c a
 refused-outcome H e room (Err x) a = a
+
+-- the step of a plan is done
+pub plan-allowed : (room : Room) (r : Result Case Outcome) (p : Plan) → IsPlanned room r p → IsOk (r >>= made room)
+plan-allowed room r p w =
+    refused-outcome (λ (x : Object). ⊥) Done room r (subst (λ (s : Result Made Outcome). IsOk s) (sym (ap (step_in room) w.came_up ∙ w.done)) refl)
+
+-- what came of writing the report has an outcome of the step
+pub form-allowed : (H : Object → Type 0) (room : Room) (r : Result Case Outcome) (o q : SinkView) (result : Result Bytes Outcome) (outcome : Outcome) → IsReported H (step_in room r) result
+    → ((report : Bytes) → result ≡ Ok report → IsSent outcome report o q) → ((e : Outcome) → result ≡ Err e → (outcome ≡ e) × (q ≡ o)) → IsOutcome H outcome (r >>= made room)
+form-allowed H room r o q (Ok report) outcome told sent refused = refused-outcome H outcome room r (by (step_in room r) told)
+  where
+    by : (s : Result Made Outcome) → IsReported H s (Ok report) → IsOutcome H outcome s
+    by (Ok m) w = sent-outcome H report o q outcome m (sent report refl)
+    by (Err e) w = absurd w
+form-allowed H room r o q (Err e) outcome told sent refused =
+    subst (λ (x : Outcome). IsOutcome H x (r >>= made room)) (sym (refused e refl).0)
+    (refused-outcome H e room r (refusal-outcome H e (step_in room r) (refusal-of H (step_in room r) e told)))
 
 own-of : (items : List Bytes) (room : Room) (r : Result Case Outcome) → ArePlanned items (option_to_list (result_ok r)) (r >>= made room) (own_plan (r >>= made room))
 own-of items room (Ok c) = own-planned items room c
@@ -92,9 +105,6 @@ module _ (law : RecallLaw) (asked : Command) (items : List Bytes) (all : Bytes) 
   idle-answer : (q : SinkView) (e : Outcome) → q ≡ o → IsRefusal (IsInHands (hands_of (case asked (loaded items) all))) e (step_in (room_of items) (case asked (loaded items) all)) → KeepsItems k l
       → IsAnswered asked items all (before i j o q k l) (after i j o q k l) e
   idle-answer q e same h g = subst (λ (x : SinkView). IsAnswered asked items all (before i j o x k l) (after i j o x k l) e) (sym same) (record {
-    allowed =
-        refused-outcome (IsInHands (hands_of (case asked (loaded items) all))) e (room_of items) (case asked (loaded items) all)
-        (refusal-outcome (IsInHands (hands_of (case asked (loaded items) all))) e (step_in (room_of items) (case asked (loaded items) all)) h);
     plan = own_plan (step asked items all);
     planned = own-of items (room_of items) (case asked (loaded items) all);
     delivered =
@@ -107,7 +117,6 @@ module _ (law : RecallLaw) (asked : Command) (items : List Bytes) (all : Bytes) 
   fault-answer : (q : SinkView) (p : Plan) → q ≡ o → IsFormPlanned (room_of items) (case asked (loaded items) all) p → ((h : Held) → read_items items ≡ Ok h → IsGoodPlan items h (room_of items) p)
       → KeepsItems k l ⊎ GetsItems (plan_items p) k l → IsAnswered asked items all (before i j o q k l) (after i j o q k l) StoreFault
   fault-answer q p same w good g = subst (λ (x : SinkView). IsAnswered asked items all (before i j o x k l) (after i j o x k l) StoreFault) (sym same) (record {
-    allowed = tt;
     plan = p;
     planned = plan-planned law asked items all kept p w;
     delivered =
@@ -125,9 +134,6 @@ module _ (law : RecallLaw) (asked : Command) (items : List Bytes) (all : Bytes) 
   sent-answer : (q : SinkView) (p : Plan) (report : Bytes) (outcome : Outcome) → IsFormMade (case asked (loaded items) all) items k l p (Ok report) → IsSent outcome report o q
       → IsAnswered asked items all (before i j o q k l) (after i j o q k l) outcome
   sent-answer q p report outcome f sent = record {
-    allowed =
-        subst (IsOutcome (IsInHands (hands_of (case asked (loaded items) all))) outcome) (sym done)
-        (sent-outcome (IsInHands (hands_of (case asked (loaded items) all))) report o q outcome f.planned.planned.step sent);
     plan = p;
     planned = plan-planned law asked items all kept p f.planned;
     delivered =

@@ -17,7 +17,7 @@ use Rattle.proj_words.specs.declared.outcome.Outcome.{Outcome}
 use Rattle.proj_words.specs.declared.outcome.Outcome.TheVariants.{Done, Limit, OutOfMemory, ReadFault, Syntax, WriteFault, StoreFault}
 use Rattle.proj_cli.specs.Answers.{GetsAll}
 use Rattle.proj_cli.specs.Batches.{BatchLeaves, all_turns, HasRun, IsBatchAnswer, IsBatchBy, IsEnded, IsLeftBy, IsRun, IsUnbegun, IsUnread}
-use Rattle.proj_cli.specs.Cases.{break_outcome, loaded}
+use Rattle.proj_cli.specs.Cases.{break_outcome, is_verdict, loaded}
 use Rattle.proj_cli.specs.Forms.{IsEarly}
 use Rattle.proj_cli.specs.Stopped.{ForInput}
 use Rattle.proj_cli.specs.Turns.{Turn, appended, begun, loading}
@@ -49,7 +49,7 @@ module _ (items : List Bytes) (i j : SourceView) (o : SinkView) (k l : KeeperVie
     ended = ended-early es outcome w;
     got = got-none k l kept;
     safe = tt;
-    in_turn = λ h is. (tt, tt);
+    in_turn = (tt, tt);
   }
   batch-early (Err x) outcome w = (unbegun x outcome w, (Keeps-refl o.written, kept))
 
@@ -127,6 +127,11 @@ unread-write left e (inl m) f = let no : OutOfMemory ≡ WriteFault = sym m ∙ 
 unread-write left e (inr (inl r)) f = let no : ReadFault ≡ WriteFault = sym r ∙ f in cc
 unread-write left e (inr (inr (l, w))) f = let no : Limit limits.Input None ≡ WriteFault = sym l ∙ f in cc
 
+pub unread-other : (left : Option Bytes) (e : Outcome) → IsUnread left e → is_verdict e ≡ false
+unread-other left e (inl m) = ap is_verdict m
+unread-other left e (inr (inl r)) = ap is_verdict r
+unread-other left e (inr (inr (l, w))) = ap is_verdict l
+
 pub unread-run : (items : List Bytes) (i j : SourceView) (o : SinkView) (k l : KeeperView) → KeepsItems k l → (e : Outcome) → IsUnread i.left e
     → ForInput i.left (λ all. IsBatchBy items (begun items all) (before i j o o k l) (after i j o o k l) e)
 unread-run items i j o k l kept e (inl m) = for-every i.left _ (λ all. batch-early items i j o k l kept (begun items all) e (inl m))
@@ -146,6 +151,12 @@ entry-own e own = (
   λ f. true≢false (sym own ∙ ap is_entry_fault f),
   λ f. true≢false (sym own ∙ ap is_entry_fault f),
 )
+
+-- nor of words or of a filter
+pub entry-verdict : (e : Outcome) → is_entry_fault e ≡ true → is_verdict e ≡ false
+entry-verdict OutOfMemory own = refl
+entry-verdict (Syntax at) own = refl
+entry-verdict _ own = absurd (true≢false (sym own))
 
 -- ---- what was read whole, or not
 
@@ -216,10 +227,11 @@ pub leaves-run : (items : List Bytes) (b : Result (List Entry) Outcome) (es : Li
 leaves-run items b es e list w = subst (λ (x : Result (List Entry) Outcome). BatchLeaves items x list) (sym e) w
 
 -- nothing was written, and no entry begun
-pub early-answer : (i j : SourceView) (o : SinkView) (k l : KeeperView) (outcome : Outcome) → Counts i.faults j.faults (outcome ≡ ReadFault) → Counts k.faults l.faults (outcome ≡ StoreFault) → outcome ≢ WriteFault
+pub early-answer : (i j : SourceView) (o : SinkView) (k l : KeeperView) (outcome : Outcome) → Counts i.faults j.faults (outcome ≡ ReadFault) → Counts k.faults l.faults (outcome ≡ StoreFault) → outcome ≢ WriteFault → is_verdict outcome ≡ false
     → ((items : List Bytes) → k.items ≡ Some items → ForInput i.left (λ all. IsBatchBy items (begun items all) (before i j o o k l) (after i j o o k l) outcome))
     → IsBatchAnswer (before i j o o k l) (after i j o o k l) outcome
-early-answer i j o k l outcome read keep write run = record {
+early-answer i j o k l outcome read keep write judged run = record {
+  judged = judged;
   cause = record { read = read; write = counts-without o.faults o.faults (outcome ≡ WriteFault) (omega arith) write; keep = keep; memory = omega arith };
   run = λ items told. has-run items i j o o k l outcome (run items told);
 }

@@ -1,5 +1,5 @@
 -- Entries that are answered one after another are a run of a batch.
-use Rattle.std.proofs.Common.{◌≡◌, ◌≢◌, ◌⊎◌, inl, inr, ◌+◌, ◌++◌, ◌≤◌, ◌<◌, ℕ, zero, suc, List, [], ◌∷◌, map, take, drop, length, append-nil, append_assoc, length-append, Option, None, Some, refl, sym, ap, subst, ◌∙◌, arith}
+use Rattle.std.proofs.Common.{◌≡◌, ◌≢◌, ◌⊎◌, inl, inr, ◌+◌, ◌++◌, ◌≤◌, ◌<◌, ℕ, zero, suc, false, List, [], ◌∷◌, map, take, drop, length, append-nil, append_assoc, length-append, Option, None, Some, refl, sym, ap, subst, ◌∙◌, arith}
 use Rattle.std.specs.Prelude.{Contains, get_or}
 use Rattle.std.specs.Io.KnownBytes.{Appends}
 use Rattle.std.proofs.KnownBytes.{Appends-kept, Appends-nil, Appends-trans}
@@ -17,10 +17,10 @@ use Rattle.repo_ground.proofs.Stopping.{adds_none}
 use Rattle.proj_words.specs.Entries.{Entry}
 use Rattle.proj_words.specs.declared.outcome.Outcome.{Outcome}
 use Rattle.proj_words.specs.declared.outcome.Outcome.TheVariants.{Done, OutOfMemory, ReadFault, WriteFault, StoreFault}
-use Rattle.proj_cli.specs.Answers.{GetsAll}
+use Rattle.proj_cli.specs.Answers.{Devices, GetsAll}
+use Rattle.proj_cli.specs.Cases.{is_verdict}
 use Rattle.proj_cli.specs.Batches.{BeganReply, IsLeftBy, IsRun, RepliesUnlessFailed}
 use Rattle.proj_cli.specs.Makes.{IsStateOf}
-use Rattle.proj_cli.specs.Plans.{AreKept}
 use Rattle.proj_cli.specs.Running.{BeganTurn, IsBehind, IsEntryAnswered, IsStateBehind, IsTurnOf, IsTurnStop}
 use Rattle.proj_cli.specs.Turns.{AreTurns, IsSafeTurn, IsTurn, Turn, appended, entries_of, items_after, turn_text, turn_texts}
 use Rattle.proj_cli.proofs.Delivering.{after, before}
@@ -100,7 +100,7 @@ pub record IsUnderway (items : List Bytes) (all es : List Entry) (s : Contents) 
   pub wrote : Appends o.written q.written (turn_texts turns)
   pub got : GotAll (appended turns) k l
   pub safe : AreTurns (IsSafeTurn items) turns
-  pub in_turn : (h : Held) → AreKept items h → AreTurns (IsTurn items) turns × ((g : Held) × AreKept (items_after items turns) g)
+  pub in_turn : AreTurns (IsTurn items) turns
   pub stops : k.items ≡ Some items → Adds (IsLeftBy items all)
 
 pub under-way : (items : List Bytes) (all : List Entry) (h : Held) (s : Contents) (o : SinkView) (k : KeeperView) (a : ℕ) (x : ℕ → List Bytes → Type 0) → IsStateOf items h s → s.basis.store ≡ h.objects
@@ -112,7 +112,7 @@ under-way items all h s o k a x state only = record {
   wrote = Appends-nil o.written;
   got = got-none k k (refl, Stays-self k.items);
   safe = tt;
-  in_turn = λ g kept. (tt, (g, kept));
+  in_turn = tt;
   stops = λ told. adds_none a x (IsLeftBy items all);
 }
 
@@ -139,14 +139,14 @@ module _ (items : List Bytes) (all es later : List Entry) (e : Entry) (split : a
 
   left-by : (list : List Bytes) → IsTurnStop items u.turns e list → IsLeftBy items all list
   left-by list (inl was) =
-      record { turns = u.turns; left = e ∷ later; front = front-still; behind = was; safe = u.safe; in_turn = λ h kept. (u.in_turn h kept).0 }
+      record { turns = u.turns; left = e ∷ later; front = front-still; behind = was; safe = u.safe; in_turn = u.in_turn }
   left-by list (inr (t, same, is, behind)) = record {
     turns = t ∷ u.turns;
     left = later;
     front = front-more t same;
     behind = behind;
     safe = (u.safe, is.safe);
-    in_turn = λ h kept. let p = u.in_turn h kept in (p.0, is.in_turn p.1.0 p.1.1);
+    in_turn = (u.in_turn, is.in_turn);
   }
 
   pub adds-more : (n.items ≡ Some (items_after items u.turns) → OnlyAdds b c y z (IsTurnStop items u.turns e)) → k.items ≡ Some items → OnlyAdds a c x z (IsLeftBy items all)
@@ -164,7 +164,7 @@ module _ (items : List Bytes) (all es later : List Entry) (e : Entry) (split : a
     wrote = Appends-trans o.written m.written q.written (turn_texts u.turns) (turn_text h.turn) u.wrote wrote;
     got = got-on k n l (appended u.turns) h.turn.appended u.got h.got;
     safe = (u.safe, h.is.safe);
-    in_turn = λ f kept. let p = u.in_turn f kept in ((p.0, h.is.in_turn p.1.0 p.1.1), h.is.kept p.1.0 p.1.1);
+    in_turn = (u.in_turn, h.is.in_turn);
     stops = adds-more adds;
   }
 
@@ -185,7 +185,7 @@ module _ (items : List Bytes) (all es later : List Entry) (e : Entry) (split : a
       ended = (omega (arith, refusals, rose), is.whole, began t front);
       got = got-on k n l (appended u.turns) t.appended u.got got;
       safe = (u.safe, is.safe);
-      in_turn = λ h kept. let p = u.in_turn h kept in (p.0, inl (is.in_turn p.1.0 p.1.1));
+      in_turn = (u.in_turn, inl is.in_turn);
     })
     ended t same is got outcome (inr is_write) front = subst (IsRun items all (before i j o q k l) (after i j o q k l)) (sym is_write) (record {
       turns = u.turns;
@@ -195,7 +195,7 @@ module _ (items : List Bytes) (all es later : List Entry) (e : Entry) (split : a
       ended = (is.whole, began t front);
       got = got-on k n l (appended u.turns) t.appended u.got got;
       safe = (u.safe, is.safe);
-      in_turn = λ h kept. let p = u.in_turn h kept in (p.0, inl (is.in_turn p.1.0 p.1.1));
+      in_turn = (u.in_turn, inl is.in_turn);
     })
 
     unless-failed : (t : Turn) → (¬ Rose m.faults q.faults → ¬ Rose m.refusals q.refusals → Appends m.written q.written (turn_text t)) → RepliesUnlessFailed u.turns t (before i j o q k l) (after i j o q k l)
@@ -212,7 +212,7 @@ module _ (items : List Bytes) (all es later : List Entry) (e : Entry) (split : a
       ended = Appends-kept o.written m.written q.written (turn_texts u.turns) u.wrote idle.0;
       got = got-still k n l (appended u.turns) u.got idle.1;
       safe = u.safe;
-      in_turn = λ h kept. ((u.in_turn h kept).0, tt);
+      in_turn = (u.in_turn, tt);
     }
     stopped OutOfMemory apart (inr (rose, (h, front))) = ended h.turn h.entry h.is h.got OutOfMemory (inl (refl, rose)) front
     stopped WriteFault apart (h, front) = ended h.turn h.entry h.is h.got WriteFault (inr refl) front
@@ -224,7 +224,7 @@ module _ (items : List Bytes) (all es later : List Entry) (e : Entry) (split : a
       ended = (h.is.fault, began h.turn front, unless-failed h.turn whole);
       got = got-on k n l (appended u.turns) h.turn.appended u.got h.got;
       safe = (u.safe, h.is.safe);
-      in_turn = λ g kept. let p = u.in_turn g kept in (p.0, inr (h.is.broken p.1.0 p.1.1));
+      in_turn = (u.in_turn, inr h.is.broken);
     }
     stopped _ apart answered = absurd answered
 
@@ -239,8 +239,16 @@ run-done items all es s i j o q k l Adds u same = record {
   ended = (refl, u.wrote);
   got = u.got;
   safe = u.safe;
-  in_turn = λ h kept. ((u.in_turn h kept).0, tt);
+  in_turn = (u.in_turn, tt);
 }
+
+-- how an entry may end it
+entry-other : (items : List Bytes) (ts : List Turn) (e : Entry) (s : Contents) (b a : Devices) (outcome : Outcome) → IsEntryAnswered items ts e s b a outcome → is_verdict outcome ≡ false
+entry-other items ts e s b a Done h = refl
+entry-other items ts e s b a OutOfMemory h = refl
+entry-other items ts e s b a WriteFault h = refl
+entry-other items ts e s b a StoreFault h = refl
+entry-other items ts e s b a _ h = absurd h
 
 -- ---- the loop over the entries
 
@@ -298,6 +306,12 @@ module _ (all es later : List Entry) (e : Entry) (split : all ≡ es ++ e ∷ la
   answered-stops items h state only told =
       let u = w.underway items h state only in
       adds-more items all es later e split s' t none_left none_left o m q k n l a b c x y z u (stops items u.turns u.behind) told
+
+  -- no entry ends a batch with a refusal of words or of a filter
+  pub answered-other : IsFresh s → is_verdict outcome ≡ false
+  answered-other (items, h, state, only) =
+      let u = w.underway items h state only in
+      entry-other items u.turns e t (before none_left none_left m q n l) (after none_left none_left m q n l) outcome (answered items u.turns none_left none_left u.behind)
 
   -- no entry is at fault of the input
   pub answered-early : IsFresh s → outcome ≢ ReadFault

@@ -16,15 +16,15 @@ use Rattle.state_items.specs.Repos.{repo}
 use Rattle.state_items.specs.Changes.{KeepPlan, NoPlan, Plan, Room, fresh, held_after, objects_of, passed_by_objects, room_of}
 use Rattle.state_items.proofs.ReadObjects.{ok-same, value-of}
 use Rattle.import_laws.specs.Bases.{base_of}
-use Rattle.proj_words.specs.Words.{Command, Import, Project, Push, Export, Name, Batch, Trial, Rule, Unknown, loads}
+use Rattle.proj_words.specs.Words.{Command, Import, Project, Push, Export, Name, Batch, Trial, Rule, Unknown, writes}
 use Rattle.proj_words.specs.declared.outcome.Outcome.{Outcome}
-use Rattle.proj_cli.specs.Answers.{ArePlanned, IsSameState, changes_state}
-use Rattle.proj_cli.specs.Cases.{Case, ImportCase, ProjectCase, ExportCase, PushCase, NameCase, RuleCase, Made, break_outcome, case, head_of, loaded, made, name_line, no_limit, streamed, unchanged}
+use Rattle.proj_cli.specs.Answers.{ArePlanned, IsRecalledLine, IsSameState, changes_state}
+use Rattle.proj_cli.specs.Cases.{Case, ImportCase, ProjectCase, ExportCase, PushCase, NameCase, RuleCase, Made, break_outcome, head_of, loaded, no_limit, streamed, unchanged}
+use Rattle.proj_cli.specs.Steps.{case, made, hand, IsLawful, IsPlanOf}
+use Rattle.proj_cli.specs.Project.{name_line, IsKeepPlan}
 use Rattle.proj_cli.specs.Filters.{entries_of, projected, projection, recalled, rule_by, sound}
-use Rattle.proj_cli.specs.Hands.{hand}
-use Rattle.proj_cli.specs.Lawful.{IsLawful}
 use Rattle.proj_cli.specs.Makes.{IsKeepOf, IsKeepPlanOf, IsPlanIn, recalled_made}
-use Rattle.proj_cli.specs.Plans.{AreKept, IsKeepPlan, IsPlanOf, RecallLaw}
+use Rattle.proj_cli.specs.Plans.{HoldWhatTheyShould, RecallLaw, recalls}
 use Rattle.proj_cli.proofs.RecalledTexts.{recalled-same}
 
 -- ---- where a case comes from
@@ -98,21 +98,13 @@ name-plan room f refname x m g =
 pub name-made-plan : (room : Room) (f : Filter) (refname : Bytes) (x : Ran StreamFault) (m : Made) → made room (NameCase f refname x) ≡ Ok m → NoPlan ≡ m.plan
 name-made-plan room f refname x m g = sym (name-plan room f refname x m g)
 
--- items of which what is held is kept, where a form loads it
-abbrev pub HoldWhatTheyShould : Command → List Bytes → Type 0
-HoldWhatTheyShould asked items = (h : Held) → loads asked ≡ true → read_items items ≡ Ok h → AreKept items h
-
 module _ (law : RecallLaw) (asked : Command) (items : List Bytes) (kept : HoldWhatTheyShould asked items) where
   project-same : (h : Held) (f : Filter) (n : Bytes) → IsProject asked items h f → IsStore h.objects → recalled (entries_of h f) h.rule f (repo h).commits n ≡ projected h f n
-  project-same h f n w store = recalled-same law items h w.text f n (kept h (ap loads w.asked_is) w.read) store w.sound_is
+  project-same h f n w store = recalled-same law items h w.text f n (kept h (ap recalls w.asked_is) w.read) store w.sound_is
 
   pub recalled-made : (room : Room) (c : Case) → IsFrom asked items c → IsStore (hand c).held → recalled_made room c ≡ made room c
   recalled-made room (ProjectCase h f n) w store = ap (λ (p : Option Shown). Ok (unchanged h (name_line p))) (project-same h f n w store)
-  recalled-made room (ImportCase force h x) w store = refl
-  recalled-made room (ExportCase h f refname n) w store = refl
-  recalled-made room (PushCase h f refname n p) w store = refl
-  recalled-made room (NameCase f refname x) w store = refl
-  recalled-made room (RuleCase h k) w store = refl
+  recalled-made room _ w store = refl
 
   keep-plan : (h : Held) (f : Filter) (n : Bytes) (p : Plan) → IsProject asked items h f → IsStore h.objects → IsKeepPlanOf h f n (room_of items) p → IsKeepPlan h f items p
   keep-plan h f n p w store k = by k.plan
@@ -132,19 +124,15 @@ module _ (law : RecallLaw) (asked : Command) (items : List Bytes) (kept : HoldWh
 
   pub kept-plan : (c : Case) (m : Made) (p : Plan) → IsFrom asked items c → IsStore (hand c).held → IsPlanIn (room_of items) c m p → IsPlanOf items c m p
   kept-plan (ProjectCase h f n) m p w store k = keep-plan h f n p w store k
-  kept-plan (ImportCase force h x) m p w store k = k
-  kept-plan (ExportCase h f refname n) m p w store k = k
+  kept-plan (ExportCase h f refname n) m p w store k = k.0
   kept-plan (PushCase h f refname n x) m p w store k = k.0
-  kept-plan (NameCase f refname x) m p w store k = k
-  kept-plan (RuleCase h j) m p w store k = k
+  kept-plan _ m p w store k = k
 
 pub lawful-plan : (items : List Bytes) (c : Case) (m : Made) (p : Plan) → IsPlanIn (room_of items) c m p → IsLawful items p c
 lawful-plan items (ProjectCase h f n) m p k = k.holds
-lawful-plan items (ImportCase force h x) m p k = tt
-lawful-plan items (ExportCase h f refname n) m p k = tt
+lawful-plan items (ExportCase h f refname n) m p k = k.1
 lawful-plan items (PushCase h f refname n x) m p k = k.1
-lawful-plan items (NameCase f refname x) m p k = tt
-lawful-plan items (RuleCase h j) m p k = tt
+lawful-plan items _ m p k = tt
 
 -- ---- forms that leave the state
 
@@ -165,10 +153,35 @@ pub stays-plan : (asked : Command) (items : List Bytes) (room : Room) (c : Case)
     → changes_state asked ≡ false → (h : Held) → IsSameState h (held_after h p)
 stays-plan asked items room (ProjectCase g f n) m p w done k leaves h = same-kept g h f n room p k
 stays-plan asked items room (ImportCase force g x) m p w done k leaves h = no-change asked w leaves
-stays-plan asked items room (ExportCase g f refname n) m p w done k leaves h = same-none h p (k ∙ sym (ap (λ (y : Made). y.plan) (ok-same _ m done)))
+stays-plan asked items room (ExportCase g f refname n) m p w done k leaves h = same-none h p (k.0 ∙ sym (ap (λ (y : Made). y.plan) (ok-same _ m done)))
 stays-plan asked items room (PushCase g f refname n x) m p w done k leaves h = no-change asked w leaves
 stays-plan asked items room (NameCase f refname x) m p w done k leaves h = same-none h p (k ∙ name-plan room f refname x m done)
 stays-plan asked items room (RuleCase g j) m p w done k leaves h = no-change asked w leaves
+
+-- ---- forms that don't write
+
+-- a form that may change the state may append
+may-write : (asked : Command) → changes_state asked ≡ true → writes asked ≡ true
+may-write (Project r t) e = refl
+may-write asked e = e
+
+no-write : {A : Type 0} (asked : Command) → writes asked ≡ true → writes asked ≡ false → A
+no-write asked t f = absurd (true≢false (sym t ∙ f))
+
+pub unwritten-plan : (asked : Command) (items : List Bytes) (room : Room) (c : Case) (m : Made) (p : Plan) → IsFrom asked items c → recalled_made room c ≡ Ok m → IsPlanIn room c m p
+    → writes asked ≡ false → p ≡ NoPlan
+unwritten-plan asked items room (ProjectCase g f n) m p w done k none = no-write asked (ap writes w.asked_is) none
+unwritten-plan asked items room (ImportCase force g x) m p w done k none = no-write asked (may-write asked w) none
+unwritten-plan asked items room (ExportCase g f refname n) m p w done k none = k.0 ∙ sym (ap (λ (y : Made). y.plan) (ok-same _ m done))
+unwritten-plan asked items room (PushCase g f refname n x) m p w done k none = no-write asked (may-write asked w) none
+unwritten-plan asked items room (NameCase f refname x) m p w done k none = k ∙ name-plan room f refname x m done
+unwritten-plan asked items room (RuleCase g j) m p w done k none = no-write asked (may-write asked w) none
+
+-- ---- a projection's line
+
+pub recalled-line : (room : Room) (c : Case) (m : Made) (out : Bytes) → recalled_made room c ≡ Ok m → m.output ≡ out → IsRecalledLine (Ok c) (λ line. out ≡ line)
+recalled-line room (ProjectCase h f n) m out done same = sym same ∙ sym (ap (λ (y : Made). y.output) (ok-same _ m done))
+recalled-line room _ m out done same = tt
 
 -- ---- a step's own plan
 

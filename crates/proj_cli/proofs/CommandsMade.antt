@@ -1,14 +1,17 @@
 -- What a command makes of a state: of its case, or of the refusal before one.
-use Rattle.std.proofs.Common.{◌≡◌, ◌≢◌, ◌⊎◌, inl, inr, ℕ, true, false, List, [], ◌++◌, Option, Some, Result, Ok, Err, append-nil, refl, sym, ap, subst, subst₂, ◌∙◌, true≢false, arith}
+use Rattle.std.proofs.Common.{◌≡◌, ◌≢◌, inr, ℕ, true, false, List, [], ◌++◌, All, Option, Some, Result, Ok, Err, append-nil, refl, sym, ap, subst, subst₂, ◌∙◌, true≢false, arith}
+use Rattle.std.proofs.lemmas.List.Elements.{All-head}
 use Rattle.std.proofs.lemmas.Option.{same_Some}
 use Rattle.std.specs.Io.KnownBytes.{Appends}
-use Rattle.std.specs.Result.{IsErrAnd}
+use Rattle.std.specs.Option.{option_to_list}
+use Rattle.std.specs.Result.{result_ok}
 use Rattle.git_objects.specs.Paths.{Bytes}
 use Rattle.git_objects.specs.Results.{◌>>=◌}
 use Rattle.object_store.specs.Growth.{IsGrownBy}
 use Rattle.object_store.specs.Objects.{Object}
 use Rattle.object_store.proofs.Growth.{grown_self}
 use Rattle.filter_text.specs.Filters.{Filter}
+use Rattle.fast_import.specs.Replays.{empty_base, ran}
 use Rattle.fast_export.specs.ExportTexts.{export_text}
 use Rattle.proj_io.specs.Counts.{Counts}
 use Rattle.proj_io.specs.HeldBytes.{held_bytes}
@@ -22,38 +25,37 @@ use Rattle.repo_ground.specs.Contents.{Contents, room_in}
 use Rattle.repo_ground.specs.Selecting.{IsPutAway}
 use Rattle.repo_ground.proofs.GroundLaws.{ground-away}
 use Rattle.repo_ground.proofs.Stopping.{adds_none}
-use Rattle.proj_words.specs.Words.{Command, Name, loads}
+use Rattle.proj_words.specs.Words.{Command, loads}
 use Rattle.proj_words.specs.declared.outcome.Outcome.{Outcome}
-use Rattle.proj_words.specs.declared.outcome.Outcome.TheVariants.{Done, OutOfMemory, ReadFault, StoreFault, Usage, WriteFault}
-use Rattle.proj_cli.specs.Cases.{Case, ExportCase, Made, case, export_case, head_of, loaded, unchanged}
-use Rattle.proj_cli.specs.Filters.{history, sound}
-use Rattle.proj_cli.specs.Forms.{FormPlan, IsBeforeDevices, IsEarly, IsFormMade}
+use Rattle.proj_words.specs.declared.outcome.Outcome.TheVariants.{Done, OutOfMemory, ReadFault, StoreFault, WriteFault}
+use Rattle.proj_cli.specs.Cases.{Case, ExportCase, Made, NameCase, head_of, unchanged}
+use Rattle.proj_cli.specs.Steps.{case, IsLawful}
+use Rattle.proj_cli.specs.Export.{export_case}
+use Rattle.proj_cli.specs.Filters.{history}
+use Rattle.proj_cli.specs.Forms.{FormPlan, IsFormMade}
 use Rattle.proj_cli.specs.Hands.{IsInHands}
-use Rattle.proj_cli.specs.Makes.{IsAtHand, IsExported, IsFlowed, IsMadeOf, IsPlanned, IsRefusal, IsReported, IsStateAfter, IsStateOf, PlansFor, hands_of, step_in}
+use Rattle.proj_cli.specs.Judging.{IsJudged, IsUnjudged}
+use Rattle.proj_cli.specs.Makes.{IsAtHand, IsExported, IsFlowed, IsMadeOf, IsPlanned, IsRefusal, IsReportOf, IsReported, IsStateAfter, IsStateOf, PlansFor, hands_of, step_in}
 use Rattle.proj_cli.specs.Running.{IsCommandMade}
+use Rattle.proj_cli.specs.declared.judging.Judged.{Judged}
 use Rattle.proj_cli.proofs.Committing.{good-none, keeps-self, none-planned, none-stored, state-stays, stop-as}
 use Rattle.proj_cli.proofs.ExportAnswers.{not-store}
 use Rattle.proj_cli.proofs.Forming.{reported-at, twice-at}
-use Rattle.proj_cli.proofs.Opening.{Casing}
-use Rattle.proj_cli.proofs.Refusing.{IsOwn, early-refusal, own-before, own-counts, reported-err, sound-own, unsound-own}
+use Rattle.proj_cli.proofs.Judged.{case-upon, is_stored, judged-loads, upon}
+use Rattle.proj_cli.proofs.NameForms.{named-made}
+use Rattle.proj_cli.proofs.Refusing.{reported-err, unjudged-refusal}
 use Rattle.proj_cli.proofs.StatesAfter.{room-same}
 
 -- ---- cases
 
--- the case of a filter and a ref is that of their texts
-pub cased : (K : Casing) (refname text r : Bytes) (f : Filter) (h : Held) → r ≡ refname → sound text ≡ Ok f → K r f h ≡ (sound text >>= λ g. K refname g h)
-cased K refname text r f h named judged =
-    ap (λ (x : Bytes). K x f h) named ∙ sym (ap (λ (s : Result Filter Outcome). s >>= λ g. K refname g h) judged)
-
--- A command that loads has made what was made of its case.
-pub case-made : (asked : Command) (all : Bytes) (items : List Bytes) (h : Held) (s s' : Contents) (k l : KeeperView) (a b : ℕ) (x y : ℕ → List Bytes → Type 0) (result : Result Bytes Outcome) → loads asked ≡ true
-    → (r : Result Case Outcome) → r ≡ case asked (Ok h) all → (p : Plan) → IsMadeOf r items h s s' k l p result → OnlyAdds a b x y (IsStopOf h s p k.items)
-    → IsCommandMade asked all items h s s' k l (OnlyAdds a b x y) result
-case-made asked all items h s s' k l a b x y result loading r is p made stops = record {
+-- A command that is performed upon what is loaded has made what was made of its case.
+pub performed : (asked : Command) (j : Judged) → IsJudged asked j → is_stored j ≡ true → (all : Bytes) (items : List Bytes) (h : Held) (s s' : Contents) (k l : KeeperView) (a b : ℕ) (x y : ℕ → List Bytes → Type 0) (result : Result Bytes Outcome)
+    → (p : Plan) → IsMadeOf (upon j h all) items h s s' k l p result → OnlyAdds a b x y (IsStopOf h s p k.items) → IsCommandMade asked all items h s s' k l (OnlyAdds a b x y) result
+performed asked j w is all items h s s' k l a b x y result p made stops = record {
   plan = p;
-  made = subst (λ (q : Result Case Outcome). IsMadeOf q items h s s' k l p result) is made;
+  made = subst (λ (q : Result Case Outcome). IsMadeOf q items h s s' k l p result) (sym (case-upon asked j w h all)) made;
   stops = stops;
-  unloaded = λ no. absurd (true≢false (sym loading ∙ no));
+  unloaded = λ no. absurd (true≢false (sym (judged-loads asked j w is) ∙ no));
 }
 
 -- A command that appends nothing has made what was made of its case.
@@ -62,11 +64,6 @@ pub still-made : (asked : Command) (all : Bytes) (items : List Bytes) (h : Held)
     → IsMadeOf (case asked (Ok h) all) items h s s' k k NoPlan result → IsCommandMade asked all items h s s' k k (OnlyAdds a a x x) result
 still-made asked all items h s s' k a x result unloaded made =
     record { plan = NoPlan; made = made; stops = adds_none a x (IsStopOf h s NoPlan k.items); unloaded = unloaded }
-
--- What holds of a refusal holds of the result to which it is handed on.
-pub handed : (Says : Result Bytes Outcome → Type 0) (result : Result Bytes Outcome) (e : Outcome) → IsErrAnd result (λ x. x ≡ e) → Says (Err e) → Says result
-handed Says (Ok report) e is says = absurd is
-handed Says (Err x) e is says = subst (λ (d : Outcome). Says (Err d)) (sym is) says
 
 -- no device is at fault in a result
 abbrev pub IsQuietMade : Result Bytes Outcome → Type 0
@@ -80,15 +77,6 @@ told-same e x g = cc
 
 pub quiet-made : (e : Outcome) → e ≢ WriteFault → e ≢ ReadFault → e ≢ StoreFault → IsQuietMade (Err e)
 quiet-made e write read store = (λ g. write (told-same e WriteFault g), λ g. read (told-same e ReadFault g), λ g. store (told-same e StoreFault g))
-
-pub own-quiet : (result : Result Bytes Outcome) (e : Outcome) → IsErrAnd result (λ x. x ≡ e) → IsOwn e → IsQuietMade result
-own-quiet result e is own = handed IsQuietMade result e is (quiet-made e own.write own.read own.store)
-
-pub own-first : (result : Result Bytes Outcome) (e : Outcome) → IsErrAnd result (λ x. x ≡ e) → IsOwn e → IsBeforeDevices result
-own-first result e is own = handed IsBeforeDevices result e is (own-before e own)
-
-pub own-count : (n : ℕ) (result : Result Bytes Outcome) (e : Outcome) → IsErrAnd result (λ x. x ≡ e) → IsOwn e → Counts n n (result ≡ Err StoreFault)
-own-count n result e is own = handed (λ (x : Result Bytes Outcome). Counts n n (x ≡ Err StoreFault)) result e is (own-counts n e own)
 
 pub never-counts : (n : ℕ) (result : Result Bytes Outcome) → result ≢ Err StoreFault → Counts n n (result ≡ Err StoreFault)
 never-counts n result apart = record { later = omega arith; rose = λ e. absurd (apart e) }
@@ -107,60 +95,25 @@ module _ (items : List Bytes) (h : Held) (s : Contents) (w : IsStateOf items h s
   self-grown : (r : Result Case Outcome) → IsGrownBy (IsInHands (hands_of r)) s.basis.store s.basis.store
   self-grown r = grown_self (IsInHands (hands_of r)) s.basis.store w.ground.graph.store
 
-  -- A filter's text is refused, or there was no memory.
-  pub text-refused : (rest : Filter → Result Case Outcome) (text : Bytes) (e : Outcome) → (e ≡ OutOfMemory) ⊎ (sound text ≡ Err e) → (k : KeeperView)
-      → IsMadeOf (sound text >>= rest) items h s s k k NoPlan (Err e)
-  text-refused rest text e why k = record {
-    reported =
-        reported-err (IsAtHand s.basis.store (sound text >>= rest)) (step_in (room_in s) (sound text >>= rest)) e
-        (early-refusal (IsAtHand s.basis.store (sound text >>= rest)) (step_in (room_in s) (sound text >>= rest)) (sound text) e
-        (λ g. (ap (λ (q : Result Filter Outcome). step_in (room_in s) (q >>= rest)) g, sound-own text e g)) (early why));
-    planned = none-planned (room_in s) (sound text >>= rest) e (unsound-own text e why).store;
-    good = good-none items h (room_in s);
-    stored = none-stored e NoPlan k k (unsound-own text e why).store (keeps-self k);
-    state = state-stays items h s e w;
-    grown = self-grown (sound text >>= rest);
+  -- The command is refused by judging.
+  pub unjudged-command : (asked : Command) (all : Bytes) (e : Outcome) → IsUnjudged asked e → (k : KeeperView) (a : ℕ) (x : ℕ → List Bytes → Type 0)
+      → IsCommandMade asked all items h s s k k (OnlyAdds a a x x) (Err e)
+  unjudged-command asked all e u k a x = record {
+    plan = NoPlan;
+    made = record {
+      reported = reported-err (IsAtHand s.basis.store r) (step_in (room_in s) r) e (unjudged-refusal (IsAtHand s.basis.store r) (room_in s) asked (Ok h) all e u);
+      planned = none-planned (room_in s) r e u.own.store;
+      good = good-none items h (room_in s);
+      stored = none-stored e NoPlan k k u.own.store (keeps-self k);
+      state = state-stays items h s e w;
+      grown = self-grown r;
+    };
+    stops = adds_none a x (IsStopOf h s NoPlan k.items);
+    unloaded = λ no. reported-err (IsInHands (hands_of r)) (step_in (room_of items) r) e (unjudged-refusal (IsInHands (hands_of r)) (room_of items) asked (Ok h) all e u);
   }
     where
-      early : (e ≡ OutOfMemory) ⊎ (sound text ≡ Err e) → IsEarly (sound text) e
-      early (inl m) = inl m
-      early (inr g) = inr (inr g)
-
-  -- There was no memory, and the store is as it was.
-  pub memory-refused : (r : Result Case Outcome) (s' : Contents) → s'.basis.store ≡ s.basis.store → (k : KeeperView) → IsMadeOf r items h s s' k k NoPlan (Err OutOfMemory)
-  memory-refused r s' same k = record {
-    reported = reported-err (IsAtHand s.basis.store r) (step_in (room_in s) r) OutOfMemory tt;
-    planned = refl;
-    good = good-none items h (room_in s);
-    stored = keeps-self k;
-    state = tt;
-    grown = subst (λ (S : List Object). IsGrownBy (IsInHands (hands_of r)) s.basis.store S) (sym same) (self-grown r);
-  }
-
-  -- Words are no command of a batch.
-  pub usage-refused : (k : KeeperView) → IsMadeOf (Err Usage) items h s s k k NoPlan (Err Usage)
-  usage-refused k = record {
-    reported = refl;
-    planned = refl;
-    good = good-none items h (room_in s);
-    stored = keeps-self k;
-    state = w;
-    grown = self-grown (Err Usage);
-  }
-
-  -- what a command of a filter makes whose text is refused, or for which there was no memory
-  pub command-refused : (asked : Command) (all text : Bytes) (rest : Filter → Result Case Outcome) → (sound text >>= rest) ≡ case asked (Ok h) all → loads asked ≡ true → (result : Result Bytes Outcome) (e : Outcome)
-      → IsErrAnd result (λ x. x ≡ e) → (e ≡ OutOfMemory) ⊎ (sound text ≡ Err e) → (k : KeeperView) (a : ℕ) (x : ℕ → List Bytes → Type 0) → IsCommandMade asked all items h s s k k (OnlyAdds a a x x) result
-  command-refused asked all text rest same loading result e is why k a x =
-      handed (IsCommandMade asked all items h s s k k (OnlyAdds a a x x)) result e is
-      (case-made asked all items h s s k k a a x x (Err e) loading (sound text >>= rest) same NoPlan (text-refused rest text e why k) (adds_none a x (IsStopOf h s NoPlan k.items)))
-
-  -- what a command makes for which there was no memory, where the store is as it was
-  pub command-short : (asked : Command) (all : Bytes) → loads asked ≡ true → (s' : Contents) → s'.basis.store ≡ s.basis.store → (result : Result Bytes Outcome) → IsErrAnd result (λ x. x ≡ OutOfMemory)
-      → (k : KeeperView) (a : ℕ) (x : ℕ → List Bytes → Type 0) → IsCommandMade asked all items h s s' k k (OnlyAdds a a x x) result
-  command-short asked all loading s' kept result is k a x =
-      handed (IsCommandMade asked all items h s s' k k (OnlyAdds a a x x)) result OutOfMemory is
-      (case-made asked all items h s s' k k a a x x (Err OutOfMemory) loading (case asked (Ok h) all) refl NoPlan (memory-refused (case asked (Ok h) all) s' kept k) (adds_none a x (IsStopOf h s NoPlan k.items)))
+      r : Result Case Outcome
+      r = case asked (Ok h) all
 
 -- ---- a map that is put away
 
@@ -198,15 +151,15 @@ state-behind items h s (Err e) w = state-stays items h s e w
 
 -- ---- a name, which is of no state
 
-module _ (refname text all : Bytes) (items : List Bytes) (h : Held) (s : Contents) (w : IsStateOf items h s) (k : KeeperView) where
+module _ (f : Filter) (refname all : Bytes) (items : List Bytes) (h : Held) (s : Contents) (w : IsStateOf items h s) (k : KeeperView) where
   abbrev named : Result Case Outcome
-  named = case (Name refname text) (Ok h) all
+  named = Ok (NameCase f refname (ran empty_base all))
 
   plan-upon : (result : Result Bytes Outcome) → result ≢ Err StoreFault → FormPlan (room_of items) named NoPlan result → PlansFor (room_in s) named NoPlan result
   plan-upon (Ok report) apart plan = subst (λ (room : Room). IsPlanned room named NoPlan) (sym (room-same items h s w.current)) plan.planned
   plan-upon (Err e) apart plan = none-planned (room_in s) named e (λ is. apart (ap Err is))
 
-  pub name-upon : (result : Result Bytes Outcome) → result ≢ Err StoreFault → IsFormMade (case (Name refname text) (loaded items) all) items k k NoPlan result → IsMadeOf named items h s s k k NoPlan result
+  name-upon : (result : Result Bytes Outcome) → result ≢ Err StoreFault → IsFormMade named items k k NoPlan result → IsMadeOf named items h s s k k NoPlan result
   name-upon result apart made = record {
     reported =
         subst (λ (room : Room). IsReported (IsAtHand s.basis.store named) (step_in room named) result) (sym (room-same items h s w.current))
@@ -219,9 +172,12 @@ module _ (refname text all : Bytes) (items : List Bytes) (h : Held) (s : Content
     grown = self-grown items h s w named;
   }
 
-  pub name-command : (a : ℕ) (x : ℕ → List Bytes → Type 0) (result : Result Bytes Outcome) → result ≢ Err StoreFault → IsFormMade (case (Name refname text) (loaded items) all) items k k NoPlan result
-      → IsCommandMade (Name refname text) all items h s s k k (OnlyAdds a a x x) result
-  name-command a x result apart made = still-made (Name refname text) all items h s s k a x result (λ no. made.reported) (name-upon result apart made)
+  pub name-command : (asked : Command) → case asked (Ok h) all ≡ named → (a : ℕ) (x : ℕ → List Bytes → Type 0) (result : Result Bytes Outcome) → result ≢ Err StoreFault → IsReportOf named result
+      → IsCommandMade asked all items h s s k k (OnlyAdds a a x x) result
+  name-command asked is a x result apart report =
+      still-made asked all items h s s k a x result
+      (λ no. subst (λ (r : Result Case Outcome). IsReported (IsInHands (hands_of r)) (step_in (room_of items) r) result) (sym is) (named-made items f refname (ran empty_base all) k result report).reported)
+      (subst (λ (r : Result Case Outcome). IsMadeOf r items h s s k k NoPlan result) (sym is) (name-upon result apart (named-made items f refname (ran empty_base all) k result report)))
 
 -- ---- an export, of which the whole text is kept
 
@@ -240,16 +196,16 @@ flowed-report H o q (Ok m) report empty whole h =
 flowed-report H o q (Err x) report empty whole h = h.0
 
 module _ (h : Held) (f : Filter) (refname : Bytes) (o q : SinkView) where
-  export-planned : (H : Object → Type 0) (room : Room) (head : Result Bytes Outcome) → IsFlowed H (step_in room (head >>= λ n. Ok (ExportCase h f refname n))) o q Done
-      → IsPlanned room (head >>= λ n. Ok (ExportCase h f refname n)) NoPlan
-  export-planned H room (Ok n) flowed = record {
+  export-planned : (H : Object → Type 0) (items : List Bytes) (room : Room) (head : Result Bytes Outcome) → IsFlowed H (step_in room (head >>= λ n. Ok (ExportCase h f refname n))) o q Done
+      → All (IsLawful items NoPlan) (option_to_list (result_ok (head >>= λ n. Ok (ExportCase h f refname n)))) → IsPlanned room (head >>= λ n. Ok (ExportCase h f refname n)) NoPlan
+  export-planned H items room (Ok n) flowed lawful = record {
     case = ExportCase h f refname n;
     came_up = refl;
     step = unchanged h (export_text (history h.rule f (repo h).commits n) refname);
     done = refl;
-    planned = refl;
+    planned = (refl, All-head (IsLawful items NoPlan) (ExportCase h f refname n) [] lawful);
   }
-  export-planned H room (Err e) flowed = absurd flowed.0
+  export-planned H items room (Err e) flowed lawful = absurd flowed.0
 
   module _ (items : List Bytes) (s s' : Contents) (k : KeeperView) where
     abbrev sent : Result Case Outcome
@@ -258,7 +214,7 @@ module _ (h : Held) (f : Filter) (refname : Bytes) (o q : SinkView) where
     pub export-done : (report : Bytes) → o.written ≡ Some [] → q.written ≡ Some report → IsExported sent items h s s' o q Done → IsMadeOf sent items h s s' k k NoPlan (Ok report)
     export-done report empty whole made = record {
       reported = flowed-report (IsAtHand s.basis.store sent) o q (step_in (room_in s) sent) report empty whole made.flowed;
-      planned = export-planned (IsAtHand s.basis.store sent) (room_in s) (head_of refname h.refs) made.flowed;
+      planned = export-planned (IsAtHand s.basis.store sent) items (room_in s) (head_of refname h.refs) made.flowed (made.lawful refl);
       good = good-none items h (room_in s);
       stored = keeps-self k;
       state = behind-none items h s' made.state;

@@ -14,7 +14,7 @@ use Rattle.state_items.specs.Changes.{NoPlan, Plan, Room, held_after, passed, pl
 use Rattle.state_items.specs.Items.{Held}
 use Rattle.state_items.proofs.Kepts.{kept-law}
 use Rattle.state_items.proofs.ReadObjects.{ok-same}
-use Rattle.repo_ground.specs.Changes.{Appends, IsCommitted, IsRefusal as IsRefusedBy, IsRefused, IsStopOf, KeepsItems}
+use Rattle.repo_ground.specs.Changes.{Appends, IsAppended, IsRefusal as IsRefusedBy, IsRefused, IsStopOf, KeepsItems}
 use Rattle.repo_ground.specs.Contents.{Contents, room_in}
 use Rattle.repo_ground.specs.declared.commit.CommitError.{CommitError}
 use Rattle.repo_ground.specs.declared.commit.CommitError.TheVariants.{StoreFault, Limit, OutOfMemory}
@@ -108,7 +108,7 @@ module _ (k : Case) (items : List Bytes) (h : Held) (s t : Contents) (output : B
   grown-to after e = subst (IsGrownBy (IsInHands (hands_of (Ok k))) s.basis.store) (sym e) w.grown
 
   -- the plan was committed
-  pub made-done : (after : Contents) (u : Unit {0}) (before now : KeeperView) (report : Bytes) → output ≡ report → IsCommitted h p t after → IsGround after.basis → Appends p before now (Ok u)
+  pub made-done : (after : Contents) (u : Unit {0}) (before now : KeeperView) (report : Bytes) → output ≡ report → IsAppended h p t after → IsGround after.basis → Appends p before now (Ok u)
       → IsMadeOf (Ok k) items h s after before now p (Ok report)
   made-done after u before now report o c g a = record {
     reported = told-report hand (step_in (room_in s) (Ok k)) m report (done c.within) o;

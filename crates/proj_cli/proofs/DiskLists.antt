@@ -1,7 +1,7 @@
 -- A call of the program on a disk.
 use Rattle.std.proofs.Common.{◌≡◌, ◌⊎◌, ◌+◌, ◌≤◌, ◌≢◌, inl, inr, ⊎_elim, ◌++◌, [], ◌∷◌, ℕ, suc, List, length, Option, Some, None, Ok, Err, Result, IfSome, ◌↔◌, refl, sym, ap, subst, ◌∙◌, arith, length-append, replicate}
 use Rattle.std.proofs.lemmas.List.{length-replicate}
-use Rattle.std.specs.Prelude.{IfOk, IsSome, MatchResult, ⊤}
+use Rattle.std.specs.Prelude.{IfErr, IfOk, IsSome, MatchResult, ⊤}
 use Rattle.std.specs.Option.{option_map}
 use Rattle.git_objects.specs.Paths.{Bytes}
 use Rattle.state_items.specs.Fields.{BrokenAt}
@@ -9,7 +9,7 @@ use Rattle.state_items.specs.Items.{Break, Held, read_item, read_items}
 use Rattle.state_items.specs.Changes.{ChangePlan, KeepPlan, NoPlan, Plan, RulePlan, plan_items}
 use Rattle.proj_io.specs.Stops.{OnlyAdds, Nothing}
 use Rattle.proj_disk.specs.Disks.{DiskView, IsImage, IsLeftBy, furthest, stable}
-use Rattle.proj_journal.specs.Journals.{IsBrokenAt, IsEmpty, ListsLeft, SpellsItsItems, TellsWhy, items_of}
+use Rattle.proj_journal.specs.Journals.{IsBrokenAt, IsEmpty, IsSameOrSynced, ListsLeft, SpellsItsItems, TellsWhy, items_of}
 use Rattle.proj_journal.specs.Rest.{Leaves}
 use Rattle.proj_journal.specs.Spelling.{list_in, listed, spelled}
 use Rattle.proj_journal.specs.Spelled.{spelled-other}
@@ -20,7 +20,7 @@ use Rattle.proj_words.specs.Words.{Batch, Command, Trial}
 use Rattle.proj_words.specs.declared.outcome.Outcome.{Outcome}
 use Rattle.proj_cli.specs.Batches.{BatchLeaves}
 use Rattle.proj_cli.specs.Runs.{MayLeave}
-use Rattle.proj_cli.specs.Served.{HasList, IsOnlySynced, IsSteady, IsWhole, LeavesList, LeavesWhole, SaysWhy, Spells}
+use Rattle.proj_cli.specs.Served.{HasList, IsOnlySynced, IsSteady, IsWhole, KeepsBytes, LeavesList, LeavesWhole, SaysWhy, Spells}
 use Rattle.proj_cli.specs.Stopped.{ForInput, IsLengthened}
 use Rattle.proj_cli.specs.Turns.{AreTurns, IsSafeTurn, Turn, begun, items_after}
 use Rattle.proj_cli.proofs.ListLengths.{list_short}
@@ -109,6 +109,36 @@ open_why None p n (Broken at) count some same why = tt
 open_why (Some d) p n (Broken at) count some same why = ((λ none. some (count ∙ ap length none)), subst (IsBrokenAt at) same why)
 open_why o p n NoMemory count some same why = tt
 
+-- ---- the disk where there is no journal
+
+pub same_kept : (o p : Option DiskView) → p ≡ o → KeepsBytes o p
+same_kept None p same = tt
+same_kept (Some d) p same = λ some. inl same
+
+-- an empty disk may get any bytes
+pub empty_kept : (o p q : Option DiskView) → IfSome p (λ disk. disk.bytes ≡ []) → p ≡ o → KeepsBytes o q
+empty_kept o p q none same = by o (subst (λ (x : Option DiskView). IfSome x (λ disk. disk.bytes ≡ [])) same none)
+  where
+    by : (x : Option DiskView) → IfSome x (λ disk. disk.bytes ≡ []) → KeepsBytes x q
+    by None none = tt
+    by (Some d) none = λ some. absurd (some none)
+
+pub unopened_kept : (o p q : Option DiskView) → IsSameOrSynced p q → p ≡ o → KeepsBytes o q
+unopened_kept None p q kept same = tt
+unopened_kept (Some d) p q (inl was) same = λ some. inl (was ∙ same)
+unopened_kept (Some d) p q (inr was) same = λ some. inr (was ∙ ap (λ (x : Option DiskView). option_map (λ disk. stable disk.bytes) x) same)
+
+-- in a result of which this is said
+pub empty_kept_in : {T E : Type 0} (result : Result T E) (content : E → Option DiskView) (o p : Option DiskView) → IfSome p (λ disk. disk.bytes ≡ []) → p ≡ o
+    → IfErr result (λ none. KeepsBytes o (content none))
+empty_kept_in (Ok journal) content o p none same = tt
+empty_kept_in (Err e) content o p none same = empty_kept o p (content e) none same
+
+pub unopened_kept_in : {T E : Type 0} (result : Result T E) (content : E → Option DiskView) (o p : Option DiskView) → p ≡ o → IfErr result (λ none. IsSameOrSynced p (content none))
+    → IfErr result (λ none. KeepsBytes o (content none))
+unopened_kept_in (Ok journal) content o p same kept = tt
+unopened_kept_in (Err e) content o p same kept = unopened_kept o p (content e) kept same
+
 -- ---- what a stop leaves
 
 -- an image whose lists are of a kind that isn't every list isn't broken
@@ -164,7 +194,7 @@ not_as_they_were disk same = omega (arith, ap length same, many_long disk)
 
 not_after_turns : (disk : DiskView) (ts : List Turn) → many disk ≡ items_after (listed disk.bytes) ts → AreTurns (IsSafeTurn (listed disk.bytes)) ts → ⊥
 not_after_turns disk [] same safe = not_as_they_were disk same
-not_after_turns disk (t ∷ ts) same safe = none_spelled disk safe.1.spelled.0 (ap read_items same ∙ safe.1.spelled.1)
+not_after_turns disk (t ∷ ts) same safe = none_spelled disk safe.1.longer.state (ap read_items same ∙ safe.1.longer.spelled)
 
 not_by_batch : (disk : DiskView) (r : Result (List Entry) Outcome) → BatchLeaves (listed disk.bytes) r (many disk) → ⊥
 not_by_batch disk (Ok es) leaves = not_after_turns disk leaves.turns leaves.behind leaves.safe

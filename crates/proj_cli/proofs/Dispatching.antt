@@ -1,5 +1,5 @@
 -- What is said of each form of the words: of a batch, of a trial, and of every other form as of a single command.
-use Rattle.std.proofs.Common.{◌≡◌, ◌≢◌, ◌⊎◌, inl, inr, ◌≤◌, ℕ, true, List, Option, None, Some, Result, Ok, Err, IfSome, IsErr, refl, sym, ap, subst, ◌∙◌, arith, true≢false}
+use Rattle.std.proofs.Common.{◌≡◌, ◌≢◌, ◌⊎◌, inl, inr, ◌≤◌, ℕ, Bool, false, true, List, Option, None, Some, Result, Ok, Err, IfSome, IsErr, refl, sym, ap, subst, ◌∙◌, arith, true≢false}
 use Rattle.std.specs.Io.KnownBytes.{Keeps}
 use Rattle.std.proofs.KnownBytes.{Keeps-refl}
 use Rattle.git_objects.specs.Paths.{Bytes}
@@ -8,19 +8,23 @@ use Rattle.proj_io.specs.Stops.{OnlyAdds, adds_as}
 use Rattle.proj_io.specs.Views.{SourceView, SinkView, KeeperView}
 use Rattle.state_items.specs.Changes.{NoPlan}
 use Rattle.proj_words.specs.Entries.{Entry}
-use Rattle.proj_words.specs.Words.{Command, Import, Project, Push, Name, Batch, Trial, Rule, Unknown}
+use Rattle.proj_words.specs.Words.{Command, Batch, Trial}
+use Rattle.proj_words.specs.Outcomes.{is_plain as has_plain_text}
 use Rattle.proj_words.specs.declared.outcome.Outcome.{Outcome}
 use Rattle.proj_words.specs.declared.outcome.Outcome.TheVariants.{Done, OutOfMemory, ReadFault, WriteFault, StoreFault}
 use Rattle.proj_cli.specs.Answers.{Devices, IsCaused, IsCommandAnswer, IsOutcome, IsStepDelivered}
 use Rattle.proj_cli.specs.Batches.{BatchLeaves, IsBatchAnswer, IsBatchBy, IsBatchComplete, IsEnded, IsUnbegun, begun_outcome}
 use Rattle.proj_cli.specs.Cases.{Made}
 use Rattle.proj_cli.specs.Hands.{IsInHands}
+use Rattle.proj_cli.specs.Judging.{IsJudged}
 use Rattle.proj_cli.specs.Makes.{IsRefusal, IsReported}
-use Rattle.proj_cli.specs.Runs.{IsAnswer, IsComplete, MayLeave, is_plain}
+use Rattle.proj_cli.specs.Runs.{IsAnswer, IsComplete, MayLeave}
 use Rattle.proj_cli.specs.Sent.{IsConcluded, TakesMemory}
 use Rattle.proj_cli.specs.Stopped.{CommandLeaves, ForInput}
 use Rattle.proj_cli.specs.Trials.{IsTrialAnswer, IsTrialCollision, IsTrialComplete, trial_hands, trial_made}
 use Rattle.proj_cli.specs.Turns.{Turn, begun}
+use Rattle.proj_cli.specs.declared.judging.Judged.{Judged}
+use Rattle.proj_cli.specs.declared.judging.Judged.TheVariants as judged
 use Rattle.proj_cli.proofs.Delivering.{after, before, idle-step, refusal-outcome, sent-delivered, sent-outcome}
 use Rattle.proj_cli.proofs.Forming.{keeps-self}
 use Rattle.proj_cli.proofs.Joining.{command-complete, command-finished, not-kept, not-read, settled, step-memory}
@@ -28,32 +32,39 @@ use Rattle.proj_cli.proofs.Refusing.{refusal-of}
 
 -- ---- single commands
 
--- of a form that is one command, its answer
-pub plain-answer : (asked : Command) (b a : Devices) (outcome : Outcome) → is_plain asked ≡ true → IsCommandAnswer asked b a outcome → IsAnswer asked b a outcome
-plain-answer (Import force) b a outcome plain answer = answer
-plain-answer (Project r f) b a outcome plain answer = answer
-plain-answer (Push r f) b a outcome plain answer = answer
-plain-answer (Name r f) b a outcome plain answer = answer
-plain-answer (Rule k) b a outcome plain answer = answer
-plain-answer Unknown b a outcome plain answer = answer
-plain-answer _ b a outcome plain answer = absurd (true≢false (sym plain))
+-- whether a form is one command
+abbrev pub is_one : Command → Bool
+is_one Batch = false
+is_one (Trial n) = false
+is_one _ = true
+
+-- its answer
+pub one-answer : (asked : Command) (b a : Devices) (outcome : Outcome) → is_one asked ≡ true → IsCommandAnswer asked b a outcome → IsAnswer asked b a outcome
+one-answer Batch b a outcome one answer = absurd (true≢false (sym one))
+one-answer (Trial n) b a outcome one answer = absurd (true≢false (sym one))
+one-answer _ b a outcome one answer = answer
 
 -- and what a stop leaves
-plain-leaves : (asked : Command) (items : List Bytes) (input : Bytes) (list : List Bytes) → is_plain asked ≡ true → CommandLeaves asked items input list → MayLeave asked items input list
-plain-leaves (Import force) items input list plain leaves = leaves
-plain-leaves (Project r f) items input list plain leaves = leaves
-plain-leaves (Push r f) items input list plain leaves = leaves
-plain-leaves (Name r f) items input list plain leaves = leaves
-plain-leaves (Rule k) items input list plain leaves = leaves
-plain-leaves Unknown items input list plain leaves = leaves
-plain-leaves _ items input list plain leaves = absurd (true≢false (sym plain))
+one-leaves : (asked : Command) (items : List Bytes) (input : Bytes) (list : List Bytes) → is_one asked ≡ true → CommandLeaves asked items input list → MayLeave asked items input list
+one-leaves Batch items input list one leaves = absurd (true≢false (sym one))
+one-leaves (Trial n) items input list one leaves = absurd (true≢false (sym one))
+one-leaves _ items input list one leaves = leaves
+
+-- a command that is judged is one
+pub judged-one : (asked : Command) (j : Judged) → IsJudged asked j → is_one asked ≡ true
+judged-one asked (judged.Import force) w = ap is_one w
+judged-one asked (judged.Project s) w = ap is_one w.asked_is
+judged-one asked (judged.Push s) w = ap is_one w.asked_is
+judged-one asked (judged.Export s) w = ap is_one w.asked_is
+judged-one asked (judged.Name s) w = ap is_one w.asked_is
+judged-one asked (judged.Rule r) w = ap is_one w
 
 module _ (left : Option Bytes) (items : List Bytes) (a b : ℕ) (x y : ℕ → List Bytes → Type 0) where
-  pub plain-adds : (asked : Command) → is_plain asked ≡ true → ForInput left (λ all. OnlyAdds a b x y (CommandLeaves asked items all)) → ForInput left (λ all. OnlyAdds a b x y (MayLeave asked items all))
-  plain-adds asked plain adds = record {
+  pub one-adds : (asked : Command) → is_one asked ≡ true → ForInput left (λ all. OnlyAdds a b x y (CommandLeaves asked items all)) → ForInput left (λ all. OnlyAdds a b x y (MayLeave asked items all))
+  one-adds asked one adds = record {
     all = adds.all;
     told = adds.told;
-    says = adds_as a b x y (CommandLeaves asked items adds.all) (MayLeave asked items adds.all) (λ list leaves. plain-leaves asked items adds.all list plain leaves) adds.says;
+    says = adds_as a b x y (CommandLeaves asked items adds.all) (MayLeave asked items adds.all) (λ list leaves. one-leaves asked items adds.all list one leaves) adds.says;
   }
 
   -- what a stop during a batch leaves
@@ -132,34 +143,26 @@ no-cause b a outcome cause = record {
   memory = cause.memory;
 }
 
--- Of the outcomes that end a batch only a fault of the input has a text that takes memory, before the first entry; and its end, which has none.
-ended-memory : (ts : List Turn) (last : Option Turn) (left : List Entry) (b a : Devices) (outcome : Outcome) → TakesMemory outcome → IsEnded ts last left b a outcome → IsEnded ts last left b a OutOfMemory
-ended-memory ts None left b a Done t h = absurd t
-ended-memory ts None left b a OutOfMemory t h = absurd t
-ended-memory ts None left b a StoreFault t h = absurd t
-ended-memory ts None left b a ReadFault t h = h.1
-ended-memory ts None left b a _ t h = absurd h
-ended-memory ts (Some last) left b a OutOfMemory t h = absurd t
-ended-memory ts (Some last) left b a WriteFault t h = absurd t
-ended-memory ts (Some last) left b a StoreFault t h = absurd t
-ended-memory ts (Some last) left b a _ t h = absurd h
+-- None of the outcomes that end a batch behind its input has a text that takes memory.
+ended-plain : (ts : List Turn) (last : Option Turn) (left : List Entry) (b a : Devices) (outcome : Outcome) → IsEnded ts last left b a outcome → has_plain_text outcome ≡ true
+ended-plain ts None left b a Done h = refl
+ended-plain ts None left b a OutOfMemory h = refl
+ended-plain ts None left b a StoreFault h = refl
+ended-plain ts None left b a ReadFault h = refl
+ended-plain ts None left b a _ h = absurd h
+ended-plain ts (Some last) left b a OutOfMemory h = refl
+ended-plain ts (Some last) left b a WriteFault h = refl
+ended-plain ts (Some last) left b a StoreFault h = refl
+ended-plain ts (Some last) left b a _ h = absurd h
 
 run-memory : (items : List Bytes) (r : Result (List Entry) Outcome) (b a : Devices) (outcome : Outcome) → TakesMemory outcome → IsBatchBy items r b a outcome → IsBatchBy items r b a OutOfMemory
-run-memory items (Ok es) b a outcome t run = record {
-  turns = run.turns;
-  last = run.last;
-  left = run.left;
-  front = run.front;
-  ended = ended-memory run.turns run.last run.left b a outcome t run.ended;
-  got = run.got;
-  safe = run.safe;
-  in_turn = run.in_turn;
-}
+run-memory items (Ok es) b a outcome t run = absurd (true≢false (sym (ended-plain run.turns run.last run.left b a outcome run.ended) ∙ t))
 run-memory items (Err e) b a outcome t h = (inr (inl refl), h.1)
 
 batch-memory : (b a : Devices) (outcome : Outcome) → TakesMemory outcome → IsBatchAnswer b a outcome → IsBatchAnswer b a OutOfMemory
 batch-memory b a outcome t answer = record {
   cause = no-cause b a outcome answer.cause;
+  judged = refl;
   run = λ items told.
       let h = answer.run items told in record { input = h.input; told = h.told; run = run-memory items (begun items h.input) b a outcome t h.run };
 }

@@ -1,8 +1,8 @@
 -- An export, and what it wrote, is an answer.
-use Rattle.std.proofs.Common.{◌≡◌, ◌≢◌, ◌⊎◌, inl, inr, ◌≤◌, ℕ, List, [], All, Some, Result, Ok, Err, refl, subst, true≢false, arith}
+use Rattle.std.proofs.Common.{◌≡◌, ◌≢◌, ◌⊎◌, inl, inr, ◌≤◌, ℕ, List, [], Some, Result, Ok, Err, refl, ap, subst, true≢false, arith}
 use Rattle.std.specs.Option.{option_to_list}
 use Rattle.std.specs.Result.{result_ok}
-use Rattle.std.proofs.lemmas.List.Elements.{All-nil}
+use Rattle.std.proofs.KnownBytes.{Keeps-refl}
 use Rattle.git_objects.specs.Paths.{Bytes}
 use Rattle.git_objects.specs.Results.{◌>>=◌}
 use Rattle.object_store.specs.Objects.{Object}
@@ -18,18 +18,19 @@ use Rattle.proj_words.specs.Words.{Export}
 use Rattle.proj_words.specs.declared.outcome.Outcome.{Outcome}
 use Rattle.proj_words.specs.declared.outcome.Outcome.TheVariants.{Done, OutOfMemory, ReadFault, WriteFault, StoreFault}
 use Rattle.proj_cli.specs.Answers.{ArePlanned, Devices, Follows, IsCommandAnswer, IsAnswered, IsDelivered, IsLonger, IsOutcome, IsRecalledCase, IsSafe, IsStepDelivered}
-use Rattle.proj_cli.specs.Cases.{Case, ImportCase, ProjectCase, ExportCase, PushCase, NameCase, RuleCase, Made, case, head_of, loaded, made, unchanged}
+use Rattle.proj_cli.specs.Cases.{Case, ExportCase, IsJudgedRightly, Made, head_of, loaded, unchanged}
+use Rattle.proj_cli.specs.Steps.{case, made, IsPlanOf, step}
 use Rattle.proj_cli.specs.Filters.{history, sound}
-use Rattle.proj_cli.specs.Forms.{IsExport, IsFormFlowed}
+use Rattle.proj_cli.specs.Forms.{IsEarly, IsExport, IsFormFlowed, exported_case}
 use Rattle.proj_cli.specs.Hands.{IsInHands}
-use Rattle.proj_cli.specs.Lawful.{IsLawful}
+use Rattle.proj_cli.specs.Intake.{waited_by}
 use Rattle.repo_ground.specs.Contents.{Contents, room_in}
-use Rattle.proj_cli.specs.Makes.{IsAtHand, IsExported, IsFlowed, hands_of, step_in}
-use Rattle.proj_cli.specs.Plans.{IsPlanOf}
-use Rattle.proj_cli.specs.Steps.{step}
+use Rattle.proj_cli.specs.Makes.{IsAtHand, IsExported, IsFlowed, IsRefusal, hands_of, step_in}
 use Rattle.proj_cli.proofs.CasePlans.{all-one}
 use Rattle.proj_cli.proofs.Delivering.{after, before, got, idle-delivered, idle-step, kept-if, refusal-outcome}
+use Rattle.proj_cli.proofs.Intaking.{takes-none}
 use Rattle.proj_cli.proofs.Lengthening.{told-input}
+use Rattle.proj_cli.proofs.Refusing.{early-refusal, loaded-own}
 use Rattle.std.specs.Prelude.{unwrap_or}
 
 -- ---- exports
@@ -37,11 +38,7 @@ use Rattle.std.specs.Prelude.{unwrap_or}
 -- it is the case of an export, or none came up
 abbrev IsExportCase : Result Case Outcome → Type 0
 IsExportCase (Ok (ExportCase h f refname n)) = Unit {0}
-IsExportCase (Ok (ImportCase force h x)) = ⊥
-IsExportCase (Ok (ProjectCase h f n)) = ⊥
-IsExportCase (Ok (PushCase h f refname n p)) = ⊥
-IsExportCase (Ok (NameCase f refname x)) = ⊥
-IsExportCase (Ok (RuleCase h k)) = ⊥
+IsExportCase (Ok _) = ⊥
 IsExportCase (Err e) = Unit {0}
 
 at-head : (refname : Bytes) (h : Held) (f : Filter) (n : Result Bytes Outcome) → IsExportCase (n >>= λ m. Ok (ExportCase h f refname m))
@@ -58,39 +55,18 @@ export-case r t items all = of-both r (sound t) (loaded items)
 
 step-same : (room : Room) (r : Result Case Outcome) → IsExportCase r → step_in room r ≡ (r >>= made room)
 step-same room (Ok (ExportCase h f refname n)) w = refl
-step-same room (Ok (ImportCase force h x)) w = absurd w
-step-same room (Ok (ProjectCase h f n)) w = absurd w
-step-same room (Ok (PushCase h f refname n p)) w = absurd w
-step-same room (Ok (NameCase f refname x)) w = absurd w
-step-same room (Ok (RuleCase h k)) w = absurd w
+step-same room (Ok _) w = absurd w
 step-same room (Err e) w = refl
 
 none-planned : (items : List Bytes) (room : Room) (r : Result Case Outcome) → IsExportCase r → ArePlanned items (option_to_list (result_ok r)) (r >>= made room) NoPlan
 none-planned items room (Ok (ExportCase h f refname n)) w =
     all-one (λ c. IsPlanOf items c (unchanged h (export_text (history h.rule f (repo h).commits n) refname)) NoPlan) (ExportCase h f refname n) refl
-none-planned items room (Ok (ImportCase force h x)) w = absurd w
-none-planned items room (Ok (ProjectCase h f n)) w = absurd w
-none-planned items room (Ok (PushCase h f refname n p)) w = absurd w
-none-planned items room (Ok (NameCase f refname x)) w = absurd w
-none-planned items room (Ok (RuleCase h k)) w = absurd w
+none-planned items room (Ok _) w = absurd w
 none-planned items room (Err e) w = tt
-
-none-lawful : (items : List Bytes) (r : Result Case Outcome) → IsExportCase r → All (IsLawful items NoPlan) (option_to_list (result_ok r))
-none-lawful items (Ok (ExportCase h f refname n)) w = all-one (IsLawful items NoPlan) (ExportCase h f refname n) tt
-none-lawful items (Ok (ImportCase force h x)) w = absurd w
-none-lawful items (Ok (ProjectCase h f n)) w = absurd w
-none-lawful items (Ok (PushCase h f refname n p)) w = absurd w
-none-lawful items (Ok (NameCase f refname x)) w = absurd w
-none-lawful items (Ok (RuleCase h k)) w = absurd w
-none-lawful items (Err e) w = All-nil (IsLawful items NoPlan)
 
 none-recalled : (b a : Devices) (r : Result Case Outcome) → IsExportCase r → IsRecalledCase r b a
 none-recalled b a (Ok (ExportCase h f refname n)) w = tt
-none-recalled b a (Ok (ImportCase force h x)) w = absurd w
-none-recalled b a (Ok (ProjectCase h f n)) w = absurd w
-none-recalled b a (Ok (PushCase h f refname n p)) w = absurd w
-none-recalled b a (Ok (NameCase f refname x)) w = absurd w
-none-recalled b a (Ok (RuleCase h k)) w = absurd w
+none-recalled b a (Ok _) w = absurd w
 none-recalled b a (Err e) w = tt
 
 -- ---- what was written
@@ -127,6 +103,16 @@ module _ (r : Result Case Outcome) (items : List Bytes) (h : Held) (s s' : Conte
   pub no-store : (f g : ℕ) (R : Type 0) → Counts f g R → Counts f g (outcome ≡ StoreFault)
   no-store f g R counts = record { later = counts.later; rose = λ e. absurd (not-store e) }
 
+-- of one whose items are not loaded
+pub unloaded-export : (f : Filter) (refname : Bytes) (items : List Bytes) (e : Outcome) (o : SinkView) → IsEarly (loaded items) e → IsExport (exported_case (loaded items) f refname) items o o e
+unloaded-export f refname items e o early =
+    record { flowed = inl (refused, Keeps-refl o.written); lawful = λ is. absurd (subst (λ (x : Outcome). IsRefusal (IsInHands (hands_of (exported_case (loaded items) f refname))) x (step_in (room_of items) (exported_case (loaded items) f refname))) is refused) }
+  where
+    refused : IsRefusal (IsInHands (hands_of (exported_case (loaded items) f refname))) e (step_in (room_of items) (exported_case (loaded items) f refname))
+    refused =
+        early-refusal (IsInHands (hands_of (exported_case (loaded items) f refname))) (step_in (room_of items) (exported_case (loaded items) f refname)) (loaded items) e
+        (λ g. (ap (λ (l : Result Held Outcome). step_in (room_of items) (exported_case l f refname)) g, loaded-own items e g)) early
+
 module _ (r t : Bytes) (i : SourceView) (o q : SinkView) (k l : KeeperView) (g : KeepsItems k l) (H : Object → Type 0) where
   flowed-step : (s : Result Made Outcome) (outcome : Outcome) → IsFlowed H s o q outcome → IsStepDelivered (Export r t) s NoPlan (before i i o q k l) (after i i o q k l) outcome
   flowed-step (Ok m) Done h = (h, got i i o q k l NoPlan g)
@@ -152,40 +138,52 @@ module _ (r t : Bytes) (i : SourceView) (o q : SinkView) (k l : KeeperView) (g :
 -- ---- the answer
 
 module _ (r t : Bytes) (i : SourceView) (o q : SinkView) (k l : KeeperView) (outcome : Outcome) where
+  export-allowed : (items : List Bytes) (all : Bytes) → IsExport (case (Export r t) (loaded items) all) items o q outcome
+      → IsOutcome (IsInHands (hands_of (case (Export r t) (loaded items) all))) outcome (step (Export r t) items all)
+  export-allowed items all h =
+      subst (IsOutcome (IsInHands (hands_of (case (Export r t) (loaded items) all))) outcome) (step-same (room_of items) (case (Export r t) (loaded items) all) (export-case r t items all))
+      (flowed-outcome (IsInHands (hands_of (case (Export r t) (loaded items) all))) o q (step_in (room_of items) (case (Export r t) (loaded items) all)) outcome h.flowed)
+
   export-answered : (items : List Bytes) (all : Bytes) → KeepsItems k l → IsExport (case (Export r t) (loaded items) all) items o q outcome
       → IsAnswered (Export r t) items all (before i i o q k l) (after i i o q k l) outcome
   export-answered items all g h =
       let same : step_in (room_of items) (case (Export r t) (loaded items) all) ≡ step (Export r t) items all =
       step-same (room_of items) (case (Export r t) (loaded items) all) (export-case r t items all) in
       record {
-        allowed =
-            subst (IsOutcome (IsInHands (hands_of (case (Export r t) (loaded items) all))) outcome) same
-            (flowed-outcome (IsInHands (hands_of (case (Export r t) (loaded items) all))) o q (step_in (room_of items) (case (Export r t) (loaded items) all)) outcome h);
         plan = NoPlan;
         planned = none-planned items (room_of items) (case (Export r t) (loaded items) all) (export-case r t items all);
         delivered =
             subst (λ (s : Result Made Outcome). IsStepDelivered (Export r t) s NoPlan (before i i o q k l) (after i i o q k l) outcome) same
-            (step-delivered r t i o q k l g (IsInHands (hands_of (case (Export r t) (loaded items) all))) (step_in (room_of items) (case (Export r t) (loaded items) all)) outcome h);
-        lawful = λ e. none-lawful items (case (Export r t) (loaded items) all) (export-case r t items all);
+            (step-delivered r t i o q k l g (IsInHands (hands_of (case (Export r t) (loaded items) all))) (step_in (room_of items) (case (Export r t) (loaded items) all)) outcome h.flowed);
+        lawful = h.lawful;
         follows = λ told. kept-if items k l NoPlan told (Follows items NoPlan) (λ h kept. inl refl) g;
       }
 
   export-safe : (items : List Bytes) (all : Bytes) (h : Held) → k.items ≡ Some items → KeepsItems k l → IsExport (case (Export r t) (loaded items) all) items o q outcome
       → IsSafe (Export r t) items h (before i i o q k l) (after i i o q k l) outcome
   export-safe items all h told g e =
-      let d = some-delivered r t i o q k l g (IsInHands (hands_of (case (Export r t) (loaded items) all))) (step_in (room_of items) (case (Export r t) (loaded items) all)) outcome e in
+      let d = some-delivered r t i o q k l g (IsInHands (hands_of (case (Export r t) (loaded items) all))) (step_in (room_of items) (case (Export r t) (loaded items) all)) outcome e.flowed in
       record { report = d.0; more = []; delivered = d.1; spelled = kept-if items k l NoPlan told (λ now. (now ≡ items) ⊎ IsLonger (Export r t) items [] h now) (inl refl) g }
 
-  pub export-answer : outcome ≢ ReadFault → Counts o.faults q.faults (outcome ≡ WriteFault) → Counts k.faults l.faults (outcome ≡ StoreFault) → o.refusals ≤ q.refusals → KeepsItems k l
+  pub export-answer : IsJudgedRightly (Export r t) outcome → outcome ≢ ReadFault → Counts o.faults q.faults (outcome ≡ WriteFault) → Counts k.faults l.faults (outcome ≡ StoreFault) → o.refusals ≤ q.refusals → KeepsItems k l
       → ((items : List Bytes) (all : Bytes) → k.items ≡ Some items → IsExport (case (Export r t) (loaded items) all) items o q outcome)
       → IsCommandAnswer (Export r t) (before i i o q k l) (after i i o q k l) outcome
-  export-answer unread write keep memory g exported = record {
+  export-answer judged unread write keep memory g exported = record {
     cause = record { read = record { later = omega arith; rose = λ e. absurd (unread e) }; write = write; keep = keep; memory = memory };
+    judged = judged;
     unread = λ no. unread;
     unloaded = λ no e. true≢false no;
     unwritten = λ no. g;
     answered = λ items these.
-        record { input = unwrap_or i.left []; told = told-input i.left; answered = export-answered items (unwrap_or i.left []) g (exported items (unwrap_or i.left []) (these.told refl)) };
+        let done = exported items (unwrap_or i.left []) (these refl) in
+        record {
+          input = unwrap_or i.left [];
+          told = told-input i.left;
+          allowed = export-allowed items (unwrap_or i.left []) done;
+          answered = λ kept. export-answered items (unwrap_or i.left []) g done;
+        };
     safe = λ items h told read. export-safe items [] h told g (exported items [] told);
+    taken = λ items told. takes-none (waited_by (case (Export r t) (loaded items))) i.left;
+    caseless = λ items told none. refl;
     recalled = λ items told e. none-recalled (before i i o q k l) (after i i o q k l) (case (Export r t) (loaded items) []) (export-case r t items []);
   }

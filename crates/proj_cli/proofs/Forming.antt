@@ -20,9 +20,11 @@ use Rattle.repo_ground.specs.Loads.{IsLoaded}
 use Rattle.proj_words.specs.Words.{Command}
 use Rattle.proj_words.specs.declared.outcome.Outcome.{Outcome}
 use Rattle.proj_words.specs.declared.outcome.Outcome.TheVariants.{Done, OutOfMemory, Collision, ReadFault, WriteFault, StoreFault}
-use Rattle.proj_cli.specs.Cases.{Case, Made, break_outcome, case, loaded}
+use Rattle.proj_cli.specs.Cases.{Case, Made, break_outcome, loaded}
+use Rattle.proj_cli.specs.Steps.{case, hand}
 use Rattle.proj_cli.specs.Forms.{FormPlan, IsExport, IsForm, IsFormMade, IsFormStop}
-use Rattle.proj_cli.specs.Hands.{HeldObject, IsInHands, hand}
+use Rattle.proj_cli.specs.Hands.{HeldObject, IsInHands}
+use Rattle.proj_cli.specs.Running.{IsCommandMade}
 use Rattle.proj_cli.specs.Makes.{IsAtHand, IsExported, IsFlowed, IsGoodPlan, IsMadeOf, IsRefusal, IsReported, IsStateOf, IsStored, PlansFor, hands_of, step_in}
 
 -- ---- what is at hand
@@ -210,28 +212,31 @@ module _ (items : List Bytes) (k m : KeeperView) (number : ℕ) (s : Contents) (
   loaded-state =
       record { current = subst (λ (xs : List Bytes). IsCurrent xs w.held s) loaded-items w.current; spells = w.spells; ground = w.ground }
 
-  -- the case of a command is that of the state
-  pub form-of : (asked : Command) (all : Bytes) (r : Held → Result Case Outcome) → ((h : Held) → HoldsAll h.objects (r h)) → ((h : Held) → loaded items ≡ Ok h → r h ≡ case asked (loaded items) all)
-      → (s' : Contents) (l : KeeperView) (result : Result Bytes Outcome) (a b c : ℕ) (x y z : ℕ → List Bytes → Type 0) → OnlyAdds a b x y Nothing
-      → (p : Plan) → IsMadeOf (r w.held) items w.held s s' m l p result → OnlyAdds b c y z (IsStopOf w.held s p m.items)
-      → IsForm asked items all k l (OnlyAdds a c x z) result
-  form-of asked all r holds same s' l result a b c x y z first p made stops = record {
-    plan = p;
+  same-case : (asked : Command) (all : Bytes) → case asked (Ok w.held) all ≡ case asked (loaded items) all
+  same-case asked all = sym (ap (λ (x : Result Held Outcome). case asked x all) (ap (refused_by break_outcome) loaded-state.current.read))
+
+  -- What a command made of the state is made of its form for the items.
+  pub command-form : (asked : Command) (all : Bytes) → HoldsAll w.held.objects (case asked (Ok w.held) all) → (s' : Contents) (l : KeeperView) (result : Result Bytes Outcome) (a b c : ℕ) (x y z : ℕ → List Bytes → Type 0)
+      → OnlyAdds a b x y Nothing → IsCommandMade asked all items w.held s s' m l (OnlyAdds b c y z) result → IsForm asked items all k l (OnlyAdds a c x z) result
+  command-form asked all holds s' l result a b c x y z first made = record {
+    plan = made.plan;
     made =
-        subst (λ (q : Result Case Outcome). IsFormMade q items k l p result)
-        (same w.held (ap (refused_by break_outcome) loaded-state.current.read))
-        (form-made items w.held s loaded-state w.only (r w.held) s' k m l p result (holds w.held) kept made);
+        subst (λ (q : Result Case Outcome). IsFormMade q items k l made.plan result) (same-case asked all)
+        (form-made items w.held s loaded-state w.only (case asked (Ok w.held) all) s' k m l made.plan result holds kept made.made);
     stops =
-        adds_on a b c x y z (IsFormStop items p) (adds-nothing a b x y (IsFormStop items p) first)
-        (adds_as b c y z (IsStopOf w.held s p m.items) (IsFormStop items p) (form-stop items w.held s p m.items (still-told k.items m.items items kept.1 told)) stops);
+        adds_on a b c x y z (IsFormStop items made.plan) (adds-nothing a b x y (IsFormStop items made.plan) first)
+        (adds_as b c y z (IsStopOf w.held s made.plan m.items) (IsFormStop items made.plan) (form-stop items w.held s made.plan m.items (still-told k.items m.items items kept.1 told)) made.stops);
   }
 
   -- what is written while it is made
-  pub export-of : (asked : Command) (all : Bytes) (r : Held → Result Case Outcome) → ((h : Held) → HoldsAll h.objects (r h)) → ((h : Held) → loaded items ≡ Ok h → r h ≡ case asked (loaded items) all)
-      → (s' : Contents) (o q : SinkView) (outcome : Outcome) → IsExported (r w.held) items w.held s s' o q outcome → IsExport (case asked (loaded items) all) items o q outcome
-  export-of asked all r holds same s' o q outcome made =
-      subst (λ (x : Result Case Outcome). IsExport x items o q outcome) (same w.held (ap (refused_by break_outcome) loaded-state.current.read))
-      (inr (subst (λ (room : Room). IsFlowed (IsInHands (hands_of (r w.held))) (step_in room (r w.held)) o q outcome) (same-room items w.held s loaded-state.current)
-      (flowed-at (IsAtHand s.basis.store (r w.held)) (IsInHands (hands_of (r w.held)))
-      (twice-in s.basis.store (r w.held) (named items w.held s loaded-state w.only) (subst (λ (T : List Object). HoldsAll T (r w.held)) (sym w.only) (holds w.held)))
-      o q (step_in (room_in s) (r w.held)) outcome made.flowed)))
+  pub export-of : (r : Held → Result Case Outcome) (e : Result Held Outcome → Result Case Outcome) → ((h : Held) → HoldsAll h.objects (r h)) → ((h : Held) → r h ≡ e (Ok h)) → (s' : Contents) (o q : SinkView) (outcome : Outcome)
+      → IsExported (r w.held) items w.held s s' o q outcome → IsExport (e (loaded items)) items o q outcome
+  export-of r e holds same s' o q outcome made =
+      subst (λ (x : Result Case Outcome). IsExport x items o q outcome) (same w.held ∙ sym (ap e (ap (refused_by break_outcome) loaded-state.current.read)))
+      (record {
+        flowed = inr (subst (λ (room : Room). IsFlowed (IsInHands (hands_of (r w.held))) (step_in room (r w.held)) o q outcome) (same-room items w.held s loaded-state.current)
+            (flowed-at (IsAtHand s.basis.store (r w.held)) (IsInHands (hands_of (r w.held)))
+            (twice-in s.basis.store (r w.held) (named items w.held s loaded-state w.only) (subst (λ (T : List Object). HoldsAll T (r w.held)) (sym w.only) (holds w.held)))
+            o q (step_in (room_in s) (r w.held)) outcome made.flowed));
+        lawful = made.lawful;
+      })

@@ -46,9 +46,11 @@ use Rattle.import_laws.proofs.SortedHeads.{sorted-heads}
 use Rattle.proj_words.specs.Faults.{stream_outcome}
 use Rattle.proj_words.specs.declared.outcome.Outcome.{Outcome}
 use Rattle.proj_words.specs.declared.outcome.Outcome.TheVariants as outcomes
-use Rattle.proj_cli.specs.Cases.{Case, ImportCase, Made, all_forward, import_plan, made, no_backward, ref_line, within}
+use Rattle.proj_cli.specs.Cases.{Case, ImportCase, Made, within}
+use Rattle.proj_cli.specs.Import.{all_forward, import_plan, no_backward, ref_line}
+use Rattle.proj_cli.specs.Steps.{made, hand}
 use Rattle.proj_cli.specs.Filters.{project_by}
-use Rattle.proj_cli.specs.Hands.{IsInHand, IsInHands, hand}
+use Rattle.proj_cli.specs.Hands.{IsInHand, IsInHands}
 use Rattle.proj_cli.specs.Makes.{IsAtHand, IsMadeOf, IsRefusal, IsStateOf, hands_of}
 use Rattle.proj_cli.specs.Refusals.{commit_outcome, replay_outcome}
 use Rattle.proj_cli.specs.Replaying.{IsPrepared, IsReplayedUpon}
@@ -300,6 +302,6 @@ module _ (items : List Bytes) (h : Held) (all : Bytes) (bytes : is_bytes all ≡
       commit-done w done got = (
         plan,
         made-done asked items h s s1 (flat_map ref_line r.heads) plan of-case after w before now report (sym (p.line ∙ ap (flat_map ref_line) given.holds.settings))
-            (done r.blobs r.commits batch).0 (done r.blobs r.commits batch).1 (got r.blobs r.commits batch),
+            (done r.blobs r.commits batch).0.appended (done r.blobs r.commits batch).1 (got r.blobs r.commits batch),
         stops-as plan (stops r.blobs r.commits batch),
       )

@@ -1,5 +1,5 @@
 -- What a single command made, what came of writing it, and the text of the outcome are together the answer.
-use Rattle.std.proofs.Common.{◌≡◌, ◌≢◌, ◌⊎◌, inl, inr, ◌≤◌, List, [], Option, Some, Result, Ok, Err, IfSome, IsErr, refl, sym, ap, subst, ◌∙◌, arith}
+use Rattle.std.proofs.Common.{◌≡◌, ◌≢◌, ◌⊎◌, inl, inr, ◌≤◌, List, [], Option, Some, Result, Ok, Err, IfSome, IsErr, refl, sym, ap, subst, ◌∙◌, arith, true≢false}
 use Rattle.std.specs.Prelude.{IsOk}
 use Rattle.std.specs.Io.KnownBytes.{Appends}
 use Rattle.git_objects.specs.Paths.{Bytes}
@@ -13,15 +13,15 @@ use Rattle.proj_words.specs.Words.{Command, Import, Project, Push, Export, Name,
 use Rattle.proj_words.specs.declared.outcome.Outcome.{Outcome}
 use Rattle.proj_words.specs.declared.outcome.Outcome.TheVariants.{Done, OutOfMemory, Collision, ReadFault, WriteFault, StoreFault}
 use Rattle.proj_cli.specs.Answers.{AreItems, Devices, IsCommandAnswer, IsCollision, IsCommandComplete, IsDelivered, IsOutcome, IsRecalled, IsRecalledCase, IsSafe, IsStepDelivered, HasAnswer, outcome_of}
-use Rattle.proj_cli.specs.Cases.{Case, ImportCase, ProjectCase, ExportCase, PushCase, NameCase, RuleCase, Made, case, loaded}
+use Rattle.proj_cli.specs.Cases.{Case, ProjectCase, IsJudgedRightly, Made, loaded}
+use Rattle.proj_cli.specs.Steps.{case, step}
 use Rattle.proj_cli.specs.Forms.{IsForm, IsMade}
 use Rattle.proj_cli.specs.Hands.{IsInHands}
 use Rattle.proj_cli.specs.Makes.{IsReported, hands_of, step_in}
 use Rattle.proj_cli.specs.Plans.{RecallLaw}
 use Rattle.proj_cli.specs.Sent.{IsConcluded, IsSent, TakesMemory}
-use Rattle.proj_cli.specs.Steps.{step}
 use Rattle.proj_cli.specs.Stopped.{ForInput}
-use Rattle.proj_cli.proofs.Answering.{form-answered, form-safe}
+use Rattle.proj_cli.proofs.Answering.{form-allowed, form-answered, form-safe}
 use Rattle.proj_cli.proofs.CasePlans.{IsFrom, from}
 use Rattle.proj_cli.proofs.Delivering.{after, before}
 use Rattle.proj_cli.proofs.Refusing.{refusal-of}
@@ -40,27 +40,24 @@ not-kept WriteFault report o q h = λ e. cc
 not-kept OutOfMemory report o q h = λ e. cc
 not-kept _ report o q h = absurd h
 
+-- no refusal of words or of a filter
+not-verdict : (asked : Command) (outcome : Outcome) (report : Bytes) (o q : SinkView) → IsSent outcome report o q → IsJudgedRightly asked outcome
+not-verdict asked Done report o q h = λ e. absurd (true≢false (sym e))
+not-verdict asked WriteFault report o q h = λ e. absurd (true≢false (sym e))
+not-verdict asked OutOfMemory report o q h = λ e. absurd (true≢false (sym e))
+not-verdict asked _ report o q h = absurd h
+
 -- ---- a projection that is done
 
 recalled-one : (room : Room) (r : Result Case Outcome) (i j : SourceView) (o q : SinkView) (k l : KeeperView) (H : Object → Type 0) (report : Bytes) → IsReported H (step_in room r) (Ok report)
     → Appends o.written q.written report → IsRecalledCase r (before i j o q k l) (after i j o q k l)
 recalled-one room (Ok (ProjectCase h f n)) i j o q k l H report e w = subst (Appends o.written q.written) (sym e) w
-recalled-one room (Ok (ImportCase force h x)) i j o q k l H report e w = tt
-recalled-one room (Ok (ExportCase h f refname n)) i j o q k l H report e w = tt
-recalled-one room (Ok (PushCase h f refname n p)) i j o q k l H report e w = tt
-recalled-one room (Ok (NameCase f refname x)) i j o q k l H report e w = tt
-recalled-one room (Ok (RuleCase h n)) i j o q k l H report e w = tt
-recalled-one room (Err x) i j o q k l H report e w = tt
+recalled-one room _ i j o q k l H report e w = tt
 
 recalled-none : (asked : Command) (items : List Bytes) (b a : Devices) → ((r t : Bytes) → asked ≡ Project r t → ⊥) → (r : Result Case Outcome) → ((c : Case) → r ≡ Ok c → IsFrom asked items c)
     → IsRecalledCase r b a
 recalled-none asked items b a none (Ok (ProjectCase h f n)) f' = let w = f' (ProjectCase h f n) refl in absurd (none w.refname w.text w.asked_is)
-recalled-none asked items b a none (Ok (ImportCase force h x)) f' = tt
-recalled-none asked items b a none (Ok (ExportCase h f refname n)) f' = tt
-recalled-none asked items b a none (Ok (PushCase h f refname n p)) f' = tt
-recalled-none asked items b a none (Ok (NameCase f refname x)) f' = tt
-recalled-none asked items b a none (Ok (RuleCase h n)) f' = tt
-recalled-none asked items b a none (Err x) f' = tt
+recalled-none asked items b a none _ f' = tt
 
 module _ (items : List Bytes) (all : Bytes) (i j : SourceView) (o q : SinkView) (k l : KeeperView) (report : Bytes) (w : Appends o.written q.written report) where
   other : (asked : Command) → ((r t : Bytes) → asked ≡ Project r t → ⊥) → IsRecalledCase (case asked (loaded items) []) (before i j o q k l) (after i j o q k l)
@@ -109,11 +106,13 @@ module _ (law : RecallLaw) (asked : Command) (i j : SourceView) (o q : SinkView)
   module _ (result : Result Bytes Outcome) (outcome : Outcome) (made : IsMade asked i j k l Adds result) (ended : Ends result outcome) where
     answered : (items : List Bytes) → AreItems asked (before i j o q k l) items → HasAnswer asked items (before i j o q k l) (after i j o q k l) outcome
     answered items these =
-        let form = made.formed items these.told in
+        let form = made.formed items these in
         record {
           input = form.all;
           told = form.told;
-          answered = form-answered law asked items form.all these.kept i j o k l q form.says.plan result outcome form.says.made ended.0 ended.1;
+          allowed =
+              form-allowed (IsInHands (hands_of (case asked (loaded items) form.all))) (room_of items) (case asked (loaded items) form.all) o q result outcome form.says.made.reported ended.0 ended.1;
+          answered = λ kept. form-answered law asked items form.all kept i j o k l q form.says.plan result outcome form.says.made ended.0 ended.1;
         }
 
     safe : (items : List Bytes) (h : Held) → k.items ≡ Some items → read_items items ≡ Ok h → IsSafe asked items h (before i j o q k l) (after i j o q k l) outcome
@@ -130,12 +129,15 @@ module _ (law : RecallLaw) (asked : Command) (i j : SourceView) (o q : SinkView)
       keep = record { later = made.keep.later; rose = λ e. absurd (not-kept outcome report o q c.sent e) };
       memory = c.memory;
     };
+    judged = not-verdict asked outcome report o q c.sent;
     unread = λ _ e. not-read outcome report o q c.sent e;
     unloaded = λ _ e. not-kept outcome report o q c.sent e;
     unwritten = made.unwritten;
     answered = answered (Ok report) outcome made (ends (Ok report) outcome c same);
     safe = safe (Ok report) outcome made (ends (Ok report) outcome c same);
     recalled = recalled-made (Ok report) outcome made (ends (Ok report) outcome c same);
+    taken = made.taken;
+    caseless = made.caseless;
   }
   concluded (Err e) outcome made c same = record {
     cause = record {
@@ -147,22 +149,25 @@ module _ (law : RecallLaw) (asked : Command) (i j : SourceView) (o q : SinkView)
       keep = record { later = made.keep.later; rose = λ g. made.keep.rose (ap Err (sym c ∙ g)) };
       memory = subst (λ (x : SinkView). o.refusals ≤ x.refusals) (sym (same refl)) (omega arith);
     };
+    judged = subst (IsJudgedRightly asked) (sym c) (made.judged e refl);
     unread = λ no g. made.unread no (ap Err (sym c ∙ g));
     unloaded = λ no g. made.unloaded no (ap Err (sym c ∙ g));
     unwritten = made.unwritten;
     answered = answered (Err e) outcome made (ends (Err e) outcome c same);
     safe = safe (Err e) outcome made (ends (Err e) outcome c same);
     recalled = recalled-made (Err e) outcome made (ends (Err e) outcome c same);
+    taken = made.taken;
+    caseless = made.caseless;
   }
 
 -- ---- the text of an outcome
 
 module _ (asked : Command) (b a : Devices) where
   pub idle-memory : (outcome : Outcome) (report : Bytes) (more : List Bytes) → TakesMemory outcome → IsDelivered asked report more b a outcome → IsDelivered asked report more b a OutOfMemory
-  idle-memory Done report more t h = absurd t
-  idle-memory OutOfMemory report more t h = absurd t
-  idle-memory WriteFault report more t h = absurd t
-  idle-memory StoreFault report more t h = absurd t
+  idle-memory Done report more t h = absurd (true≢false t)
+  idle-memory OutOfMemory report more t h = absurd (true≢false t)
+  idle-memory WriteFault report more t h = absurd (true≢false t)
+  idle-memory StoreFault report more t h = absurd (true≢false t)
   idle-memory _ report more t h = inl h
 
   pub step-memory : (s : Result Made Outcome) (p : Plan) (outcome : Outcome) → TakesMemory outcome → IsStepDelivered asked s p b a outcome → IsStepDelivered asked s p b a OutOfMemory
@@ -177,6 +182,7 @@ module _ (asked : Command) (b a : Devices) where
       keep = record { later = answer.cause.keep.later; rose = λ e. absurd (let no : ⊥ = cc in no) };
       memory = answer.cause.memory;
     };
+    judged = λ e. absurd (true≢false (sym e));
     unread = λ no e. cc;
     unloaded = λ no e. cc;
     unwritten = answer.unwritten;
@@ -185,19 +191,23 @@ module _ (asked : Command) (b a : Devices) where
         record {
           input = r.input;
           told = r.told;
-          answered = record {
-            allowed = tt;
-            plan = r.answered.plan;
-            planned = r.answered.planned;
-            delivered = step-memory (step asked items r.input) r.answered.plan outcome t r.answered.delivered;
-            lawful = λ e. absurd (let no : ⊥ = cc in no);
-            follows = r.answered.follows;
-          };
+          allowed = tt;
+          answered = λ kept.
+              let a = r.answered kept in
+              record {
+                plan = a.plan;
+                planned = a.planned;
+                delivered = step-memory (step asked items r.input) a.plan outcome t a.delivered;
+                lawful = λ e. absurd (let no : ⊥ = cc in no);
+                follows = a.follows;
+              };
         };
     safe = λ items h told read.
         let s = answer.safe items h told read in
         record { report = s.report; more = s.more; delivered = idle-memory outcome s.report s.more t s.delivered; spelled = s.spelled };
     recalled = λ items told e. absurd (let no : ⊥ = cc in no);
+    taken = answer.taken;
+    caseless = answer.caseless;
   }
 
   pub command-finished : (outcome result : Outcome) → (result ≡ outcome) ⊎ ((result ≡ OutOfMemory) × TakesMemory outcome) → IsCommandAnswer asked b a outcome → IsCommandAnswer asked b a result
@@ -230,5 +240,5 @@ command-complete asked b a outcome answer items input these told none =
     let q = answer.answered items these in
     let same : q.input ≡ input = subst (λ (left : Option Bytes). IfSome left (λ x. q.input ≡ x)) told q.told in
     subst (λ (x : Bytes). (outcome ≡ OutOfMemory) ⊎ (outcome ≡ outcome_of (step asked items x)) ⊎ IsCollision asked items x outcome) same
-    (settled (IsInHands (hands_of (case asked (loaded items) q.input))) (step asked items q.input) (IsCollision asked items q.input) (λ n t. t) outcome q.answered.allowed
+    (settled (IsInHands (hands_of (case asked (loaded items) q.input))) (step asked items q.input) (IsCollision asked items q.input) (λ n t. t) outcome q.allowed
     (λ e. none.read (answer.cause.read.rose e)) (λ e. none.write (answer.cause.write.rose e)) (λ e. none.keep (answer.cause.keep.rose e)))

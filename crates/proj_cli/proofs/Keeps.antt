@@ -45,9 +45,9 @@ use Rattle.repo_ground.proofs.Reaching.{some-of}
 use Rattle.repo_ground.proofs.MapFronts.{rule-known}
 use Rattle.proj_cli.specs.Filters.{entries_of, recalled}
 use Rattle.proj_cli.specs.Makes.{HoldsEntry, IsKeepOf, IsKeepPlanOf, IsStateOf}
-use Rattle.proj_cli.specs.Plans.{in_order_of}
-use Rattle.proj_cli.proofs.CommitGraphs.{has-commit, name-there, names-are, reached-has}
-use Rattle.proj_cli.proofs.Lengths.{few-commits, kept-short, none-passed}
+use Rattle.proj_cli.specs.Project.{in_order_of}
+use Rattle.repo_ground.proofs.CommitGraphs.{has-commit, name-there, names-are, reached-has}
+use Rattle.repo_ground.proofs.Lengths.{few-commits, kept-short, none-passed}
 use Rattle.proj_cli.proofs.NewRows.{IsNew, all-new, entries_by, few-entries, fine-entries, in-order}
 use Rattle.proj_cli.proofs.SoundTexts.{canonical-short}
 use Rattle.proj_cli.proofs.StatesShown.{commits-are, rule-is, state-grown}

@@ -1,31 +1,27 @@
 -- What a stop may leave during a command.
-use Rattle.std.proofs.Common.{◌≡◌, ◌≢◌, ◌⊎◌, inl, inr, ⊎_elim, ◌++◌, ℕ, List, [], append-nil, Option, None, Some, Result, Ok, Err, IfSome, refl, sym, ap, subst, ◌∙◌, arith}
+use Rattle.std.proofs.Common.{◌≡◌, ◌≢◌, ◌⊎◌, inl, inr, ⊎_elim, ◌++◌, ℕ, List, [], append-nil, Option, None, Some, Result, Ok, Err, IfSome, refl, sym, ap, subst, ◌∙◌, arith, true≢false}
 use Rattle.std.specs.Prelude.{unwrap_or}
 use Rattle.git_objects.specs.Paths.{Bytes}
 use Rattle.proj_io.specs.Stops.{OnlyAdds, IsPresent, adds_as}
 use Rattle.proj_io.specs.Views.{KeeperView}
 use Rattle.state_items.specs.Items.{Held, read_items}
 use Rattle.state_items.specs.Changes.{ChangePlan, KeepPlan, NoPlan, Plan, RulePlan, held_after, plan_items, room_of}
-use Rattle.state_items.proofs.ReadObjects.{ok-same}
+use Rattle.proj_words.specs.Outcomes.{is_plain}
 use Rattle.proj_words.specs.Words.{Command}
 use Rattle.proj_words.specs.declared.outcome.Outcome.{Outcome}
-use Rattle.proj_words.specs.declared.outcome.Outcome.TheVariants.{OutOfMemory, StoreFault}
+use Rattle.proj_words.specs.declared.outcome.Outcome.TheVariants.{OutOfMemory, StoreFault, Usage}
 use Rattle.proj_cli.specs.Answers.{ArePlanned, IsLonger}
-use Rattle.proj_cli.specs.Cases.{Made, case, loaded}
+use Rattle.proj_cli.specs.Cases.{Made, loaded}
+use Rattle.proj_cli.specs.Steps.{case, cases}
 use Rattle.proj_cli.specs.Forms.{FormPlan, IsForm, IsFormMade, IsFormPlanned, IsFormStop}
 use Rattle.proj_cli.specs.Makes.{IsGoodPlan}
 use Rattle.proj_cli.specs.Plans.{AreKept, RecallLaw}
 use Rattle.proj_cli.specs.Runs.{MayLeave}
 use Rattle.proj_cli.specs.Sent.{TakesMemory}
-use Rattle.proj_cli.specs.Steps.{cases}
 use Rattle.proj_cli.specs.Stopped.{ForInput, IsLengthened, CommandLeaves}
-use Rattle.proj_cli.proofs.Answering.{plan-longer, plan-planned, step-done}
-use Rattle.proj_cli.proofs.CasePlans.{HoldWhatTheyShould}
+use Rattle.proj_cli.proofs.Answering.{plan-allowed, plan-longer, plan-planned, step-done}
 
 module _ (law : RecallLaw) (asked : Command) (items : List Bytes) (all : Bytes) where
-  kept-by : (h : Held) → AreKept items h → HoldWhatTheyShould asked items
-  kept-by h kept g loads read = subst (AreKept items) (ok-same h g (sym kept.spelled ∙ read)) kept
-
   module _ (p : Plan) (w : IsFormPlanned (room_of items) (case asked (loaded items) all) p) (good : (h : Held) → read_items items ≡ Ok h → IsGoodPlan items h (room_of items) p) (list : List Bytes)
       (behind : list ≡ items ++ plan_items p) where
     lengthened : plan_items p ≢ [] → IsLengthened asked items all list
@@ -35,12 +31,13 @@ module _ (law : RecallLaw) (asked : Command) (items : List Bytes) (all : Bytes) 
       behind = behind;
       spelled = λ h read.
           subst (IsLonger asked items (plan_items p) h) (sym behind) (plan-longer asked items all p w good h read);
-      done = λ h kept. (
+      allowed = plan-allowed (room_of items) (case asked (loaded items) all) p w.planned;
+      done = λ kept. (
         w.planned.step,
-        step-done law asked items all (kept-by h kept) p w,
-        subst (λ (s : Result Made Outcome). ArePlanned items (cases asked items all) s p) (step-done law asked items all (kept-by h kept) p w) (plan-planned law asked items all (kept-by h kept) p w),
-        subst (λ (xs : List Bytes). AreKept xs (held_after h p)) (sym behind) ((good h kept.spelled).kept kept),
+        step-done law asked items all kept p w,
+        subst (λ (s : Result Made Outcome). ArePlanned items (cases asked items all) s p) (step-done law asked items all kept p w) (plan-planned law asked items all kept p w),
       );
+      kept = λ h holds. subst (λ (xs : List Bytes). AreKept xs (held_after h p)) (sym behind) ((good h holds.spelled).kept holds);
     }
 
   one-more : (p : Plan) → IsFormPlanned (room_of items) (case asked (loaded items) all) p → ((h : Held) → read_items items ≡ Ok h → IsGoodPlan items h (room_of items) p) → (list : List Bytes)
@@ -108,4 +105,9 @@ since-began left asked items a b x y adds at_first = record {
 
 -- where the call doesn't answer a fault of the store, the command didn't
 pub no-fault : (outcome result : Outcome) → (result ≡ outcome) ⊎ ((result ≡ OutOfMemory) × TakesMemory outcome) → result ≢ StoreFault → outcome ≢ StoreFault
-no-fault outcome result finished apart e = ⊎_elim (λ same. apart (same ∙ e)) (λ none. subst TakesMemory e none.1) finished
+no-fault outcome result finished apart e = ⊎_elim (λ same. apart (same ∙ e)) (λ none. true≢false (subst TakesMemory e none.1)) finished
+
+-- the outcome of words without a form needs no memory for its text
+pub usage-stays : (outcome result : Outcome) → (result ≡ outcome) ⊎ ((result ≡ OutOfMemory) × TakesMemory outcome) → outcome ≡ Usage → result ≡ Usage
+usage-stays outcome result (inl same) is = same ∙ is
+usage-stays outcome result (inr none) is = absurd (true≢false (sym (ap is_plain is) ∙ none.1))

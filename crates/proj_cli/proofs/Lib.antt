@@ -1,7 +1,6 @@
-pub mod CommitGraphs
 pub mod Staying
 pub mod Recalling
-mod Judging
+mod FilterFaults
 pub mod StatesAfter
 pub mod Committing
 mod RulesSet
@@ -9,17 +8,18 @@ mod InHands
 mod StatesShown
 mod Exports
 mod SoundTexts
-mod Lengths
 mod NewRows
 mod Keeps
 mod Projects
 pub mod StreamHands
 pub mod StreamBatches
 pub mod StateBases
+mod Intaking
 mod Imports
-pub mod KeptTexts
 pub mod RecalledTexts
 pub mod Forming
+pub mod Judged
+mod Headless
 pub mod Refusing
 pub mod CasePlans
 pub mod Delivering
@@ -30,15 +30,11 @@ pub mod Dispatching
 pub mod ExportAnswers
 pub mod NameForms
 pub mod Making
-pub mod Opening
 mod CommandsMade
-pub mod RuleForms
 pub mod Outcomes
-mod HeadsFound
 mod NameCases
 mod NamesTold
 mod NamesGiven
-pub mod RepeatedCommits
 pub mod ListLengths
 pub mod DiskLists
 pub mod Lifting
@@ -46,11 +42,13 @@ mod PushHands
 mod PushedLaws
 mod PushPlans
 mod Pushes
+pub mod Verdicts
 pub mod TurnHands
 pub mod TurnsMade
 pub mod EntriesAnswered
 pub mod Pieces
 pub mod BatchesRun
+pub mod Fronts
 pub mod BatchesAnswered
 mod TrialSteps
 mod TrialParts

@@ -1,5 +1,5 @@
 -- What is said of a journal, said of the disk that it stands on.
-use Rattle.std.proofs.Common.{◌≡◌, ◌≢◌, ◌⊎◌, ◌≤◌, ℕ, false, List, [], length, None, Option, Some, IfSome, Result, Ok, Err, sym, subst, arith}
+use Rattle.std.proofs.Common.{◌≡◌, ◌≢◌, ◌≤◌, ℕ, false, List, [], length, None, Option, Some, IfSome, Result, Ok, Err, sym, subst, arith}
 use Rattle.git_objects.specs.Paths.{Bytes}
 use Rattle.proj_io.specs.Counts.{Counts}
 use Rattle.proj_io.specs.Views.{SourceView, SinkView, KeeperView}
@@ -13,10 +13,10 @@ use Rattle.proj_words.specs.declared.outcome.Outcome.{Outcome}
 use Rattle.proj_words.specs.declared.outcome.Outcome.TheVariants.{Done, OutOfMemory, ReadFault, StoreFault, Usage, WriteFault}
 use Rattle.proj_cli.specs.Answers.{Devices, GetsText, HasAnswer, IsCaused, IsCommandAnswer, IsDelivered, IsRecalledCase, IsStepDelivered}
 use Rattle.proj_cli.specs.Batches.{IsBatchAnswer, IsBatchBy, IsEnded}
-use Rattle.proj_cli.specs.Cases.{Case, ImportCase, ProjectCase, ExportCase, PushCase, NameCase, RuleCase, Made, case, loaded}
+use Rattle.proj_cli.specs.Cases.{Case, ProjectCase, Made, loaded}
+use Rattle.proj_cli.specs.Steps.{case, step}
 use Rattle.proj_cli.specs.Runs.{IsAnswer}
 use Rattle.proj_cli.specs.Served.{HasList, IsOnlySynced, IsRan, IsSteady, Seen, over_disk}
-use Rattle.proj_cli.specs.Steps.{step}
 use Rattle.proj_cli.specs.Trials.{IsTrialAnswer, trial_made}
 use Rattle.proj_cli.specs.Turns.{Turn, begun}
 use Rattle.proj_cli.proofs.Delivering.{after, before}
@@ -46,26 +46,17 @@ module _ (f : ℕ) (i j : SourceView) (o q : SinkView) (k l : KeeperView) where
 
   recalled-earlier : (r : Result Case Outcome) → IsRecalledCase r (before i j o q k l) (after i j o q k l) → IsRecalledCase r (before i j o q (earlier f k) l) (after i j o q k l)
   recalled-earlier (Ok (ProjectCase h x n)) w = w
-  recalled-earlier (Ok (ImportCase force h x)) w = w
-  recalled-earlier (Ok (ExportCase h x refname n)) w = w
-  recalled-earlier (Ok (PushCase h x refname n p)) w = w
-  recalled-earlier (Ok (NameCase x refname r)) w = w
-  recalled-earlier (Ok (RuleCase h n)) w = w
-  recalled-earlier (Err e) w = w
+  recalled-earlier _ w = w
 
   has-earlier : (asked : Command) (items : List Bytes) (outcome : Outcome) → HasAnswer asked items (before i j o q k l) (after i j o q k l) outcome
       → HasAnswer asked items (before i j o q (earlier f k) l) (after i j o q k l) outcome
   has-earlier asked items outcome h = record {
     input = h.input;
     told = h.told;
-    answered = record {
-      allowed = h.answered.allowed;
-      plan = h.answered.plan;
-      planned = h.answered.planned;
-      delivered = step-earlier asked (step asked items h.input) h.answered.plan outcome h.answered.delivered;
-      lawful = h.answered.lawful;
-      follows = h.answered.follows;
-    };
+    allowed = h.allowed;
+    answered = λ kept.
+        let a = h.answered kept in
+        record { plan = a.plan; planned = a.planned; delivered = step-earlier asked (step asked items h.input) a.plan outcome a.delivered; lawful = a.lawful; follows = a.follows };
   }
 
   cause-earlier : (outcome : Outcome) → f ≤ k.faults → IsCaused (before i j o q k l) (after i j o q k l) outcome → IsCaused (before i j o q (earlier f k) l) (after i j o q k l) outcome
@@ -75,12 +66,15 @@ module _ (f : ℕ) (i j : SourceView) (o q : SinkView) (k l : KeeperView) where
       → IsCommandAnswer asked (before i j o q (earlier f k) l) (after i j o q k l) outcome
   command-earlier asked outcome le answer = record {
     cause = cause-earlier outcome le answer.cause;
+    judged = answer.judged;
     unread = answer.unread;
     unloaded = answer.unloaded;
     unwritten = answer.unwritten;
-    answered = λ items these. has-earlier asked items outcome (answer.answered items (record { told = these.told; kept = these.kept }));
+    answered = λ items these. has-earlier asked items outcome (answer.answered items these);
     safe = λ items h told read.
         let s = answer.safe items h told read in record { report = s.report; more = s.more; delivered = delivered-earlier asked s.report s.more outcome s.delivered; spelled = s.spelled };
+    taken = answer.taken;
+    caseless = answer.caseless;
     recalled = λ items told e. recalled-earlier (case asked (loaded items) []) (answer.recalled items told e);
   }
 
@@ -114,6 +108,7 @@ module _ (f : ℕ) (i j : SourceView) (o q : SinkView) (k l : KeeperView) where
       → IsBatchAnswer (before i j o q (earlier f k) l) (after i j o q k l) outcome
   batch-earlier outcome le answer = record {
     cause = cause-earlier outcome le answer.cause;
+    judged = answer.judged;
     run = λ items told.
         let h = answer.run items told in record { input = h.input; told = h.told; run = run-earlier items (begun items h.input) outcome h.run };
   }
@@ -159,7 +154,7 @@ module _ (asked : Command) (i j : SourceView) (o p : SinkView) (e f : SinkView) 
       → IfSome (items_of opened) (λ all. length all ≡ number) → IfSome (items_of end) (λ all. length all ≡ number_now)
       → IsAnswer asked journal-then (over_disk seen-after number_now) outcome
       → (loads asked ≡ false → end ≡ opened)
-      → (asked ≡ Unknown → (outcome ≡ OutOfMemory) ⊎ (outcome ≡ Usage))
+      → (asked ≡ Unknown → outcome ≡ Usage)
       → GetsText e f (text_of outcome) → (outcome ≢ StoreFault → IfSome end IsSteady) → IsRan asked seen-before seen-after exit
   ran_on exit status list synced le counted counted_now answer unloaded idle text settled = record {
     outcome = outcome;

@@ -62,14 +62,17 @@ use Rattle.repo_ground.proofs.Prepared.{append-none, filter-append, filter-rever
 use Rattle.proj_words.specs.Faults.{stream_outcome}
 use Rattle.proj_words.specs.declared.outcome.Outcome.{Outcome}
 use Rattle.proj_words.specs.declared.outcome.Outcome.TheVariants as outcomes
-use Rattle.proj_cli.specs.Cases.{Case, Made, NameCase, head_of, name_line, no_limit, unchanged}
+use Rattle.proj_cli.specs.Cases.{Case, Made, NameCase, head_of, no_limit, unchanged}
+use Rattle.proj_cli.specs.Project.{name_line}
 use Rattle.proj_cli.specs.Filters.{projection}
-use Rattle.proj_cli.specs.Hands.{Hand, IsInHand, IsInHands, TreeMade, all_components, all_leaves, components_for, hand, history_at}
+use Rattle.proj_cli.specs.Hands.{Hand, IsInHand, IsInHands, TreeMade, all_components, all_leaves, components_for}
+use Rattle.proj_cli.specs.Steps.{hand}
+use Rattle.proj_cli.specs.Name.{history_at}
 use Rattle.proj_cli.specs.Makes.{IsRefusal, IsReportOf, hands_of, no_room, step_in}
 use Rattle.proj_cli.specs.Refusals.{apply_outcome, replay_outcome}
-use Rattle.proj_cli.proofs.CommitGraphs.{has-commit}
+use Rattle.repo_ground.proofs.CommitGraphs.{has-commit}
 use Rattle.proj_cli.proofs.Committing.{told-refusal, told-report}
-use Rattle.proj_cli.proofs.RepeatedCommits.{AreBehind, repeated-same}
+use Rattle.repo_ground.proofs.RepeatedCommits.{AreBehind, repeated-same}
 use Rattle.proj_cli.proofs.Staying.{among-has, with-added}
 use Rattle.proj_cli.proofs.StreamBatches.{once-named, stream-brought, stream-replayed, whole-trees}
 use Rattle.proj_cli.proofs.StreamHands.{component-in-hand, contains-flat, leaf-in-hand, stream-in-hand, tree-as}

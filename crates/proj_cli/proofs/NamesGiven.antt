@@ -33,7 +33,8 @@ use Rattle.repo_ground.specs.declared.commit.CommitError.{CommitError}
 use Rattle.repo_ground.specs.declared.commit.CommitError.TheVariants as commits
 use Rattle.proj_words.specs.declared.outcome.Outcome.{Outcome}
 use Rattle.proj_words.specs.declared.outcome.Outcome.TheVariants as outcomes
-use Rattle.proj_cli.specs.Cases.{NameCase, name_line}
+use Rattle.proj_cli.specs.Cases.{NameCase}
+use Rattle.proj_cli.specs.Project.{name_line}
 use Rattle.proj_cli.specs.Makes.{IsReportOf}
 use Rattle.proj_cli.specs.Refusals.{apply_outcome, commit_outcome, replay_outcome}
 use Rattle.proj_cli.specs.StreamsGiven.{IsGiven, IsUnnamed}

@@ -36,7 +36,8 @@ use Rattle.repo_ground.specs.Taking.{IsNotTaken, IsTaken}
 use Rattle.repo_ground.specs.declared.commit.CommitError.{CommitError}
 use Rattle.repo_ground.specs.declared.commit.CommitError.TheVariants as commits
 use Rattle.proj_words.specs.declared.outcome.Outcome.TheVariants as outcomes
-use Rattle.proj_cli.specs.Cases.{Case, NameCase, name_line}
+use Rattle.proj_cli.specs.Cases.{Case, NameCase}
+use Rattle.proj_cli.specs.Project.{name_line}
 use Rattle.proj_cli.specs.Makes.{IsReportOf}
 use Rattle.proj_cli.specs.Refusals.{apply_outcome, commit_outcome, replay_outcome}
 use Rattle.proj_cli.proofs.NameCases.{ground-commits, head-placed, limit-refused, line-told, no-memory, projection-is, ref-refused, show-refused, stream-refused, with-from}

@@ -16,7 +16,7 @@ use Rattle.commit_map.specs.Shown.{Entries, Shown, kept_at}
 use Rattle.state_items.specs.Appending.{are_entries, is_result}
 use Rattle.state_items.specs.Changes.{entry_of}
 use Rattle.state_items.specs.Items.{Kept, is_of}
-use Rattle.proj_cli.specs.Plans.{in_order_of}
+use Rattle.proj_cli.specs.Project.{in_order_of}
 
 -- ---- lists in order
 

@@ -1,6 +1,6 @@
 -- Pieces that are written one after another are written as one.
 use Rattle.std.proofs.Common.{◌≡◌, ◌≢◌, ◌<◌, ◌≤◌, ◌++◌, ℕ, zero, suc, List, [], ◌∷◌, take, drop, length, append_assoc, refl, sym, ap, subst, ◌∙◌, arith}
-use Rattle.std.specs.Prelude.{get_or}
+use Rattle.std.specs.Prelude.{codes, decimal, get_or}
 use Rattle.std.specs.List.{flat_map}
 use Rattle.std.specs.Io.KnownBytes.{Appends}
 use Rattle.std.proofs.KnownBytes.{Appends-trans}
@@ -8,9 +8,11 @@ use Rattle.std.proofs.Math.Seq.{take-append_seam}
 use Rattle.std.proofs.lemmas.List.{take-append-drop}
 use Rattle.git_objects.specs.Paths.{Bytes}
 use Rattle.proj_io.specs.Views.{SinkView}
+use Rattle.proj_words.specs.Entries.{reply_text}
+use Rattle.proj_words.specs.Outcomes.{code_of}
 use Rattle.proj_words.specs.declared.outcome.Outcome.{Outcome}
 use Rattle.proj_words.specs.declared.outcome.Outcome.TheVariants.{Done, OutOfMemory, WriteFault}
-use Rattle.proj_cli.specs.Sent.{Fronts, IsSent}
+use Rattle.proj_cli.specs.Sent.{Fronts, IsSent, reply_head}
 
 -- ---- lists
 
@@ -51,3 +53,15 @@ pub record HasWritten (o q : SinkView) (front : Bytes) : Type 0 where
   pub wrote : Appends o.written q.written front
   pub faults : o.faults ≤ q.faults
   pub refusals : o.refusals ≤ q.refusals
+
+-- ---- a reply
+
+-- what stands before the output, the output and an LF are a reply
+pub reply-pieces : (outcome : Outcome) (output : Bytes) → reply_head outcome (length output) ++ (output ++ 10 ∷ []) ≡ reply_text outcome output
+reply-pieces outcome output = append_assoc (codes "status " ++ decimal (code_of outcome) ++ codes "\nbytes " ++ decimal (length output)) (10 ∷ []) (output ++ 10 ∷ [])
+
+-- what stands there, from its end to its front
+pub head-joined : (code count : Bytes) → codes "status " ++ (code ++ (codes "\nbytes " ++ (count ++ 10 ∷ []))) ≡ codes "status " ++ code ++ codes "\nbytes " ++ count ++ 10 ∷ []
+head-joined code count =
+    let front = codes "status " ++ code in
+    sym (append_assoc (front ++ codes "\nbytes ") count (10 ∷ []) ∙ append_assoc front (codes "\nbytes ") (count ++ 10 ∷ []))

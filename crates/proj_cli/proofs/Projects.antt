@@ -34,7 +34,8 @@ use Rattle.repo_ground.specs.Selecting.{IsSelected}
 use Rattle.repo_ground.proofs.ItemRuns.{stays-self}
 use Rattle.proj_words.specs.declared.outcome.Outcome.{Outcome}
 use Rattle.proj_words.specs.declared.outcome.Outcome.TheVariants.{Collision, OutOfMemory, StoreFault, UnknownRef}
-use Rattle.proj_cli.specs.Cases.{Case, ProjectCase, head_of, name_line, unchanged}
+use Rattle.proj_cli.specs.Cases.{Case, ProjectCase, head_of, unchanged}
+use Rattle.proj_cli.specs.Project.{name_line}
 use Rattle.proj_cli.specs.Filters.{entries_of, project_by, project_of, recalled, sound}
 use Rattle.proj_cli.specs.Hands.{IsInHands}
 use Rattle.proj_cli.specs.Makes.{IsGoodPlan, IsKeepOf, IsKeepPlanOf, IsMadeOf, IsPlanned, IsStateOf, hands_of}
@@ -197,10 +198,10 @@ module _ (items : List Bytes) (h : Held) (s : Contents) (f : Filter) (refname n 
             record {
               current = record {
                 read = spelled items h s f n w recall t read p plan-of;
-                number = d.number ∙ ap (λ (m : ℕ). m + length (plan_items p)) before.current.number ∙ sym (length-append items (plan_items p));
-                size = d.size ∙ ap (λ (m : ℕ). m + sum_by length (plan_items p)) before.current.size ∙ sym (sum_by-append length items (plan_items p));
+                number = d.appended.number ∙ ap (λ (m : ℕ). m + length (plan_items p)) before.current.number ∙ sym (length-append items (plan_items p));
+                size = d.appended.size ∙ ap (λ (m : ℕ). m + sum_by length (plan_items p)) before.current.size ∙ sym (sum_by-append length items (plan_items p));
               };
-              spells = d.spells;
+              spells = d.appended.spells;
               ground = subst IsGround (sym b) x.ground;
             }
 

@@ -35,7 +35,9 @@ use Rattle.state_items.specs.Items.{Held}
 use Rattle.state_items.specs.Repos.{repo}
 use Rattle.proj_cli.specs.Cases.{PushCase}
 use Rattle.proj_cli.specs.Filters.{rule_by}
-use Rattle.proj_cli.specs.Hands.{CommitMade, Hand, IsInHand, IsInHands, TreeMade, all_components, all_leaves, blobs_read, command_components, components_for, hand, laid_parts, own, parts_upon}
+use Rattle.proj_cli.specs.Hands.{CommitMade, Hand, IsInHand, IsInHands, TreeMade, all_components, all_leaves, blobs_read, command_components, components_for, own}
+use Rattle.proj_cli.specs.Steps.{hand}
+use Rattle.proj_cli.specs.Push.{laid_parts, parts_upon}
 use Rattle.proj_cli.specs.Pushing.{IsMadeOver, IsSeenOver}
 use Rattle.proj_cli.proofs.InHands.{in-hands}
 use Rattle.proj_cli.proofs.StreamHands.{IsBrought, brought-in-hand, component-in-hand, leaf-in-hand, run-brought}

@@ -1,12 +1,16 @@
 -- What a push brings to a state, by what it brings over its ground.
-use Rattle.std.proofs.Common.{◌≡◌, List, [], Result, Ok, Err, append-nil, refl, sym, subst, ◌∙◌}
+use Rattle.std.proofs.Common.{◌≡◌, ℕ, List, [], Option, None, Some, Result, Ok, Err, append-nil, refl, sym, subst, ◌∙◌}
+use Rattle.std.specs.Option.{option_map}
 use Rattle.git_objects.specs.Paths.{Bytes}
-use Rattle.git_objects.specs.Snapshots.{Graph}
+use Rattle.git_objects.specs.Snapshots.{Graph, tree_at}
 use Rattle.object_store.specs.Growth.{IsGrownBy}
 use Rattle.filter_text.specs.Filters.{Filter}
 use Rattle.commit_map.specs.declared.rule.Rule.{Rule}
 use Rattle.projection_ground.specs.Grounds.{commits_of}
 use Rattle.projection_ground.specs.declared.ground.Ground.{Ground}
+use Rattle.projection_laws.specs.Projections.{projection_by}
+use Rattle.workspace.specs.Workspaces.{shown}
+use Rattle.push_back.specs.Waited.{IsTakenTo, plan_waited, push_waited}
 use Rattle.push_back.specs.Faults.{IsPushFault}
 use Rattle.push_back.specs.Planning.{IsPlanOf, IsPlanned}
 use Rattle.push_laws.specs.Pushes.{pushing}
@@ -17,6 +21,7 @@ use Rattle.state_items.specs.Repos.{repo}
 use Rattle.repo_ground.specs.Contents.{Contents}
 use Rattle.proj_words.specs.declared.outcome.Outcome.{Outcome}
 use Rattle.proj_cli.specs.Filters.{rule_by}
+use Rattle.proj_cli.specs.Intake.{TakesUpTo, pushed_to}
 use Rattle.proj_cli.specs.Makes.{IsStateOf}
 use Rattle.proj_cli.specs.Pushing.{IsMadeOver, IsPlannedUpon, fault_outcome}
 use Rattle.proj_cli.proofs.StatesShown.{commits-are, rule-is, state-grown}
@@ -25,6 +30,15 @@ module _ (items : List Bytes) (h : Held) (s : Contents) (f : Filter) (refname n 
   -- by what is held
   over : (P : Rule → Graph → Type 0) → P s.basis.rule (commits_of s.basis) → P (rule_by h.rule) (repo h).commits
   over P p = subst (λ (cs : Graph). P (rule_by h.rule) cs) (commits-are items h s f n w) (subst (λ (k : Rule). P k (commits_of s.basis)) (rule-is h s w.spells) p)
+
+  -- how much of an input it takes
+  pub plan-takes : (a b : Option Bytes) (result : Result Plan PushFault) → IsTakenTo (plan_waited f s.basis refname n) a b result → TakesUpTo (pushed_to h f refname n) a b
+  plan-takes a b result t =
+      over (λ k cs. TakesUpTo (push_waited refname (option_map (λ x. x.commit) (projection_by k (shown f) [] cs n)) (shown f (tree_at cs n))) a b) (within (plan_waited f s.basis refname n) a b result t)
+    where
+      within : (place : Bytes → ℕ) (a b : Option Bytes) (result : Result Plan PushFault) → IsTakenTo place a b result → TakesUpTo place a b
+      within place None b result t = tt
+      within place (Some all) b result t = (t.0, t.1, t.2)
 
   module _ (g : Ground) where
     abbrev s2 : Contents

@@ -4,31 +4,31 @@ use Rattle.std.specs.Prelude.{unwrap_or}
 use Rattle.std.specs.Cmp.Lexicographic.{bytes_decides, texts_ties}
 use Rattle.std.specs.FinMap.{find}
 use Rattle.std.specs.List.{last_or}
-use Rattle.std.specs.Option.{option_map, option_map_or, option_or}
+use Rattle.std.specs.Option.{option_and_then, option_map, option_map_or, option_or}
 use Rattle.std.specs.Ordering.{is_eq}
 use Rattle.std.proofs.lemmas.Option.{none-some}
 use Rattle.git_objects.specs.Lists.{Each}
-use Rattle.git_objects.specs.Paths.{Bytes, same_bytes}
+use Rattle.git_objects.specs.Paths.{Bytes, Path, same_bytes}
 use Rattle.git_objects.specs.Refs.{Refs, bytes_cmp}
 use Rattle.git_objects.specs.Snapshots.{Graph, Snapshot, add, add_all, commit_at, has, has_name, is_graph, snapshot_name, tree_at}
-use Rattle.git_objects.specs.Trees.{Flat, IsTree}
+use Rattle.git_objects.specs.Trees.{Flat, IsTree, at}
 use Rattle.git_objects.proofs.Basics.{same_bytes-back, same_bytes-self}
 use Rattle.object_store.specs.Objects.{IsStore, Object}
 use Rattle.filter_text.specs.Filters.{Filter}
 use Rattle.workspace.specs.Laws.{IsUsable}
-use Rattle.workspace.specs.Workspaces.{shown}
+use Rattle.workspace.specs.Workspaces.{place, shown}
 use Rattle.commit_graph.specs.Graphs.{Row}
 use Rattle.commit_map.specs.declared.rule.Rule.{Rule}
 use Rattle.projection_laws.specs.Projections.{projection, shown_of}
 use Rattle.projection_laws.specs.StoredGraphs.{IsGraphIn, graph_of, snapshot_named}
 use Rattle.projection_laws.proofs.GraphLemmas.{has-newer, has-self}
 use Rattle.projection_laws.proofs.StoredGraphs.{at-row, older, older-all, older-suc, row-at}
-use Rattle.push_laws.specs.PushLaws.{Agrees, AreFound, AreTrees, EachStep, IsChain, IsPush, IsStep, commit_of, last_of, originals}
+use Rattle.push_laws.specs.PushLaws.{Agrees, AreFound, AreTrees, EachStep, IsChain, IsPush, IsStep, Returns, commit_of, last_of, originals}
 use Rattle.push_laws.specs.PushReplays.{StreamRefusal}
 use Rattle.push_laws.specs.PushVerdicts.{Pair, Refusal, Verdict, original_of, original_tree, upon, verdict, verdict_from, with_pair}
 use Rattle.push_laws.specs.Pushes.{Pushing, StreamRefused, CommitRefused, pushing, refusal_of}
 use Rattle.push_laws.proofs.Chains.{chain-law}
-use Rattle.push_laws.proofs.Pushing.{elsewhere-law, made-law, projected-law, pushed-law, steps-law}
+use Rattle.push_laws.proofs.Pushing.{back-law, elsewhere-law, made-law, projected-law, pushed-law, steps-law}
 use Rattle.state_items.specs.Changes.{held_after, with_refs}
 use Rattle.state_items.specs.Imported.{IsBrought, has_leaves}
 use Rattle.state_items.specs.Items.{Held}
@@ -36,10 +36,9 @@ use Rattle.state_items.specs.Repos.{repo}
 use Rattle.state_items.proofs.Imports.{imported-law}
 use Rattle.state_items.proofs.ReadObjects.{ok-same}
 use Rattle.import_laws.proofs.EditLeaves.{held-trees}
-use Rattle.proj_cli.specs.Cases.{push_plan}
+use Rattle.proj_cli.specs.Push.{push_plan, ArePairs, GiveBack, IsPushed}
 use Rattle.proj_cli.specs.Filters.{projected, rule_by}
-use Rattle.proj_cli.specs.Lawful.{ArePairs, IsPushed}
-use Rattle.proj_cli.proofs.CommitGraphs.{stored-graph}
+use Rattle.repo_ground.proofs.CommitGraphs.{stored-graph}
 use Rattle.proj_cli.proofs.Staying.{with-added}
 
 -- ---- an accepted push
@@ -85,6 +84,18 @@ lines-of f (c ∷ cs) k h t seen ps e =
 in-line : (h : Bytes) (ps : List Pair) → AreLines h ps → IsChain (Some h) (originals ps)
 in-line h [] w = tt
 in-line h (p ∷ ps) w = (w.0.parents, in-line (snapshot_name p.original) ps w.1)
+
+-- ---- there and back
+
+same-file : (t u : Flat) (o : Option Path) → ((p : Path) → o ≡ Some p → at u p ≡ at t p) → option_and_then (at u) o ≡ option_and_then (at t) o
+same-file t u None w = refl
+same-file t u (Some p) w = w p refl
+
+back-from : (f : Filter) (t : Flat) (ps : List Pair) → Returns f t ps → GiveBack f t (map (λ p. p.pushed) ps) (originals ps)
+back-from f t [] r = tt
+back-from f t (p ∷ ps) r = λ same.
+    let x = r (same-file t p.original.tree (place f) same) in
+    (x.0, back-from f t ps x.1)
 
 -- ---- the last of them
 
@@ -279,6 +290,12 @@ module _ (h : Held) (f : Filter) (refname n all : Bytes) where
           (steps-law f G n x.stream.state.commits ps w.usable graph-trees w.trees verdict-is)
           (projected-each ps (projected-law k f G n x.stream.state.commits ps push))))
 
+      back : GiveBack f (tree_at G n) x.stream.state.commits x.originals
+      back =
+          subst (GiveBack f (tree_at G n) x.stream.state.commits) (sym made)
+          (subst (λ (cs : List Snapshot). GiveBack f (tree_at G n) cs (originals ps)) (pushed-law f G n x.stream.state.commits ps verdict-is)
+          (back-from f (tree_at G n) ps (back-law f G n x.stream.state.commits ps w.usable graph-trees w.trees verdict-is)))
+
       others : (q : Filter) → IsUsable q → Each (λ o. Agrees q (tree_at G n) o.tree) x.originals → projected g q (unwrap_or (find bytes_cmp refname g.refs) []) ≡ projected h q n
       others q u e =
           ap (λ (o : Option Bytes). projected g q (unwrap_or o [])) a.head
@@ -289,7 +306,7 @@ module _ (h : Held) (f : Filter) (refname n all : Bytes) where
           (subst (Each (λ o. Agrees q (tree_at G n) o.tree)) made e) found
 
       pushed-after : IsPushed h g f refname n x
-      pushed-after = record { head = a.head; pairs = pairs; others = others }
+      pushed-after = record { head = a.head; pairs = pairs; back = back; others = others }
 
     -- the ref's new commit is found
     new-head : (m : Bytes) (refs : Refs) → option_or (find bytes_cmp refname (with_refs [] ((refname, m) ∷ []))) (find bytes_cmp refname refs) ≡ Some m

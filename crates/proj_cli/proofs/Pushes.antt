@@ -66,10 +66,11 @@ use Rattle.repo_ground.proofs.Stopping.{adds_none}
 use Rattle.proj_words.specs.Faults.{stream_outcome}
 use Rattle.proj_words.specs.declared.outcome.Outcome.{Outcome}
 use Rattle.proj_words.specs.declared.outcome.Outcome.TheVariants as outcomes
-use Rattle.proj_cli.specs.Cases.{Case, PushCase, Made, made, name_or_none, no_refusal, pair_line, push_case, push_outcome, push_plan, unchanged, within}
+use Rattle.proj_cli.specs.Cases.{Case, PushCase, Made, unchanged, within}
+use Rattle.proj_cli.specs.Steps.{made}
+use Rattle.proj_cli.specs.Push.{name_or_none, no_refusal, pair_line, push_case, push_outcome, push_plan, IsPushed}
 use Rattle.proj_cli.specs.Filters.{project_by, rule_by}
 use Rattle.proj_cli.specs.Hands.{IsInHands}
-use Rattle.proj_cli.specs.Lawful.{IsPushed}
 use Rattle.proj_cli.specs.Makes.{IsAtHand, IsMadeOf, IsRefusal, IsStateOf, hands_of}
 use Rattle.proj_cli.specs.Pushing.{IsMadeOver, IsPlannedUpon, IsPushPrepared, digits_line, fault_outcome}
 use Rattle.proj_cli.specs.Refusals.{commit_outcome}
@@ -513,5 +514,5 @@ module _ (items : List Bytes) (h : Held) (f : Filter) (refname n all : Bytes) (b
         commit-done w done got =
             came-up after before now a c y z (Ok report) plan
             (made-done asked items h s s1 (flat_map pair_line (zip x.stream.state.commits x.originals)) plan of-case after w before now report (output-is ∙ sym p.lines)
-            (done x.stream.state.blobs x.originals batch).0 (done x.stream.state.blobs x.originals batch).1 (got x.stream.state.blobs x.originals batch))
+            (done x.stream.state.blobs x.originals batch).0.appended (done x.stream.state.blobs x.originals batch).1 (got x.stream.state.blobs x.originals batch))
             (stops-as plan (stops x.stream.state.blobs x.originals batch))

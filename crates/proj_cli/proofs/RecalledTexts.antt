@@ -23,7 +23,7 @@ use Rattle.state_items.proofs.ReadObjects.{value-of}
 use Rattle.proj_words.specs.Faults.{filter_outcome}
 use Rattle.proj_cli.specs.Filters.{entries_of, projected, recalled, sound, without_fault}
 use Rattle.proj_cli.specs.Plans.{AreKept, RecallLaw}
-use Rattle.proj_cli.proofs.KeptTexts.{no-entries}
+use Rattle.repo_ground.proofs.KeptTexts.{no-entries}
 
 -- ---- texts that are read
 

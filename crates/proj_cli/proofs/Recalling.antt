@@ -20,7 +20,7 @@ use Rattle.state_items.specs.Repos.{repo}
 use Rattle.proj_words.specs.declared.outcome.Outcome.{Outcome}
 use Rattle.proj_cli.specs.Filters.{entries_of, project_by, project_of, projection, rule_by, sound}
 use Rattle.proj_cli.specs.Plans.{RecallLaw}
-use Rattle.proj_cli.proofs.CommitGraphs.{stored-graph}
+use Rattle.repo_ground.proofs.CommitGraphs.{stored-graph}
 
 module _ (f : Filter) (rule : ℕ) (cs : List Snapshot) (s : sound (printed f) ≡ Ok f) where
   -- what is kept for the filter and the rule, of that commit

@@ -7,6 +7,7 @@ use Rattle.filter_text.specs.Filters.{Filter}
 use Rattle.filter_text.specs.Limits.{read}
 use Rattle.filter_text.specs.declared.filter.FilterFault.{FilterFault}
 use Rattle.filter_text.specs.declared.filter.FilterFault.TheVariants as texts
+use Rattle.fast_import.specs.Replays.{empty_base, ran}
 use Rattle.filter_routes.specs.FaultTests.{fault}
 use Rattle.filter_routes.specs.declared.fault.RouteFault.{RouteFault}
 use Rattle.filter_routes.specs.declared.fault.RouteFault.TheVariants as routes
@@ -21,24 +22,23 @@ use Rattle.repo_ground.specs.Loads.{IsLoadFault}
 use Rattle.repo_ground.specs.declared.state.LoadError.{LoadError}
 use Rattle.repo_ground.specs.declared.state.LoadError.TheVariants as load
 use Rattle.proj_words.specs.Faults.{filter_outcome, route_outcome}
-use Rattle.proj_words.specs.Words.{Command}
+use Rattle.proj_words.specs.Words.{Command, Import, Project, Push, Export, Name, Rule}
 use Rattle.proj_words.specs.declared.outcome.Outcome.{Outcome}
-use Rattle.proj_words.specs.declared.outcome.Outcome.TheVariants.{Done, OutOfMemory, Collision, ReadFault, WriteFault, StoreFault}
-use Rattle.proj_cli.specs.Cases.{Case, Made, break_outcome, case, loaded}
+use Rattle.proj_words.specs.declared.outcome.Outcome.TheVariants.{Done, OutOfMemory, Collision, ReadFault, WriteFault, StoreFault, Usage}
+use Rattle.proj_cli.specs.Cases.{Case, Made, break_outcome, loaded, NameCase, verdict}
+use Rattle.proj_cli.specs.Steps.{case}
+use Rattle.proj_cli.specs.Export.{export_case}
+use Rattle.proj_cli.specs.Project.{project_case}
+use Rattle.proj_cli.specs.Push.{push_case}
 use Rattle.proj_cli.specs.Filters.{sound, without_fault}
-use Rattle.proj_cli.specs.Forms.{FormPlan, IsBeforeDevices, IsEarly, IsForm, IsFormMade, IsFormStop, load_outcome, opening}
+use Rattle.proj_cli.specs.Forms.{FormPlan, IsBeforeDevices, IsEarly, IsForm, IsFormMade, IsFormStop, load_outcome}
 use Rattle.proj_cli.specs.Hands.{IsInHands}
+use Rattle.proj_cli.specs.Judging.{IsOwn, IsUnjudged}
 use Rattle.proj_cli.specs.Makes.{IsGoodPlan, IsRefusal, IsReported, IsStored, hands_of, step_in}
 use Rattle.proj_cli.specs.Plans.{AreKept}
 use Rattle.proj_cli.proofs.Forming.{adds-nothing}
 
 -- ---- outcomes that no device tells, and that aren't the last
-
-pub record IsOwn (e : Outcome) : Type 0 where
-  pub done : e ≢ Done
-  pub read : e ≢ ReadFault
-  pub write : e ≢ WriteFault
-  pub store : e ≢ StoreFault
 
 text-own : (d : FilterFault) → IsOwn (filter_outcome d)
 text-own texts.TooLong = record { done = λ e. cc; read = λ e. cc; write = λ e. cc; store = λ e. cc }
@@ -114,39 +114,6 @@ load-counts f g e x is counts = record {
   later = counts.later;
   rose = λ h. counts.rose (ap Err (load-store e (sym is ∙ err-same x StoreFault h)));
 }
-
--- ---- opening
-
-abbrev both : Result Filter Outcome → Result Held Outcome → Result (Filter × Held) Outcome
-both s l = s >>= λ f. l >>= λ h. Ok (f, h)
-
-module _ {A : Type 0} (rest : Filter → Held → Result A Outcome) where
-  open-err : (s : Result Filter Outcome) (l : Result Held Outcome) (e : Outcome) → both s l ≡ Err e → (s >>= λ f. l >>= λ h. rest f h) ≡ Err e
-  open-err (Ok f) (Ok h) e g = cc
-  open-err (Ok f) (Err x) e g = ap Err (err-same {A = Filter × Held} x e g)
-  open-err (Err x) l e g = ap Err (err-same {A = Filter × Held} x e g)
-
-  pub opening-err : (text : Bytes) (items : List Bytes) (e : Outcome) → opening text items ≡ Err e → (sound text >>= λ f. loaded items >>= λ h. rest f h) ≡ Err e
-  opening-err text items e g = open-err (sound text) (loaded items) e g
-
-either-own : (s : Result Filter Outcome) (l : Result Held Outcome) (e : Outcome) → ((x : Outcome) → s ≡ Err x → IsOwn x) → ((x : Outcome) → l ≡ Err x → IsOwn x)
-    → both s l ≡ Err e → IsOwn e
-either-own (Ok f) (Ok h) e a b g = cc
-either-own (Ok f) (Err x) e a b g = subst IsOwn (err-same {A = Filter × Held} x e g) (b x refl)
-either-own (Err x) l e a b g = subst IsOwn (err-same {A = Filter × Held} x e g) (a x refl)
-
-pub opening-own : (text : Bytes) (items : List Bytes) (e : Outcome) → opening text items ≡ Err e → IsOwn e
-opening-own text items e g = either-own (sound text) (loaded items) e (sound-own text) (loaded-own items) g
-
-pub sound-early : (text : Bytes) (items : List Bytes) (e : Outcome) → (e ≡ OutOfMemory) ⊎ (sound text ≡ Err e) → IsEarly (opening text items) e
-sound-early text items e (inl m) = inl m
-sound-early text items e (inr g) = inr (inr (ap (λ (s : Result Filter Outcome). both s (loaded items)) g))
-
-pub load-open : (text : Bytes) (f : Filter) (items : List Bytes) (e : Outcome) → sound text ≡ Ok f → IsEarly (loaded items) e → IsEarly (opening text items) e
-load-open text f items e s (inl m) = inl m
-load-open text f items e s (inr (inl k)) = inr (inl k)
-load-open text f items e s (inr (inr g)) =
-    inr (inr (ap (λ (x : Result Filter Outcome). both x (loaded items)) s ∙ ap (both (Ok f)) g))
 
 -- ---- outcomes that no device tells, as results
 
@@ -240,9 +207,25 @@ load-refused asked items all e first early =
     early-refusal (IsInHands (hands_of (case asked (loaded items) all))) (step_in (room_of items) (case asked (loaded items) all)) (loaded items) e
     (λ g. (ap (step_in (room_of items)) (ap (λ (l : Result Held Outcome). case asked l all) g ∙ first e), loaded-own items e g)) early
 
--- of one that begins with a filter, and then loads
-pub open-refused : (rest : Filter → Held → Result Case Outcome) (text : Bytes) (items : List Bytes) (e : Outcome) (r : Result Case Outcome) → (sound text >>= λ f. loaded items >>= λ h. rest f h) ≡ r
-    → IsEarly (opening text items) e → IsRefusal (IsInHands (hands_of r)) e (step_in (room_of items) r)
-open-refused rest text items e r same early =
-    early-refusal (IsInHands (hands_of r)) (step_in (room_of items) r) (opening text items) e
-    (λ g. (ap (step_in (room_of items)) (sym same ∙ opening-err rest text items e g), opening-own text items e g)) early
+-- of one that is refused by judging
+
+of-text : {A : Type 0} (s : Result Filter Outcome) (next : Filter → Result A Outcome) (e : Outcome) → ◌≡◌ {A = Result (Unit {0}) Outcome} (s >>= λ _. Ok tt) (Err e) → (s >>= next) ≡ Err e
+of-text (Ok f) next e g = cc
+of-text (Err x) next e g = ap Err (err-same {A = Unit {0}} x e g)
+
+-- it has no case, whatever is loaded and read
+verdict-case : (asked : Command) (e : Outcome) → verdict asked ≡ Err e → (loading : Result Held Outcome) (all : Bytes) → case asked loading all ≡ Err e
+verdict-case (Import force) e g loading all = cc
+verdict-case (Project r t) e g loading all = of-text (sound t) (λ f. loading >>= λ h. project_case h f r) e g
+verdict-case (Push r t) e g loading all = of-text (sound t) (λ f. loading >>= λ h. push_case h f r all) e g
+verdict-case (Export r t) e g loading all = of-text (sound t) (λ f. loading >>= λ h. export_case h f r) e g
+verdict-case (Name r t) e g loading all = of-text (sound t) (λ f. Ok (NameCase f r (ran empty_base all))) e g
+verdict-case (Rule k) e g loading all = cc
+verdict-case _ e g loading all = ap Err (err-same {A = Unit {0}} Usage e g)
+
+pub unjudged-refusal : (H : Object → Type 0) (room : Room) (asked : Command) (loading : Result Held Outcome) (all : Bytes) (e : Outcome) → IsUnjudged asked e → IsRefusal H e (step_in room (case asked loading all))
+unjudged-refusal H room asked loading all e w = by w.refused
+  where
+    by : (e ≡ OutOfMemory) ⊎ (verdict asked ≡ Err e) → IsRefusal H e (step_in room (case asked loading all))
+    by (inl m) = subst (λ (x : Outcome). IsRefusal H x (step_in room (case asked loading all))) (sym m) tt
+    by (inr g) = early-refusal H (step_in room (case asked loading all)) (case asked loading all) e (λ g. (ap (step_in room) g, w.own)) (inr (inr (verdict-case asked e g loading all)))

@@ -22,11 +22,12 @@ use Rattle.proj_io.specs.Stops.{IsPresent, OnlyAdds}
 use Rattle.proj_io.specs.Views.{KeeperView}
 use Rattle.proj_words.specs.declared.outcome.Outcome.{Outcome}
 use Rattle.proj_words.specs.declared.outcome.Outcome.TheVariants as outcomes
-use Rattle.repo_ground.specs.Changes.{Appends, IsCommitted, IsRefusal as IsRefusedBy, IsRefused, IsStopOf}
+use Rattle.repo_ground.specs.Changes.{Appends, IsAppended, IsRefusal as IsRefusedBy, IsRefused, IsRuleSet, IsStopOf}
 use Rattle.repo_ground.specs.declared.commit.CommitError.{CommitError}
 use Rattle.repo_ground.proofs.Stopping.{adds_none}
 use Rattle.repo_ground.specs.Contents.{Contents}
-use Rattle.proj_cli.specs.Cases.{RuleCase, rule_line}
+use Rattle.proj_cli.specs.Cases.{RuleCase}
+use Rattle.proj_cli.specs.Rule.{rule_line}
 use Rattle.proj_cli.specs.Filters.{project_by}
 use Rattle.proj_cli.specs.Hands.{IsInHands}
 use Rattle.proj_cli.specs.Makes.{IsMadeOf, IsStateOf, hands_of}
@@ -69,7 +70,7 @@ rule-case items h s r w = record {
 }
 
 -- with another rule a ground is one still
-pub rule-ground : (items : List Bytes) (h : Held) (s after : Contents) (k : ℕ) → IsStateOf items h s → IsCommitted h (rule_plan h k) s after → IsGround after.basis
+pub rule-ground : (items : List Bytes) (h : Held) (s after : Contents) (k : ℕ) → IsStateOf items h s → IsAppended h (rule_plan h k) s after → IsGround after.basis
 rule-ground items h s after k w c =
     let rows : after.basis.graph ≡ s.basis.graph = c.spells.graph ∙ ap rows_of (same-objects h k (h.rule == k)) ∙ sym w.spells.graph in
     let graph : IsGraphIn after.basis.store s.basis.graph = subst (λ (S : List Object). IsGraphIn S s.basis.graph) (sym c.store) w.ground.graph in
@@ -116,10 +117,10 @@ module _ (items : List Bytes) (h : Held) (s : Contents) (r : Rule) (w : IsStateO
           stops-by h s plan before.items a b x y (Err e) adds refused,
         )
 
-    pub set-done : (u : Unit {0}) (line : Bytes) → line ≡ rule_line k → IsCommitted h plan s after → Appends plan before now (Ok u) → OnlyAdds a b x y (IsStopOf h s plan before.items)
+    pub set-done : (u : Unit {0}) (line : Bytes) → line ≡ rule_line k → IsRuleSet h plan s after → Appends plan before now (Ok u) → OnlyAdds a b x y (IsStopOf h s plan before.items)
         → IsSet items h k s after before now a b x y (Ok line)
     set-done u line q c got adds = (
       plan,
-      made-done (RuleCase h k) items h s s (rule_line k) plan (rule-case items h s r w) after u before now line (sym q) c (rule-ground items h s after k w c) got,
+      made-done (RuleCase h k) items h s s (rule_line k) plan (rule-case items h s r w) after u before now line (sym q) c.appended (rule-ground items h s after k w c.appended) got,
       adds,
     )

@@ -32,7 +32,7 @@ use Rattle.repo_ground.proofs.GrownLaws.{spells-grown}
 use Rattle.proj_cli.specs.Filters.{history, rule_by}
 use Rattle.proj_cli.specs.Hands.{IsInHands}
 use Rattle.proj_cli.specs.Makes.{IsStateOf}
-use Rattle.proj_cli.proofs.CommitGraphs.{has-commit}
+use Rattle.repo_ground.proofs.CommitGraphs.{has-commit}
 use Rattle.proj_cli.proofs.InHands.{in-hands, in-reverse, made-in, shown-in, shown_hand}
 
 -- ---- heads

@@ -35,7 +35,9 @@ use Rattle.repo_ground.specs.Contents.{Contents}
 use Rattle.proj_words.specs.Words.{Export}
 use Rattle.proj_words.specs.declared.outcome.Outcome.{Outcome}
 use Rattle.proj_words.specs.declared.outcome.Outcome.TheVariants.{OutOfMemory, UnknownRef}
-use Rattle.proj_cli.specs.Cases.{Case, ExportCase, PushCase, break_outcome, case, head_of, loaded, push_case}
+use Rattle.proj_cli.specs.Cases.{Case, ExportCase, PushCase, break_outcome, head_of, loaded}
+use Rattle.proj_cli.specs.Steps.{case}
+use Rattle.proj_cli.specs.Push.{push_case}
 use Rattle.proj_cli.specs.Filters.{history, projected, rule_by, sound}
 use Rattle.proj_cli.specs.Hands.{Hand, IsInHands}
 use Rattle.proj_cli.specs.Makes.{IsStateOf, hands_of}
@@ -43,7 +45,7 @@ use Rattle.proj_cli.specs.Pushing.{IsSeenOver}
 use Rattle.proj_cli.specs.Refusals.{apply_outcome}
 use Rattle.proj_cli.specs.Trials.{history_line}
 use Rattle.proj_cli.specs.Trying.{IsEnded, IsFrom, IsTried, from_of, line_of}
-use Rattle.proj_cli.proofs.CommitGraphs.{names-are}
+use Rattle.repo_ground.proofs.CommitGraphs.{names-are}
 use Rattle.proj_cli.proofs.InHands.{in-hands, twice-at}
 use Rattle.proj_cli.proofs.PushHands.{push_hand, seen-in}
 use Rattle.proj_cli.proofs.StatesShown.{commits-are, history-at, history-is, rule-is, state-grown}

@@ -20,7 +20,9 @@ use Rattle.proj_words.specs.TrialTexts.{TrialPush, first_push, main, push_stream
 use Rattle.proj_words.specs.Words.{Command, Import, Push}
 use Rattle.proj_words.specs.declared.outcome.Outcome.{Outcome}
 use Rattle.proj_words.specs.declared.outcome.Outcome.TheVariants.{OutOfMemory, ReadFault, StoreFault}
-use Rattle.proj_cli.specs.Cases.{Case, ImportCase, PushCase, break_outcome, case, head_of, loaded, push_case}
+use Rattle.proj_cli.specs.Cases.{Case, ImportCase, PushCase, break_outcome, head_of, loaded}
+use Rattle.proj_cli.specs.Steps.{case}
+use Rattle.proj_cli.specs.Push.{push_case}
 use Rattle.proj_cli.specs.Filters.{projected, rule_by, sound}
 use Rattle.proj_cli.specs.Hands.{Hand, IsInHands}
 use Rattle.proj_cli.specs.Makes.{IsMadeOf, IsStateOf, hands_of}

@@ -19,15 +19,17 @@ use Rattle.import_laws.specs.Bases.{base_of}
 use Rattle.proj_words.specs.Words.{Command}
 use Rattle.proj_words.specs.declared.outcome.Outcome.{Outcome}
 use Rattle.proj_words.specs.declared.outcome.Outcome.TheVariants.{Done, OutOfMemory, Collision, ReadFault, WriteFault, StoreFault}
-use Rattle.proj_cli.specs.Cases.{Case, ImportCase, Made, PushCase, case, head_of, loaded, made, push_case}
+use Rattle.proj_cli.specs.Cases.{Case, ImportCase, Made, PushCase, head_of, loaded}
+use Rattle.proj_cli.specs.Steps.{case, made, step}
+use Rattle.proj_cli.specs.Push.{push_case}
 use Rattle.proj_cli.specs.Filters.{rule_by, sound}
 use Rattle.proj_cli.specs.Hands.{Hand, IsInHands}
 use Rattle.proj_cli.specs.Makes.{IsAtHand, IsMadeOf, IsPlanIn, IsRefusal, IsReported, hands_of, step_in}
-use Rattle.proj_cli.specs.Steps.{step}
 use Rattle.proj_cli.specs.Trials.{hands_on, left_by}
 use Rattle.proj_cli.specs.Trying.{IsEnded, IsLeft, IsTried}
 use Rattle.proj_cli.proofs.Delivering.{got}
-use Rattle.proj_cli.proofs.Refusing.{IsOwn, unsound-own}
+use Rattle.proj_cli.specs.Judging.{IsOwn}
+use Rattle.proj_cli.proofs.Refusing.{unsound-own}
 use Rattle.proj_cli.proofs.StatesAfter.{room-same}
 
 -- ---- hands

@@ -1,63 +1,20 @@
 -- What an entry's command has in hand upon the state behind other turns is brought together by all of them.
-use Rattle.std.proofs.Common.{◌≡◌, ◌⊎◌, inl, inr, ◌++◌, false, List, Result, Ok, Err, refl, sym, subst}
+use Rattle.std.proofs.Common.{◌≡◌, ◌⊎◌, inl, inr, ◌++◌, List, Result, Ok, Err, sym, subst}
 use Rattle.std.specs.Prelude.{Contains}
 use Rattle.std.proofs.lemmas.List.Elements.{Contains-append_cases, Contains-append_left, Contains-append_right}
 use Rattle.git_objects.specs.Paths.{Bytes}
-use Rattle.git_objects.specs.Results.{◌>>=◌}
 use Rattle.object_store.specs.Growth.{IsGrownBy}
 use Rattle.object_store.specs.Objects.{Object, IsStore}
-use Rattle.filter_text.specs.Filters.{Filter}
-use Rattle.fast_import.specs.Replays.{empty_base, ran}
 use Rattle.state_items.specs.Hands.{IsTwice}
 use Rattle.state_items.specs.Items.{Held}
 use Rattle.state_items.specs.Changes.{ChangePlan, KeepPlan, NoPlan, Plan, RulePlan, held_after}
 use Rattle.repo_ground.proofs.StatesRead.{found-in}
-use Rattle.proj_words.specs.Words.{Command, Import, Project, Push, Export, Name, Batch, Trial, Rule, Unknown, loads}
 use Rattle.proj_words.specs.declared.outcome.Outcome.{Outcome}
-use Rattle.proj_cli.specs.Cases.{Case, NameCase, case}
-use Rattle.proj_cli.specs.Filters.{sound}
-use Rattle.proj_cli.specs.Hands.{Hand, IsInHands, hand}
+use Rattle.proj_cli.specs.Cases.{Case}
+use Rattle.proj_cli.specs.Hands.{Hand, IsInHands}
+use Rattle.proj_cli.specs.Steps.{hand}
 use Rattle.proj_cli.specs.Makes.{IsAtHand, hands_of}
 use Rattle.proj_cli.proofs.Forming.{AreNamed, HoldsAll, at-hand, no-twice, twice-at}
-use Rattle.proj_cli.proofs.Opening.{exporting, exporting-holds, projecting, projecting-holds, pushing-holds, pushing_back}
-
--- ---- what a case holds
-
--- what it holds is a store
-abbrev pub HoldsStore : Result Case Outcome → Type 0
-HoldsStore (Ok c) = IsStore (hand c).held
-HoldsStore (Err e) = Unit {0}
-
-after-sound : (S : List Object) (s : Result Filter Outcome) (K : Filter → Result Case Outcome) → ((f : Filter) → HoldsAll S (K f)) → HoldsAll S (s >>= K)
-after-sound S (Ok f) K w = w f
-after-sound S (Err e) K w = tt
-
-name-holds : (r input : Bytes) (s : Result Filter Outcome) → HoldsStore (s >>= λ f. Ok (NameCase f r (ran empty_base input)))
-name-holds r input (Ok f) = tt
-name-holds r input (Err e) = tt
-
--- a form that doesn't load holds nothing of the state, and every other holds all its objects
-pub case-holds : (asked : Command) (h : Held) (input : Bytes) → ((loads asked ≡ false) × HoldsStore (case asked (Ok h) input)) ⊎ HoldsAll h.objects (case asked (Ok h) input)
-case-holds (Import force) h input = inr refl
-case-holds (Project r t) h input = inr (after-sound h.objects (sound t) (λ f. projecting r f h) (λ f. projecting-holds r f h))
-case-holds (Export r t) h input = inr (after-sound h.objects (sound t) (λ f. exporting r f h) (λ f. exporting-holds r f h))
-case-holds (Push r t) h input = inr (after-sound h.objects (sound t) (λ f. pushing_back input r f h) (λ f. pushing-holds input r f h))
-case-holds (Name r t) h input = inl (refl, name-holds r input (sound t))
-case-holds (Rule k) h input = inr refl
-case-holds Batch h input = inr tt
-case-holds (Trial n) h input = inr tt
-case-holds Unknown h input = inr tt
-
-store-at : (S : List Object) (r : Result Case Outcome) → IsStore S → HoldsAll S r → HoldsStore r
-store-at S (Ok c) s e = subst IsStore (sym e) s
-store-at S (Err x) s e = tt
-
-pub case-store : (asked : Command) (h : Held) (input : Bytes) → IsStore h.objects → HoldsStore (case asked (Ok h) input)
-case-store asked h input s = by (case-holds asked h input)
-  where
-    by : ((loads asked ≡ false) × HoldsStore (case asked (Ok h) input)) ⊎ HoldsAll h.objects (case asked (Ok h) input) → HoldsStore (case asked (Ok h) input)
-    by (inl w) = w.1
-    by (inr w) = store-at h.objects (case asked (Ok h) input) s w
 
 -- ---- hands of several commands
 

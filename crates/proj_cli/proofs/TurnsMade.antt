@@ -8,28 +8,29 @@ use Rattle.object_store.specs.Objects.{Object}
 use Rattle.proj_io.specs.Views.{KeeperView}
 use Rattle.state_items.specs.Items.{Held, read_items}
 use Rattle.state_items.specs.Changes.{Plan, Room, held_after, plan_items, room_of}
-use Rattle.state_items.proofs.Appended.{append-law}
 use Rattle.state_items.proofs.ReadObjects.{ok-same}
 use Rattle.repo_ground.specs.Changes.{KeepsItems}
 use Rattle.repo_ground.specs.Contents.{Contents, room_in}
 use Rattle.proj_words.specs.Entries.{Entry}
-use Rattle.proj_words.specs.Words.{loads}
+use Rattle.proj_words.specs.Words.{loads, writes}
 use Rattle.proj_words.specs.declared.outcome.Outcome.{Outcome}
 use Rattle.proj_words.specs.declared.outcome.Outcome.TheVariants.{Done, OutOfMemory, Collision, ReadFault, WriteFault, StoreFault}
-use Rattle.proj_cli.specs.Answers.{ArePlanned, IsOutcome}
-use Rattle.proj_cli.specs.Cases.{Case, Made, break_outcome, case}
+use Rattle.proj_cli.specs.Answers.{ArePlanned, IsLonger, IsOutcome, IsRecalledLine}
+use Rattle.proj_cli.specs.Cases.{Case, Made, break_outcome}
+use Rattle.proj_cli.specs.Steps.{case}
 use Rattle.proj_cli.specs.Forms.{IsFormPlanned}
 use Rattle.proj_cli.specs.Hands.{IsInHands}
 use Rattle.proj_cli.specs.Makes.{IsAtHand, IsGoodPlan, IsPlanned, IsRefusal, IsReported, IsStateAfter, IsStateOf, IsStored, PlansFor, hands_of, step_in}
-use Rattle.proj_cli.specs.Plans.{AreKept, RecallLaw}
+use Rattle.proj_cli.specs.Plans.{AreKept, HoldWhatTheyShould, RecallLaw}
 use Rattle.proj_cli.specs.Running.{IsBrokenOf, IsCommandMade, IsStateBehind, IsTurnOf}
-use Rattle.proj_cli.specs.Turns.{IsTurnBy, IsTurnIdle, IsTurnMade, Turn, asked_by, items_after, turn_case, turn_cases, turn_hands, turn_step}
-use Rattle.proj_cli.proofs.CasePlans.{HoldWhatTheyShould}
-use Rattle.proj_cli.proofs.Answering.{plan-lawful, plan-planned, refused-outcome, step-done}
+use Rattle.proj_cli.specs.Turns.{IsSafeTurn, IsTurnMade, IsTurnOutcome, Turn, asked_by, items_after, turn_case, turn_cases, turn_hands, turn_step}
+use Rattle.proj_cli.proofs.CasePlans.{from, recalled-line, unwritten-plan}
+use Rattle.proj_cli.proofs.Answering.{plan-allowed, plan-lawful, plan-longer, plan-planned, refused-outcome, step-done}
 use Rattle.proj_cli.proofs.Delivering.{refusal-outcome}
 use Rattle.proj_cli.proofs.Forming.{HoldsAll, reported-at}
 use Rattle.proj_cli.proofs.StatesAfter.{room-same}
-use Rattle.proj_cli.proofs.TurnHands.{AreBrought, HoldsStore, brought-on, case-holds, case-store, twice-brought, twice-own}
+use Rattle.proj_cli.proofs.Judged.{HoldsStore, case-holds, case-store}
+use Rattle.proj_cli.proofs.TurnHands.{AreBrought, brought-on, twice-brought, twice-own}
 
 -- ---- outcomes
 
@@ -66,14 +67,14 @@ refused-state items h s p WriteFault n g = absurd n
 refused-state items h s p StoreFault n g = absurd n
 refused-state items h s p _ n g = g
 
-turn-by : (H : Object → Type 0) (now : List Bytes) (t : Turn) (x : Outcome) → GoesOn x → IsTurnIdle t → IsOutcome H x (turn_step now t.entry) → IsTurnBy H now t x
-turn-by H now t Done n idle a = absurd n
-turn-by H now t OutOfMemory n idle a = absurd n
-turn-by H now t ReadFault n idle a = absurd n
-turn-by H now t WriteFault n idle a = absurd n
-turn-by H now t StoreFault n idle a = absurd n
-turn-by H now t (Collision m) n idle a = (a, idle)
-turn-by H now t _ n idle a = (a, idle)
+turn-outcome : (H : Object → Type 0) (x : Outcome) (s : Result Made Outcome) → GoesOn x → IsOutcome H x s → IsTurnOutcome H x s
+turn-outcome H Done s n a = absurd n
+turn-outcome H OutOfMemory s n a = absurd n
+turn-outcome H ReadFault s n a = absurd n
+turn-outcome H WriteFault s n a = absurd n
+turn-outcome H StoreFault s n a = absurd n
+turn-outcome H (Collision m) s n a = a
+turn-outcome H _ s n a = a
 
 -- ---- turns
 
@@ -93,8 +94,18 @@ module _ (law : RecallLaw) (items : List Bytes) (ts : List Turn) (e : Entry) (h 
   abbrev now : List Bytes
   now = items_after items ts
 
-  hold : (g : Held) → AreKept now g → HoldWhatTheyShould (asked_by e) now
-  hold g kept f loads told = subst (AreKept now) (ok-same g f (sym kept.spelled ∙ told)) kept
+  -- nothing was given or appended
+  idle-turn : (x : Outcome) → x ≢ Done → IsSafeTurn items ts (refused_turn e x)
+  idle-turn x refused = record {
+    silent = λ no. refl;
+    idle = λ no fault. refl;
+    unwritten = λ no. refl;
+    held = h;
+    spelled = read;
+    longer = record { behind = refl; state = h; spelled = spelled-still now h read; stays = λ no. record { objects = refl; refs = refl; rule = refl } };
+    kept = λ g kept. (g, subst (λ (xs : List Bytes). AreKept xs g) (sym (append-nil now)) kept);
+    recalled = λ is. absurd (refused is);
+  }
 
   -- a plan of the case
   module _ (p : Plan) (good : (g : Held) → read_items (items_after items ts) ≡ Ok g → IsGoodPlan (items_after items ts) g (room_of (items_after items ts)) p)
@@ -102,53 +113,82 @@ module _ (law : RecallLaw) (items : List Bytes) (ts : List Turn) (e : Entry) (h 
     abbrev formed : IsFormPlanned (room_of now) (turn_case now e) p
     formed = record { planned = w; store = subst HoldsStore w.came_up store }
 
-    turn-made : (g : Held) → AreKept now g → IsTurnMade now e w.step (plan_items p)
-    turn-made g kept = record {
-      done = step-done law (asked_by e) now e.input (hold g kept) p formed;
+    turn-made : HoldWhatTheyShould (asked_by e) now → IsTurnMade now e w.step (plan_items p)
+    turn-made kept = record {
+      done = step-done law (asked_by e) now e.input kept p formed;
       plan = p;
       planned =
-          subst (λ (s : Result Made Outcome). ArePlanned now (turn_cases now e) s p) (step-done law (asked_by e) now e.input (hold g kept) p formed)
-          (plan-planned law (asked_by e) now e.input (hold g kept) p formed);
+          subst (λ (s : Result Made Outcome). ArePlanned now (turn_cases now e) s p) (step-done law (asked_by e) now e.input kept p formed)
+          (plan-planned law (asked_by e) now e.input kept p formed);
       item = refl;
-      lawful = plan-lawful law (asked_by e) now e.input (hold g kept) p formed;
+      lawful = plan-lawful law (asked_by e) now e.input kept p formed;
       kept = λ f holds. (good f holds.spelled).kept holds;
     }
 
-    longer : (g : Held) × (read_items (now ++ plan_items p) ≡ Ok g)
-    longer = let g = good h read in (held_after h p, append-law.read_back now h p read g.addition g.within)
+    unwritten : writes (asked_by e) ≡ false → plan_items p ≡ []
+    unwritten quiet = ap plan_items (unwritten-plan (asked_by e) now (room_of now) w.case w.step p (from (asked_by e) now e.input w.case w.came_up) w.done w.planned quiet)
+
+    longer : IsLonger (asked_by e) now (plan_items p) h (now ++ plan_items p)
+    longer = plan-longer (asked_by e) now e.input p formed good h read
+
+    still-kept : (g : Held) → AreKept now g → (f : Held) × AreKept (now ++ plan_items p) f
+    still-kept g kept = (held_after g p, (good g kept.spelled).kept kept)
 
     pub turn-done : (out : Bytes) → w.step.output ≡ out → IsTurnOf items ts (done_turn e out p)
     turn-done out same = record {
-      safe = record { silent = λ no. absurd (no refl); idle = λ no fault. absurd (no refl); spelled = longer };
-      in_turn = λ g kept. (w.step, turn-made g kept, sym same);
-      kept = λ g kept. (held_after g p, (good g kept.spelled).kept kept);
+      safe = record {
+        silent = λ no. absurd (no refl);
+        idle = λ no fault. absurd (no refl);
+        unwritten = unwritten;
+        held = h;
+        spelled = read;
+        longer = longer;
+        kept = still-kept;
+        recalled = λ _. subst (λ (r : Result Case Outcome). IsRecalledLine r (λ line. out ≡ line)) (sym w.came_up) (recalled-line (room_of now) w.case w.step out w.done same);
+      };
+      in_turn = record { allowed = plan-allowed (room_of now) (turn_case now e) p w; made = λ _ kept. (w.step, turn-made kept, sym same) };
       whole = λ no. cc;
     }
 
     pub turn-broken : IsBrokenOf items ts (broken_turn e p)
     turn-broken = record {
-      safe = record { silent = λ no. refl; idle = λ no fault. absurd (fault refl); spelled = longer };
-      broken = λ g kept. record { outcome = refl; output = refl; appended = inr (w.step, turn-made g kept) };
+      safe = record {
+        silent = λ no. refl;
+        idle = λ no fault. absurd (fault refl);
+        unwritten = unwritten;
+        held = h;
+        spelled = read;
+        longer = longer;
+        kept = still-kept;
+        recalled = λ is. absurd (let no : ⊥ = cc in no);
+      };
+      broken = record {
+        outcome = refl;
+        output = refl;
+        appended = inr (record { allowed = plan-allowed (room_of now) (turn_case now e) p w; made = λ kept. (w.step, turn-made kept) });
+      };
       fault = refl;
     }
 
   -- the store failed, and nothing was appended
   pub turn-failed : IsBrokenOf items ts (refused_turn e StoreFault)
   turn-failed = record {
-    safe = record { silent = λ no. refl; idle = λ no fault. refl; spelled = (h, spelled-still now h read) };
-    broken = λ g kept. record { outcome = refl; output = refl; appended = inl refl };
+    safe = idle-turn StoreFault (λ is. cc);
+    broken = record { outcome = refl; output = refl; appended = inl refl };
     fault = refl;
   }
 
   pub turn-refused : (x : Outcome) → GoesOn x → IsRefusal (IsInHands (turn_hands items ts ++ hands_of (turn_case (items_after items ts) e))) x (step_in (room_of (items_after items ts)) (turn_case (items_after items ts) e))
       → IsTurnOf items ts (refused_turn e x)
   turn-refused x n a = record {
-    safe = record { silent = λ no. refl; idle = λ no fault. refl; spelled = (h, spelled-still now h read) };
-    in_turn = λ g kept.
-        turn-by (IsInHands (turn_hands items ts ++ hands_of (turn_case now e))) now (refused_turn e x) x n (refl, refl)
-        (refused-outcome (IsInHands (turn_hands items ts ++ hands_of (turn_case now e))) x (room_of now) (turn_case now e)
-        (refusal-outcome (IsInHands (turn_hands items ts ++ hands_of (turn_case now e))) x (step_in (room_of now) (turn_case now e)) a));
-    kept = λ g kept. (g, subst (λ (xs : List Bytes). AreKept xs g) (sym (append-nil now)) kept);
+    safe = idle-turn x (λ is. subst GoesOn is n);
+    in_turn = record {
+      allowed =
+          turn-outcome (IsInHands (turn_hands items ts ++ hands_of (turn_case now e))) x (turn_step now e) n
+          (refused-outcome (IsInHands (turn_hands items ts ++ hands_of (turn_case now e))) x (room_of now) (turn_case now e)
+          (refusal-outcome (IsInHands (turn_hands items ts ++ hands_of (turn_case now e))) x (step_in (room_of now) (turn_case now e)) a));
+      made = λ is kept. absurd (subst GoesOn is n);
+    };
     whole = λ no. subst GoesOn no n;
   }
 

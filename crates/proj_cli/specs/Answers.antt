@@ -1,5 +1,5 @@
 -- When each outcome is answered, what has then been written, and what the store has got.
-use Rattle.std.specs.Prelude.{◌≡◌, ◌≢◌, ◌⊎◌, ◌+◌, ◌≤◌, ⊤, ℕ, Bool, true, false, List, [], ◌++◌, length, map, take, All, Option, Some, None, Result, Ok, Err, IsOk, IfSome}
+use Rattle.std.specs.Prelude.{◌≡◌, ◌≢◌, ◌⊎◌, ◌+◌, ◌≤◌, ⊤, ℕ, Bool, true, false, List, [], ◌++◌, length, map, take, All, Option, Some, None, Result, Ok, Err, IsErr, IsOk, IfSome}
 use Rattle.std.specs.Io.KnownBytes.{Appends, Keeps}
 use Rattle.git_objects.specs.Paths.{Bytes}
 use Rattle.object_store.specs.Objects.{Object}
@@ -13,12 +13,13 @@ use Rattle.repo_ground.specs.Changes.{KeepsItems}
 use Rattle.proj_words.specs.Words.{Command, Export, Project, loads, reads, writes}
 use Rattle.proj_words.specs.declared.outcome.Outcome.{Outcome}
 use Rattle.proj_words.specs.declared.outcome.Outcome.TheVariants.{Done, OutOfMemory, Collision, ReadFault, WriteFault, StoreFault}
-use Rattle.proj_cli.specs.Cases.{Case, ProjectCase, Made, case, loaded, name_line}
+use Rattle.proj_cli.specs.Cases.{Case, ProjectCase, IsJudgedRightly, Made, loaded}
+use Rattle.proj_cli.specs.Steps.{case, hand, IsLawful, IsPlanOf, cases, step}
+use Rattle.proj_cli.specs.Project.{name_line}
 use Rattle.proj_cli.specs.Filters.{entries_of, recalled}
-use Rattle.proj_cli.specs.Hands.{IsInHands, hand}
-use Rattle.proj_cli.specs.Lawful.{IsLawful}
-use Rattle.proj_cli.specs.Plans.{AreKept, IsPlanOf}
-use Rattle.proj_cli.specs.Steps.{cases, step}
+use Rattle.proj_cli.specs.Hands.{IsInHands}
+use Rattle.proj_cli.specs.Intake.{TakesUpTo, waited_by}
+use Rattle.proj_cli.specs.Plans.{AreKept, HoldWhatTheyShould}
 
 -- ---- devices
 
@@ -118,26 +119,25 @@ abbrev pub Follows : List Bytes → Plan → List Bytes → Type 0
 Follows items p after =
     (h : Held) → AreKept items h → (after ≡ items) ⊎ ((after ≡ items ++ plan_items p) × AreKept after (held_after h p))
 
--- the answer to a command for these items and this input
+-- what was done on a command for these items and this input
 pub record IsAnswered (asked : Command) (items : List Bytes) (input : Bytes) (before after : Devices) (outcome : Outcome) : Type 0 where
-  pub allowed : IsOutcome (IsInHands (map hand (cases asked items input))) outcome (step asked items input)
   pub plan : Plan
   pub planned : ArePlanned items (cases asked items input) (step asked items input) plan
   pub delivered : IsStepDelivered asked (step asked items input) plan before after outcome
   pub lawful : outcome ≡ Done → All (IsLawful items plan) (cases asked items input)
   pub follows : before.store.items ≡ Some items → IfSome after.store.items (Follows items plan)
 
--- for the input, which is what the source told
+-- The answer for these items and the input, which is what the source told. The outcome is the step's whatever is kept; what is kept decides
+-- what a projection gives.
 pub record HasAnswer (asked : Command) (items : List Bytes) (before after : Devices) (outcome : Outcome) : Type 0 where
   pub input : Bytes
   pub told : IfSome before.input.left (λ l. input ≡ l)
-  pub answered : IsAnswered asked items input before after outcome
+  pub allowed : IsOutcome (IsInHands (map hand (cases asked items input))) outcome (step asked items input)
+  pub answered : HoldWhatTheyShould asked items → IsAnswered asked items input before after outcome
 
--- which items a clause speaks of: those that the store tells, where they break a rule or hold what they should; and any for a form that
--- doesn't load them
-pub record AreItems (asked : Command) (before : Devices) (items : List Bytes) : Type 0 where
-  pub told : loads asked ≡ true → before.store.items ≡ Some items
-  pub kept : (h : Held) → loads asked ≡ true → read_items items ≡ Ok h → AreKept items h
+-- which items a clause speaks of: those that the store tells; and any for a form that doesn't load them
+abbrev pub AreItems : Command → Devices → List Bytes → Type 0
+AreItems asked before items = loads asked ≡ true → before.store.items ≡ Some items
 
 -- whether a form may change the state
 abbrev pub changes_state : Command → Bool
@@ -167,11 +167,15 @@ pub record IsSafe (asked : Command) (items : List Bytes) (h : Held) (before afte
 
 -- ---- what is kept decides what is projected
 
--- of a projection that is done, for items that spell a state: it is that of the recursion in which the entries of its filter and of the
--- state's rule are taken for projections, true or not
+-- of the line of a projection: it is that of the recursion in which the entries of its filter and of the state's rule are taken for
+-- projections, true or not
+abbrev pub IsRecalledLine : Result Case Outcome → (Bytes → Type 0) → Type 0
+IsRecalledLine (Ok (ProjectCase h f n)) Says = Says (name_line (recalled (entries_of h f) h.rule f (repo h).commits n))
+IsRecalledLine other Says = ⊤
+
+-- of a projection that is done, for items that spell a state
 abbrev pub IsRecalledCase : Result Case Outcome → Devices → Devices → Type 0
-IsRecalledCase (Ok (ProjectCase h f n)) before after = Wrote (name_line (recalled (entries_of h f) h.rule f (repo h).commits n)) before after
-IsRecalledCase other before after = ⊤
+IsRecalledCase r before after = IsRecalledLine r (λ line. Wrote line before after)
 
 abbrev pub IsRecalled : Command → Devices → Devices → Outcome → Type 0
 IsRecalled asked before after outcome =
@@ -182,6 +186,8 @@ IsRecalled asked before after outcome =
 -- what `run` says of the outcome of a command
 pub record IsCommandAnswer (asked : Command) (before after : Devices) (outcome : Outcome) : Type 0 where
   pub cause : IsCaused before after outcome
+  -- words without a form and faults of a filter are told only where they are
+  pub judged : IsJudgedRightly asked outcome
   -- a form that doesn't read or load is at no fault of the input or the store
   pub unread : reads asked ≡ false → outcome ≢ ReadFault
   pub unloaded : loads asked ≡ false → outcome ≢ StoreFault
@@ -190,6 +196,11 @@ pub record IsCommandAnswer (asked : Command) (before after : Devices) (outcome :
   pub answered : (items : List Bytes) → AreItems asked before items → HasAnswer asked items before after outcome
   pub safe : (items : List Bytes) (h : Held) → before.store.items ≡ Some items → read_items items ≡ Ok h → IsSafe asked items h before after outcome
   pub recalled : IsRecalled asked before after outcome
+  -- It reads no further than it has to: at most 2^25 bytes behind its stream's last line, or behind the first fault.
+  pub taken : (items : List Bytes) → (loads asked ≡ true → before.store.items ≡ Some items) → TakesUpTo (waited_by (case asked (loaded items))) before.input.left after.input.left
+  -- Where no case comes up, whatever is read, nothing is read: a command that is refused for its filter, the items or its ref leaves the input.
+  pub caseless : (items : List Bytes) → (loads asked ≡ true → before.store.items ≡ Some items) → ((all : Bytes) → IsErr (case asked (loaded items) all))
+      → after.input ≡ before.input
 
 -- two objects in hand have this name
 abbrev pub IsCollision : Command → List Bytes → Bytes → Outcome → Type 0

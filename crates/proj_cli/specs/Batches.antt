@@ -1,14 +1,13 @@
 -- What comes of a batch: which of its entries were answered, what has then been written, and what the store has got.
-use Rattle.std.specs.Prelude.{◌≡◌, ◌≢◌, ◌⊎◌, ℕ, List, [], ◌∷◌, ◌++◌, take, Option, Some, None, Result, Ok, Err, IfSome}
+use Rattle.std.specs.Prelude.{◌≡◌, ◌≢◌, ◌⊎◌, ℕ, false, List, [], ◌∷◌, ◌++◌, take, Option, Some, None, Result, Ok, Err, IfSome}
 use Rattle.git_objects.specs.Paths.{Bytes}
 use Rattle.git_objects.specs.declared.quantity.Quantity.TheVariants as limits
 use Rattle.proj_io.specs.Counts.{Rose}
-use Rattle.state_items.specs.Items.{Held}
 use Rattle.proj_words.specs.Entries.{Entry, entries}
 use Rattle.proj_words.specs.declared.outcome.Outcome.{Outcome}
 use Rattle.proj_words.specs.declared.outcome.Outcome.TheVariants.{Done, Limit, OutOfMemory, ReadFault, WriteFault, StoreFault}
 use Rattle.proj_cli.specs.Answers.{Devices, Got, Idle, IsCaused, NoneFailed, Wrote}
-use Rattle.proj_cli.specs.Plans.{AreKept}
+use Rattle.proj_cli.specs.Cases.{is_verdict}
 use Rattle.proj_cli.specs.Stopped.{ForInput}
 use Rattle.proj_cli.specs.Turns.{AreTurns, IsLastTurn, IsSafeTurn, IsTurn, Turn, appended, begun, entries_of, items_after, turn_text, turn_texts}
 
@@ -46,10 +45,8 @@ pub record IsRun (items : List Bytes) (es : List Entry) (before after : Devices)
   pub front : es ≡ entries_of (all_turns turns last) ++ left
   pub ended : IsEnded turns last left before after outcome
   pub got : Got (appended (all_turns turns last)) before after
-  -- whatever is kept
   pub safe : AreTurns (IsSafeTurn items) (all_turns turns last)
-  -- where the items hold what they should
-  pub in_turn : (h : Held) → AreKept items h → AreTurns (IsTurn items) turns × IfSome last (IsLastTurn items turns)
+  pub in_turn : AreTurns (IsTurn items) turns × IfSome last (IsLastTurn items turns)
 
 -- why an input isn't read: want of memory, a fault of the source, or that it has more bytes than a batch may have
 abbrev pub IsUnread : Option Bytes → Outcome → Type 0
@@ -72,6 +69,8 @@ pub record HasRun (items : List Bytes) (before after : Devices) (outcome : Outco
 -- what `run` says of the outcome of a batch, of items that the store tells
 pub record IsBatchAnswer (before after : Devices) (outcome : Outcome) : Type 0 where
   pub cause : IsCaused before after outcome
+  -- words without a form and faults of a filter are told of entries
+  pub judged : is_verdict outcome ≡ false
   pub run : (items : List Bytes) → before.store.items ≡ Some items → HasRun items before after outcome
 
 -- that it is done, or the first refusal before its entries
@@ -93,7 +92,7 @@ pub record IsLeftBy (items : List Bytes) (es : List Entry) (list : List Bytes) :
   pub front : es ≡ entries_of turns ++ left
   pub behind : list ≡ items_after items turns
   pub safe : AreTurns (IsSafeTurn items) turns
-  pub in_turn : (h : Held) → AreKept items h → AreTurns (IsTurn items) turns
+  pub in_turn : AreTurns (IsTurn items) turns
 
 abbrev pub BatchLeaves : List Bytes → Result (List Entry) Outcome → List Bytes → Type 0
 BatchLeaves items (Ok es) list = IsLeftBy items es list

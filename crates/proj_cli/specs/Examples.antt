@@ -30,7 +30,8 @@ use Rattle.proj_words.specs.Words.{Import, Project, Export, Push, Name, Rule, Tr
 use Rattle.proj_words.specs.declared.outcome.Outcome.{Outcome}
 use Rattle.proj_words.specs.declared.outcome.Outcome.TheVariants.{Done, Usage, UnknownRef, NotForward, NotAtHead, Limit, FilterFault, Overlap, Damaged, Syntax}
 use Rattle.proj_words.specs.declared.outcome.FilterWhat.TheVariants as filters
-use Rattle.proj_cli.specs.Cases.{Made, ProjectCase, head_of, loaded, name_or_none}
+use Rattle.proj_cli.specs.Cases.{Made, ProjectCase, head_of, loaded, verdict}
+use Rattle.proj_cli.specs.Push.{name_or_none}
 use Rattle.proj_cli.specs.Makes.{recalled_made}
 use Rattle.proj_cli.specs.Filters.{sound}
 use Rattle.proj_cli.specs.Steps.{step}
@@ -96,6 +97,11 @@ filters_come_first = refl
 pub branches_that_clash : step (Project main (codes ":[:/a,:/b]")) damaged [] ≡ Err (Overlap 0 0 1)
 unfolding judging
 branches_that_clash = refl
+
+-- also where nothing is known of the items
+pub judged_alone : verdict (Export main (codes ":c")) ≡ Err (FilterFault filters.Syntax)
+unfolding judging
+judged_alone = refl
 
 pub then_items : step (Project main (codes ":/a")) damaged [] ≡ Err (Damaged 0 0)
 unfolding judging loading

@@ -1,29 +1,29 @@
 -- What is made of a form of the words, before anything is written to the output.
-use Rattle.std.specs.Prelude.{◌≡◌, ◌≢◌, ◌⊎◌, ◌++◌, ℕ, true, false, List, Option, Some, Result, Ok, Err}
+use Rattle.std.specs.Prelude.{◌≡◌, ◌≢◌, ◌⊎◌, ◌++◌, true, false, List, Some, Result, Ok, Err, IsErr, All}
 use Rattle.std.specs.Io.KnownBytes.{Keeps}
+use Rattle.std.specs.Option.{option_to_list}
+use Rattle.std.specs.Result.{result_ok}
 use Rattle.git_objects.specs.Paths.{Bytes}
 use Rattle.git_objects.specs.Results.{◌>>=◌}
 use Rattle.object_store.specs.Objects.{Object, IsStore}
 use Rattle.filter_text.specs.Filters.{Filter}
-use Rattle.filter_text.specs.Shapes.{shape}
-use Rattle.workspace.specs.Laws.{IsUsable}
 use Rattle.proj_io.specs.Counts.{Counts}
 use Rattle.proj_io.specs.Views.{SourceView, SinkView, KeeperView}
 use Rattle.state_items.specs.Items.{Held, read_items}
 use Rattle.state_items.specs.Changes.{NoPlan, Plan, Room, plan_items, room_of}
 use Rattle.repo_ground.specs.Changes.{KeepsItems}
-use Rattle.repo_ground.specs.Loads.{IsLoaded}
 use Rattle.repo_ground.specs.declared.state.LoadError.{LoadError}
 use Rattle.repo_ground.specs.declared.state.LoadError.TheVariants as load
 use Rattle.proj_words.specs.Words.{Command, loads, reads, writes}
 use Rattle.proj_words.specs.declared.outcome.Outcome.{Outcome}
-use Rattle.proj_words.specs.declared.outcome.Outcome.TheVariants.{Collision, Damaged, OutOfMemory, ReadFault, StoreFault, WriteFault}
-use Rattle.proj_cli.specs.Cases.{Case, Made, case, loaded}
-use Rattle.proj_cli.specs.Filters.{sound}
-use Rattle.proj_cli.specs.Hands.{IsInHands, hand}
+use Rattle.proj_words.specs.declared.outcome.Outcome.TheVariants.{Collision, Damaged, OutOfMemory, ReadFault, StoreFault, WriteFault, Done}
+use Rattle.proj_cli.specs.Cases.{Case, IsJudgedRightly, Made, loaded}
+use Rattle.proj_cli.specs.Steps.{case, hand, IsLawful}
+use Rattle.proj_cli.specs.Export.{export_case}
+use Rattle.proj_cli.specs.Hands.{IsInHands}
+use Rattle.proj_cli.specs.Intake.{TakesUpTo, waited_by}
 use Rattle.proj_cli.specs.Makes.{IsFlowed, IsGoodPlan, IsPlanned, IsRefusal, IsReported, IsStored, hands_of, step_in}
 use Rattle.proj_cli.specs.Stopped.{ForInput}
-use Rattle.proj_cli.specs.declared.loading.Opened.{Opened}
 
 -- ---- before a case comes up
 
@@ -33,27 +33,13 @@ load_outcome (load.Damaged item at) = Damaged item at
 load_outcome (load.Collision n) = Collision n
 load_outcome load.OutOfMemory = OutOfMemory
 
--- the filter of a text, and what the items hold, or the first refusal
-abbrev pub opening : Bytes → List Bytes → Result (Filter × Held) Outcome
-opening text items = do
-  f ← sound text
-  h ← loaded items
-  Ok (f, h)
-
--- why it isn't there: that refusal, want of memory, or a fault of the store
+-- why nothing is loaded: the refusal of the items, want of memory, or a fault of the store
 abbrev pub IsEarly : {A : Type 0} → Result A Outcome → Outcome → Type 0
 IsEarly r e = (e ≡ OutOfMemory) ⊎ (e ≡ StoreFault) ⊎ (r ≡ Err e)
 
 -- neither the input nor the output has failed
 abbrev pub IsBeforeDevices : {A : Type 0} → Result A Outcome → Type 0
 IsBeforeDevices result = (result ≢ Err WriteFault) × (result ≢ Err ReadFault)
-
--- a filter that a text is, a ref name, and a state that was loaded
-pub record IsOpened (told : Option (List Bytes)) (number : ℕ) (text refname : Bytes) (x : Opened) : Type 0 where
-  pub judged : sound text ≡ Ok (shape x.filter)
-  pub usable : IsUsable (shape x.filter)
-  pub named : x.refname ≡ refname
-  pub loaded : IsLoaded told number x.state
 
 -- ---- reports
 
@@ -91,11 +77,16 @@ pub record IsMade (asked : Command) (input input_now : SourceView) (store store_
   pub read : Counts input.faults input_now.faults (result ≡ Err ReadFault)
   pub keep : Counts store.faults store_now.faults (result ≡ Err StoreFault)
   pub early : result ≢ Err WriteFault
+  pub judged : (e : Outcome) → result ≡ Err e → IsJudgedRightly asked e
   -- a form that doesn't read or load is at no fault of the input or the store
   pub unread : reads asked ≡ false → result ≢ Err ReadFault
   pub unloaded : loads asked ≡ false → result ≢ Err StoreFault
   -- a form that doesn't write leaves the items
   pub unwritten : writes asked ≡ false → KeepsItems store store_now
+  -- it reads no further than it has to
+  pub taken : (items : List Bytes) → (loads asked ≡ true → store.items ≡ Some items) → TakesUpTo (waited_by (case asked (loaded items))) input.left input_now.left
+  -- where no case comes up, whatever is read, nothing is read
+  pub caseless : (items : List Bytes) → (loads asked ≡ true → store.items ≡ Some items) → ((all : Bytes) → IsErr (case asked (loaded items) all)) → input_now ≡ input
   -- of the items that the store tells, and of any for a form that doesn't load them
   pub formed : (items : List Bytes) → (loads asked ≡ true → store.items ≡ Some items)
       → ForInput input.left (λ all. IsForm asked items all store store_now Adds result)
@@ -106,6 +97,11 @@ pub record IsMade (asked : Command) (input input_now : SourceView) (store store_
 abbrev pub IsFormFlowed : (Object → Type 0) → Result Made Outcome → SinkView → SinkView → Outcome → Type 0
 IsFormFlowed hand r before after outcome = (IsRefusal hand outcome r × Keeps before.written after.written) ⊎ IsFlowed hand r before after outcome
 
--- What became of an export for these items.
-abbrev pub IsExport : Result Case Outcome → List Bytes → SinkView → SinkView → Outcome → Type 0
-IsExport r items before after outcome = IsFormFlowed (IsInHands (hands_of r)) (step_in (room_of items) r) before after outcome
+-- the case of an export of what is loaded
+abbrev pub exported_case : Result Held Outcome → Filter → Bytes → Result Case Outcome
+exported_case loading f refname = loading >>= λ h. export_case h f refname
+
+-- What became of an export for these items. It is lawful where it is done.
+pub record IsExport (r : Result Case Outcome) (items : List Bytes) (before after : SinkView) (outcome : Outcome) : Type 0 where
+  pub flowed : IsFormFlowed (IsInHands (hands_of r)) (step_in (room_of items) r) before after outcome
+  pub lawful : outcome ≡ Done → All (IsLawful items NoPlan) (option_to_list (result_ok r))

@@ -1,29 +1,25 @@
 -- The objects that come up in a command. Only of two of them can it be told that they have one name.
-use Rattle.std.specs.Prelude.{◌≡◌, ℕ, List, [], ◌∷◌, ◌++◌, map, reverse, Any, Contains, Option, Some, None, Result, Ok, Err}
 use Rattle.std.specs.List.{flat_map}
-use Rattle.std.specs.FinMap.{find as find_entry}
+use Rattle.std.specs.Prelude.{List, ◌++◌, map, ◌≡◌, Contains, Any, [], ◌∷◌, Result, Ok, Err, ℕ}
 use Rattle.git_objects.specs.Paths.{Bytes}
-use Rattle.git_objects.specs.Refs.{bytes_cmp}
-use Rattle.git_objects.specs.Trees.{Flat, Leaf}
-use Rattle.git_objects.specs.Snapshots.{Snapshot, tree_at}
+use Rattle.git_objects.specs.Snapshots.{Snapshot}
+use Rattle.git_objects.specs.Trees.{Leaf}
 use Rattle.object_store.specs.Hands.{IsTreeMade}
 use Rattle.object_store.specs.Objects.{Object}
 use Rattle.object_store.specs.StoredSnapshots.{snapshot_object}
+use Rattle.stream_reader.specs.declared.command.Change.TheVariants as changes
+use Rattle.stream_reader.specs.declared.command.Change.{Change}
+use Rattle.stream_reader.specs.declared.command.Command.TheVariants as commands
+use Rattle.stream_reader.specs.declared.command.Command.{Command}
+use Rattle.stream_reader.specs.declared.command.Placed.{Placed}
+use Rattle.fast_import.specs.Replays.{inline_blob, Base, Replay, given_bytes, leaf_of, step, Ran, nothing_yet}
 use Rattle.filter_text.specs.Filters.{Filter}
-use Rattle.filter_apply.specs.Hands.{parts_in}
 use Rattle.workspace.specs.Workspaces.{next, resolve, shown}
 use Rattle.projection_laws.specs.Projections.{own_commits}
-use Rattle.push_laws.specs.PushVerdicts.{Refusal, original_tree}
-use Rattle.stream_reader.specs.declared.command.Command.{Command}
-use Rattle.stream_reader.specs.declared.command.Command.TheVariants as commands
-use Rattle.stream_reader.specs.declared.command.Change.{Change}
-use Rattle.stream_reader.specs.declared.command.Change.TheVariants as changes
-use Rattle.stream_reader.specs.declared.command.Placed.{Placed}
-use Rattle.fast_import.specs.Replays.{Base, Ran, Replay, empty_base, given_bytes, heads_of, inline_blob, leaf_of, nothing_yet, step}
 use Rattle.state_items.specs.Changes.{blob_object}
+use Rattle.state_items.specs.Items.{Held}
 use Rattle.state_items.specs.Repos.{repo}
-use Rattle.import_laws.specs.Bases.{base_of}
-use Rattle.proj_cli.specs.Cases.{Case, ImportCase, ProjectCase, ExportCase, PushCase, NameCase, held_in}
+use Rattle.filter_apply.specs.Hands.{parts_in}
 use Rattle.proj_cli.specs.Filters.{history, rule_by}
 
 -- What a command brings together: the objects that the items hold; the blobs that it reads; the commits that are held or made, with
@@ -123,43 +119,16 @@ hand_of objects commits base x components = record {
 abbrev pub still_hand : List Object → List Snapshot → List Bytes → Hand
 still_hand objects commits components = record { held = objects; blobs = []; commits = commits; leaves = []; components = components }
 
--- ---- cases
+-- ---- of histories and filters
 
 -- the components of a filter's paths, also of its workspace's items in each of these commits
 abbrev pub components_for : Filter → List Snapshot → List Bytes
 components_for f cs = parts_in f ++ flat_map (λ c. parts_in (resolve f c.tree)) cs
 
--- the projections that a head and its ancestors have, under the first rule
-abbrev pub history_at : Filter → List Snapshot → Option Bytes → List Snapshot
-history_at f cs None = []
-history_at f cs (Some n) = history 1 f cs n
-
 -- the commits of their own that a head and its ancestors are projected to, also where several have one name
 abbrev pub own : ℕ → Filter → List Snapshot → Bytes → List Snapshot
 own k f cs n = own_commits (rule_by k) (shown f) cs (n ∷ [])
 
-abbrev pub parts_upon : Result Flat Refusal → (Flat → List Bytes) → List Bytes
-parts_upon (Ok u) later = later u
-parts_upon (Err e) later = []
-
--- The components of the filters by which pushed commits are laid, up to the first that is refused. t is the original tree before them,
--- and `seen` what the commit before them shows.
-abbrev pub laid_parts : Filter → Flat → Flat → List Snapshot → List Bytes
-laid_parts f t seen [] = []
-laid_parts f t seen (c ∷ cs) = parts_in (next f t c.tree) ++ parts_upon (original_tree f t seen c.tree) (λ u. laid_parts f u c.tree cs)
-
--- What each case brings together: where nothing is said, what is held alone.
-abbrev pub hand : Case → Hand
-hand (ImportCase force h x) = hand_of h.objects (repo h).commits (base_of h) x []
-hand (ProjectCase h f n) =
-    still_hand h.objects ((repo h).commits ++ history h.rule f (repo h).commits n) (components_for f (repo h).commits)
-hand (ExportCase h f refname n) =
-    still_hand h.objects ((repo h).commits ++ history h.rule f (repo h).commits n) (components_for f (repo h).commits)
-hand (PushCase h f refname n p) =
-    hand_of h.objects ((repo h).commits ++ p.originals ++ own h.rule f (repo h).commits n) p.base p.stream
-    (components_for f (repo h).commits
-    ++ laid_parts f (tree_at (repo h).commits n) (shown f (tree_at (repo h).commits n)) p.stream.state.commits)
-hand (NameCase f refname x) =
-    hand_of [] (history_at f (reverse x.state.commits) (find_entry bytes_cmp refname (heads_of x.state))) empty_base x
-    (components_for f x.state.commits)
-hand other = still_hand (held_in other).objects [] []
+-- of a history: what is held, with the projections
+abbrev pub history_hand : Held → Filter → Bytes → Hand
+history_hand h f n = still_hand h.objects ((repo h).commits ++ history h.rule f (repo h).commits n) (components_for f (repo h).commits)

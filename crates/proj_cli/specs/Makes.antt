@@ -23,11 +23,14 @@ use Rattle.repo_ground.specs.Changes.{GetsItems, KeepsItems}
 use Rattle.repo_ground.specs.Contents.{Contents, IsCurrent, Spells, room_in}
 use Rattle.proj_words.specs.declared.outcome.Outcome.{Outcome}
 use Rattle.proj_words.specs.declared.outcome.Outcome.TheVariants.{Done, OutOfMemory, Collision, ReadFault, WriteFault, StoreFault}
-use Rattle.proj_cli.specs.Cases.{Case, ProjectCase, PushCase, Made, made, name_line, unchanged}
+use Rattle.proj_cli.specs.Cases.{Case, ExportCase, ProjectCase, PushCase, Made, unchanged}
+use Rattle.proj_cli.specs.Steps.{made, hand, IsLawful}
+use Rattle.proj_cli.specs.Project.{name_line, in_order_of}
 use Rattle.proj_cli.specs.Filters.{entries_of, recalled}
-use Rattle.proj_cli.specs.Hands.{Hand, IsInHands, hand}
-use Rattle.proj_cli.specs.Lawful.{IsPushed}
-use Rattle.proj_cli.specs.Plans.{AreKept, in_order_of}
+use Rattle.proj_cli.specs.Hands.{Hand, IsInHands}
+use Rattle.proj_cli.specs.Export.{EndsAtProjection}
+use Rattle.proj_cli.specs.Push.{IsPushed}
+use Rattle.proj_cli.specs.Plans.{AreKept}
 use Rattle.proj_cli.specs.Sent.{Fronts}
 
 -- ---- states
@@ -109,9 +112,10 @@ pub record IsKeepPlanOf (h : Held) (f : Filter) (n : Bytes) (room : Room) (p : P
   pub plan : (p ≡ NoPlan) ⊎ ((es : Entries) × (p ≡ KeepPlan h.rule (printed f) es) × IsKeepOf h f room es)
   pub holds : HoldsEntry h f n room p
 
--- what a case appends: its step's plan, but for projections that are kept; and behind a push each original is projected to its commit
+-- what a case appends: its step's plan, but for projections that are kept; a push and an export are lawful besides
 abbrev pub IsPlanIn : Room → Case → Made → Plan → Type 0
 IsPlanIn room (ProjectCase h f n) m p = IsKeepPlanOf h f n room p
+IsPlanIn room (ExportCase h f refname n) m p = (p ≡ m.plan) × EndsAtProjection h f n
 IsPlanIn room (PushCase h f refname n x) m p = (p ≡ m.plan) × IsPushed h (held_after h p) f refname n x
 IsPlanIn room other m p = p ≡ m.plan
 
@@ -168,9 +172,10 @@ IsFlowed at_hand (Ok m) before after OutOfMemory = Fronts m.output before after
 IsFlowed at_hand (Err e) before after OutOfMemory = Keeps before.written after.written
 IsFlowed at_hand r before after e = IsRefusal at_hand e r × NoFault e × Keeps before.written after.written
 
--- What became of an export: exactly its step's report is written.
+-- What became of an export: exactly its step's report is written, and it is lawful where it is done.
 pub record IsExported (r : Result Case Outcome) (items : List Bytes) (h : Held) (s s' : Contents) (before after : SinkView) (outcome : Outcome) : Type 0 where
   pub flowed : IsFlowed (IsAtHand s.basis.store r) (step_in (room_in s) r) before after outcome
+  pub lawful : outcome ≡ Done → All (IsLawful items NoPlan) (option_to_list (result_ok r))
   pub state : IsStateOf items h s'
   pub grown : IsGrownBy (IsInHands (hands_of r)) s.basis.store s'.basis.store
 

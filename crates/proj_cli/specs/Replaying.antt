@@ -14,7 +14,7 @@ use Rattle.repo_ground.specs.Contents.{Contents}
 use Rattle.import_laws.specs.Bases.{base_of}
 use Rattle.repo_ground.specs.declared.commit.Batch.{Batch}
 use Rattle.proj_words.specs.declared.outcome.Outcome.{Outcome}
-use Rattle.proj_cli.specs.Cases.{ref_line}
+use Rattle.proj_cli.specs.Import.{ref_line}
 use Rattle.proj_cli.specs.Makes.{IsStateOf}
 use Rattle.proj_cli.specs.Refusals.{replay_outcome}
 

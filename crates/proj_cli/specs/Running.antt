@@ -13,10 +13,9 @@ use Rattle.proj_words.specs.Words.{Command, loads}
 use Rattle.proj_words.specs.declared.outcome.Outcome.{Outcome}
 use Rattle.proj_words.specs.declared.outcome.Outcome.TheVariants.{Done, OutOfMemory, WriteFault, StoreFault}
 use Rattle.proj_cli.specs.Answers.{Devices, Got, Idle, Wrote}
-use Rattle.proj_cli.specs.Cases.{case}
+use Rattle.proj_cli.specs.Steps.{case}
 use Rattle.proj_cli.specs.Hands.{IsInHands}
 use Rattle.proj_cli.specs.Makes.{IsMadeOf, IsReported, IsStateOf, hands_of, step_in}
-use Rattle.proj_cli.specs.Plans.{AreKept}
 use Rattle.proj_cli.specs.Turns.{IsBrokenTurn, IsSafeTurn, IsTurn, Turn, items_after, turn_hands, turn_text}
 
 -- What a command made of a state: of its case, or of the refusal before one. What a stop may leave since then is of a kind. A form that
@@ -40,17 +39,16 @@ IsBehind s = (items : List Bytes) × (ts : List Turn) × IsStateBehind items ts 
 
 -- ---- a turn
 
--- It is one, whatever is kept and where the items hold what they should, which they then do behind it too; and the store didn't fail in it.
+-- It is one, and the store didn't fail in it.
 pub record IsTurnOf (items : List Bytes) (ts : List Turn) (t : Turn) : Type 0 where
   pub safe : IsSafeTurn items ts t
-  pub in_turn : (h : Held) → AreKept (items_after items ts) h → IsTurn items ts t
-  pub kept : (h : Held) → AreKept (items_after items ts) h → (g : Held) × AreKept (items_after items (t ∷ ts)) g
+  pub in_turn : IsTurn items ts t
   pub whole : t.outcome ≢ StoreFault
 
 -- the store failed in it
 pub record IsBrokenOf (items : List Bytes) (ts : List Turn) (t : Turn) : Type 0 where
   pub safe : IsSafeTurn items ts t
-  pub broken : (h : Held) → AreKept (items_after items ts) h → IsBrokenTurn (items_after items ts) t
+  pub broken : IsBrokenTurn (items_after items ts) t
   pub fault : t.outcome ≡ StoreFault
 
 -- the turn of an entry, and what its command appended

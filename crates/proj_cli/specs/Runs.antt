@@ -1,20 +1,13 @@
 -- What `run` says of its outcome, for each form of the words.
-use Rattle.std.specs.Prelude.{◌≡◌, ◌⊎◌, Bool, true, false, List}
+use Rattle.std.specs.Prelude.{◌≡◌, ◌⊎◌, List}
 use Rattle.git_objects.specs.Paths.{Bytes}
-use Rattle.proj_words.specs.Words.{Command, Export, Batch, Trial}
+use Rattle.proj_words.specs.Words.{Command, Batch, Trial}
 use Rattle.proj_words.specs.declared.outcome.Outcome.{Outcome}
 use Rattle.proj_cli.specs.Answers.{Devices, IsCommandAnswer, IsCommandComplete}
 use Rattle.proj_cli.specs.Batches.{BatchLeaves, IsBatchAnswer, IsBatchComplete}
 use Rattle.proj_cli.specs.Stopped.{IsLengthened}
 use Rattle.proj_cli.specs.Trials.{IsTrialAnswer, IsTrialComplete}
 use Rattle.proj_cli.specs.Turns.{begun}
-
--- whether a form is one command whose report is written when it is made
-abbrev pub is_plain : Command → Bool
-is_plain (Export r f) = false
-is_plain Batch = false
-is_plain (Trial n) = false
-is_plain asked = true
 
 -- a batch and a trial are made of commands; each other form is one
 abbrev pub IsAnswer : Command → Devices → Devices → Outcome → Type 0

@@ -1,10 +1,11 @@
 -- What comes of writing a report, or of telling how a command ended.
-use Rattle.std.specs.Prelude.{◌≡◌, ⊤, ℕ, ◌≤◌, [], take, Result, Ok, Err}
+use Rattle.std.specs.Prelude.{◌≡◌, ℕ, ◌≤◌, [], ◌∷◌, ◌++◌, codes, decimal, take, Result, Ok, Err, false}
 use Rattle.std.specs.Io.KnownBytes.{Appends}
 use Rattle.git_objects.specs.Paths.{Bytes}
 use Rattle.proj_io.specs.Counts.{Counts, Rose}
 use Rattle.proj_io.specs.Views.{SinkView}
 use Rattle.proj_words.specs.Entries.{reply_text}
+use Rattle.proj_words.specs.Outcomes.{code_of, is_plain}
 use Rattle.proj_words.specs.declared.outcome.Outcome.{Outcome}
 use Rattle.proj_words.specs.declared.outcome.Outcome.TheVariants.{Done, OutOfMemory, WriteFault, StoreFault}
 
@@ -30,6 +31,10 @@ abbrev pub IsConcluded : Result Bytes Outcome → SinkView → SinkView → Outc
 IsConcluded (Ok report) before after outcome = IsWritten outcome report before after
 IsConcluded (Err refusal) before after outcome = outcome ≡ refusal
 
+-- what stands before the output of so many bytes in a reply
+abbrev pub reply_head : Outcome → ℕ → Bytes
+reply_head outcome n = codes "status " ++ decimal (code_of outcome) ++ codes "\nbytes " ++ decimal n ++ 10 ∷ []
+
 -- Of a command of a batch: the reply to its report or its refusal. Where there was no memory there is none; and a fault of the store stays
 -- one, whatever comes of the reply.
 abbrev pub IsReplied : Result Bytes Outcome → Outcome → SinkView → SinkView → Type 0
@@ -41,8 +46,4 @@ IsReplied (Err e) outcome before after = IsSent outcome (reply_text e []) before
 
 -- the outcomes whose text takes memory
 abbrev pub TakesMemory : Outcome → Type 0
-TakesMemory Done = ⊥
-TakesMemory OutOfMemory = ⊥
-TakesMemory WriteFault = ⊥
-TakesMemory StoreFault = ⊥
-TakesMemory outcome = ⊤
+TakesMemory outcome = is_plain outcome ≡ false

@@ -87,7 +87,7 @@ pub record IsRan (asked : Command) (before after : Seen) (exit : ℕ) : Type 0 w
   pub answer : IsAnswer asked (over_disk before number) (over_disk after number_now) outcome
   pub complete : IsComplete asked (over_disk before number) (over_disk after number_now) outcome
   pub unloaded : loads asked ≡ false → IsOnlySynced before.content after.content
-  pub idle : asked ≡ Unknown → (outcome ≡ OutOfMemory) ⊎ (outcome ≡ Usage)
+  pub idle : asked ≡ Unknown → outcome ≡ Usage
   pub text : GetsText before.err after.err (text_of outcome)
   pub settled : outcome ≢ StoreFault → IfSome after.content IsSteady
 
@@ -100,9 +100,9 @@ error_code (Broken at) = 25
 error_code NoMemory = 1
 
 abbrev pub error_text : JournalError → Bytes
-error_text Failed = codes "store fault\n"
+error_text Failed = text_of StoreFault
 error_text (Broken at) = codes "damaged: journal at " ++ (decimal at ++ 10 ∷ [])
-error_text NoMemory = codes "out of memory\n"
+error_text NoMemory = text_of OutOfMemory
 
 -- what that says of a known disk: it isn't empty, and is broken at the place
 abbrev pub SaysWhy : Option DiskView → JournalError → Type 0
@@ -111,12 +111,19 @@ SaysWhy None (Broken at) = ⊤
 SaysWhy (Some disk) (Broken at) = (disk.bytes ≢ []) × (spelled disk.bytes ≡ Err at)
 SaysWhy content NoMemory = ⊤
 
--- There is no journal on the disk, or no memory for it or for its text, and input and output are untouched.
+-- A known disk that wasn't empty has the bytes that it had: it is as it was, or as after a sync.
+abbrev pub KeepsBytes : Option DiskView → Option DiskView → Type 0
+KeepsBytes None now = ⊤
+KeepsBytes (Some disk) now = disk.bytes ≢ [] → (now ≡ Some disk) ⊎ (now ≡ Some (stable disk.bytes))
+
+-- There is no journal on the disk, or no memory for it or for its text. Input and output are untouched, and bytes that stood on the disk
+-- are still there.
 pub record IsUnopened (Untouched : Type 0) (before after : Seen) (exit : ℕ) : Type 0 where
   pub untouched : Untouched
   pub error : JournalError
   pub status : exit ≡ error_code error
   pub why : SaysWhy before.content error
+  pub kept : KeepsBytes before.content after.content
   pub cause : Counts before.faults after.faults (error ≡ Failed)
   pub text : GetsText before.err after.err (error_text error)
 

@@ -1,13 +1,49 @@
--- What the words, the items and the input ask for.
-use Rattle.std.specs.Prelude.{List, Result}
+-- What the words, the items and the input ask for. Each definition has a line for each command; what the line stands for is said in the
+-- command's own file.
 use Rattle.std.specs.Option.{option_to_list}
+use Rattle.std.specs.Prelude.{List, Result, Ok, Err, [], ◌≡◌, ⊤}
 use Rattle.std.specs.Result.{result_ok}
 use Rattle.git_objects.specs.Paths.{Bytes}
 use Rattle.git_objects.specs.Results.{◌>>=◌}
-use Rattle.state_items.specs.Changes.{room_of}
-use Rattle.proj_words.specs.Words.{Command}
+use Rattle.fast_import.specs.Replays.{empty_base, ran}
+use Rattle.state_items.specs.Changes.{room_of, Room, rule_plan, Plan, held_after}
+use Rattle.state_items.specs.Items.{Held}
+use Rattle.import_laws.specs.Bases.{base_of}
+use Rattle.proj_words.specs.Words.{Command, Import, Project, Push, Export, Name, Rule}
+use Rattle.proj_words.specs.declared.outcome.Outcome.TheVariants.{Usage}
 use Rattle.proj_words.specs.declared.outcome.Outcome.{Outcome}
-use Rattle.proj_cli.specs.Cases.{Case, Made, case, loaded, made}
+use Rattle.proj_cli.specs.Cases.{Case, loaded, Made, ImportCase, ProjectCase, ExportCase, PushCase, NameCase, RuleCase, within, held_in}
+use Rattle.proj_cli.specs.Export.{EndsAtProjection, export_case, export_made}
+use Rattle.proj_cli.specs.Filters.{sound}
+use Rattle.proj_cli.specs.Hands.{Hand, still_hand, history_hand}
+use Rattle.proj_cli.specs.Import.{import_made, import_hand}
+use Rattle.proj_cli.specs.Name.{name_hand, name_made}
+use Rattle.proj_cli.specs.Project.{IsKeepPlan, HoldsHead, project_case, project_made}
+use Rattle.proj_cli.specs.Push.{IsPushed, push_case, push_hand, push_made}
+use Rattle.proj_cli.specs.Rule.{rule_line}
+
+-- The case of a command for what is loaded and an input, or the first refusal: of the filter, of loading, and of the ref. A batch and a
+-- trial are made of several commands, and are none in a batch.
+abbrev pub case : Command → Result Held Outcome → Bytes → Result Case Outcome
+case (Import force) loading input = loading >>= λ h. Ok (ImportCase force h (ran (base_of h) input))
+case (Project refname text) loading input = sound text >>= λ f. loading >>= λ h. project_case h f refname
+case (Export refname text) loading input = sound text >>= λ f. loading >>= λ h. export_case h f refname
+case (Push refname text) loading input = sound text >>= λ f. loading >>= λ h. push_case h f refname input
+case (Name refname text) loading input = sound text >>= λ f. Ok (NameCase f refname (ran empty_base input))
+case (Rule k) loading input = loading >>= λ h. Ok (RuleCase h k)
+case Rattle.proj_words.specs.Words.Batch loading input = Err Usage
+case (Rattle.proj_words.specs.Words.Trial n) loading input = Err Usage
+case Rattle.proj_words.specs.Words.Unknown loading input = Err Usage
+
+-- What comes of a case, or the first refusal: of the stream, of the push, of refs that don't move forward, and of the limits of the
+-- state; for a name the ref comes last.
+abbrev pub made : Room → Case → Result Made Outcome
+made room (ImportCase force h x) = import_made room force h x
+made room (ProjectCase h f n) = project_made h f n
+made room (ExportCase h f refname n) = export_made h f refname n
+made room (PushCase h f refname n p) = push_made room h refname p
+made room (NameCase f refname x) = name_made f refname x
+made room (RuleCase h k) = within room h (rule_line k) (rule_plan h k)
 
 -- the cases that come up, which are one or none
 abbrev pub cases : Command → List Bytes → Bytes → List Case
@@ -16,3 +52,24 @@ cases asked items input = option_to_list (result_ok (case asked (loaded items) i
 -- What the command makes of the items and the input, or its refusal, after which the state is as before and nothing is written.
 abbrev pub step : Command → List Bytes → Bytes → Result Made Outcome
 step asked items input = case asked (loaded items) input >>= made (room_of items)
+
+-- What each case brings together: where nothing is said, what is held alone.
+abbrev pub hand : Case → Hand
+hand (ImportCase force h x) = import_hand h x
+hand (ProjectCase h f n) = history_hand h f n
+hand (ExportCase h f refname n) = history_hand h f n
+hand (PushCase h f refname n p) = push_hand h f n p
+hand (NameCase f refname x) = name_hand f refname x
+hand other = still_hand (held_in other).objects [] []
+
+-- What may be appended: for `project` nothing, or projections that are kept; for every other form exactly what the step says.
+abbrev pub IsPlanOf : List Bytes → Case → Made → Plan → Type 0
+IsPlanOf items (ProjectCase h f n) m p = IsKeepPlan h f items p
+IsPlanOf items other m p = p ≡ m.plan
+
+-- What a command has done that is done, with this in the state then.
+abbrev pub IsLawful : List Bytes → Plan → Case → Type 0
+IsLawful items plan (PushCase h f refname n p) = IsPushed h (held_after h plan) f refname n p
+IsLawful items plan (ProjectCase h f n) = HoldsHead h f n items plan
+IsLawful items plan (ExportCase h f refname n) = EndsAtProjection h f n
+IsLawful items plan other = ⊤

@@ -1,5 +1,5 @@
 -- The turns of a batch: its entries, answered one after another, each on the items that those before it left.
-use Rattle.std.specs.Prelude.{◌≡◌, ◌≢◌, ◌⊎◌, ⊤, List, [], ◌∷◌, ◌++◌, map, reverse, All, Result, Ok, Err}
+use Rattle.std.specs.Prelude.{◌≡◌, ◌≢◌, ◌⊎◌, ⊤, false, List, [], ◌∷◌, ◌++◌, map, reverse, All, Result, Ok, Err, IsOk}
 use Rattle.git_objects.specs.Paths.{Bytes}
 use Rattle.git_objects.specs.Results.{◌>>=◌}
 use Rattle.object_store.specs.Objects.{Object}
@@ -7,15 +7,15 @@ use Rattle.state_items.specs.Changes.{Plan, held_after, plan_items}
 use Rattle.state_items.specs.Hands.{IsTwice}
 use Rattle.state_items.specs.Items.{Held, read_items}
 use Rattle.proj_words.specs.Entries.{Entry, entries, reply_text}
-use Rattle.proj_words.specs.Words.{Command, line_command}
+use Rattle.proj_words.specs.Words.{Command, line_command, writes}
 use Rattle.proj_words.specs.declared.outcome.Outcome.{Outcome}
 use Rattle.proj_words.specs.declared.outcome.Outcome.TheVariants.{Done, OutOfMemory, Collision, ReadFault, WriteFault, StoreFault}
-use Rattle.proj_cli.specs.Cases.{Case, Made, case, loaded}
+use Rattle.proj_cli.specs.Answers.{IsLonger, IsRecalledLine}
+use Rattle.proj_cli.specs.Cases.{Case, Made, loaded}
+use Rattle.proj_cli.specs.Steps.{case, IsLawful, IsPlanOf, cases, step}
 use Rattle.proj_cli.specs.Hands.{Hand, IsInHands}
-use Rattle.proj_cli.specs.Lawful.{IsLawful}
 use Rattle.proj_cli.specs.Makes.{hands_of}
-use Rattle.proj_cli.specs.Plans.{AreKept, IsPlanOf}
-use Rattle.proj_cli.specs.Steps.{cases, step}
+use Rattle.proj_cli.specs.Plans.{AreKept, HoldWhatTheyShould}
 
 -- An entry that was begun: how it ended, what it gave, and the items that it appended, none or one.
 pub record Turn : Type 0 where
@@ -83,40 +83,50 @@ pub record IsTurnMade (items : List Bytes) (e : Entry) (m : Made) (more : List B
   pub lawful : All (IsLawful items plan) (turn_cases items e)
   pub kept : (h : Held) → AreKept items h → AreKept (items ++ more) (held_after h plan)
 
--- nothing was given or appended
-abbrev pub IsTurnIdle : Turn → Type 0
-IsTurnIdle t = (t.output ≡ []) × (t.appended ≡ [])
-
 -- The step's outcome, or two objects of one name that this entry and those before it brought together. No device is at fault, and there
 -- is memory: where there is none the batch ends.
-abbrev pub IsTurnBy : (Object → Type 0) → List Bytes → Turn → Outcome → Type 0
-IsTurnBy hand items t Done = (m : Made) × IsTurnMade items t.entry m t.appended × (t.output ≡ m.output)
-IsTurnBy hand items t OutOfMemory = ⊥
-IsTurnBy hand items t ReadFault = ⊥
-IsTurnBy hand items t WriteFault = ⊥
-IsTurnBy hand items t StoreFault = ⊥
-IsTurnBy hand items t (Collision n) = ((turn_step items t.entry ≡ Err (Collision n)) ⊎ IsTwice hand n.0) × IsTurnIdle t
-IsTurnBy hand items t outcome = (turn_step items t.entry ≡ Err outcome) × IsTurnIdle t
+abbrev pub IsTurnOutcome : (Object → Type 0) → Outcome → Result Made Outcome → Type 0
+IsTurnOutcome hand Done r = IsOk r
+IsTurnOutcome hand OutOfMemory r = ⊥
+IsTurnOutcome hand ReadFault r = ⊥
+IsTurnOutcome hand WriteFault r = ⊥
+IsTurnOutcome hand StoreFault r = ⊥
+IsTurnOutcome hand (Collision n) r = (r ≡ Err (Collision n)) ⊎ IsTwice hand n.0
+IsTurnOutcome hand outcome r = r ≡ Err outcome
 
--- upon items that hold what they should
-abbrev pub IsTurn : List Bytes → List Turn → Turn → Type 0
-IsTurn items ts t = IsTurnBy (IsInHands (turn_hands items (t ∷ ts))) (items_after items ts) t t.outcome
+-- The outcome is the step's whatever is kept; what is kept decides what a projection gives.
+pub record IsTurn (items : List Bytes) (ts : List Turn) (t : Turn) : Type 0 where
+  pub allowed : IsTurnOutcome (IsInHands (turn_hands items (t ∷ ts))) t.outcome (turn_step (items_after items ts) t.entry)
+  pub made : t.outcome ≡ Done → HoldWhatTheyShould (asked_by t.entry) (items_after items ts)
+      → (m : Made) × IsTurnMade (items_after items ts) t.entry m t.appended × (t.output ≡ m.output)
+
+-- what the step appends, which is done
+pub record IsTurnStored (items : List Bytes) (t : Turn) : Type 0 where
+  pub allowed : IsOk (turn_step items t.entry)
+  pub made : HoldWhatTheyShould (asked_by t.entry) items → (m : Made) × IsTurnMade items t.entry m t.appended
 
 -- The store failed: nothing was given; and nothing was appended, or what the step appends.
 pub record IsBrokenTurn (items : List Bytes) (t : Turn) : Type 0 where
   pub outcome : t.outcome ≡ StoreFault
   pub output : t.output ≡ []
-  pub appended : (t.appended ≡ []) ⊎ ((m : Made) × IsTurnMade items t.entry m t.appended)
+  pub appended : (t.appended ≡ []) ⊎ IsTurnStored items t
 
 -- the last of them may be one in which the store failed
 abbrev pub IsLastTurn : List Bytes → List Turn → Turn → Type 0
 IsLastTurn items ts t = IsTurn items ts t ⊎ IsBrokenTurn (items_after items ts) t
 
--- Whatever is kept in items that spell a state: a refused entry gives and appends nothing, and the items spell a state behind it.
+-- Whatever is kept in items that spell a state: a refused entry gives and appends nothing, nor does one append whose form doesn't write;
+-- the items spell a state behind it, the same where the form doesn't change it; and those that hold what they should still do.
 pub record IsSafeTurn (items : List Bytes) (ts : List Turn) (t : Turn) : Type 0 where
   pub silent : t.outcome ≢ Done → t.output ≡ []
   pub idle : t.outcome ≢ Done → t.outcome ≢ StoreFault → t.appended ≡ []
-  pub spelled : (h : Held) × (read_items (items_after items (t ∷ ts)) ≡ Ok h)
+  pub unwritten : writes (asked_by t.entry) ≡ false → t.appended ≡ []
+  pub held : Held
+  pub spelled : read_items (items_after items ts) ≡ Ok held
+  pub longer : IsLonger (asked_by t.entry) (items_after items ts) t.appended held (items_after items (t ∷ ts))
+  pub kept : (h : Held) → AreKept (items_after items ts) h → (g : Held) × AreKept (items_after items (t ∷ ts)) g
+  -- a projection takes what is kept for projections, true or not
+  pub recalled : t.outcome ≡ Done → IsRecalledLine (turn_case (items_after items ts) t.entry) (λ line. t.output ≡ line)
 
 -- ---- how a batch begins
 

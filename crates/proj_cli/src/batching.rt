@@ -10,16 +10,17 @@ ghost use Rattle.proj_words.specs.Views.{entry_value};
 ghost use Rattle.state_items.specs.Items.{Held};
 ghost use Rattle.proj_cli.specs.Batches.{BatchLeaves, IsBatchAnswer, IsBatchBy, IsLeftBy, IsRun, IsUnread};
 ghost use Rattle.proj_cli.specs.Calls.{devices};
+ghost use Rattle.proj_cli.specs.Cases.{is_verdict};
 ghost use Rattle.proj_cli.specs.Makes.{IsStateOf};
 ghost use Rattle.proj_cli.specs.Running.{IsBehind, IsEntryAnswered, IsStateBehind, IsTurnStop};
 ghost use Rattle.proj_cli.specs.Sent.{IsReplied};
-ghost use Rattle.proj_cli.specs.Stopped.{ForInput};
+ghost use Rattle.proj_cli.specs.Stopped.{ForInput, OnlyGrows};
 ghost use Rattle.proj_cli.specs.Turns.{Turn, begun, items_after, loading};
 
 use crate::deliver::write_reply;
 use crate::laws::recall_law;
 use crate::loading::load;
-use crate::turns::run_upon;
+use crate::performing::run_upon;
 use git_objects::limits::INPUT_BYTES;
 use git_objects::{Bytes, Quantity};
 use proj_io::{Keeper, ReadError, Sink, Source, Taken, read_up_to};
@@ -77,6 +78,9 @@ fn answer_entry<O: Sink, K: Keeper>(
         K.items store.old ≡ Some (items_after items ts) →
         OnlyAdds (K.moment store.old) (K.moment store.new) (K.left_since store.old) (K.left_since store.new)
         (IsTurnStop items ts (entry_value entry.entry)) }
+    ensures fronts { (items : List Bytes) → K.items store.old ≡ Some items → result ≢ Outcome.StoreFault →
+        OnlyGrows items (K.items store.new) (OnlyAdds (K.moment store.old) (K.moment store.new)
+        (K.left_since store.old) (K.left_since store.new)) }
     ensures number { result ≡ Outcome.Done → state.new.number ≡ K.number store.new }
     ensures used { IsUsed K.faults K.is_open K.tells store.old store.new (result ≡ Outcome.StoreFault) }
     ensures write { Counts (O.faults out.old) (O.faults out.new) (result ≡ Outcome.WriteFault) }
@@ -110,7 +114,11 @@ fn answer_entries<O: Sink, K: Keeper>(
         state.old.basis.store ≡ h.objects → K.items store.old ≡ Some items →
         OnlyAdds (K.moment store.old) (K.moment store.new) (K.left_since store.old) (K.left_since store.new)
         (IsLeftBy items (map entry_value entries.now)) }
+    ensures fronts { (items : List Bytes) → K.items store.old ≡ Some items → result ≢ Outcome.StoreFault →
+        OnlyGrows items (K.items store.new) (OnlyAdds (K.moment store.old) (K.moment store.new)
+        (K.left_since store.old) (K.left_since store.new)) }
     ensures early { result ≢ Outcome.ReadFault }
+    ensures other { is_verdict result ≡ false }
     ensures used { IsUsed K.faults K.is_open K.tells store.old store.new (result ≡ Outcome.StoreFault) }
     ensures write { Counts (O.faults out.old) (O.faults out.new) (result ≡ Outcome.WriteFault) }
     ensures memory { O.refusals out.old ≤ O.refusals out.new }
@@ -141,7 +149,11 @@ fn answer_upon<O: Sink, K: Keeper>(
     ensures stops { (items : List Bytes) → K.items store.old ≡ Some items →
         OnlyAdds (K.moment store.old) (K.moment store.new) (K.left_since store.old) (K.left_since store.new)
         (BatchLeaves items (loading items (map entry_value entries.now))) }
+    ensures fronts { (items : List Bytes) → K.items store.old ≡ Some items → result ≢ Outcome.StoreFault →
+        OnlyGrows items (K.items store.new) (OnlyAdds (K.moment store.old) (K.moment store.new)
+        (K.left_since store.old) (K.left_since store.new)) }
     ensures early { result ≢ Outcome.ReadFault }
+    ensures other { is_verdict result ≡ false }
     ensures is_open { result ≢ Outcome.StoreFault → K.is_open store.new }
     ensures cause { Counts (K.faults store.old) (K.faults store.new) (result ≡ Outcome.StoreFault) }
     ensures write { Counts (O.faults out.old) (O.faults out.new) (result ≡ Outcome.WriteFault) }
@@ -195,6 +207,9 @@ pub fn batch<S: Source, O: Sink, K: Keeper>(
     ensures adds { (items : List Bytes) → K.items store.old ≡ Some items → ForInput (S.left input.old) (λ all.
         OnlyAdds (K.moment store.old) (K.moment store.new) (K.left_since store.old) (K.left_since store.new)
         (BatchLeaves items (begun items all))) }
+    ensures fronts { (items : List Bytes) → K.items store.old ≡ Some items → result ≢ Outcome.StoreFault →
+        OnlyGrows items (K.items store.new) (OnlyAdds (K.moment store.old) (K.moment store.new)
+        (K.left_since store.old) (K.left_since store.new)) }
     ensures is_open { result ≢ Outcome.StoreFault → K.is_open store.new }
 {
     let taken = match read_batch(alloc, input) {

@@ -1,17 +1,17 @@
 // Writing reports, and the texts of outcomes.
-ghost use Rattle.std.specs.Prelude.{◌≡◌, ◌≤◌, ◌⊎◌, IsErr};
+ghost use Rattle.std.specs.Prelude.{◌≡◌, ◌≤◌, ◌⊎◌, ◌+◌, ◌++◌, length, drop, IsErr, true};
 ghost use Rattle.std.specs.List.{flat_map};
 ghost use Rattle.proj_io.specs.Counts.{Counts};
 ghost use Rattle.proj_io.specs.Views.{sink_view};
 ghost use Rattle.proj_words.specs.Entries.{reply_text};
-ghost use Rattle.proj_words.specs.Outcomes.{text_of};
+ghost use Rattle.proj_words.specs.Outcomes.{is_plain, text_of};
 ghost use Rattle.proj_cli.specs.Answers.{GetsText};
-ghost use Rattle.proj_cli.specs.Sent.{IsConcluded, IsSent, TakesMemory};
+ghost use Rattle.proj_cli.specs.Sent.{IsConcluded, IsSent, TakesMemory, reply_head};
 
 use git_objects::Bytes;
-use itoa::Buffer;
+use itoa::write_digits;
 use proj_io::{Sink, SinkError, write_whole};
-use proj_words::{Outcome, outcome_code, outcome_text};
+use proj_words::{Outcome, outcome_code, outcome_text, plain_text};
 use std::alloc::Global;
 
 // Writes a report.
@@ -56,25 +56,48 @@ fn deliver_all<O: Sink>(pieces: &[&[u8]], out: &mut O) -> Outcome
     Outcome::Done
 }
 
-/// Writes the reply to an entry of a batch: the number of its outcome, and its output. It takes no memory.
+// What stands before the output of a reply takes as many bytes at most: `status `, 3 digits, `\nbytes `, 20 digits and
+// an LF.
+const HEAD_BYTES: usize = 38;
+
+// Writes a word so that it ends at `end`, and returns where it starts.
+fn put_before(word: &[u8], buffer: &mut [u8], end: usize) -> usize
+    requires word { length word.now ≤ end }
+    requires end { end ≤ length buffer.old }
+    ensures start { result + length word.now ≡ end }
+    ensures length { length buffer.new ≡ length buffer.old }
+    ensures written { drop result buffer.new ≡ word.now ++ drop end buffer.old }
+{
+    let start = end - word.len();
+    buffer[start..end].copy_from_slice(word);
+    start
+}
+
+// Writes what stands before the output of a reply at the end of a buffer, and returns where it starts.
+fn put_head(outcome: &Outcome, len: u64, buffer: &mut [u8]) -> usize
+    requires { length buffer.old ≡ 38 }
+    ensures start { result ≤ length buffer.new }
+    ensures written { drop result buffer.new ≡ reply_head outcome.now len }
+{
+    let end = put_before(b"\n", buffer, HEAD_BYTES);
+    let end = write_digits(len, buffer, end);
+    let end = put_before(b"\nbytes ", buffer, end);
+    let end = write_digits(u64::from(outcome_code(outcome)), buffer, end);
+    put_before(b"status ", buffer, end)
+}
+
+/// Writes the reply to an entry of a batch: the number of its outcome, and its output. These are at most three pieces,
+/// and it takes no memory.
 pub(crate) fn write_reply<O: Sink>(outcome: &Outcome, output: &[u8], out: &mut O) -> Outcome
     ensures sent { let seen = sink_view O.written O.faults O.refusals in
         IsSent result (reply_text outcome.now output.now) (seen out.old) (seen out.new) }
     ensures cause { Counts (O.faults out.old) (O.faults out.new) (result ≡ Outcome.WriteFault) }
     ensures memory { O.refusals out.old ≤ O.refusals out.new }
 {
-    let mut code = Buffer::new();
-    let mut count = Buffer::new();
-    let pieces = [
-        b"status ".as_slice(),
-        code.format(outcome_code(outcome)).as_bytes(),
-        b"\nbytes ",
-        count.format(output.len()).as_bytes(),
-        b"\n",
-        output,
-        b"\n",
-    ];
-    deliver_all(&pieces, out)
+    let mut buffer = [0u8; HEAD_BYTES];
+    let start = put_head(outcome, output.len() as u64, &mut buffer);
+    let (_, head) = buffer.split_at(start);
+    deliver_all(&[head, output, b"\n"], out)
 }
 
 /// Writes a text as far as the sink takes it.
@@ -84,24 +107,36 @@ pub fn tell<E: Sink>(text: &[u8], err: &mut E)
     let _ = write_whole(err, text);
 }
 
+/// Writes the text of an outcome that needs no memory for it.
+pub(crate) fn tell_plain<E: Sink>(outcome: &Outcome, err: &mut E)
+    requires { is_plain outcome.now ≡ true }
+    ensures { let seen = sink_view E.written E.faults E.refusals in GetsText (seen err.old) (seen err.new)
+        (text_of outcome.now) }
+{
+    match plain_text(outcome) {
+        Some(text) => tell(text, err),
+        None => unreachable!(),
+    }
+}
+
 /// Writes the outcome's text. Where there is no memory for it, the outcome is that.
 pub fn finish<E: Sink>(alloc: Global, outcome: Outcome, err: &mut E) -> Outcome
     ensures outcome { (result ≡ outcome) ⊎ ((result ≡ Outcome.OutOfMemory) × TakesMemory outcome) }
     ensures text { let seen = sink_view E.written E.faults E.refusals in GetsText (seen err.old) (seen err.new)
         (text_of result) }
 {
-    match outcome {
-        Outcome::Done => {}
-        Outcome::OutOfMemory => tell(b"out of memory\n", err),
-        Outcome::WriteFault => tell(b"write fault\n", err),
-        Outcome::StoreFault => tell(b"store fault\n", err),
-        _ => match outcome_text(alloc, &outcome) {
-            Ok(text) => tell(&text, err),
-            Err(_) => {
-                tell(b"out of memory\n", err);
-                return Outcome::OutOfMemory;
-            }
-        },
+    if let Some(text) = plain_text(&outcome) {
+        tell(text, err);
+        return outcome;
     }
-    outcome
+    match outcome_text(alloc, &outcome) {
+        Ok(text) => {
+            tell(&text, err);
+            outcome
+        }
+        Err(_) => {
+            tell_plain(&Outcome::OutOfMemory, err);
+            Outcome::OutOfMemory
+        }
+    }
 }

@@ -1,20 +1,20 @@
 // The projected history of a ref's commit, as a stream.
-ghost use Rattle.std.specs.Prelude.{◌≡◌, ◌↔◌, ◌≤◌, ◌≢◌, List, Err, Some, true, Ok};
+ghost use Rattle.std.specs.Prelude.{◌≡◌, ◌↔◌, ◌≤◌, ◌≢◌, false, List, Err, Some};
 ghost use Rattle.git_objects.specs.Paths.{Bytes};
-ghost use Rattle.path_names.specs.RefNames.{is_ref_name};
 ghost use Rattle.filter_text.specs.Shapes.{shape};
 ghost use Rattle.proj_io.specs.Counts.{Counts};
 ghost use Rattle.proj_io.specs.Uses.{IsOnlyRead};
 ghost use Rattle.proj_io.specs.Views.{KeeperView, sink_view};
-ghost use Rattle.proj_words.specs.Words.{Export};
 ghost use Rattle.state_items.specs.Changes.{NoPlan};
 ghost use Rattle.state_items.specs.Items.{Held};
 ghost use Rattle.workspace.specs.Laws.{IsUsable};
-ghost use Rattle.proj_cli.specs.Cases.{case, export_case, loaded};
-ghost use Rattle.proj_cli.specs.Forms.{IsExport};
+ghost use Rattle.proj_cli.specs.Export.{export_case};
+ghost use Rattle.proj_cli.specs.Cases.{is_verdict, loaded};
+ghost use Rattle.proj_cli.specs.Forms.{IsExport, exported_case};
 ghost use Rattle.proj_cli.specs.Makes.{IsExported, IsMadeOf, IsState, IsStateOf};
 
-use crate::loading::{open, read_subject};
+use crate::judging::Subject;
+use crate::loading::load;
 use fast_export::{ExportError, write_history};
 use filter_apply::ApplyError;
 use filter_text::Filter;
@@ -63,73 +63,49 @@ pub fn export<O: Sink>(
     }
 }
 
-/// `export` of a ref and a filter, which is written while it is made.
-pub(crate) fn export_form<O: Sink, K: Keeper>(
+/// Loads what the items of a store hold, and writes the export of a subject while it is made.
+pub(crate) fn export_loaded<O: Sink, K: Keeper>(
     alloc: Global,
-    refname: &[u8],
-    filter: &[u8],
+    subject: &Subject,
     out: &mut O,
     store: &mut K,
 ) -> Outcome
     requires open { K.is_open store.old }
-    requires refname { is_ref_name refname.now ≡ true }
+    requires usable { IsUsable (shape subject.now.filter) }
     ensures exported { let seen = sink_view O.written O.faults O.refusals in
-        (items : List Bytes) (all : Bytes) → K.items store.old ≡ Some items →
-        IsExport (case (Export refname.now filter.now) (loaded items) all) items (seen out.old) (seen out.new) result }
+        (items : List Bytes) → K.items store.old ≡ Some items →
+        IsExport (exported_case (loaded items) (shape subject.now.filter) subject.now.refname) items
+        (seen out.old) (seen out.new) result }
+    ensures other { is_verdict result ≡ false }
     ensures unread { result ≢ Outcome.ReadFault }
     ensures kept { IsOnlyRead K.items K.number K.is_open K.tells K.moment K.left_since store.old store.new }
     ensures cause { Counts (K.faults store.old) (K.faults store.new) (result ≡ Outcome.StoreFault) }
     ensures write { Counts (O.faults out.old) (O.faults out.new) (result ≡ Outcome.WriteFault) }
     ensures memory { O.refusals out.old ≤ O.refusals out.new }
 {
-    match open(alloc, refname, filter, store) {
+    match load(alloc, store) {
         Err(outcome) => outcome,
-        Ok(mut opened) => export(
-            alloc,
-            &mut opened.state,
-            &opened.filter,
-            &opened.refname,
-            out,
-        ),
+        Ok(mut state) => export(alloc, &mut state, &subject.filter, &subject.refname, out),
     }
 }
 
-// What an export upon a state writes.
-fn exported(
+/// What the export of a subject upon a state writes, kept in memory.
+pub(crate) fn exported(
     alloc: Global,
+    subject: &Subject,
     state: &mut State,
-    filter: &Filter,
-    refname: &RefName,
 ) -> Result<Bytes, Outcome>
-    requires usable { IsUsable (shape filter.now) }
+    requires usable { IsUsable (shape subject.now.filter) }
     requires state { IsState state.old }
     ensures made { (items : List Bytes) (h : Held) (store : KeeperView) → IsStateOf items h state.old →
-        IsMadeOf (export_case h (shape filter.now) refname.now) items h state.old state.new store store NoPlan result }
-    ensures early { (result ≢ Err Outcome.WriteFault) × (result ≢ Err Outcome.ReadFault) ×
-        (result ≢ Err Outcome.StoreFault) }
-{
-    let mut out = ByteSink::new(alloc);
-    match export(alloc, state, filter, refname, &mut out) {
-        Outcome::Done => Ok(out.into_bytes()),
-        outcome => Err(outcome),
-    }
-}
-
-/// `export` upon a state.
-pub(crate) fn export_upon(
-    alloc: Global,
-    refname: &[u8],
-    filter: &[u8],
-    state: &mut State,
-) -> Result<Bytes, Outcome>
-    requires state { IsState state.old }
-    requires refname { is_ref_name refname.now ≡ true }
-    ensures made { (items : List Bytes) (h : Held) (all : Bytes) (store : KeeperView) →
-        IsStateOf items h state.old → IsMadeOf (case (Export refname.now filter.now) (Ok h) all) items h
+        IsMadeOf (export_case h (shape subject.now.filter) subject.now.refname) items h
         state.old state.new store store NoPlan result }
     ensures early { (result ≢ Err Outcome.WriteFault) × (result ≢ Err Outcome.ReadFault) ×
         (result ≢ Err Outcome.StoreFault) }
 {
-    let subject = read_subject(alloc, refname, filter)?;
-    exported(alloc, state, &subject.filter, &subject.refname)
+    let mut out = ByteSink::new(alloc);
+    match export(alloc, state, &subject.filter, &subject.refname, &mut out) {
+        Outcome::Done => Ok(out.into_bytes()),
+        outcome => Err(outcome),
+    }
 }

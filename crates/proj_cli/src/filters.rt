@@ -10,7 +10,7 @@ use proj_words::Outcome;
 use std::alloc::Global;
 
 /// The sound filter of a text, or why it is none.
-#[tactic(auto, using(crate::proofs::Judging::faultless), unfolding(crate::specs::Filters::sound))]
+#[tactic(auto, using(crate::proofs::FilterFaults::faultless), unfolding(crate::specs::Filters::sound))]
 pub fn sound_filter(alloc: Global, text: &[u8]) -> Result<Filter, Outcome>
     ensures sound { IfOk result (λ f. sound text.now ≡ Ok (shape f)) }
     ensures usable { IfOk result (λ f. IsUsable (shape f)) }

@@ -1,28 +1,27 @@
 // What a stream brings to the store.
-ghost use Rattle.std.specs.Prelude.{◌≡◌, ◌≢◌, ◌⊎◌, ◌++◌, List, Err, Some};
+ghost use Rattle.std.specs.Prelude.{◌≡◌, ◌≢◌, ◌⊎◌, ◌++◌, List, Err};
 ghost use Rattle.std.specs.Prelude.{Ok, reverse, true, IfOk, IfSome, MatchResult};
 ghost use Rattle.git_objects.specs.Paths.{Bytes};
 ghost use Rattle.git_objects.specs.Snapshots.{Snapshot};
 ghost use Rattle.fast_import.specs.Replays.{ran};
+ghost use Rattle.fast_import.specs.Waited.{waited};
 ghost use Rattle.projection_ground.specs.Grounds.{IsGround};
 ghost use Rattle.proj_io.specs.Counts.{Counts};
 ghost use Rattle.proj_io.specs.Stops.{OnlyAdds};
 ghost use Rattle.proj_io.specs.Uses.{IsUsed};
 ghost use Rattle.proj_io.specs.Views.{keeper_view};
-ghost use Rattle.proj_words.specs.Words.{Import};
 ghost use Rattle.repo_ground.specs.Changes.{IsBatchOf, IsStopOf, settings_of};
 ghost use Rattle.import_laws.specs.Bases.{base_of};
 ghost use Rattle.state_items.specs.Changes.{Plan};
 ghost use Rattle.state_items.specs.Items.{Held};
 ghost use Rattle.state_items.specs.Repos.{repo};
-ghost use Rattle.proj_cli.specs.Cases.{ImportCase, all_forward};
-ghost use Rattle.proj_cli.specs.Forms.{IsForm};
+ghost use Rattle.proj_cli.specs.Cases.{ImportCase};
+ghost use Rattle.proj_cli.specs.Import.{all_forward};
+ghost use Rattle.proj_cli.specs.Intake.{TakesUpTo};
 ghost use Rattle.proj_cli.specs.Makes.{IsMadeOf, IsState, IsStateOf};
 ghost use Rattle.proj_cli.specs.Replaying.{IsPrepared};
-ghost use Rattle.proj_cli.specs.Stopped.{ForInput};
 
 use crate::lines::refs_report;
-use crate::loading::load;
 use crate::naming::commit_names;
 use crate::refusals::{commit_outcome, replay_outcome};
 use fast_import::{Replayed, replay_all};
@@ -103,6 +102,8 @@ pub fn import<S: Source, K: Keeper>(
         state.old state.new (seen store.old) (seen store.new) p result ×
         OnlyAdds (K.moment store.old) (K.moment store.new) (K.left_since store.old) (K.left_since store.new)
         (IsStopOf h state.old p (K.items store.old)) }
+    ensures taken { (items : List Bytes) (h : Held) → IsStateOf items h state.old →
+        TakesUpTo (waited (base_of h)) (S.left input.old) (S.left input.new) }
     ensures early { result ≢ Err Outcome.WriteFault }
     ensures read { Counts (S.faults input.old) (S.faults input.new) (result ≡ Err Outcome.ReadFault) }
     ensures used { IsUsed K.faults K.is_open K.tells store.old store.new (result ≡ Err Outcome.StoreFault) }
@@ -119,27 +120,5 @@ pub fn import<S: Source, K: Keeper>(
     match state.commit(store, batch) {
         Ok(()) => Ok(report),
         Err(error) => Err(commit_outcome(error)),
-    }
-}
-
-/// `import`, and whether a ref may move anywhere.
-pub(crate) fn import_form<S: Source, K: Keeper>(
-    alloc: Global,
-    force: bool,
-    input: &mut S,
-    store: &mut K,
-) -> Result<Bytes, Outcome>
-    requires { K.is_open store.old }
-    ensures made { let seen = keeper_view K.items K.number K.faults in
-        (items : List Bytes) → K.items store.old ≡ Some items → ForInput (S.left input.old) (λ all.
-        IsForm (Import force) items all (seen store.old) (seen store.new)
-        (OnlyAdds (K.moment store.old) (K.moment store.new) (K.left_since store.old) (K.left_since store.new)) result) }
-    ensures early { result ≢ Err Outcome.WriteFault }
-    ensures read { Counts (S.faults input.old) (S.faults input.new) (result ≡ Err Outcome.ReadFault) }
-    ensures used { IsUsed K.faults K.is_open K.tells store.old store.new (result ≡ Err Outcome.StoreFault) }
-{
-    match load(alloc, store) {
-        Err(outcome) => Err(outcome),
-        Ok(mut state) => import(alloc, &mut state, input, store, force),
     }
 }

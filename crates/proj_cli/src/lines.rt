@@ -5,7 +5,9 @@ ghost use Rattle.std.specs.Option.{option_map};
 ghost use Rattle.fast_import.specs.Replaying.{setting_value};
 ghost use Rattle.commit_map.specs.Rules.{rule_number};
 ghost use Rattle.commit_map.specs.Shown.{shown_value};
-ghost use Rattle.proj_cli.specs.Cases.{name_line, ref_line, rule_line};
+ghost use Rattle.proj_cli.specs.Project.{name_line};
+ghost use Rattle.proj_cli.specs.Import.{ref_line};
+ghost use Rattle.proj_cli.specs.Rule.{rule_line};
 ghost use Rattle.proj_cli.specs.Pushing.{digits_line};
 
 use commit_map::{Rule, Shown};

@@ -5,11 +5,11 @@ ghost use Rattle.std.specs.Option.{option_map};
 ghost use Rattle.git_objects.specs.Parts.{name_bytes};
 ghost use Rattle.git_objects.specs.Paths.{Bytes, is_bytes};
 ghost use Rattle.git_objects.specs.Refs.{bytes_cmp};
-ghost use Rattle.path_names.specs.RefNames.{is_ref_name};
 ghost use Rattle.commit_graph.specs.Graphs.{place_of};
 ghost use Rattle.commit_map.specs.Shown.{shown_value};
 ghost use Rattle.fast_import.specs.Replaying.{setting_value};
 ghost use Rattle.fast_import.specs.Replays.{empty_base, ran};
+ghost use Rattle.fast_import.specs.Waited.{waited};
 ghost use Rattle.filter_apply.specs.Faults.{IsApplyFault};
 ghost use Rattle.filter_text.specs.Filters.{Filter as FilterValue};
 ghost use Rattle.filter_text.specs.Shapes.{shape};
@@ -17,19 +17,19 @@ ghost use Rattle.projection_laws.specs.Projections.{projection_by};
 ghost use Rattle.projection_ground.specs.Grounds.{Extends, IsGround, IsShownOf, commits_of};
 ghost use Rattle.proj_io.specs.Counts.{Counts};
 ghost use Rattle.proj_io.specs.Views.{KeeperView};
-ghost use Rattle.proj_words.specs.Words.{Name as NameCommand};
 ghost use Rattle.repo_ground.specs.Loads.{IsEmpty};
 ghost use Rattle.state_items.specs.Changes.{NoPlan};
 ghost use Rattle.workspace.specs.Laws.{IsUsable};
 ghost use Rattle.workspace.specs.Workspaces.{shown};
-ghost use Rattle.proj_cli.specs.Cases.{NameCase, case, loaded};
+ghost use Rattle.proj_cli.specs.Cases.{NameCase, loaded};
+ghost use Rattle.proj_cli.specs.Steps.{case};
 ghost use Rattle.proj_cli.specs.Forms.{IsFormMade};
+ghost use Rattle.proj_cli.specs.Intake.{TakesUpTo};
 ghost use Rattle.proj_cli.specs.Makes.{IsReportOf};
 ghost use Rattle.proj_cli.specs.Stopped.{ForInput};
 ghost use Rattle.proj_cli.specs.StreamsGiven.{IsGiven, IsUnnamed};
 
 use crate::lines::projection_report;
-use crate::loading::read_subject;
 use crate::refusals::{apply_outcome, commit_outcome, replay_outcome};
 use commit_map::Shown;
 use fast_import::{EmptyBase, Made, Replayed, Setting, replay_all};
@@ -121,6 +121,7 @@ fn take_stream<S: Source>(
         IfErr result (λ e. (f : FilterValue) (refname : Bytes) →
         IsReportOf (Ok (NameCase f refname (ran empty_base all))) (Err e)) }
     ensures early { (result ≢ Err Outcome.WriteFault) × (result ≢ Err Outcome.StoreFault) }
+    ensures taken { TakesUpTo (waited empty_base) (S.left input.old) (S.left input.new) }
     ensures told { S.tells input.new ↔ S.tells input.old }
     ensures read { Counts (S.faults input.old) (S.faults input.new) (result ≡ Err Outcome.ReadFault) }
 {
@@ -174,6 +175,7 @@ fn name_upon<S: Source>(
     ensures made { (all : Bytes) × IfSome (S.left input.old) (λ l. all ≡ l) ×
         IsReportOf (Ok (NameCase (shape filter.now) refname.now (ran empty_base all))) result }
     ensures early { (result ≢ Err Outcome.WriteFault) × (result ≢ Err Outcome.StoreFault) }
+    ensures taken { TakesUpTo (waited empty_base) (S.left input.old) (S.left input.new) }
     ensures told { S.tells input.new ↔ S.tells input.old }
     ensures read { Counts (S.faults input.old) (S.faults input.new) (result ≡ Err Outcome.ReadFault) }
 {
@@ -192,31 +194,12 @@ pub fn name<S: Source>(
     ensures made { (all : Bytes) × IfSome (S.left input.old) (λ l. all ≡ l) ×
         IsReportOf (Ok (NameCase (shape filter.now) refname.now (ran empty_base all))) result }
     ensures early { (result ≢ Err Outcome.WriteFault) × (result ≢ Err Outcome.StoreFault) }
+    ensures taken { TakesUpTo (waited empty_base) (S.left input.old) (S.left input.new) }
     ensures told { S.tells input.new ↔ S.tells input.old }
     ensures read { Counts (S.faults input.old) (S.faults input.new) (result ≡ Err Outcome.ReadFault) }
 {
     match State::empty(alloc) {
         Err(_) => Err(Outcome::OutOfMemory),
         Ok(mut state) => name_upon(alloc, &mut state, filter, refname, input),
-    }
-}
-
-/// `name` of a ref and a filter, of a stream upon nothing.
-pub(crate) fn name_form<S: Source>(
-    alloc: Global,
-    refname: &[u8],
-    filter: &[u8],
-    input: &mut S,
-) -> Result<Bytes, Outcome>
-    requires { is_ref_name refname.now ≡ true }
-    ensures made { (items : List Bytes) (store : KeeperView) → ForInput (S.left input.old) (λ all.
-        IsFormMade (case (NameCommand refname.now filter.now) (loaded items) all) items store store NoPlan result) }
-    ensures early { (result ≢ Err Outcome.WriteFault) × (result ≢ Err Outcome.StoreFault) }
-    ensures told { S.tells input.new ↔ S.tells input.old }
-    ensures read { Counts (S.faults input.old) (S.faults input.new) (result ≡ Err Outcome.ReadFault) }
-{
-    match read_subject(alloc, refname, filter) {
-        Err(outcome) => Err(outcome),
-        Ok(subject) => name(alloc, &subject.filter, &subject.refname, input),
     }
 }

@@ -1,70 +1,63 @@
 // The top call.
-ghost use Rattle.std.specs.Prelude.{◌≡◌, ◌≢◌, ◌⊎◌, List, map, string_bytes, Some, Err, true, false};
+ghost use Rattle.std.specs.Prelude.{◌≡◌, ◌≢◌, ◌⊎◌, List, map, string_bytes, Some, Err, IsErr, true, false};
 ghost use Rattle.git_objects.specs.Paths.{Bytes};
 ghost use Rattle.proj_io.specs.Stops.{OnlyAdds};
 ghost use Rattle.proj_io.specs.Views.{source_view, sink_view, keeper_view};
-ghost use Rattle.proj_words.specs.Words.{Unknown, command, is_formed, loads, reads};
+ghost use Rattle.proj_words.specs.Words.{Command as Asked, Unknown, command, is_formed, loads, reads, writes};
 ghost use Rattle.proj_words.specs.Views.{command_of};
 ghost use Rattle.proj_words.specs.Outcomes.{text_of};
 ghost use Rattle.proj_cli.specs.Answers.{GetsText};
 ghost use Rattle.proj_cli.specs.Calls.{devices};
+ghost use Rattle.proj_cli.specs.Steps.{case};
+ghost use Rattle.proj_cli.specs.Cases.{loaded};
 ghost use Rattle.proj_cli.specs.Forms.{IsMade};
-ghost use Rattle.proj_cli.specs.Runs.{IsAnswer, IsComplete, MayLeave, is_plain};
-ghost use Rattle.proj_cli.specs.Stopped.{ForInput};
+ghost use Rattle.proj_cli.specs.Intake.{TakesUpTo, waited_by};
+ghost use Rattle.proj_cli.specs.Judging.{IsJudged, IsSomeJudged};
+ghost use Rattle.proj_cli.specs.Runs.{IsAnswer, IsComplete, MayLeave};
+ghost use Rattle.proj_cli.specs.Stopped.{ForInput, OnlyGrows};
 
 use crate::batching::batch;
 use crate::deliver::{conclude, finish};
-use crate::exporting::export_form;
-use crate::importing::import_form;
+use crate::exporting::export_loaded;
+use crate::judging::{Judged, judge};
 use crate::laws::recall_law;
-use crate::naming::name_form;
-use crate::projecting::project_form;
-use crate::pushing::push_form;
-use crate::rule::rule_form;
+use crate::loading::load;
+use crate::naming::name;
+use crate::performing::perform;
 use crate::trying::trial;
 use git_objects::Bytes;
 use proj_io::{Keeper, Sink, Source};
 use proj_words::{Command, Outcome, read_command};
 use std::alloc::Global;
 
-// Makes the report of a form that isn't written while it is made.
-fn make<S: Source, K: Keeper>(
+// Loads what the store holds, and performs a command upon it.
+fn perform_loaded<S: Source, K: Keeper>(
     alloc: Global,
-    asked: Command<'_>,
+    judged: &Judged,
     input: &mut S,
     store: &mut K,
 ) -> Result<Bytes, Outcome>
     requires open { K.is_open store.old }
-    requires formed { is_formed (command_of asked) ≡ true }
-    requires plain { is_plain (command_of asked) ≡ true }
-    ensures made { let seen = source_view S.left S.faults in let kept = keeper_view K.items K.number K.faults in
-        IsMade (command_of asked.entry) (seen input.old) (seen input.new) (kept store.old) (kept store.new)
+    requires judged { IsSomeJudged judged.now }
+    ensures made { let read = source_view S.left S.faults in let kept = keeper_view K.items K.number K.faults in
+        (asked : Asked) → IsJudged asked judged.now → writes asked ≡ true →
+        IsMade asked (read input.old) (read input.new) (kept store.old) (kept store.new)
         (OnlyAdds (K.moment store.old) (K.moment store.new) (K.left_since store.old) (K.left_since store.new)) result }
-    ensures unread { reads (command_of asked.entry) ≡ false → input.new ≡ input.old }
-    ensures unloaded { loads (command_of asked.entry) ≡ false → store.new ≡ store.old }
-    ensures idle { command_of asked.entry ≡ Unknown → result ≡ Err Outcome.Usage }
+    ensures taken { (asked : Asked) (items : List Bytes) → IsJudged asked judged.now → K.items store.old ≡ Some items →
+        TakesUpTo (waited_by (case asked (loaded items))) (S.left input.old) (S.left input.new) }
+    ensures caseless { (asked : Asked) (items : List Bytes) → IsJudged asked judged.now →
+        K.items store.old ≡ Some items → ((all : Bytes) → IsErr (case asked (loaded items) all)) →
+        input.new ≡ input.old }
+    ensures unread { (asked : Asked) → IsJudged asked judged.now → reads asked ≡ false → input.new ≡ input.old }
     ensures is_open { result ≢ Err Outcome.StoreFault → K.is_open store.new }
 {
-    match asked {
-        Command::Import(force) => import_form(alloc, force, input, store),
-        Command::Project(refname, filter) => {
-            project_form(alloc, refname.as_bytes(), filter.as_bytes(), store)
-        }
-        Command::Push(refname, filter) => {
-            push_form(alloc, refname.as_bytes(), filter.as_bytes(), input, store)
-        }
-        Command::Export(_, _) => unreachable!(),
-        Command::Name(refname, filter) => {
-            name_form(alloc, refname.as_bytes(), filter.as_bytes(), input)
-        }
-        Command::Rule(number) => rule_form(alloc, number, store),
-        Command::Batch => unreachable!(),
-        Command::Trial(_) => unreachable!(),
-        Command::Unknown => Err(Outcome::Usage),
+    match load(alloc, store) {
+        Err(outcome) => Err(outcome),
+        Ok(mut state) => perform(alloc, judged, input, &mut state, store),
     }
 }
 
-// Runs the command, and writes its report.
+// Judges and performs a command, and writes its report.
 fn act<S: Source, O: Sink, K: Keeper>(
     alloc: Global,
     asked: Command<'_>,
@@ -79,6 +72,9 @@ fn act<S: Source, O: Sink, K: Keeper>(
     ensures adds { (items : List Bytes) → K.items store.old ≡ Some items → ForInput (S.left input.old) (λ all.
         OnlyAdds (K.moment store.old) (K.moment store.new) (K.left_since store.old) (K.left_since store.new)
         (MayLeave (command_of asked.entry) items all)) }
+    ensures fronts { (items : List Bytes) → K.items store.old ≡ Some items → result ≢ Outcome.StoreFault →
+        OnlyGrows items (K.items store.new) (OnlyAdds (K.moment store.old) (K.moment store.new)
+        (K.left_since store.old) (K.left_since store.new)) }
     ensures unread { reads (command_of asked.entry) ≡ false → input.new ≡ input.old }
     ensures unloaded { loads (command_of asked.entry) ≡ false → store.new ≡ store.old }
     ensures idle { command_of asked.entry ≡ Unknown → (out.new ≡ out.old) × (result ≡ Outcome.Usage) }
@@ -86,15 +82,22 @@ fn act<S: Source, O: Sink, K: Keeper>(
 {
     recall_law();
     match asked {
-        Command::Export(refname, filter) => {
-            export_form(alloc, refname.as_bytes(), filter.as_bytes(), out, store)
-        }
         Command::Batch => batch(alloc, input, out, store),
         Command::Trial(count) => conclude(trial(alloc, count), out),
-        _ => {
-            let made = make(alloc, asked, input, store);
-            conclude(made, out)
-        }
+        _ => match judge(alloc, asked) {
+            Err(outcome) => outcome,
+            Ok(judged) => match &judged {
+                Judged::Export(subject) => export_loaded(alloc, subject, out, store),
+                Judged::Name(subject) => {
+                    let made = name(alloc, &subject.filter, &subject.refname, input);
+                    conclude(made, out)
+                }
+                _ => {
+                    let made = perform_loaded(alloc, &judged, input, store);
+                    conclude(made, out)
+                }
+            },
+        },
     }
 }
 
@@ -123,7 +126,7 @@ pub fn run<S: Source, O: Sink, E: Sink, K: Keeper>(
         (reads asked ≡ false → input.new ≡ input.old) × (loads asked ≡ false → store.new ≡ store.old) }
     // Words without a form are answered without a look at any device.
     ensures idle { command (map (λ word. string_bytes word) words.now) ≡ Unknown →
-        (out.new ≡ out.old) × ((result ≡ Outcome.OutOfMemory) ⊎ (result ≡ Outcome.Usage)) }
+        (out.new ≡ out.old) × (result ≡ Outcome.Usage) }
     ensures text { let seen = sink_view E.written E.faults E.refusals in GetsText (seen err.old) (seen err.new)
         (text_of result) }
     // A stop at any moment of the call leaves the items at entry, or these and behind them, whole, the command's item.
@@ -133,6 +136,11 @@ pub fn run<S: Source, O: Sink, E: Sink, K: Keeper>(
         ((list : List Bytes) → K.left_since store.new (K.moment store.old) list → MayLeave asked items all list) ×
         OnlyAdds (K.moment store.old) (K.moment store.new) (K.left_since store.old) (K.left_since store.new)
         (MayLeave asked items all)) }
+    // Unless the store failed, these are the items at entry with a front of what has come behind them since.
+    ensures fronts { (items : List Bytes) → K.items store.old ≡ Some items → result ≢ Outcome.StoreFault →
+        OnlyGrows items (K.items store.new) (λ Kind. ((list : List Bytes) →
+        K.left_since store.new (K.moment store.old) list → Kind list) ×
+        OnlyAdds (K.moment store.old) (K.moment store.new) (K.left_since store.old) (K.left_since store.new) Kind) }
     // Only after a fault of the store it may have to be opened again. After a call that didn't answer one a stop leaves
     // the items that the store then has.
     ensures settled { result ≢ Outcome.StoreFault → K.is_open store.new × ((all : List Bytes) →

@@ -1,7 +1,6 @@
 // The projection of a ref's commit.
-ghost use Rattle.std.specs.Prelude.{◌≡◌, ◌≢◌, ◌<◌, List, None, Err, Ok, IfErr, IfOk, IsSome, Some, true};
+ghost use Rattle.std.specs.Prelude.{◌≡◌, ◌≢◌, ◌<◌, List, None, Err, Ok, IfErr, IfOk, IsSome};
 ghost use Rattle.git_objects.specs.Paths.{Bytes};
-ghost use Rattle.path_names.specs.RefNames.{is_ref_name};
 ghost use Rattle.commit_graph.specs.Graphs.{place_of};
 ghost use Rattle.commit_map.specs.Shown.{kept_at};
 ghost use Rattle.filter_apply.specs.Faults.{IsApplyFault};
@@ -12,21 +11,18 @@ ghost use Rattle.projection_ground.specs.Grounds.{Extends, IsGround, IsShownOf, 
 ghost use Rattle.proj_io.specs.Stops.{OnlyAdds};
 ghost use Rattle.proj_io.specs.Uses.{IsUsed};
 ghost use Rattle.proj_io.specs.Views.{keeper_view};
-ghost use Rattle.proj_words.specs.Words.{Project};
 ghost use Rattle.repo_ground.specs.Changes.{IsStopOf};
 ghost use Rattle.state_items.specs.Changes.{Plan};
 ghost use Rattle.state_items.specs.Items.{Held};
 ghost use Rattle.workspace.specs.Laws.{IsUsable};
 ghost use Rattle.workspace.specs.Workspaces.{shown};
-ghost use Rattle.proj_cli.specs.Cases.{name_line, project_case};
+ghost use Rattle.proj_cli.specs.Project.{name_line, project_case};
 ghost use Rattle.proj_cli.specs.Filters.{sound};
-ghost use Rattle.proj_cli.specs.Forms.{IsBeforeDevices, IsForm};
 ghost use Rattle.proj_cli.specs.Makes.{IsMadeOf, IsState, IsStateOf};
-ghost use Rattle.proj_cli.specs.Running.{IsCommandMade};
 
+use crate::judging::Subject;
 use crate::laws::recall_law;
 use crate::lines::projection_report;
-use crate::loading::{open, read_subject};
 use filter_apply::ApplyError;
 use filter_text::Filter;
 use git_objects::{Bytes, Name, Steps};
@@ -108,54 +104,26 @@ fn shown_line<L: Ledger>(
     Ok(Bytes::of(line))
 }
 
-/// `project` of a ref and a filter.
-pub(crate) fn project_form<K: Keeper>(
-    alloc: Global,
-    refname: &[u8],
-    filter: &[u8],
-    store: &mut K,
-) -> Result<Bytes, Outcome>
-    requires open { K.is_open store.old }
-    requires refname { is_ref_name refname.now ≡ true }
-    ensures made { let seen = keeper_view K.items K.number K.faults in
-        (items : List Bytes) (all : Bytes) → K.items store.old ≡ Some items →
-        IsForm (Project refname.now filter.now) items all (seen store.old) (seen store.new)
-        (OnlyAdds (K.moment store.old) (K.moment store.new) (K.left_since store.old) (K.left_since store.new)) result }
-    ensures early { IsBeforeDevices result }
-    ensures used { IsUsed K.faults K.is_open K.tells store.old store.new (result ≡ Err Outcome.StoreFault) }
-{
-    match open(alloc, refname, filter, store) {
-        Err(outcome) => Err(outcome),
-        Ok(mut opened) => project(
-            alloc,
-            &mut opened.state,
-            store,
-            &opened.filter,
-            &opened.refname,
-        ),
-    }
-}
-
-/// `project` upon a state.
+/// `project` of a subject, upon a state for which a filter may be selected: its map is put away before.
 pub(crate) fn project_upon<K: Keeper>(
     alloc: Global,
-    refname: &[u8],
-    filter: &[u8],
+    subject: &Subject,
     state: &mut State,
     store: &mut K,
 ) -> Result<Bytes, Outcome>
     requires open { K.is_open store.old × (state.old.number ≡ K.number store.old) }
+    requires usable { IsUsable (shape subject.now.filter) }
+    requires sound { (text : Bytes) × (sound text ≡ Ok (shape subject.now.filter)) }
     requires state { IsState state.old }
-    requires refname { is_ref_name refname.now ≡ true }
     ensures made { let seen = keeper_view K.items K.number K.faults in
-        (items : List Bytes) (h : Held) (all : Bytes) → IsStateOf items h state.old →
-        IsCommandMade (Project refname.now filter.now) all items h state.old state.new (seen store.old)
-        (seen store.new)
-        (OnlyAdds (K.moment store.old) (K.moment store.new) (K.left_since store.old) (K.left_since store.new)) result }
+        (items : List Bytes) (h : Held) → IsStateOf items h state.old → (p : Plan) ×
+        IsMadeOf (project_case h (shape subject.now.filter) subject.now.refname) items h
+        state.old state.new (seen store.old) (seen store.new) p result ×
+        OnlyAdds (K.moment store.old) (K.moment store.new) (K.left_since store.old) (K.left_since store.new)
+        (IsStopOf h state.old p (K.items store.old)) }
     ensures early { (result ≢ Err Outcome.WriteFault) × (result ≢ Err Outcome.ReadFault) }
     ensures used { IsUsed K.faults K.is_open K.tells store.old store.new (result ≡ Err Outcome.StoreFault) }
 {
-    let subject = read_subject(alloc, refname, filter)?;
-    state.put_away()?;
+    state.put_away();
     project(alloc, state, store, &subject.filter, &subject.refname)
 }

@@ -1,32 +1,29 @@
 // Taking a push back.
-ghost use Rattle.std.specs.Prelude.{◌≡◌, ◌≢◌, ◌↔◌, List, Err, map, true, IfOk, IfSome, IsSome, Some};
+ghost use Rattle.std.specs.Prelude.{◌≡◌, ◌≢◌, ◌↔◌, List, Err, None, map, true, IfOk, IfSome, IsSome, Some};
+ghost use Rattle.std.specs.FinMap.{find};
 ghost use Rattle.git_objects.specs.Paths.{Bytes, is_bytes};
-ghost use Rattle.path_names.specs.RefNames.{is_ref_name};
+ghost use Rattle.git_objects.specs.Refs.{bytes_cmp};
 ghost use Rattle.commit_graph.specs.Graphs.{place_of};
 ghost use Rattle.filter_text.specs.Shapes.{shape};
 ghost use Rattle.proj_io.specs.Counts.{Counts};
 ghost use Rattle.proj_io.specs.Stops.{OnlyAdds};
 ghost use Rattle.proj_io.specs.Uses.{IsUsed};
 ghost use Rattle.proj_io.specs.Views.{keeper_view};
-ghost use Rattle.proj_words.specs.Words.{Push};
+ghost use Rattle.ref_store.specs.Refs.{head_of};
 ghost use Rattle.repo_ground.specs.Changes.{IsStopOf};
 ghost use Rattle.state_items.specs.Changes.{Plan};
 ghost use Rattle.state_items.specs.Items.{Held};
 ghost use Rattle.workspace.specs.Laws.{IsUsable};
-ghost use Rattle.proj_cli.specs.Cases.{push_case};
-ghost use Rattle.proj_cli.specs.Forms.{IsForm};
+ghost use Rattle.proj_cli.specs.Push.{push_case};
+ghost use Rattle.proj_cli.specs.Intake.{TakesUpTo, pushed_to};
 ghost use Rattle.proj_cli.specs.Makes.{IsMadeOf, IsState, IsStateOf};
 ghost use Rattle.proj_cli.specs.Pushing.{IsPlannedUpon, IsPushPrepared};
-ghost use Rattle.proj_cli.specs.Running.{IsCommandMade};
-ghost use Rattle.proj_cli.specs.Stopped.{ForInput};
 
 use crate::lines::pairs_report;
-use crate::loading::{open, read_subject};
 use crate::refusals::{commit_outcome, fault_outcome};
 use fast_import::Setting;
 use filter_text::Filter;
 use git_objects::{Bytes, Name};
-use memory_devices::SliceSource;
 use path_names::RefName;
 use proj_io::{Keeper, Source};
 use proj_words::Outcome;
@@ -49,6 +46,8 @@ fn planned_upon<S: Source>(
     ensures planned { (items : List Bytes) (h : Held) → IsStateOf items h state.old →
         (all : Bytes) × (is_bytes all ≡ true) × IfSome (S.left input.old) (λ l. all ≡ l) ×
         IsPlannedUpon items h (shape filter.now) refname.now head.now.0 all state.old state.new result }
+    ensures taken { (items : List Bytes) (h : Held) → IsStateOf items h state.old →
+        TakesUpTo (pushed_to h (shape filter.now) refname.now head.now.0) (S.left input.old) (S.left input.new) }
     ensures early { (result ≢ Err Outcome.WriteFault) × (result ≢ Err Outcome.StoreFault) }
     ensures told { S.tells input.new ↔ S.tells input.old }
     ensures read { Counts (S.faults input.old) (S.faults input.new) (result ≡ Err Outcome.ReadFault) }
@@ -115,6 +114,11 @@ pub fn push<S: Source, K: Keeper>(
         state.old state.new (seen store.old) (seen store.new) p result ×
         OnlyAdds (K.moment store.old) (K.moment store.new) (K.left_since store.old) (K.left_since store.new)
         (IsStopOf h state.old p (K.items store.old)) }
+    ensures taken { (items : List Bytes) (h : Held) (n : Bytes) → IsStateOf items h state.old →
+        find bytes_cmp refname.now h.refs ≡ Some n →
+        TakesUpTo (pushed_to h (shape filter.now) refname.now n) (S.left input.old) (S.left input.new) }
+    // Where there is no such ref nothing is read.
+    ensures headless { head_of state.old.refs refname.now ≡ None → input.new ≡ input.old }
     ensures early { result ≢ Err Outcome.WriteFault }
     ensures read { Counts (S.faults input.old) (S.faults input.new) (result ≡ Err Outcome.ReadFault) }
     ensures used { IsUsed K.faults K.is_open K.tells store.old store.new (result ≡ Err Outcome.StoreFault) }
@@ -134,66 +138,4 @@ pub fn push<S: Source, K: Keeper>(
         Ok(()) => Ok(report),
         Err(error) => Err(commit_outcome(error)),
     }
-}
-
-/// `push` to a ref through a filter.
-pub(crate) fn push_form<S: Source, K: Keeper>(
-    alloc: Global,
-    refname: &[u8],
-    filter: &[u8],
-    input: &mut S,
-    store: &mut K,
-) -> Result<Bytes, Outcome>
-    requires open { K.is_open store.old }
-    requires refname { is_ref_name refname.now ≡ true }
-    ensures made { let seen = keeper_view K.items K.number K.faults in
-        (items : List Bytes) → K.items store.old ≡ Some items → ForInput (S.left input.old) (λ all.
-        IsForm (Push refname.now filter.now) items all (seen store.old) (seen store.new)
-        (OnlyAdds (K.moment store.old) (K.moment store.new) (K.left_since store.old) (K.left_since store.new)) result) }
-    ensures early { result ≢ Err Outcome.WriteFault }
-    ensures read { Counts (S.faults input.old) (S.faults input.new) (result ≡ Err Outcome.ReadFault) }
-    ensures used { IsUsed K.faults K.is_open K.tells store.old store.new (result ≡ Err Outcome.StoreFault) }
-{
-    match open(alloc, refname, filter, store) {
-        Err(outcome) => Err(outcome),
-        Ok(mut opened) => push(
-            alloc,
-            &mut opened.state,
-            input,
-            store,
-            &opened.filter,
-            &opened.refname,
-        ),
-    }
-}
-
-/// `push` upon a state.
-pub(crate) fn push_upon<K: Keeper>(
-    alloc: Global,
-    refname: &[u8],
-    filter: &[u8],
-    input: &[u8],
-    state: &mut State,
-    store: &mut K,
-) -> Result<Bytes, Outcome>
-    requires open { K.is_open store.old × (state.old.number ≡ K.number store.old) }
-    requires state { IsState state.old }
-    requires refname { is_ref_name refname.now ≡ true }
-    ensures made { let seen = keeper_view K.items K.number K.faults in
-        (items : List Bytes) (h : Held) → IsStateOf items h state.old →
-        IsCommandMade (Push refname.now filter.now) input.now items h state.old state.new (seen store.old)
-        (seen store.new)
-        (OnlyAdds (K.moment store.old) (K.moment store.new) (K.left_since store.old) (K.left_since store.new)) result }
-    ensures early { (result ≢ Err Outcome.WriteFault) × (result ≢ Err Outcome.ReadFault) }
-    ensures used { IsUsed K.faults K.is_open K.tells store.old store.new (result ≡ Err Outcome.StoreFault) }
-{
-    let subject = read_subject(alloc, refname, filter)?;
-    push(
-        alloc,
-        state,
-        &mut SliceSource::new(input),
-        store,
-        &subject.filter,
-        &subject.refname,
-    )
 }

@@ -1,21 +1,17 @@
 // Setting the rule of projection.
-ghost use Rattle.std.specs.Prelude.{◌≡◌, ◌≢◌, List, Err, Ok, Some, true};
+ghost use Rattle.std.specs.Prelude.{◌≡◌, ◌≢◌, List, Err, Ok};
 ghost use Rattle.git_objects.specs.Paths.{Bytes};
 ghost use Rattle.commit_map.specs.Rules.{rule_number};
 ghost use Rattle.proj_io.specs.Stops.{OnlyAdds};
 ghost use Rattle.proj_io.specs.Uses.{IsUsed};
 ghost use Rattle.proj_io.specs.Views.{keeper_view};
-ghost use Rattle.proj_words.specs.Words.{Rule as RuleCommand};
 ghost use Rattle.repo_ground.specs.Changes.{IsStopOf};
 ghost use Rattle.state_items.specs.Changes.{Plan};
-ghost use Rattle.state_items.specs.Items.{Held, is_rule};
+ghost use Rattle.state_items.specs.Items.{Held};
 ghost use Rattle.proj_cli.specs.Cases.{RuleCase};
-ghost use Rattle.proj_cli.specs.Forms.{IsBeforeDevices, IsForm};
 ghost use Rattle.proj_cli.specs.Makes.{IsMadeOf, IsState, IsStateOf};
-ghost use Rattle.proj_cli.specs.Running.{IsCommandMade};
 
 use crate::lines::rule_report;
-use crate::loading::load;
 use crate::refusals::commit_outcome;
 use commit_map::Rule;
 use git_objects::Bytes;
@@ -47,51 +43,4 @@ pub fn set_rule<K: Keeper>(
         Err(error) => Err(commit_outcome(error)),
         Ok(()) => Ok(Bytes::of(line)),
     }
-}
-
-/// `rule` of the number of a rule.
-pub(crate) fn rule_form<K: Keeper>(
-    alloc: Global,
-    number: u8,
-    store: &mut K,
-) -> Result<Bytes, Outcome>
-    requires open { K.is_open store.old }
-    requires rule { is_rule number ≡ true }
-    ensures made { let seen = keeper_view K.items K.number K.faults in
-        (items : List Bytes) (all : Bytes) → K.items store.old ≡ Some items →
-        IsForm (RuleCommand number) items all (seen store.old) (seen store.new)
-        (OnlyAdds (K.moment store.old) (K.moment store.new) (K.left_since store.old) (K.left_since store.new)) result }
-    ensures early { IsBeforeDevices result }
-    ensures used { IsUsed K.faults K.is_open K.tells store.old store.new (result ≡ Err Outcome.StoreFault) }
-{
-    let Some(rule) = Rule::of(number) else {
-        unreachable!()
-    };
-    match load(alloc, store) {
-        Err(outcome) => Err(outcome),
-        Ok(mut state) => set_rule(alloc, &mut state, store, rule),
-    }
-}
-
-/// `rule` upon a state.
-pub(crate) fn rule_upon<K: Keeper>(
-    alloc: Global,
-    number: u8,
-    state: &mut State,
-    store: &mut K,
-) -> Result<Bytes, Outcome>
-    requires open { K.is_open store.old × (state.old.number ≡ K.number store.old) }
-    requires state { IsState state.old }
-    requires rule { is_rule number ≡ true }
-    ensures made { let seen = keeper_view K.items K.number K.faults in
-        (items : List Bytes) (h : Held) (all : Bytes) → IsStateOf items h state.old →
-        IsCommandMade (RuleCommand number) all items h state.old state.new (seen store.old) (seen store.new)
-        (OnlyAdds (K.moment store.old) (K.moment store.new) (K.left_since store.old) (K.left_since store.new)) result }
-    ensures early { (result ≢ Err Outcome.WriteFault) × (result ≢ Err Outcome.ReadFault) }
-    ensures used { IsUsed K.faults K.is_open K.tells store.old store.new (result ≡ Err Outcome.StoreFault) }
-{
-    let Some(rule) = Rule::of(number) else {
-        unreachable!()
-    };
-    set_rule(alloc, state, store, rule)
 }

@@ -10,16 +10,16 @@ ghost use Rattle.proj_journal.specs.Spelling.{listed};
 ghost use Rattle.proj_words.specs.Words.{Unknown, command, reads};
 ghost use Rattle.proj_cli.specs.Answers.{GetsText};
 ghost use Rattle.proj_cli.specs.Stopped.{ForInput};
-ghost use Rattle.proj_cli.specs.Served.{HasList, IsOnlySynced, IsServed, IsSteady, IsWhole, LeavesList};
-ghost use Rattle.proj_cli.specs.Served.{LeavesWhole, SaysWhy, error_code, error_text, seen};
+ghost use Rattle.proj_cli.specs.Served.{HasList, IsOnlySynced, IsServed, IsSteady, IsWhole, KeepsBytes};
+ghost use Rattle.proj_cli.specs.Served.{LeavesList, LeavesWhole, SaysWhy, error_code, error_text, seen};
 
-use crate::deliver::tell;
+use crate::deliver::{tell, tell_plain};
 use crate::program::run;
 use itoa::Buffer;
 use proj_disk::Disk;
 use proj_io::{Sink, Source};
 use proj_journal::{Journal, JournalError, NoJournal};
-use proj_words::outcome_code;
+use proj_words::{Outcome, outcome_code};
 use std::alloc::{AllocError, Global};
 
 /// How a call ended: the exit status, and the disk.
@@ -36,6 +36,7 @@ fn journal_on<D: Disk>(alloc: Global, disk: D) -> Result<Journal<D>, NoJournal<D
     ensures items { IfOk result (λ journal. items_of (D.content (disk_of journal)) ≡ items_of (D.content disk)) }
     ensures synced { IfOk result (λ journal. IsOnlySynced (D.content disk) (D.content (disk_of journal))) }
     ensures why { IfErr result (λ none. SaysWhy (D.content disk) none.error) }
+    ensures kept { IfErr result (λ none. KeepsBytes (D.content disk) (D.content none.disk)) }
     // A stop leaves nothing of a disk that wasn't empty that it wouldn't have left before.
     ensures stops { (view : DiskView) → D.content disk ≡ Some view → view.bytes ≢ [] → MatchResult result
         (λ journal. OnlyAdds (D.moment disk) (D.moment (disk_of journal))
@@ -81,12 +82,12 @@ fn tell_error<E: Sink>(alloc: Global, error: JournalError, err: &mut E) -> Journ
         (error_text result) }
 {
     match error {
-        JournalError::Failed => tell(b"store fault\n", err),
-        JournalError::OutOfMemory => tell(b"out of memory\n", err),
+        JournalError::Failed => tell_plain(&Outcome::StoreFault, err),
+        JournalError::OutOfMemory => tell_plain(&Outcome::OutOfMemory, err),
         JournalError::Broken { at } => match broken_text(alloc, at) {
             Ok(text) => tell(&text, err),
             Err(_) => {
-                tell(b"out of memory\n", err);
+                tell_plain(&Outcome::OutOfMemory, err);
                 return JournalError::OutOfMemory;
             }
         },
@@ -108,9 +109,9 @@ fn error_code(error: JournalError) -> u8
 /// Runs the command that the words ask for over the journal on the disk, which is made where the disk is empty. The
 /// status is the number of its outcome.
 ///
-/// Where there is no journal, `input` and `out` are untouched, and `err` gets one text: `store fault` with status 24
-/// where the disk failed, `damaged: journal at` and the place with status 25 where its bytes are no journal's, and
-/// `out of memory` with status 1.
+/// Where there is no journal, `input` and `out` are untouched, a disk that wasn't empty has the bytes that it had, and
+/// `err` gets one text: `store fault` with status 24 where the disk failed, `damaged: journal at` and the place with
+/// status 25 where its bytes are no journal's, and `out of memory` with status 1.
 pub fn serve<S: Source, O: Sink, E: Sink, D: Disk>(
     alloc: Global,
     words: &[String],

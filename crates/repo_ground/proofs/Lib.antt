@@ -29,3 +29,9 @@ pub mod Reaching
 pub mod CommitsEntered
 pub mod TestedMoves
 pub mod Taken
+pub mod KeptTexts
+pub mod CommitGraphs
+pub mod RepeatedCommits
+pub mod Lengths
+pub mod HeadsFound
+pub mod RuleForms

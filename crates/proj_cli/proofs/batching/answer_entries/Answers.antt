@@ -7,7 +7,8 @@ use Rattle.proj_words.specs.Entries.{Entry}
 use Rattle.proj_words.specs.Views.{entry_value}
 use Rattle.proj_words.specs.declared.outcome.Outcome.TheVariants.{Done, StoreFault}
 use Rattle.state_items.specs.Items.{Held}
-use Rattle.proj_cli.proofs.BatchesRun.{AreAnswered, answered-early, answered-last, answered-more, answered-stops, behind-some, counts-since, counts-without, entries-at, entries-more, none-answered, run-done, take-all}
+use Rattle.proj_cli.proofs.BatchesRun.{AreAnswered, answered-early, answered-last, answered-more, answered-other, answered-stops, behind-some, counts-since, counts-without, entries-at, entries-more, none-answered, run-done, take-all}
+use Rattle.proj_cli.proofs.Fronts.{grows-on, grows-self}
 use Rattle.proj_cli.proofs.batching.answer_entries.Goals as goal
 
 pub loop-entry-init : goal.loop-entry-init
@@ -18,6 +19,7 @@ loop-entry-init g c =
       none-answered (map entry_value c.args.entries.now) c.args.state.now (shown c.args.out.now) (kept then) (g.K.Keeper.moment then) (g.K.Keeper.left_since then) c.requires.open.1,
       c.requires.open.0,
       (λ x. x, λ x. x),
+      (λ (items : List Bytes) told. grows-self items (g.K.Keeper.items then) told (g.K.Keeper.moment then) (g.K.Keeper.left_since then)),
     )
 
 pub answer_entry-requires-clause-open : goal.answer_entry-requires-clause-open
@@ -38,10 +40,20 @@ returns-in_default-clause-stops g c = λ (items : List Bytes) (h : Held) state o
     answered-stops _ _ _ _ (entries-at entry_value all c.loop-entry.entry-index _ c.loop-entry-test.true) _ _ _ _ _ _ _ _ _ _ _ _ _ _ _ c.loop-entry.invariant.0 c.answer_entry.result c.answer_entry.ensures.answered
     c.answer_entry.ensures.stops items h state only told
 
+pub returns-in_default-clause-fronts : goal.returns-in_default-clause-fronts
+returns-in_default-clause-fronts g c = λ (items : List Bytes) told apart.
+    grows-on items _ _ _ _ _ _ _ _ (c.loop-entry.invariant.3 items told) (λ mid there. c.answer_entry.ensures.fronts mid there apart)
+
 pub returns-in_default-clause-early : goal.returns-in_default-clause-early
 returns-in_default-clause-early g c =
     let all = c.args.entries.now in
     answered-early _ _ _ _ (entries-at entry_value all c.loop-entry.entry-index _ c.loop-entry-test.true) _ _ _ _ _ _ _ _ _ _ _ _ _ _ _ c.loop-entry.invariant.0 c.answer_entry.result c.answer_entry.ensures.answered
+    c.answer_entry.ensures.stops c.requires.state
+
+pub returns-in_default-clause-other : goal.returns-in_default-clause-other
+returns-in_default-clause-other g c =
+    let all = c.args.entries.now in
+    answered-other _ _ _ _ (entries-at entry_value all c.loop-entry.entry-index _ c.loop-entry-test.true) _ _ _ _ _ _ _ _ _ _ _ _ _ _ _ c.loop-entry.invariant.0 c.answer_entry.result c.answer_entry.ensures.answered
     c.answer_entry.ensures.stops c.requires.state
 
 pub returns-in_default-clause-used : goal.returns-in_default-clause-used
@@ -76,6 +88,7 @@ loop-entry-preserved g c =
           (answered-more _ _ _ _ (entries-at entry_value all k _ lt) _ _ _ _ _ _ _ _ _ _ _ _ _ _ _ was.0 c.answer_entry.result does.answered does.stops c.in-Done.is (does.number c.in-Done.is) does.write.later does.memory does.used.cause.later),
       does.used.is_open (λ e. let no : Done ≡ StoreFault = sym c.in-Done.is ∙ e in cc),
       (λ x. was.2.0 (does.used.told.0 x), λ x. does.used.told.1 (was.2.1 x)),
+      (λ (items : List Bytes) told. grows-on items _ _ _ _ _ _ _ _ (was.3 items told) (λ mid there. does.fronts mid there (λ e. let no : Done ≡ StoreFault = sym c.in-Done.is ∙ e in cc))),
     )
 
 pub returns-clause-run : goal.returns-clause-run
@@ -84,6 +97,9 @@ returns-clause-run g c = λ (items : List Bytes) (h : Held) (i j : SourceView) s
 
 pub returns-clause-stops : goal.returns-clause-stops
 returns-clause-stops g c = λ (items : List Bytes) (h : Held) state only told. (c.loop-entry.invariant.0.underway items h state only).stops told
+
+pub returns-clause-fronts : goal.returns-clause-fronts
+returns-clause-fronts g c = λ (items : List Bytes) told apart. c.loop-entry.invariant.3 items told
 
 pub returns-clause-used : goal.returns-clause-used
 returns-clause-used g c = record {

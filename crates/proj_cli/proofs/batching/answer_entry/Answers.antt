@@ -8,6 +8,7 @@ use Rattle.proj_words.specs.Words.{Command}
 use Rattle.proj_cli.specs.Running.{IsCommandMade, IsStateBehind}
 use Rattle.proj_cli.specs.Turns.{Turn, items_after}
 use Rattle.proj_cli.proofs.EntriesAnswered.{entry-replied, number-replied, store-made, store-told, turn-adds}
+use Rattle.proj_cli.proofs.Fronts.{command-grows}
 use Rattle.proj_cli.proofs.batching.answer_entry.Goals as goal
 
 pub run_upon-made-requires-clause-state : goal.run_upon-made-requires-clause-state
@@ -72,3 +73,17 @@ returns-clause-used g c =
         rose = λ e. used.cause.rose (store-made (shown c.args.out.now) (shown c.reply.new.out) c.reply.result c.run_upon-made.result c.reply.ensures.replied e);
       };
     }
+
+pub returns-clause-fronts : goal.returns-clause-fronts
+returns-clause-fronts g c = λ (items : List Bytes) told apart.
+    let kept = keeper_view g.K.Keeper.items g.K.Keeper.number g.K.Keeper.faults in
+    let shown = sink_view g.O.Sink.written g.O.Sink.faults g.O.Sink.refusals in
+    let at = g.K.Keeper.moment in
+    let since = g.K.Keeper.left_since in
+    let then = c.args.store.now in
+    let now = c.run_upon-made.new.store in
+    let w = c.requires.state in
+    let b : IsStateBehind w.0 w.1 c.args.state.now = w.2 in
+    command-grows _ _ (items_after w.0 w.1) b.held c.args.state.now c.run_upon-made.new.state (kept then) (kept now) (at then) (at now) (since then) (since now) c.run_upon-made.result
+    (c.run_upon-made.ensures.made (items_after w.0 w.1) b.held b.state)
+    (λ fault. apart (store-told (shown c.args.out.now) (shown c.reply.new.out) c.reply.result c.run_upon-made.result c.reply.ensures.replied fault)) items told

@@ -9,6 +9,7 @@ use Rattle.proj_cli.specs.Turns.{loading}
 use Rattle.proj_cli.proofs.BatchesAnswered.{batch-run, batch-unloaded, leaves-run, loading-whole}
 use Rattle.proj_cli.proofs.BatchesRun.{counts-since}
 use Rattle.proj_cli.proofs.Forming.{adds-nothing, loaded-state, still-told}
+use Rattle.proj_cli.proofs.Fronts.{grows-on, grows-still}
 use Rattle.proj_cli.proofs.Refusing.{none-read, none-written, of-counts}
 use Rattle.proj_cli.proofs.batching.answer_upon.Goals as goal
 
@@ -21,6 +22,9 @@ returns-in-Err-clause-run g c = λ (items : List Bytes) (i j : SourceView) told.
 
 pub returns-in-Err-clause-stops : goal.returns-in-Err-clause-stops
 returns-in-Err-clause-stops g c = λ (items : List Bytes) told. adds-nothing _ _ _ _ (BatchLeaves items (loading items (map entry_value c.args.entries.now))) c.in-Err.ensures.kept.stops
+
+pub returns-in-Err-clause-fronts : goal.returns-in-Err-clause-fronts
+returns-in-Err-clause-fronts g c = λ (items : List Bytes) told apart. let kept = c.in-Err.ensures.kept in grows-still items _ _ told kept.items _ _ _ _ kept.stops
 
 pub returns-in-Err-clause-early : goal.returns-in-Err-clause-early
 returns-in-Err-clause-early g c = none-read c.in-Err.outcome c.in-Err.ensures.early
@@ -71,3 +75,8 @@ returns-in-Ok-clause-is_open g c = c.answer_entries.ensures.used.is_open
 
 pub returns-in-Ok-clause-cause : goal.returns-in-Ok-clause-cause
 returns-in-Ok-clause-cause g c = counts-since _ _ _ _ c.in-Ok.ensures.cause.later c.answer_entries.ensures.used.cause
+
+pub returns-in-Ok-clause-fronts : goal.returns-in-Ok-clause-fronts
+returns-in-Ok-clause-fronts g c = λ (items : List Bytes) told apart.
+    let kept = c.in-Ok.ensures.kept in
+    grows-on items _ _ _ _ _ _ _ _ (grows-still items _ _ told kept.items _ _ _ _ kept.stops) (λ mid there. c.answer_entries.ensures.fronts mid there apart)

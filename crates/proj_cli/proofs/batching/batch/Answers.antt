@@ -9,10 +9,11 @@ use Rattle.proj_words.specs.Views.{entry_value}
 use Rattle.proj_words.specs.declared.entries.Entry.{Entry as ReadEntry}
 use Rattle.proj_words.specs.declared.outcome.Outcome.{Outcome}
 use Rattle.proj_cli.specs.Batches.{BatchLeaves, IsBatchBy}
-use Rattle.proj_cli.proofs.BatchesAnswered.{begun-loads, early-adds, early-answer, entry-own, unread-run, unread-store, unread-write, unspelled-run}
+use Rattle.proj_cli.proofs.BatchesAnswered.{begun-loads, early-adds, early-answer, entry-own, entry-verdict, unread-other, unread-run, unread-store, unread-write, unspelled-run}
 use Rattle.proj_cli.proofs.BatchesRun.{counts-without}
 use Rattle.proj_cli.proofs.Delivering.{after, before}
 use Rattle.proj_cli.proofs.Forming.{keeps-self}
+use Rattle.proj_cli.proofs.Fronts.{grows-self}
 use Rattle.proj_cli.proofs.batching.batch.Goals as goal
 
 pub returns-in-Err-clause-answer : goal.returns-in-Err-clause-answer
@@ -25,7 +26,7 @@ returns-in-Err-clause-answer g c =
     let o = shown c.args.out.now in
     let e = c.in-Err.outcome in
     let does = c.in-Err.ensures in
-    early-answer i j o k k e (record { later = does.cause.later; rose = λ f. does.cause.rose (ap Err f) }) (counts-without k.faults k.faults _ (omega arith) (unread-store i.left e does.err)) (unread-write i.left e does.err)
+    early-answer i j o k k e (record { later = does.cause.later; rose = λ f. does.cause.rose (ap Err f) }) (counts-without k.faults k.faults _ (omega arith) (unread-store i.left e does.err)) (unread-write i.left e does.err) (unread-other i.left e does.err)
     (λ (items : List Bytes) told. unread-run items i j o k k (keeps-self k) e does.err)
 
 pub returns-in-Err-clause-adds : goal.returns-in-Err-clause-adds
@@ -45,7 +46,7 @@ returns-in-Err-read_entries-clause-answer g c =
     let e = c.in-Err-read_entries.outcome in
     let does = c.in-Err-read_entries.ensures in
     let own = entry-own e does.cause in
-    early-answer i j o k k e (counts-without i.faults j.faults _ c.in-Ok.ensures.cause.later own.0) (counts-without k.faults k.faults _ (omega arith) own.2) own.1
+    early-answer i j o k k e (counts-without i.faults j.faults _ c.in-Ok.ensures.cause.later own.0) (counts-without k.faults k.faults _ (omega arith) own.2) own.1 (entry-verdict e does.cause)
     (λ (items : List Bytes) told. unspelled-run items i j o k k (keeps-self k) c.bytes.result.now e (subst (λ (b : Bytes). IfSome i.left (λ l. b ≡ l)) (sym c.bytes.ensures) c.in-Ok.ensures.ok) does.value)
 
 pub returns-in-Err-read_entries-clause-adds : goal.returns-in-Err-read_entries-clause-adds
@@ -70,6 +71,7 @@ returns-clause-answer g c =
     let spelled : entries b ≡ Ok (map entry_value c.deref.result.now) =
     c.in-Ok-read_entries.ensures.value ∙ ap (λ (xs : List ReadEntry). Ok (map entry_value xs)) (sym c.deref.ensures.value) in
     record {
+      judged = does.other;
       cause = record { read = counts-without i.faults j.faults _ c.in-Ok.ensures.cause.later does.early; write = does.write; keep = does.cause; memory = does.memory };
       run = λ (items : List Bytes) told. record {
         input = b;
@@ -97,3 +99,9 @@ returns-clause-adds g c = λ (items : List Bytes) told.
           subst (λ (r : Result (List Entry) Outcome). OnlyAdds (at then) (at now) (since then) (since now) (BatchLeaves items r)) (sym (begun-loads items b (map entry_value c.deref.result.now) spelled))
           (c.answer_upon.ensures.stops items told);
     }
+
+pub returns-in-Err-clause-fronts : goal.returns-in-Err-clause-fronts
+returns-in-Err-clause-fronts g c = λ (items : List Bytes) told apart. let k = c.args.store.now in grows-self items (g.K.Keeper.items k) told (g.K.Keeper.moment k) (g.K.Keeper.left_since k)
+
+pub returns-in-Err-read_entries-clause-fronts : goal.returns-in-Err-read_entries-clause-fronts
+returns-in-Err-read_entries-clause-fronts g c = λ (items : List Bytes) told apart. let k = c.args.store.now in grows-self items (g.K.Keeper.items k) told (g.K.Keeper.moment k) (g.K.Keeper.left_since k)

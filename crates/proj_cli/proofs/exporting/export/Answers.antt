@@ -15,7 +15,7 @@ use Rattle.proj_io.specs.Views.{sink_view}
 use Rattle.repo_ground.specs.Contents.{Contents}
 use Rattle.repo_ground.specs.contracts.state.State.{the_view}
 use Rattle.proj_words.specs.declared.outcome.Outcome.TheVariants.{Collision, Done, OutOfMemory, WriteFault}
-use Rattle.proj_cli.specs.Cases.{export_case}
+use Rattle.proj_cli.specs.Export.{export_case}
 use Rattle.proj_cli.specs.Makes.{IsExported, IsStateOf}
 use Rattle.proj_cli.proofs.Exports.{collided, exportable, failed, no-memory, short, whole}
 use Rattle.proj_cli.proofs.StatesShown.{head-placed}
@@ -66,7 +66,7 @@ returns-in-Ok-write_history-clause-exported g c = λ items h w.
     let s = subst (IsStateOf items h) (sym c.state.view_is) w in
     let made = subst (λ (ns : List Name). AreMade c.history.new.ground.store (history_graph v.basis.rule (shown f) (commits_of v.basis) n) (map name_bytes ns)) (sym c.deref.ensures.value) c.in-Ok.ensures.ok in
     subst (λ (x : Contents). IsExported (export_case h f c.args.refname.now) items h x (record v { basis = c.history.new.ground }) (seen c.args.out.now) (seen c.write_history.new.sink) Done) c.state.view_is
-    (whole items h v f c.args.refname.now n s (sym (c.in-Some.ensures.held h w.spells)) c.history.new.ground c.in-Ok.ensures.same c.in-Ok.ensures.map (map name_bytes c.deref.result.now) made (seen c.args.out.now) (seen c.write_history.new.sink) c.in-Ok-write_history.ensures.text)
+    (whole items h v f c.args.refname.now n s (sym (c.in-Some.ensures.held h w.spells)) c.history.new.ground c.in-Ok.ensures.same c.in-Ok.ensures.map (map name_bytes c.deref.result.now) made c.history_law.ensures (seen c.args.out.now) (seen c.write_history.new.sink) c.in-Ok-write_history.ensures.text)
 
 pub returns-in-Err-Fault-clause-exported : goal.returns-in-Err-Fault-clause-exported
 returns-in-Err-Fault-clause-exported g c = λ items h w.

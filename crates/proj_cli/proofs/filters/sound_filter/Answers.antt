@@ -5,7 +5,7 @@ use Rattle.filter_apply.proofs.Handing.{err_told}
 use Rattle.proj_words.specs.Faults.{route_outcome}
 use Rattle.proj_words.specs.declared.outcome.Outcome.TheVariants.{OutOfMemory}
 use Rattle.proj_cli.specs.Filters.{sound}
-use Rattle.proj_cli.proofs.Judging.{faulty}
+use Rattle.proj_cli.proofs.FilterFaults.{faulty}
 use Rattle.proj_cli.proofs.filters.sound_filter.Goals as goal
 
 pub returns-in_err-check-clause-err : goal.returns-in_err-check-clause-err

@@ -12,6 +12,7 @@ use Rattle.proj_words.specs.declared.outcome.Outcome.{Outcome}
 use Rattle.proj_cli.specs.Makes.{IsStateOf}
 use Rattle.proj_cli.specs.Replaying.{IsReplayedUpon}
 use Rattle.proj_cli.proofs.Imports.{commit-done, commit-refused, is-batch, no-memory, not-forward, unreplayed}
+use Rattle.proj_cli.proofs.Intaking.{state-takes}
 use Rattle.proj_cli.proofs.Outcomes.{replay-store}
 use Rattle.proj_cli.proofs.StateBases.{base-as, replayed-upon, state-base, with_store}
 use Rattle.proj_cli.proofs.importing.import.Goals as goal
@@ -149,3 +150,43 @@ returns-in-Err-commit-clause-made g c = λ items h w.
     e.stops.1
     in
     (t.0, t.2, m.0, m.1, m.2)
+
+pub returns-in-Err-clause-taken : goal.returns-in-Err-clause-taken
+returns-in-Err-clause-taken g c = λ items h w.
+    let v : Contents = the_view c.state.inside in
+    let st = subst (IsStateOf items h) (sym c.state.view_is) w in
+    let x = c.of-view.result in
+    let i = c.of-view.ensures in
+    state-takes h v st.spells st.ground x.commits x.refs x.blobs i.commits i.refs i.blobs (g.S.Source.left c.args.input.now) (g.S.Source.left c.replay_all.new.input) (Err c.in-Err.error) c.in-Err.ensures.taken
+
+pub returns-in_default-clause-taken : goal.returns-in_default-clause-taken
+returns-in_default-clause-taken g c = λ items h w.
+    let v : Contents = the_view c.state.inside in
+    let st = subst (IsStateOf items h) (sym c.state.view_is) w in
+    let x = c.of-view.result in
+    let i = c.of-view.ensures in
+    state-takes h v st.spells st.ground x.commits x.refs x.blobs i.commits i.refs i.blobs (g.S.Source.left c.args.input.now) (g.S.Source.left c.replay_all.new.input) (Ok c.in-Ok.replayed) c.in-Ok.ensures.taken
+
+pub returns-in_err-all_forward-clause-taken : goal.returns-in_err-all_forward-clause-taken
+returns-in_err-all_forward-clause-taken g c = λ items h w.
+    let v : Contents = the_view c.state.inside in
+    let st = subst (IsStateOf items h) (sym c.state.view_is) w in
+    let x = c.of-view.result in
+    let i = c.of-view.ensures in
+    state-takes h v st.spells st.ground x.commits x.refs x.blobs i.commits i.refs i.blobs (g.S.Source.left c.args.input.now) (g.S.Source.left c.replay_all.new.input) (Ok c.in-Ok.replayed) c.in-Ok.ensures.taken
+
+pub returns-in-Ok-commit-clause-taken : goal.returns-in-Ok-commit-clause-taken
+returns-in-Ok-commit-clause-taken g c = λ items h w.
+    let v : Contents = the_view c.state.inside in
+    let st = subst (IsStateOf items h) (sym c.state.view_is) w in
+    let x = c.of-view.result in
+    let i = c.of-view.ensures in
+    state-takes h v st.spells st.ground x.commits x.refs x.blobs i.commits i.refs i.blobs (g.S.Source.left c.args.input.now) (g.S.Source.left c.replay_all.new.input) (Ok c.in-Ok.replayed) c.in-Ok.ensures.taken
+
+pub returns-in-Err-commit-clause-taken : goal.returns-in-Err-commit-clause-taken
+returns-in-Err-commit-clause-taken g c = λ items h w.
+    let v : Contents = the_view c.state.inside in
+    let st = subst (IsStateOf items h) (sym c.state.view_is) w in
+    let x = c.of-view.result in
+    let i = c.of-view.ensures in
+    state-takes h v st.spells st.ground x.commits x.refs x.blobs i.commits i.refs i.blobs (g.S.Source.left c.args.input.now) (g.S.Source.left c.replay_all.new.input) (Ok c.in-Ok.replayed) c.in-Ok.ensures.taken

@@ -1,7 +1,7 @@
 use Rattle.std.proofs.Common.{◌≡◌, map, take}
 use Rattle.std.specs.List.{flat_map}
 use Rattle.fast_import.specs.Replaying.{setting_value}
-use Rattle.proj_cli.specs.Cases.{ref_line}
+use Rattle.proj_cli.specs.Import.{ref_line}
 use Rattle.proj_cli.proofs.lines.refs_report.Given as goal
 
 abbrev pub invariant-loop-set : goal.invariant-loop-set

@@ -4,7 +4,7 @@ use Rattle.std.specs.Prelude.{codes}
 use Rattle.std.proofs.lemmas.Fmt.{decimal_digit}
 use Rattle.std.proofs.lemmas.Result.{IfOk-weaker}
 use Rattle.commit_map.specs.Rules.{rule_number}
-use Rattle.proj_cli.specs.Cases.{rule_line}
+use Rattle.proj_cli.specs.Rule.{rule_line}
 use Rattle.proj_cli.proofs.lines.rule_report.Goals as goal
 
 line-one : codes "rule 1\n" ≡ rule_line 1

@@ -5,7 +5,7 @@ use Rattle.git_objects.specs.Paths.{same_bytes}
 use Rattle.git_objects.specs.Refs.{bytes_cmp}
 use Rattle.fast_import.specs.Replaying.{setting_value}
 use Rattle.fast_import.specs.declared.replayed.Setting.{Setting}
-use Rattle.proj_cli.proofs.HeadsFound.{found-at, not-at}
+use Rattle.repo_ground.proofs.HeadsFound.{found-at, not-at}
 use Rattle.proj_cli.proofs.naming.head_among.Goals as goal
 
 pub returns-then-eq : goal.returns-then-eq

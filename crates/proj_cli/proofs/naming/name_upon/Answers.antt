@@ -56,3 +56,9 @@ returns-clause-read g c = counts-by (g.S.Source.faults c.args.input.now) (g.S.So
 
 pub take_stream-requires : goal.take_stream-requires
 take_stream-requires g c = c.requires.empty
+
+pub returns-in_err-heads-clause-taken : goal.returns-in_err-heads-clause-taken
+returns-in_err-heads-clause-taken g c = c.in_err-heads.ensures.taken
+
+pub returns-clause-taken : goal.returns-clause-taken
+returns-clause-taken g c = c.in_ok-heads.ensures.taken

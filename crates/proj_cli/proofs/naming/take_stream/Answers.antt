@@ -1,5 +1,5 @@
 -- Proves what src/naming.rt needs of `take_stream`.
-use Rattle.std.proofs.Common.{◌≡◌, [], Err, sym, ap, subst, ◌∙◌}
+use Rattle.std.proofs.Common.{◌≡◌, [], Err, Ok, sym, ap, subst, ◌∙◌}
 use Rattle.fast_import.specs.Replays.{empty_base, ran}
 use Rattle.proj_words.specs.declared.outcome.Outcome.TheVariants as outcomes
 use Rattle.repo_ground.specs.Contents.{Contents}
@@ -7,6 +7,7 @@ use Rattle.repo_ground.specs.Loads.{IsEmpty}
 use Rattle.repo_ground.specs.contracts.state.State.{the_view}
 use Rattle.state_items.specs.Items.{nothing}
 use Rattle.state_items.specs.Changes.{fresh, objects_of}
+use Rattle.proj_cli.proofs.Intaking.{replay-takes}
 use Rattle.proj_cli.proofs.NamesGiven.{IsUntold, batch-given, counts-by, ground-given, neither, passed-count, passed-neither, passed-result, same-error, state-given, unreplayed, untaken, untaken-store, untold-memory}
 use Rattle.proj_cli.proofs.Outcomes.{commit-read, commit-write, replay-read, replay-store, replay-write, told-input}
 use Rattle.proj_cli.proofs.naming.take_stream.Goals as goal
@@ -124,3 +125,15 @@ returns-clause-told g c = c.in-Ok.ensures.told
 pub returns-clause-read : goal.returns-clause-read
 returns-clause-read g c =
     counts-by (g.S.Source.faults c.args.input.now) (g.S.Source.faults c.replay_all.new.input) _ _ c.in-Ok.ensures.cause (λ q. absurd cc)
+
+pub returns-in-Err-clause-taken : goal.returns-in-Err-clause-taken
+returns-in-Err-clause-taken g c = replay-takes empty_base (g.S.Source.left c.args.input.now) (g.S.Source.left c.replay_all.new.input) (Err c.in-Err.error) c.in-Err.ensures.taken
+
+pub returns-in_err-batch-clause-taken : goal.returns-in_err-batch-clause-taken
+returns-in_err-batch-clause-taken g c = replay-takes empty_base (g.S.Source.left c.args.input.now) (g.S.Source.left c.replay_all.new.input) (Ok c.in-Ok.replayed) c.in-Ok.ensures.taken
+
+pub returns-in-Err-take-clause-taken : goal.returns-in-Err-take-clause-taken
+returns-in-Err-take-clause-taken g c = replay-takes empty_base (g.S.Source.left c.args.input.now) (g.S.Source.left c.replay_all.new.input) (Ok c.in-Ok.replayed) c.in-Ok.ensures.taken
+
+pub returns-clause-taken : goal.returns-clause-taken
+returns-clause-taken g c = replay-takes empty_base (g.S.Source.left c.args.input.now) (g.S.Source.left c.replay_all.new.input) (Ok c.in-Ok.replayed) c.in-Ok.ensures.taken

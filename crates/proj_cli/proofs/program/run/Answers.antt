@@ -7,7 +7,8 @@ use Rattle.proj_cli.specs.Calls.{devices}
 use Rattle.proj_cli.specs.Runs.{IsAnswer, MayLeave}
 use Rattle.proj_cli.specs.Stopped.{ForInput}
 use Rattle.proj_cli.proofs.Dispatching.{complete, finished}
-use Rattle.proj_cli.proofs.Lengthening.{no-fault, since-began, still-there}
+use Rattle.proj_cli.proofs.Fronts.{grows-began}
+use Rattle.proj_cli.proofs.Lengthening.{usage-stays, no-fault, since-began, still-there}
 use Rattle.proj_cli.proofs.program.run.Goals as goal
 
 pub returns-clause-answer : goal.returns-clause-answer
@@ -27,12 +28,22 @@ returns-clause-untouched g c =
     let does = c.act-outcome.ensures in
     (λ no. does.unread (ap reads asked ∙ no), λ no. does.unloaded (ap loads asked ∙ no))
 
+pub returns-clause-idle : goal.returns-clause-idle
+returns-clause-idle g c = λ unknown.
+    let idle = c.act-outcome.ensures.idle (c.read_command-asked.ensures.command ∙ unknown) in
+    (idle.0, usage-stays c.act-outcome.result c.finish.result c.finish.ensures.outcome idle.1)
+
 pub returns-clause-stops : goal.returns-clause-stops
 returns-clause-stops g c = λ (items : List Bytes) told.
     let adds =
     subst (λ asked. ForInput (g.S.Source.left c.args.input.now) (λ all. OnlyAdds (g.K.Keeper.moment c.args.store.now) (g.K.Keeper.moment c.act-outcome.new.store) (g.K.Keeper.left_since c.args.store.now) (g.K.Keeper.left_since c.act-outcome.new.store) (MayLeave asked items all)))
     c.read_command-asked.ensures.command (c.act-outcome.ensures.adds items told) in
     since-began (g.S.Source.left c.args.input.now) (command (map (λ word. string_bytes word) c.args.words.now)) items _ _ _ _ adds
+    (λ list left. still-there (g.K.Keeper.items c.args.store.now) items list told (g.met.K.Keeper.settled c.args.store.now list c.requires left))
+
+pub returns-clause-fronts : goal.returns-clause-fronts
+returns-clause-fronts g c = λ (items : List Bytes) told apart.
+    grows-began items _ _ _ _ _ (c.act-outcome.ensures.fronts items told (no-fault c.act-outcome.result c.finish.result c.finish.ensures.outcome apart))
     (λ list left. still-there (g.K.Keeper.items c.args.store.now) items list told (g.met.K.Keeper.settled c.args.store.now list c.requires left))
 
 pub returns-clause-settled : goal.returns-clause-settled

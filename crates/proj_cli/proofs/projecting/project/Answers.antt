@@ -19,7 +19,7 @@ use Rattle.repo_ground.specs.Keeping.{keep_plan}
 use Rattle.repo_ground.specs.Selecting.{IsSelected}
 use Rattle.repo_ground.specs.contracts.state.State.{the_view}
 use Rattle.proj_words.specs.declared.outcome.Outcome.TheVariants.{Collision}
-use Rattle.proj_cli.specs.Cases.{project_case}
+use Rattle.proj_cli.specs.Project.{project_case}
 use Rattle.proj_cli.specs.Makes.{IsMadeOf}
 use Rattle.proj_cli.proofs.Keeps.{of-graph, state-projected, state-selected}
 use Rattle.proj_cli.proofs.Projects.{adds-kept, adds-none, adds-present, collided, keeps-items, no-memory, projected-now, shown-grown, store-failed}

@@ -5,6 +5,8 @@ use Rattle.std.proofs.lemmas.Result.{err_from_is_err_and}
 use Rattle.filter_text.specs.Filters.{Filter}
 use Rattle.filter_text.specs.Shapes.{shape}
 use Rattle.proj_io.specs.Views.{KeeperView, keeper_view}
+use Rattle.std.proofs.lemmas.Option.{none-some}
+use Rattle.proj_cli.proofs.Intaking.{takes-at}
 use Rattle.proj_cli.proofs.Outcomes.{some-input}
 use Rattle.proj_cli.proofs.Pushes.{commit-done, commit-refused, is-batch, last-at, no-memory, no-ref, none-pushed, unplanned}
 use Rattle.proj_cli.proofs.StatesShown.{head-placed}
@@ -106,3 +108,23 @@ returns-in-Err-clause-made g c = λ items h w.
     e.stops.1
     in
     (t.0, t.2, m.0, m.1, m.2)
+
+-- ---- how much is read
+
+pub returns-in_default-clause-taken : goal.returns-in_default-clause-taken
+returns-in_default-clause-taken g c = λ items h n w is. absurd (none-some n (c.in_default.ensures.held h w.spells ∙ is))
+
+pub returns-in_err-plan-clause-taken : goal.returns-in_err-plan-clause-taken
+returns-in_err-plan-clause-taken g c = λ items h n w is. takes-at h (shape c.args.filter.now) c.args.refname.now c.in-Some.head.0 n (c.in-Some.ensures.held h w.spells) is _ _ (c.in_err-plan.ensures.taken items h w)
+
+pub returns-in_default-copied-clause-taken : goal.returns-in_default-copied-clause-taken
+returns-in_default-copied-clause-taken g c = λ items h n w is. takes-at h (shape c.args.filter.now) c.args.refname.now c.in-Some.head.0 n (c.in-Some.ensures.held h w.spells) is _ _ (c.in_ok-plan.ensures.taken items h w)
+
+pub returns-in_default-push_prepared-clause-taken : goal.returns-in_default-push_prepared-clause-taken
+returns-in_default-push_prepared-clause-taken g c = λ items h n w is. takes-at h (shape c.args.filter.now) c.args.refname.now c.in-Some.head.0 n (c.in-Some.ensures.held h w.spells) is _ _ (c.in_ok-plan.ensures.taken items h w)
+
+pub returns-in-Ok-commit-clause-taken : goal.returns-in-Ok-commit-clause-taken
+returns-in-Ok-commit-clause-taken g c = λ items h n w is. takes-at h (shape c.args.filter.now) c.args.refname.now c.in-Some.head.0 n (c.in-Some.ensures.held h w.spells) is _ _ (c.in_ok-plan.ensures.taken items h w)
+
+pub returns-in-Err-clause-taken : goal.returns-in-Err-clause-taken
+returns-in-Err-clause-taken g c = λ items h n w is. takes-at h (shape c.args.filter.now) c.args.refname.now c.in-Some.head.0 n (c.in-Some.ensures.held h w.spells) is _ _ (c.in_ok-plan.ensures.taken items h w)

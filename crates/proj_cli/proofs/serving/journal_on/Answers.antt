@@ -1,5 +1,5 @@
 use Rattle.proj_journal.specs.Journals.{disk_of}
-use Rattle.proj_cli.proofs.DiskLists.{new_items_in, none_long}
+use Rattle.proj_cli.proofs.DiskLists.{empty_kept_in, new_items_in, none_long, same_kept, unopened_kept_in}
 use Rattle.proj_cli.proofs.serving.journal_on.Goals as goal
 
 pub returns-then-count-eq0-clause-items : goal.returns-then-count-eq0-clause-items
@@ -8,3 +8,17 @@ returns-then-count-eq0-clause-items g c =
     let then = g.D.Disk.content c.len.new.self in
     new_items_in c.create.result (λ journal. g.D.Disk.content (disk_of journal)) before then
     (none_long before then c.in-Ok.count c.in-Ok.ensures.count c.in-Ok.ensures.same c.if-count-eq0.true) c.in-Ok.ensures.same c.create.ensures.told c.create.ensures.empty
+
+pub returns-in-Err-clause-kept : goal.returns-in-Err-clause-kept
+returns-in-Err-clause-kept g c = same_kept (g.D.Disk.content c.args.disk) (g.D.Disk.content c.len.new.self) c.in-Err.ensures.same
+
+pub returns-then-count-eq0-clause-kept : goal.returns-then-count-eq0-clause-kept
+returns-then-count-eq0-clause-kept g c =
+    let before = g.D.Disk.content c.args.disk in
+    let then = g.D.Disk.content c.len.new.self in
+    empty_kept_in c.create.result (λ none. g.D.Disk.content none.disk) before then
+    (none_long before then c.in-Ok.count c.in-Ok.ensures.count c.in-Ok.ensures.same c.if-count-eq0.true) c.in-Ok.ensures.same
+
+pub returns-else-count-eq0-clause-kept : goal.returns-else-count-eq0-clause-kept
+returns-else-count-eq0-clause-kept g c =
+    unopened_kept_in c.open.result (λ none. g.D.Disk.content none.disk) (g.D.Disk.content c.args.disk) (g.D.Disk.content c.len.new.self) c.in-Ok.ensures.same c.open.ensures.kept

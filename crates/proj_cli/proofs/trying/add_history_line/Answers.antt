@@ -9,7 +9,8 @@ use Rattle.repo_ground.specs.contracts.state.State.{the_view}
 use Rattle.proj_words.specs.Words.{Export}
 use Rattle.proj_words.specs.declared.outcome.Outcome.{Outcome}
 use Rattle.proj_words.specs.declared.outcome.Outcome.TheVariants.{OutOfMemory}
-use Rattle.proj_cli.specs.Cases.{case, loaded}
+use Rattle.proj_cli.specs.Steps.{case}
+use Rattle.proj_cli.specs.Cases.{loaded}
 use Rattle.proj_cli.specs.Makes.{hands_of}
 use Rattle.proj_cli.specs.Trying.{IsEnded, IsLine, IsTried, line_of}
 use Rattle.proj_cli.proofs.NamesGiven.{passed-whole}

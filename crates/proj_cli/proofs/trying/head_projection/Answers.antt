@@ -5,7 +5,7 @@ use Rattle.filter_text.specs.Shapes.{shape}
 use Rattle.repo_ground.specs.Contents.{Contents}
 use Rattle.repo_ground.specs.contracts.state.State.{the_view}
 use Rattle.proj_words.specs.declared.outcome.Outcome.{Outcome}
-use Rattle.proj_cli.specs.Cases.{push_case}
+use Rattle.proj_cli.specs.Push.{push_case}
 use Rattle.proj_cli.specs.Makes.{hands_of}
 use Rattle.proj_cli.specs.Trying.{IsEnded, IsTried, from_of}
 use Rattle.proj_cli.proofs.StatesShown.{head-placed}

@@ -1,4 +1,4 @@
-use Rattle.std.proofs.Common.{refl, arith}
+use Rattle.std.proofs.Common.{refl, arith, ◌∙◌}
 use Rattle.proj_io.specs.Uses.{IsOnlyRead}
 use Rattle.repo_ground.proofs.ItemRuns.{stays-on}
 use Rattle.repo_ground.proofs.Stopping.{read-on}

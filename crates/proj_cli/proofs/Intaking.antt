@@ -1,0 +1,82 @@
+-- What was taken of an input.
+use Rattle.std.proofs.Common.{◌≡◌, ◌+◌, ◌≤◌, ℕ, List, [], Option, None, Some, length, reverse, Result, Ok, refl, ap, sym, subst, ◌∙◌, arith}
+use Rattle.std.specs.FinMap.{find}
+use Rattle.std.proofs.lemmas.Option.{same_Some}
+use Rattle.std.proofs.KnownBytes.{Consumes-nil}
+use Rattle.git_objects.specs.Paths.{Bytes}
+use Rattle.git_objects.specs.Refs.{Refs, bytes_cmp}
+use Rattle.git_objects.specs.Results.{◌>>=◌, or_refuse}
+use Rattle.filter_text.specs.Filters.{Filter}
+use Rattle.push_laws.specs.Pushes.{pushing}
+use Rattle.fast_import.specs.Bases.{base_in}
+use Rattle.fast_import.specs.Replays.{Base}
+use Rattle.fast_import.specs.Waited.{IsTaken, waited}
+use Rattle.fast_import.specs.declared.replayed.Replayed.{Replayed}
+use Rattle.fast_import.specs.declared.whole.ReplayError.{ReplayError}
+use Rattle.import_laws.specs.Bases.{base_of}
+use Rattle.state_items.specs.Changes.{with_refs}
+use Rattle.state_items.specs.Items.{Held}
+use Rattle.state_items.specs.Repos.{repo}
+use Rattle.repo_ground.specs.Contents.{Contents, Spells}
+use Rattle.repo_ground.specs.Laws.{trees_of}
+use Rattle.projection_ground.specs.Grounds.{IsGround}
+use Rattle.proj_words.specs.Words.{Command}
+use Rattle.proj_words.specs.declared.outcome.Outcome.{Outcome}
+use Rattle.proj_words.specs.declared.outcome.Outcome.TheVariants.{UnknownRef}
+use Rattle.proj_cli.specs.Cases.{Case, PushCase}
+use Rattle.proj_cli.specs.Steps.{case}
+use Rattle.proj_cli.specs.Push.{push_case}
+use Rattle.proj_cli.specs.Filters.{rule_by}
+use Rattle.proj_cli.specs.Intake.{TakesUpTo, pushed_to, waited_by, waited_if}
+use Rattle.proj_cli.specs.Judging.{IsJudged}
+use Rattle.proj_cli.specs.declared.judging.Judged.{Judged}
+use Rattle.proj_cli.proofs.Judged.{case-upon, upon}
+use Rattle.proj_cli.proofs.StateBases.{state-base-is}
+
+-- nothing
+pub takes-none : (place : Bytes → ℕ) (o : Option Bytes) → TakesUpTo place o o
+takes-none place None = tt
+takes-none place (Some all) = ([], Consumes-nil (Some all), omega arith)
+
+-- up to the same places
+pub takes-as : (place other : Bytes → ℕ) → ((all : Bytes) → place all ≡ other all) → (a b : Option Bytes) → TakesUpTo place a b → TakesUpTo other a b
+takes-as place other same None b t = tt
+takes-as place other same (Some all) b t = (t.0, t.1, subst (λ (n : ℕ). length t.0 ≤ n + 33554432) (same all) t.2)
+
+-- what a replay took
+pub replay-takes : (base : Base) (a b : Option Bytes) (result : Result Replayed ReplayError) → IsTaken base a b result → TakesUpTo (waited base) a b
+replay-takes base None b result t = tt
+replay-takes base (Some all) b result t = (t.0, t.1, t.2)
+
+-- of a replay upon what a state holds
+pub state-takes : (h : Held) (v : Contents) → Spells h v → IsGround v.basis → (cs : List (Bytes × Bytes)) (rs : Refs) (bs : List Bytes) → cs ≡ trees_of v.basis.graph → rs ≡ with_refs [] v.refs
+    → bs ≡ reverse v.blobs → (a b : Option Bytes) (result : Result Replayed ReplayError) → IsTaken (base_in v.basis.store cs rs bs) a b result → TakesUpTo (waited (base_of h)) a b
+state-takes h v w g cs rs bs c r k a b result t =
+    subst (λ (base : Base). TakesUpTo (waited base) a b)
+    (ap (λ (xs : List (Bytes × Bytes)). base_in v.basis.store xs rs bs) c ∙ ap (λ (xs : Refs). base_in v.basis.store (trees_of v.basis.graph) xs bs) r
+    ∙ ap (λ (xs : List Bytes). base_in v.basis.store (trees_of v.basis.graph) (with_refs [] v.refs) xs) k ∙ state-base-is h v w g)
+    (replay-takes (base_in v.basis.store cs rs bs) a b result t)
+
+-- ---- of a judged command
+
+pub takes-by : (asked : Command) (j : Judged) → IsJudged asked j → (h : Held) (a b : Option Bytes) → TakesUpTo (waited_by (upon j h)) a b → TakesUpTo (waited_by (case asked (Ok h))) a b
+takes-by asked j w h a b t =
+    takes-as (waited_by (upon j h)) (waited_by (case asked (Ok h))) (λ all. sym (ap (λ (r : Result Case Outcome). waited_if r all) (case-upon asked j w h all))) a b t
+
+-- ---- of a push
+
+pub takes-at : (h : Held) (f : Filter) (refname m n : Bytes) → Some m ≡ find bytes_cmp refname h.refs → find bytes_cmp refname h.refs ≡ Some n → (a b : Option Bytes) → TakesUpTo (pushed_to h f refname m) a b
+    → TakesUpTo (pushed_to h f refname n) a b
+takes-at h f refname m n at is a b t = subst (λ (x : Bytes). TakesUpTo (pushed_to h f refname x) a b) (same_Some m n (at ∙ is)) t
+
+-- with the commit of its ref, or without one
+pub push-takes : (h : Held) (f : Filter) (refname : Bytes) (a b : Option Bytes) → ((n : Bytes) → find bytes_cmp refname h.refs ≡ Some n → TakesUpTo (pushed_to h f refname n) a b) → (find bytes_cmp refname h.refs ≡ None → b ≡ a)
+    → TakesUpTo (waited_by (push_case h f refname)) a b
+push-takes h f refname a b at none = by (find bytes_cmp refname h.refs) refl
+  where
+    placed : Option Bytes → Bytes → ℕ
+    placed o all = waited_if (or_refuse UnknownRef o >>= λ n. Ok (PushCase h f refname n (pushing (rule_by h.rule) f (repo h).commits n refname all))) all
+
+    by : (o : Option Bytes) → find bytes_cmp refname h.refs ≡ o → TakesUpTo (waited_by (push_case h f refname)) a b
+    by (Some n) e = takes-as (pushed_to h f refname n) (waited_by (push_case h f refname)) (λ all. sym (ap (λ (o : Option Bytes). placed o all) e)) a b (at n e)
+    by None e = subst (TakesUpTo (waited_by (push_case h f refname)) a) (sym (none e)) (takes-none (waited_by (push_case h f refname)) a)

@@ -1,0 +1,166 @@
+-- The case of a judged command, and what is held in it.
+use Rattle.std.proofs.Common.{◌≡◌, ◌⊎◌, inl, inr, Bool, false, true, true≢false, ℕ, List, Option, Some, Result, Ok, Err, IfErr, IfSome, refl, sym, ap, subst, subst₂, ◌∙◌}
+use Rattle.std.specs.Result.{IsErrAnd}
+use Rattle.git_objects.specs.Paths.{Bytes}
+use Rattle.git_objects.specs.Results.{◌>>=◌}
+use Rattle.object_store.specs.Objects.{Object, IsStore}
+use Rattle.filter_text.specs.Filters.{Filter}
+use Rattle.filter_text.specs.Shapes.{shape}
+use Rattle.commit_map.specs.Rules.{rule_number}
+use Rattle.fast_import.specs.Replays.{empty_base, ran}
+use Rattle.push_laws.specs.Pushes.{pushing}
+use Rattle.import_laws.specs.Bases.{base_of}
+use Rattle.state_items.specs.Items.{Held, read_items}
+use Rattle.state_items.specs.Repos.{repo}
+use Rattle.repo_ground.specs.Contents.{Contents}
+use Rattle.repo_ground.specs.Loads.{IsLoadFault, IsLoaded}
+use Rattle.repo_ground.specs.declared.state.LoadError.{LoadError}
+use Rattle.proj_words.specs.Words.{Command, Import, Project, Push, Export, Name, Rule, loads, writes}
+use Rattle.proj_words.specs.declared.outcome.Outcome.{Outcome}
+use Rattle.proj_words.specs.declared.outcome.Outcome.TheVariants.{OutOfMemory}
+use Rattle.proj_cli.specs.Cases.{Case, ImportCase, ProjectCase, ExportCase, PushCase, NameCase, RuleCase, head_of, verdict}
+use Rattle.proj_cli.specs.Steps.{case, hand}
+use Rattle.proj_cli.specs.Export.{export_case}
+use Rattle.proj_cli.specs.Project.{project_case}
+use Rattle.proj_cli.specs.Push.{push_case}
+use Rattle.proj_cli.specs.Filters.{rule_by, sound}
+use Rattle.proj_cli.specs.Judging.{IsJudged, IsUnjudged}
+use Rattle.proj_cli.specs.Makes.{IsState}
+use Rattle.proj_cli.specs.declared.judging.Judged.{Judged}
+use Rattle.proj_cli.specs.declared.judging.Judged.TheVariants as judged
+use Rattle.proj_cli.proofs.Forming.{HoldsAll}
+use Rattle.proj_cli.proofs.Refusing.{unsound-own}
+
+-- ---- loading
+
+pub told-fault : (o : Option (List Bytes)) (items : List Bytes) (e : LoadError) → o ≡ Some items → IfSome o (λ xs. IsLoadFault e (read_items xs)) → IsLoadFault e (read_items items)
+told-fault o items e told h = by (subst (λ (p : Option (List Bytes)). IfSome p (λ xs. IsLoadFault e (read_items xs))) told h)
+  where
+    by : IfSome (Some items) (λ xs. IsLoadFault e (read_items xs)) → IsLoadFault e (read_items items)
+    by x = x
+
+pub state-of : (told : Option (List Bytes)) (number : ℕ) (s : Contents) → IsLoaded told number s → IsState s
+state-of told number s w = (w.items, w.held, record { current = w.current; spells = w.spells; ground = w.ground })
+
+-- ---- cases
+
+-- a sound filter goes on
+pub read-filter : {A : Type 0} (text : Bytes) (f : Filter) (next : Filter → Result A Outcome) → sound text ≡ Ok f → (sound text >>= next) ≡ next f
+read-filter {A} text f next is = ap (λ (s : Result Filter Outcome). s >>= next) is
+
+-- what it comes to upon what is held
+abbrev pub upon : Judged → Held → Bytes → Result Case Outcome
+upon (judged.Import force) h all = Ok (ImportCase force h (ran (base_of h) all))
+upon (judged.Project s) h all = project_case h (shape s.filter) s.refname
+upon (judged.Push s) h all = push_case h (shape s.filter) s.refname all
+upon (judged.Export s) h all = export_case h (shape s.filter) s.refname
+upon (judged.Name s) h all = Ok (NameCase (shape s.filter) s.refname (ran empty_base all))
+upon (judged.Rule r) h all = Ok (RuleCase h (rule_number r))
+
+pub case-upon : (asked : Command) (j : Judged) → IsJudged asked j → (h : Held) (all : Bytes) → case asked (Ok h) all ≡ upon j h all
+case-upon asked (judged.Import force) w h all = ap (λ (a : Command). case a (Ok h) all) w
+case-upon asked (judged.Project s) w h all = ap (λ (a : Command). case a (Ok h) all) w.asked_is ∙ read-filter w.text (shape s.filter) (λ f. project_case h f s.refname) w.sound_is
+case-upon asked (judged.Push s) w h all = ap (λ (a : Command). case a (Ok h) all) w.asked_is ∙ read-filter w.text (shape s.filter) (λ f. push_case h f s.refname all) w.sound_is
+case-upon asked (judged.Export s) w h all = ap (λ (a : Command). case a (Ok h) all) w.asked_is ∙ read-filter w.text (shape s.filter) (λ f. export_case h f s.refname) w.sound_is
+case-upon asked (judged.Name s) w h all =
+    ap (λ (a : Command). case a (Ok h) all) w.asked_is ∙ read-filter w.text (shape s.filter) (λ f. Ok (NameCase f s.refname (ran empty_base all))) w.sound_is
+case-upon asked (judged.Rule r) w h all = ap (λ (a : Command). case a (Ok h) all) w
+
+-- the first refusal of what is loaded is that of loading
+pub case-unloaded : (asked : Command) (j : Judged) → IsJudged asked j → loads asked ≡ true → (x : Outcome) (all : Bytes) → case asked (Err x) all ≡ Err x
+case-unloaded asked (judged.Import force) w l x all = ap (λ (a : Command). case a (Err x) all) w
+case-unloaded asked (judged.Project s) w l x all = ap (λ (a : Command). case a (Err x) all) w.asked_is ∙ read-filter w.text (shape s.filter) (λ f. Err x) w.sound_is
+case-unloaded asked (judged.Push s) w l x all = ap (λ (a : Command). case a (Err x) all) w.asked_is ∙ read-filter w.text (shape s.filter) (λ f. Err x) w.sound_is
+case-unloaded asked (judged.Export s) w l x all = ap (λ (a : Command). case a (Err x) all) w.asked_is ∙ read-filter w.text (shape s.filter) (λ f. Err x) w.sound_is
+case-unloaded asked (judged.Name s) w l x all = absurd (true≢false (sym l ∙ ap loads w.asked_is))
+case-unloaded asked (judged.Rule r) w l x all = ap (λ (a : Command). case a (Err x) all) w
+
+-- ---- forms
+
+-- whether it is performed upon what is loaded, and may change it
+abbrev pub is_stored : Judged → Bool
+is_stored (judged.Name s) = false
+is_stored _ = true
+
+abbrev pub is_told : Judged → Bool
+is_told (judged.Export s) = false
+is_told j = is_stored j
+
+pub judged-loads : (asked : Command) (j : Judged) → IsJudged asked j → is_stored j ≡ true → loads asked ≡ true
+judged-loads asked (judged.Import force) w is = ap loads w
+judged-loads asked (judged.Project s) w is = ap loads w.asked_is
+judged-loads asked (judged.Push s) w is = ap loads w.asked_is
+judged-loads asked (judged.Export s) w is = ap loads w.asked_is
+judged-loads asked (judged.Name s) w is = absurd (true≢false (sym is))
+judged-loads asked (judged.Rule r) w is = ap loads w
+
+pub judged-writes : (asked : Command) (j : Judged) → IsJudged asked j → is_told j ≡ true → writes asked ≡ true
+judged-writes asked (judged.Import force) w is = ap writes w
+judged-writes asked (judged.Project s) w is = ap writes w.asked_is
+judged-writes asked (judged.Push s) w is = ap writes w.asked_is
+judged-writes asked (judged.Export s) w is = absurd (true≢false (sym is))
+judged-writes asked (judged.Name s) w is = absurd (true≢false (sym is))
+judged-writes asked (judged.Rule r) w is = ap writes w
+
+-- a form that writes loads
+pub writes-loads : (asked : Command) → writes asked ≡ true → loads asked ≡ true
+writes-loads (Export r t) is = absurd (true≢false (sym is))
+writes-loads _ is = is
+
+-- ---- what a case holds
+
+-- what it holds is a store
+abbrev pub HoldsStore : Result Case Outcome → Type 0
+HoldsStore (Ok c) = IsStore (hand c).held
+HoldsStore (Err e) = Unit {0}
+
+behind : {A : Type 0} (Says : Result Case Outcome → Type 0) → ((e : Outcome) → Says (Err e)) → (r : Result A Outcome) (next : A → Result Case Outcome) → ((x : A) → Says (next x)) → Says (r >>= next)
+behind Says none (Ok x) next w = w x
+behind Says none (Err e) next w = none e
+
+-- a case of a filter's text and a ref, of which each holds these objects
+by-text : (S : List Object) (r : Bytes) (h : Held) (s : Result Filter Outcome) (K : Filter → Bytes → Case) → ((f : Filter) (n : Bytes) → (hand (K f n)).held ≡ S) → HoldsAll S (s >>= λ f. head_of r h.refs >>= λ n. Ok (K f n))
+by-text S r h s K w = behind (HoldsAll S) (λ e. tt) s (λ f. head_of r h.refs >>= λ n. Ok (K f n)) (λ f. behind (HoldsAll S) (λ e. tt) (head_of r h.refs) (λ n. Ok (K f n)) (λ n. w f n))
+
+pub export-holds : (f : Filter) (r : Bytes) (h : Held) → HoldsAll h.objects (export_case h f r)
+export-holds f r h = behind (HoldsAll h.objects) (λ e. tt) (head_of r h.refs) (λ n. Ok (ExportCase h f r n)) (λ n. refl)
+
+-- a form that doesn't load holds nothing of the state, and every other holds all its objects
+pub case-holds : (asked : Command) (h : Held) (input : Bytes) → ((loads asked ≡ false) × HoldsStore (case asked (Ok h) input)) ⊎ HoldsAll h.objects (case asked (Ok h) input)
+case-holds (Import force) h input = inr refl
+case-holds (Project r t) h input = inr (by-text h.objects r h (sound t) (λ f n. ProjectCase h f n) (λ f n. refl))
+case-holds (Export r t) h input = inr (by-text h.objects r h (sound t) (λ f n. ExportCase h f r n) (λ f n. refl))
+case-holds (Push r t) h input = inr (by-text h.objects r h (sound t) (λ f n. PushCase h f r n (pushing (rule_by h.rule) f (repo h).commits n r input)) (λ f n. refl))
+case-holds (Name r t) h input = inl (refl, behind HoldsStore (λ e. tt) (sound t) (λ f. Ok (NameCase f r (ran empty_base input))) (λ f. tt))
+case-holds (Rule k) h input = inr refl
+case-holds _ h input = inr tt
+
+pub loaded-holds : (asked : Command) (h : Held) (input : Bytes) → loads asked ≡ true → HoldsAll h.objects (case asked (Ok h) input)
+loaded-holds asked h input l = by (case-holds asked h input)
+  where
+    by : ((loads asked ≡ false) × HoldsStore (case asked (Ok h) input)) ⊎ HoldsAll h.objects (case asked (Ok h) input) → HoldsAll h.objects (case asked (Ok h) input)
+    by (inl w) = absurd (true≢false (sym l ∙ w.0))
+    by (inr w) = w
+
+store-at : (S : List Object) (r : Result Case Outcome) → IsStore S → HoldsAll S r → HoldsStore r
+store-at S (Ok c) s e = subst IsStore (sym e) s
+store-at S (Err x) s e = tt
+
+pub case-store : (asked : Command) (h : Held) (input : Bytes) → IsStore h.objects → HoldsStore (case asked (Ok h) input)
+case-store asked h input s = by (case-holds asked h input)
+  where
+    by : ((loads asked ≡ false) × HoldsStore (case asked (Ok h) input)) ⊎ HoldsAll h.objects (case asked (Ok h) input) → HoldsStore (case asked (Ok h) input)
+    by (inl w) = w.1
+    by (inr w) = store-at h.objects (case asked (Ok h) input) s w
+
+-- ---- what judging gives
+
+-- a filter's text is refused, or there is no memory
+pub text-refused : {A : Type 0} (asked same : Command) (t : Bytes) → asked ≡ same → (sound t >>= λ _. Ok tt) ≡ verdict asked
+    → (result : Result A Outcome) (e : Outcome) → IsErrAnd result (λ x. x ≡ e) → (e ≡ OutOfMemory) ⊎ (sound t ≡ Err e) → IfErr result (IsUnjudged same)
+text-refused asked same t one is (Ok x) e told why = absurd told
+text-refused asked same t one is (Err x) e told why = subst₂ IsUnjudged one (sym told) (record { refused = by why; own = unsound-own t e why })
+  where
+    by : (e ≡ OutOfMemory) ⊎ (sound t ≡ Err e) → (e ≡ OutOfMemory) ⊎ (verdict asked ≡ Err e)
+    by (inl m) = inl m
+    by (inr g) = inr (sym is ∙ ap (λ (s : Result Filter Outcome). s >>= λ _. Ok tt) g)

@@ -1,0 +1,26 @@
+-- Proves what src/judging.rt needs of `judge`.
+use Rattle.std.proofs.Common.{sym, refl, ap}
+use Rattle.proj_words.specs.Views.{command_of}
+use Rattle.proj_words.specs.Words.{Project, Push, Export, Name}
+use Rattle.proj_cli.proofs.Judged.{text-refused}
+use Rattle.proj_cli.proofs.judging.judge.Goals as goal
+
+pub returns-in_err-subject-in-Project-clause-err : goal.returns-in_err-subject-in-Project-clause-err
+returns-in_err-subject-in-Project-clause-err c =
+    let t = c.in-Project.filter.now in
+    text-refused (Project c.in-Project.refname.now t) (command_of c.args.asked) t (sym (ap command_of c.in-Project.is)) refl c.from_residual.result c.in_err-subject-in-Project.field-0.0 c.from_residual.ensures.1 c.in_err-subject-in-Project.ensures.err
+
+pub returns-in_err-subject-in-Push-clause-err : goal.returns-in_err-subject-in-Push-clause-err
+returns-in_err-subject-in-Push-clause-err c =
+    let t = c.in-Push.filter.now in
+    text-refused (Push c.in-Push.refname.now t) (command_of c.args.asked) t (sym (ap command_of c.in-Push.is)) refl c.from_residual-in_err-subject-in-Push.result c.in_err-subject-in-Push.field-0.0 c.from_residual-in_err-subject-in-Push.ensures.1 c.in_err-subject-in-Push.ensures.err
+
+pub returns-in_err-subject-in-Export-clause-err : goal.returns-in_err-subject-in-Export-clause-err
+returns-in_err-subject-in-Export-clause-err c =
+    let t = c.in-Export.filter.now in
+    text-refused (Export c.in-Export.refname.now t) (command_of c.args.asked) t (sym (ap command_of c.in-Export.is)) refl c.from_residual-in_err-subject-in-Export.result c.in_err-subject-in-Export.field-0.0 c.from_residual-in_err-subject-in-Export.ensures.1 c.in_err-subject-in-Export.ensures.err
+
+pub returns-in_err-subject-in-Name-clause-err : goal.returns-in_err-subject-in-Name-clause-err
+returns-in_err-subject-in-Name-clause-err c =
+    let t = c.in-Name.filter.now in
+    text-refused (Name c.in-Name.refname.now t) (command_of c.args.asked) t (sym (ap command_of c.in-Name.is)) refl c.from_residual-in_err-subject-in-Name.result c.in_err-subject-in-Name.field-0.0 c.from_residual-in_err-subject-in-Name.ensures.1 c.in_err-subject-in-Name.ensures.err

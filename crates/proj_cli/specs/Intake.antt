@@ -1,0 +1,41 @@
+-- How much of its input a command takes.
+use Rattle.std.specs.Prelude.{ℕ, ◌+◌, ◌≤◌, length, Option, Result, Ok, Err, IfSome}
+use Rattle.std.specs.Io.KnownBytes.{Consumes}
+use Rattle.std.specs.Option.{option_map}
+use Rattle.git_objects.specs.Paths.{Bytes}
+use Rattle.git_objects.specs.Snapshots.{tree_at}
+use Rattle.filter_text.specs.Filters.{Filter}
+use Rattle.fast_import.specs.Replays.{empty_base}
+use Rattle.fast_import.specs.Waited.{waited}
+use Rattle.import_laws.specs.Bases.{base_of}
+use Rattle.workspace.specs.Workspaces.{shown}
+use Rattle.state_items.specs.Items.{Held}
+use Rattle.state_items.specs.Repos.{repo}
+use Rattle.push_back.specs.Waited.{push_waited}
+use Rattle.proj_words.specs.declared.outcome.Outcome.{Outcome}
+use Rattle.proj_cli.specs.Cases.{Case, ImportCase, NameCase, PushCase}
+use Rattle.proj_cli.specs.Filters.{projected}
+
+-- for a push to a ref that is at the commit n
+abbrev pub pushed_to : Held → Filter → Bytes → Bytes → Bytes → ℕ
+pushed_to h f refname n all = push_waited refname (option_map (λ s. s.commit) (projected h f n)) (shown f (tree_at (repo h).commits n)) all
+
+-- the place up to which an input has to be read for a case: the place of its fault, of the line behind the command that is refused, or behind
+-- the stream's last line
+abbrev pub waited_in : Case → Bytes → ℕ
+waited_in (ImportCase force h x) all = waited (base_of h) all
+waited_in (PushCase h f refname n p) all = pushed_to h f refname n all
+waited_in (NameCase f refname x) all = waited empty_base all
+waited_in _ all = 0
+
+abbrev pub waited_if : Result Case Outcome → Bytes → ℕ
+waited_if (Ok c) all = waited_in c all
+waited_if (Err e) all = 0
+
+-- of the case that comes up with an input, if one does
+abbrev pub waited_by : (Bytes → Result Case Outcome) → Bytes → ℕ
+waited_by case all = waited_if (case all) all
+
+-- A source that tells has given at most 2^25 bytes behind a place of what it told.
+abbrev pub TakesUpTo : (Bytes → ℕ) → Option Bytes → Option Bytes → Type 0
+TakesUpTo place before after = IfSome before (λ all. (given : Bytes) × Consumes before after given × (length given ≤ place all + 33554432))

@@ -1,0 +1,50 @@
+-- What judging says of a command: of its words and its filter, before any device is touched.
+use Rattle.std.specs.Prelude.{◌≡◌, ◌≢◌, ◌⊎◌, Ok, Err}
+use Rattle.git_objects.specs.Paths.{Bytes}
+use Rattle.filter_text.specs.Shapes.{shape}
+use Rattle.commit_map.specs.Rules.{rule_number}
+use Rattle.workspace.specs.Laws.{IsUsable}
+use Rattle.proj_words.specs.Words.{Command, Import, Project, Push, Export, Name, Rule}
+use Rattle.proj_words.specs.declared.outcome.Outcome.{Outcome}
+use Rattle.proj_words.specs.declared.outcome.Outcome.TheVariants.{Done, OutOfMemory, ReadFault, WriteFault, StoreFault}
+use Rattle.proj_cli.specs.Cases.{verdict}
+use Rattle.proj_cli.specs.Filters.{sound}
+use Rattle.proj_cli.specs.declared.judging.Judged.{Judged}
+use Rattle.proj_cli.specs.declared.judging.Judged.TheVariants as judged
+use Rattle.proj_cli.specs.declared.judging.Subject.{Subject}
+
+-- ---- a command that may be performed
+
+-- It is of the subject's ref, and of a text of its filter, which is sound.
+pub record IsOf (form : Bytes → Bytes → Command) (asked : Command) (s : Subject) : Type 0 where
+  pub text : Bytes
+  pub asked_is : asked ≡ form s.refname text
+  pub sound_is : sound text ≡ Ok (shape s.filter)
+  pub usable : IsUsable (shape s.filter)
+
+-- The command is judged to be this.
+abbrev pub IsJudged : Command → Judged → Type 0
+IsJudged asked (judged.Import force) = asked ≡ Import force
+IsJudged asked (judged.Project s) = IsOf Project asked s
+IsJudged asked (judged.Push s) = IsOf Push asked s
+IsJudged asked (judged.Export s) = IsOf Export asked s
+IsJudged asked (judged.Name s) = IsOf Name asked s
+IsJudged asked (judged.Rule r) = asked ≡ Rule (rule_number r)
+
+-- some command is
+abbrev pub IsSomeJudged : Judged → Type 0
+IsSomeJudged j = (asked : Command) × IsJudged asked j
+
+-- ---- a refusal
+
+-- no device tells this outcome, and it isn't the last
+pub record IsOwn (e : Outcome) : Type 0 where
+  pub done : e ≢ Done
+  pub read : e ≢ ReadFault
+  pub write : e ≢ WriteFault
+  pub store : e ≢ StoreFault
+
+-- Judging the command gives this refusal, or there was no memory for it.
+pub record IsUnjudged (asked : Command) (e : Outcome) : Type 0 where
+  pub refused : (e ≡ OutOfMemory) ⊎ (verdict asked ≡ Err e)
+  pub own : IsOwn e

@@ -1,0 +1,96 @@
+// Judging a command: its words and its filter, before any device is touched.
+ghost use Rattle.std.specs.Prelude.{◌≡◌, ◌⊎◌, Err, Ok, IfErr, IfOk, true};
+ghost use Rattle.filter_text.specs.Shapes.{shape};
+ghost use Rattle.path_names.specs.RefNames.{is_ref_name};
+ghost use Rattle.proj_words.specs.Views.{command_of};
+ghost use Rattle.proj_words.specs.Words.{Unknown, is_formed};
+ghost use Rattle.workspace.specs.Laws.{IsUsable};
+ghost use Rattle.proj_cli.specs.Filters.{sound};
+ghost use Rattle.proj_cli.specs.Judging.{IsJudged, IsUnjudged};
+
+use crate::filters::sound_filter;
+use commit_map::Rule;
+use filter_text::Filter;
+use path_names::{RefFault, RefName};
+use proj_words::{Command, Outcome};
+use std::alloc::Global;
+
+/// What a command is about: a sound filter, and a ref name.
+#[derive(Drop)]
+pub(crate) struct Subject {
+    pub(crate) filter: Filter,
+    pub(crate) refname: RefName,
+}
+
+/// A command that is judged: what is left of it to do. A batch and a trial are made of several commands, and are none.
+#[derive(Drop)]
+pub(crate) enum Judged {
+    /// Whether refs may move anywhere.
+    Import(bool),
+    Project(Subject),
+    Push(Subject),
+    Export(Subject),
+    Name(Subject),
+    Rule(Rule),
+}
+
+/// The ref name that a text is.
+pub(crate) fn ref_name(alloc: Global, text: &[u8]) -> Result<RefName, Outcome>
+    requires { is_ref_name text.now ≡ true }
+    ensures ok { IfOk result (λ name. name ≡ text.now) }
+    ensures err { IfErr result (λ e. e ≡ Outcome.OutOfMemory) }
+{
+    match RefName::parse(alloc, text) {
+        Ok(refname) => Ok(refname),
+        Err(RefFault::OutOfMemory) => Err(Outcome::OutOfMemory),
+        Err(RefFault::Bad) => unreachable!(),
+    }
+}
+
+/// The subject that two texts spell, or why the filter's text is of none.
+pub(crate) fn read_subject(alloc: Global, refname: &[u8], filter: &[u8]) -> Result<Subject, Outcome>
+    requires { is_ref_name refname.now ≡ true }
+    ensures refname { IfOk result (λ s. s.refname ≡ refname.now) }
+    ensures sound { IfOk result (λ s. sound filter.now ≡ Ok (shape s.filter)) }
+    ensures usable { IfOk result (λ s. IsUsable (shape s.filter)) }
+    ensures err { IfErr result (λ e. (e ≡ Outcome.OutOfMemory) ⊎ (sound filter.now ≡ Err e)) }
+{
+    let filter = sound_filter(alloc, filter)?;
+    let refname = ref_name(alloc, refname)?;
+    Ok(Subject { filter, refname })
+}
+
+/// Judges a command: what it is to do, or its refusal.
+pub(crate) fn judge(alloc: Global, asked: Command<'_>) -> Result<Judged, Outcome>
+    requires { is_formed (command_of asked) ≡ true }
+    ensures ok { IfOk result (IsJudged (command_of asked.entry)) }
+    ensures err { IfErr result (IsUnjudged (command_of asked.entry)) }
+    ensures idle { command_of asked.entry ≡ Unknown → result ≡ Err Outcome.Usage }
+{
+    match asked {
+        Command::Import(force) => Ok(Judged::Import(force)),
+        Command::Project(refname, filter) => {
+            let subject = read_subject(alloc, refname, filter)?;
+            Ok(Judged::Project(subject))
+        }
+        Command::Push(refname, filter) => {
+            let subject = read_subject(alloc, refname, filter)?;
+            Ok(Judged::Push(subject))
+        }
+        Command::Export(refname, filter) => {
+            let subject = read_subject(alloc, refname, filter)?;
+            Ok(Judged::Export(subject))
+        }
+        Command::Name(refname, filter) => {
+            let subject = read_subject(alloc, refname, filter)?;
+            Ok(Judged::Name(subject))
+        }
+        Command::Rule(number) => match Rule::of(number) {
+            Some(rule) => Ok(Judged::Rule(rule)),
+            None => unreachable!(),
+        },
+        Command::Batch => Err(Outcome::Usage),
+        Command::Trial(_) => Err(Outcome::Usage),
+        Command::Unknown => Err(Outcome::Usage),
+    }
+}
