@@ -1,5 +1,5 @@
 // Kept projections of commits.
-ghost use Rattle.std.specs.Prelude.{◌≡◌, ◌<◌, ◌++◌, ◌∷◌, [], length, None, Some, OnOk, OnErr, slice_get};
+ghost use Rattle.std.specs.Prelude.{◌≡◌, ◌<◌, ◌++◌, ◌∷◌, [], length, None, Some, OnOk, OnErr, slice_get, take};
 ghost use Rattle.std.specs.Option.{option_map};
 ghost use Rattle.commit_map.specs.Shown.{entry_value, kept_at, shown_value};
 
@@ -70,5 +70,12 @@ impl CommitMap {
     {
         self.entries.insert(original, shown)?;
         Ok(())
+    }
+
+    /// Leaves the first commits. It takes no memory.
+    pub fn truncate(&mut self, len: usize)
+        ensures { self.new ≡ take len self.old }
+    {
+        self.entries.truncate(len);
     }
 }

@@ -24,7 +24,7 @@ pub use commit_view::{CommitView, tree_in_commit};
 pub use component::{Component, is_component};
 pub use entry::{Entry, add_entry, encode_tree};
 pub use entry_order::{compare_bytes, compare_components};
-pub use ident::{Ident, IdentFault};
+pub use ident::{Ident, IdentFault, cut};
 pub use kind::Kind;
 pub use laws::{commit_body_law, ident_law, tree_body_law};
 pub use mode::Mode;

@@ -66,5 +66,11 @@ pub const FILTER_COMPONENTS: usize = 256;
 /// Brackets of a filter's text that are open at one place.
 pub const FILTER_NESTING: usize = 16;
 
+/// Bytes of a policy.
+pub const POLICY_BYTES: usize = 65_536;
+
+/// Bytes of a user's name.
+pub const USER_BYTES: usize = 64;
+
 /// Bytes of a workspace file.
 pub const WORKSPACE_BYTES: usize = 65_536;

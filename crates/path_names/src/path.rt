@@ -2,6 +2,7 @@
 ghost use Rattle.std.specs.Prelude.{◌≡◌, ◌⊎◌, ◌++◌, ◌+◌, ◌<◌, ℕ, List, length, true, IfOk, OnOk, MatchResult, Ok};
 ghost use Rattle.std.specs.Prelude.{Err};
 ghost use Rattle.std.specs.List.{list_all};
+ghost use Rattle.std.specs.Result.{is_ok};
 ghost use Rattle.git_objects.specs.Paths.{is_component, is_path, text};
 ghost use Rattle.path_names.specs.PathTexts.{ok_path, path_of};
 
@@ -117,6 +118,13 @@ impl Path {
     {
         Path::of_parts(alloc, &self.components, &[])
     }
+}
+
+/// Whether a text is read as a path. Takes no memory.
+pub fn is_path_text(text: &[u8]) -> bool
+    ensures { result ≡ is_ok (path_of text.now) }
+{
+    count_parts(text).is_ok()
 }
 
 /// The path that a text names; None where it names none.
