@@ -2,7 +2,7 @@
 //!
 //! - `proj STORE COMMAND ..` runs the command on the store, a file that is made where there is none, whatever the words
 //!   behind it are.
-//! - Where the first word is `name` or `trial`, all words are the command's, and there is no store.
+//! - Where the first word is `name`, `trial` or `verify`, all words are the command's, and there is no store.
 //! - Where it is `--help` or `--version`, the program prints what it says, with status 0. A store of such a name is
 //!   given as `./--help`.
 //! - Without a word, or with one that isn't UTF-8, it tells its usage.
@@ -25,17 +25,20 @@ const HELP: &[u8] = b"proj shows parts of a monorepo as Git repositories of thei
 \x20 proj STORE import [--force]     put the commits of a stream into the store\n\
 \x20 proj STORE project REF FILTER   print the name of what the filter shows of a ref\n\
 \x20 proj STORE export REF FILTER    print the history of what it shows, as a stream\n\
+\x20 proj STORE audit REF FILTER PATH\n\
+\x20                                 print a certificate of what it shows at a path\n\
 \x20 proj STORE push REF FILTER      take pushed commits back into the ref's history\n\
 \x20 proj STORE rule (1 | 2)         set the rule by which merges are shown\n\
 \x20 proj STORE batch                answer commands one after another, each with its input\n\
 \x20 proj name REF FILTER            print such a name for a stream alone, without a store\n\
 \x20 proj trial N                    try an import of N commits and three pushes, without a store\n\
+\x20 proj verify COMMIT FILTER PATH  check a certificate of a commit, without a store\n\
 \n\
 STORE is a file. It is made where there is none, whatever the words behind it are. One\n\
 process at a time has it: another one is told `store fault`, with status 24. A stream is\n\
 read from the standard input, in the form of git fast-export; what export prints is one\n\
-for git fast-import. With --force a ref may move anywhere. A store named --help is given\n\
-as ./--help.\n";
+for git fast-import. With --force a ref may move anywhere. A store named --help or\n\
+verify is given as ./--help or ./verify.\n";
 
 const VERSION: &[u8] = b"proj 0.1\n";
 
@@ -66,7 +69,7 @@ fn form_of(words: &[String]) -> Form<'_> {
     match first.as_str() {
         "--help" => Form::Print(HELP),
         "--version" => Form::Print(VERSION),
-        "name" | "trial" => Form::Alone,
+        "name" | "trial" | "verify" => Form::Alone,
         path => Form::Store(path, rest),
     }
 }

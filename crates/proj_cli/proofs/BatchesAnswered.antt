@@ -1,6 +1,5 @@
 -- What came of reading a batch, loading the store and answering its entries is the answer of the batch.
-use Rattle.std.proofs.Common.{◌≡◌, ◌≢◌, ◌⊎◌, inl, inr, ◌+◌, ◌^◌, ◌++◌, ◌≤◌, ◌<◌, ℕ, Bool, true, false, true≢false, List, [], ◌∷◌, take, length, length-append, Option, None, Some, Result, Ok, Err, IfErr, IfOk, IfSome, refl, sym, ap, subst, ◌∙◌, arith}
-use Rattle.std.specs.Prelude.{◌↔◌, IsTrue}
+use Rattle.std.proofs.Common.{◌≡◌, ◌≢◌, ◌⊎◌, inl, inr, ◌+◌, ◌^◌, ◌++◌, ◌<◌, ℕ, Bool, true, false, true≢false, List, [], length, Option, None, Some, Result, Ok, Err, IfSome, refl, sym, ap, subst, ◌∙◌, arith}
 use Rattle.std.proofs.lemmas.Bool.{lt-leb}
 use Rattle.std.proofs.KnownBytes.{Appends-nil, Keeps-refl}
 use Rattle.git_objects.specs.Paths.{Bytes}
@@ -16,14 +15,16 @@ use Rattle.proj_words.specs.Entries.{Entry, entries, entries_within, is_entry_fa
 use Rattle.proj_words.specs.declared.outcome.Outcome.{Outcome}
 use Rattle.proj_words.specs.declared.outcome.Outcome.TheVariants.{Done, Limit, OutOfMemory, ReadFault, Syntax, WriteFault, StoreFault}
 use Rattle.proj_cli.specs.Answers.{GetsAll}
-use Rattle.proj_cli.specs.Batches.{BatchLeaves, all_turns, HasRun, IsBatchAnswer, IsBatchBy, IsEnded, IsLeftBy, IsRun, IsUnbegun, IsUnread}
+use Rattle.proj_cli.specs.Batches.{BatchLeaves, all_turns, HasRun, IsBatchAnswer, IsBatchBy, IsEnded, IsLeftBy, IsRun, IsUnbegun}
 use Rattle.proj_cli.specs.Cases.{break_outcome, is_verdict, loaded}
 use Rattle.proj_cli.specs.Forms.{IsEarly}
+use Rattle.proj_cli.specs.Inputs.{IsUnread}
 use Rattle.proj_cli.specs.Stopped.{ForInput}
 use Rattle.proj_cli.specs.Turns.{Turn, appended, begun, loading}
-use Rattle.proj_cli.proofs.BatchesRun.{counts-without, got-none, take-all}
+use Rattle.proj_cli.proofs.BatchesRun.{counts-without, got-none}
 use Rattle.proj_cli.proofs.Delivering.{after, before}
 use Rattle.proj_cli.proofs.Forming.{adds-nothing}
+use Rattle.proj_cli.proofs.InputsRead.{for-every}
 
 -- ---- nothing was begun
 
@@ -63,39 +64,10 @@ module _ (items : List Bytes) (i j : SourceView) (o : SinkView) (k l : KeeperVie
 
 -- ---- the input
 
--- the input that a source told, or else this one
-module _ (left : Option Bytes) (Says : Bytes → Type 0) where
-  pub for-told : (other : Bytes) → ((all : Bytes) → left ≡ Some all → Says all) → (left ≡ None → Says other) → ForInput left Says
-  for-told other f g = by left refl
-    where
-      by : (x : Option Bytes) → left ≡ x → ForInput left Says
-      by None e = record { all = other; told = subst (λ (x : Option Bytes). IfSome x (λ l. other ≡ l)) (sym e) tt; says = g e }
-      by (Some all) e = record { all = all; told = subst (λ (x : Option Bytes). IfSome x (λ l. all ≡ l)) (sym e) refl; says = f all e }
-
--- what is said of every input
-pub for-every : (left : Option Bytes) (Says : Bytes → Type 0) → ((all : Bytes) → Says all) → ForInput left Says
-for-every left Says h = for-told left Says [] (λ all told. h all) (λ none. h [])
-
 -- an input of more bytes than a batch may have
 pub too-many : (input : Bytes) → 2 ^ 29 < length input → entries input ≡ Err (Limit limits.Input None)
 unfolding entries
 too-many input more = ap (λ (b : Bool). must (Limit limits.Input None) b >>= λ _. refused_by Syntax (entries_within (length input) (start input))) (lt-leb (length input) (2 ^ 29) more)
-
--- what was read is the input, where there is no more of it
-pub read-whole : (left : Option Bytes) (bytes : Bytes) (more : Bool) (limit : ℕ) → more ≡ false → IfSome left (λ all. bytes ≡ take limit all) → IfSome left (λ all. IsTrue more ↔ (limit < length all))
-    → IfSome left (λ l. bytes ≡ l)
-read-whole None bytes more limit none front long = tt
-read-whole (Some all) bytes more limit none front long = front ∙ take-all limit all (no-longer (λ lt. true≢false (sym (long.1 lt) ∙ none)))
-  where
-    no-longer : ¬ (limit < length all) → length all ≤ limit
-    no-longer apart = omega (arith, apart)
-
--- and where there is more, it is longer than that; one that isn't told may be what was read and one byte more
-pub read-longer : (left : Option Bytes) (bytes : Bytes) (more : Bool) (limit : ℕ) → more ≡ true → IfSome left (λ all. IsTrue more ↔ (limit < length all)) → length bytes ≡ limit
-    → ForInput left (λ all. limit < length all)
-read-longer left bytes more limit is long full =
-    for-told left (λ all. limit < length all) (bytes ++ 0 ∷ []) (λ all told. (subst (λ (x : Option Bytes). IfSome x (λ all. IsTrue more ↔ (limit < length all))) told long).0 is)
-    (λ none. let n = length-append bytes (0 ∷ []) in omega (arith, n, full))
 
 pub begun-refused : (items : List Bytes) (input : Bytes) (e : Outcome) → entries input ≡ Err e → begun items input ≡ Err e
 begun-refused items input e g = ap (λ (r : Result (List Entry) Outcome). r >>= λ es. loaded items >>= λ _. Ok es) g
@@ -117,27 +89,16 @@ batch-unloaded items i j o k l kept es e (inr (inr broken)) = batch-refused item
 
 -- ---- an input that isn't read, or that has no entries
 
-pub unread-store : (left : Option Bytes) (e : Outcome) → IsUnread left e → e ≢ StoreFault
-unread-store left e (inl m) f = let no : OutOfMemory ≡ StoreFault = sym m ∙ f in cc
-unread-store left e (inr (inl r)) f = let no : ReadFault ≡ StoreFault = sym r ∙ f in cc
-unread-store left e (inr (inr (l, w))) f = let no : Limit limits.Input None ≡ StoreFault = sym l ∙ f in cc
-
-pub unread-write : (left : Option Bytes) (e : Outcome) → IsUnread left e → e ≢ WriteFault
-unread-write left e (inl m) f = let no : OutOfMemory ≡ WriteFault = sym m ∙ f in cc
-unread-write left e (inr (inl r)) f = let no : ReadFault ≡ WriteFault = sym r ∙ f in cc
-unread-write left e (inr (inr (l, w))) f = let no : Limit limits.Input None ≡ WriteFault = sym l ∙ f in cc
-
-pub unread-other : (left : Option Bytes) (e : Outcome) → IsUnread left e → is_verdict e ≡ false
-unread-other left e (inl m) = ap is_verdict m
-unread-other left e (inr (inl r)) = ap is_verdict r
-unread-other left e (inr (inr (l, w))) = ap is_verdict l
-
 pub unread-run : (items : List Bytes) (i j : SourceView) (o : SinkView) (k l : KeeperView) → KeepsItems k l → (e : Outcome) → IsUnread i.left e
     → ForInput i.left (λ all. IsBatchBy items (begun items all) (before i j o o k l) (after i j o o k l) e)
 unread-run items i j o k l kept e (inl m) = for-every i.left _ (λ all. batch-early items i j o k l kept (begun items all) e (inl m))
 unread-run items i j o k l kept e (inr (inl r)) = for-every i.left _ (λ all. batch-early items i j o k l kept (begun items all) e (inr (inl r)))
 unread-run items i j o k l kept e (inr (inr (is, w))) =
-    record { all = w.all; told = w.told; says = batch-refused items i j o k l kept (begun items w.all) e (begun-refused items w.all e w.says) }
+    record {
+      all = w.all;
+      told = w.told;
+      says = batch-refused items i j o k l kept (begun items w.all) e (begun-refused items w.all e (too-many w.all w.says ∙ ap (λ (x : Outcome). Err x) (sym is)));
+    }
 
 pub unspelled-run : (items : List Bytes) (i j : SourceView) (o : SinkView) (k l : KeeperView) → KeepsItems k l → (bytes : Bytes) (e : Outcome) → IfSome i.left (λ l. bytes ≡ l) → (e ≡ OutOfMemory) ⊎ (entries bytes ≡ Err e)
     → ForInput i.left (λ all. IsBatchBy items (begun items all) (before i j o o k l) (after i j o o k l) e)
@@ -157,29 +118,6 @@ pub entry-verdict : (e : Outcome) → is_entry_fault e ≡ true → is_verdict e
 entry-verdict OutOfMemory own = refl
 entry-verdict (Syntax at) own = refl
 entry-verdict _ own = absurd (true≢false (sym own))
-
--- ---- what was read whole, or not
-
-module _ (left : Option Bytes) (taken : Bytes) (more : Bool) (limit : ℕ) (result : Result Bytes Outcome) where
-  pub batch-ok : IfOk result (λ bytes. (more ≡ false) × (bytes ≡ taken)) → IfSome left (λ all. taken ≡ take limit all) → IfSome left (λ all. IsTrue more ↔ (limit < length all))
-      → IfOk result (λ bytes. IfSome left (λ all. bytes ≡ all))
-  batch-ok = by result
-    where
-      by : (r : Result Bytes Outcome) → IfOk r (λ bytes. (more ≡ false) × (bytes ≡ taken)) → IfSome left (λ all. taken ≡ take limit all) → IfSome left (λ all. IsTrue more ↔ (limit < length all))
-          → IfOk r (λ bytes. IfSome left (λ all. bytes ≡ all))
-      by (Ok bytes) w front long = subst (λ (b : Bytes). IfSome left (λ all. b ≡ all)) (sym w.1) (read-whole left taken more limit w.0 front long)
-      by (Err e) w front long = tt
-
-  pub batch-err : limit ≡ 2 ^ 29 → IfErr result (λ e. (more ≡ true) × (e ≡ Limit limits.Input None)) → IfSome left (λ all. IsTrue more ↔ (limit < length all)) → (IsTrue more → length taken ≡ limit)
-      → IfErr result (IsUnread left)
-  batch-err same = by result
-    where
-      refused : (e : Outcome) → e ≡ Limit limits.Input None → ForInput left (λ all. limit < length all) → ForInput left (λ all. entries all ≡ Err e)
-      refused e is f = record { all = f.all; told = f.told; says = too-many f.all (subst (λ (n : ℕ). n < length f.all) same f.says) ∙ ap (λ (x : Outcome). Err x) (sym is) }
-
-      by : (r : Result Bytes Outcome) → IfErr r (λ e. (more ≡ true) × (e ≡ Limit limits.Input None)) → IfSome left (λ all. IsTrue more ↔ (limit < length all)) → (IsTrue more → length taken ≡ limit) → IfErr r (IsUnread left)
-      by (Ok bytes) w long full = tt
-      by (Err e) w long full = inr (inr (w.1, refused e w.1 (read-longer left taken more limit w.0 long (full w.0))))
 
 -- ---- a run upon what was loaded, as one since before it was
 

@@ -1,9 +1,11 @@
 -- Where a case comes from, and what a plan of it is.
 use Rattle.std.proofs.Common.{◌≡◌, ◌⊎◌, inl, inr, true, false, List, [], ◌∷◌, All, Option, None, Result, Ok, Err, refl, sym, ap, subst, ◌∙◌, true≢false}
-use Rattle.std.specs.Prelude.{reverse}
+use Rattle.std.specs.Prelude.{length, nat_le, reverse}
 use Rattle.std.proofs.lemmas.List.Elements.{All-cons, All-nil}
-use Rattle.git_objects.specs.Paths.{Bytes}
-use Rattle.git_objects.specs.Results.{◌>>=◌, refused_by}
+use Rattle.git_objects.specs.Paths.{Bytes, Path}
+use Rattle.git_objects.specs.Results.{◌>>=◌, must, refused_by}
+use Rattle.git_objects.specs.declared.limits.TheConstants.{INPUT_BYTES}
+use Rattle.git_objects.specs.declared.quantity.Quantity.TheVariants.{Input}
 use Rattle.object_store.specs.Objects.{IsStore}
 use Rattle.filter_text.specs.Filters.{Filter}
 use Rattle.filter_text.specs.Printing.{printed}
@@ -11,20 +13,24 @@ use Rattle.commit_map.specs.Shown.{Entries, Shown}
 use Rattle.stream_reader.specs.declared.fault.StreamFault.{StreamFault}
 use Rattle.fast_import.specs.Replays.{Ran, empty_base, ran}
 use Rattle.push_laws.specs.Pushes.{pushing}
+use Rattle.proj_audit.specs.Certificates.{found_text, verify}
 use Rattle.state_items.specs.Items.{Break, Held, nothing, read_items}
 use Rattle.state_items.specs.Repos.{repo}
 use Rattle.state_items.specs.Changes.{KeepPlan, NoPlan, Plan, Room, fresh, held_after, objects_of, passed_by_objects, room_of}
 use Rattle.state_items.proofs.ReadObjects.{ok-same, value-of}
 use Rattle.import_laws.specs.Bases.{base_of}
-use Rattle.proj_words.specs.Words.{Command, Import, Project, Push, Export, Name, Batch, Trial, Rule, Unknown, writes}
+use Rattle.proj_words.specs.Words.{Command, Import, Project, Push, Export, Name, Batch, Trial, Rule, Audit, Verify, Unknown, writes}
 use Rattle.proj_words.specs.declared.outcome.Outcome.{Outcome}
+use Rattle.proj_words.specs.declared.outcome.Outcome.TheVariants as outcomes
+use Rattle.proj_cli.specs.Audit.{path_by}
 use Rattle.proj_cli.specs.Answers.{ArePlanned, IsRecalledLine, IsSameState, changes_state}
-use Rattle.proj_cli.specs.Cases.{Case, ImportCase, ProjectCase, ExportCase, PushCase, NameCase, RuleCase, Made, break_outcome, head_of, loaded, no_limit, streamed, unchanged}
+use Rattle.proj_cli.specs.Cases.{Case, ImportCase, ProjectCase, ExportCase, PushCase, NameCase, RuleCase, AuditCase, VerifyCase, Made, break_outcome, head_of, loaded, no_limit, streamed, unchanged}
 use Rattle.proj_cli.specs.Steps.{case, made, hand, IsLawful, IsPlanOf}
 use Rattle.proj_cli.specs.Project.{name_line, IsKeepPlan}
 use Rattle.proj_cli.specs.Filters.{entries_of, projected, projection, recalled, rule_by, sound}
 use Rattle.proj_cli.specs.Makes.{IsKeepOf, IsKeepPlanOf, IsPlanIn, recalled_made}
 use Rattle.proj_cli.specs.Plans.{HoldWhatTheyShould, RecallLaw, recalls}
+use Rattle.proj_cli.specs.Verify.{name_by, verify_outcome}
 use Rattle.proj_cli.proofs.RecalledTexts.{recalled-same}
 
 -- ---- where a case comes from
@@ -43,6 +49,8 @@ IsFrom asked items (ExportCase h f refname n) = Unit {0}
 IsFrom asked items (PushCase h f refname n p) = changes_state asked ≡ true
 IsFrom asked items (NameCase f refname x) = Unit {0}
 IsFrom asked items (RuleCase h k) = changes_state asked ≡ true
+IsFrom asked items (AuditCase h f n q) = Unit {0}
+IsFrom asked items (VerifyCase f n q text) = Unit {0}
 
 was-read : (r : Result Held Break) (h : Held) → refused_by break_outcome r ≡ Ok h → r ≡ Ok h
 was-read (Ok g) h e = cc
@@ -80,6 +88,14 @@ from (Name r t) items all c g =
 from (Rule k) items all c g =
     let h = value-of (loaded items) (λ h. Ok (RuleCase h k)) c g in
     subst (IsFrom (Rule k) items) (ok-same (RuleCase h.value k) c h.rest) refl
+from (Audit r t p) items all c g =
+    let f = value-of (sound t) (λ f. loaded items >>= λ h. head_of r h.refs >>= λ n. Ok (AuditCase h f n (path_by p))) c g in
+    let h = value-of (loaded items) (λ h. head_of r h.refs >>= λ n. Ok (AuditCase h f.value n (path_by p))) c f.rest in
+    let n = value-of (head_of r h.value.refs) (λ n. Ok (AuditCase h.value f.value n (path_by p))) c h.rest in
+    subst (IsFrom (Audit r t p) items) (ok-same (AuditCase h.value f.value n.value (path_by p)) c n.rest) tt
+from (Verify n t p) items all c g =
+    let f = value-of (sound t) (λ f. Ok (VerifyCase f (name_by n) (path_by p) all)) c g in
+    subst (IsFrom (Verify n t p) items) (ok-same (VerifyCase f.value (name_by n) (path_by p) all) c f.rest) tt
 from Batch items all c g = no-case Batch items _ c g
 from (Trial n) items all c g = no-case (Trial n) items _ c g
 from Unknown items all c g = no-case Unknown items _ c g
@@ -94,6 +110,15 @@ name-plan room f refname x m g =
     (λ _. head_of refname r.value.heads >>= λ n. Ok (unchanged nothing (name_line (projection 1 f (reverse r.value.commits) n)))) m r.rest in
     let n = value-of (head_of refname r.value.heads) (λ n. Ok (unchanged nothing (name_line (projection 1 f (reverse r.value.commits) n)))) m l.rest in
     sym (ap (λ (y : Made). y.plan) (ok-same (unchanged nothing (name_line (projection 1 f (reverse r.value.commits) n.value))) m n.rest))
+
+verify-plan : (room : Room) (f : Filter) (n : Bytes) (q : Path) (text : Bytes) (m : Made) → made room (VerifyCase f n q text) ≡ Ok m → m.plan ≡ NoPlan
+verify-plan room f n q text m g =
+    let l = value-of (must (outcomes.Limit Input None) (nat_le (length text) INPUT_BYTES)) (λ _. refused_by verify_outcome (verify n f q text) >>= λ x. Ok (unchanged nothing (found_text x))) m g in
+    let x = value-of (refused_by verify_outcome (verify n f q text)) (λ x. Ok (unchanged nothing (found_text x))) m l.rest in
+    sym (ap (λ (y : Made). y.plan) (ok-same (unchanged nothing (found_text x.value)) m x.rest))
+
+pub verify-made-plan : (room : Room) (f : Filter) (n : Bytes) (q : Path) (text : Bytes) (m : Made) → made room (VerifyCase f n q text) ≡ Ok m → NoPlan ≡ m.plan
+verify-made-plan room f n q text m g = sym (verify-plan room f n q text m g)
 
 pub name-made-plan : (room : Room) (f : Filter) (refname : Bytes) (x : Ran StreamFault) (m : Made) → made room (NameCase f refname x) ≡ Ok m → NoPlan ≡ m.plan
 name-made-plan room f refname x m g = sym (name-plan room f refname x m g)
@@ -126,12 +151,16 @@ module _ (law : RecallLaw) (asked : Command) (items : List Bytes) (kept : HoldWh
   kept-plan (ProjectCase h f n) m p w store k = keep-plan h f n p w store k
   kept-plan (ExportCase h f refname n) m p w store k = k.0
   kept-plan (PushCase h f refname n x) m p w store k = k.0
+  kept-plan (AuditCase h f n q) m p w store k = k.0
+  kept-plan (VerifyCase f n q text) m p w store k = k.0
   kept-plan _ m p w store k = k
 
 pub lawful-plan : (items : List Bytes) (c : Case) (m : Made) (p : Plan) → IsPlanIn (room_of items) c m p → IsLawful items p c
 lawful-plan items (ProjectCase h f n) m p k = k.holds
 lawful-plan items (ExportCase h f refname n) m p k = k.1
 lawful-plan items (PushCase h f refname n x) m p k = k.1
+lawful-plan items (AuditCase h f n q) m p k = k.1
+lawful-plan items (VerifyCase f n q text) m p k = k.1
 lawful-plan items _ m p k = tt
 
 -- ---- forms that leave the state
@@ -157,6 +186,8 @@ stays-plan asked items room (ExportCase g f refname n) m p w done k leaves h = s
 stays-plan asked items room (PushCase g f refname n x) m p w done k leaves h = no-change asked w leaves
 stays-plan asked items room (NameCase f refname x) m p w done k leaves h = same-none h p (k ∙ name-plan room f refname x m done)
 stays-plan asked items room (RuleCase g j) m p w done k leaves h = no-change asked w leaves
+stays-plan asked items room (AuditCase g f n q) m p w done k leaves h = same-none h p (k.0 ∙ sym (ap (λ (y : Made). y.plan) (ok-same _ m done)))
+stays-plan asked items room (VerifyCase f n q text) m p w done k leaves h = same-none h p (k.0 ∙ verify-plan room f n q text m done)
 
 -- ---- forms that don't write
 
@@ -176,6 +207,8 @@ unwritten-plan asked items room (ExportCase g f refname n) m p w done k none = k
 unwritten-plan asked items room (PushCase g f refname n x) m p w done k none = no-write asked (may-write asked w) none
 unwritten-plan asked items room (NameCase f refname x) m p w done k none = k ∙ name-plan room f refname x m done
 unwritten-plan asked items room (RuleCase g j) m p w done k none = no-write asked (may-write asked w) none
+unwritten-plan asked items room (AuditCase g f n q) m p w done k none = k.0 ∙ sym (ap (λ (y : Made). y.plan) (ok-same _ m done))
+unwritten-plan asked items room (VerifyCase f n q text) m p w done k none = k.0 ∙ verify-plan room f n q text m done
 
 -- ---- a projection's line
 
@@ -203,3 +236,5 @@ own-planned items room (ExportCase h f refname n) = own-in items (ExportCase h f
 own-planned items room (PushCase h f refname n p) = own-in items (PushCase h f refname n p) (λ m. refl) (made room (PushCase h f refname n p))
 own-planned items room (NameCase f refname x) = own-in items (NameCase f refname x) (λ m. refl) (made room (NameCase f refname x))
 own-planned items room (RuleCase h k) = own-in items (RuleCase h k) (λ m. refl) (made room (RuleCase h k))
+own-planned items room (AuditCase h f n q) = own-in items (AuditCase h f n q) (λ m. refl) (made room (AuditCase h f n q))
+own-planned items room (VerifyCase f n q text) = own-in items (VerifyCase f n q text) (λ m. refl) (made room (VerifyCase f n q text))

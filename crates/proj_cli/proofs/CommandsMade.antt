@@ -1,5 +1,5 @@
 -- What a command makes of a state: of its case, or of the refusal before one.
-use Rattle.std.proofs.Common.{◌≡◌, ◌≢◌, inr, ℕ, true, false, List, [], ◌++◌, All, Option, Some, Result, Ok, Err, append-nil, refl, sym, ap, subst, subst₂, ◌∙◌, true≢false, arith}
+use Rattle.std.proofs.Common.{◌≡◌, ◌≢◌, inl, inr, ℕ, true, false, List, [], ◌++◌, All, Option, Some, Result, Ok, Err, append-nil, refl, sym, ap, subst, subst₂, ◌∙◌, true≢false, arith}
 use Rattle.std.proofs.lemmas.List.Elements.{All-head}
 use Rattle.std.proofs.lemmas.Option.{same_Some}
 use Rattle.std.specs.Io.KnownBytes.{Appends}
@@ -11,38 +11,38 @@ use Rattle.object_store.specs.Growth.{IsGrownBy}
 use Rattle.object_store.specs.Objects.{Object}
 use Rattle.object_store.proofs.Growth.{grown_self}
 use Rattle.filter_text.specs.Filters.{Filter}
-use Rattle.fast_import.specs.Replays.{empty_base, ran}
 use Rattle.fast_export.specs.ExportTexts.{export_text}
 use Rattle.proj_io.specs.Counts.{Counts}
 use Rattle.proj_io.specs.HeldBytes.{held_bytes}
 use Rattle.proj_io.specs.Stops.{OnlyAdds, adds_as}
 use Rattle.proj_io.specs.Views.{SinkView, KeeperView}
-use Rattle.state_items.specs.Changes.{NoPlan, Plan, Room, room_of}
+use Rattle.state_items.specs.Changes.{NoPlan, Plan, Room, plan_items, room_of}
 use Rattle.state_items.specs.Items.{Held}
 use Rattle.state_items.specs.Repos.{repo}
-use Rattle.repo_ground.specs.Changes.{IsStopOf}
+use Rattle.repo_ground.specs.Changes.{GetsItems, IsStopOf, KeepsItems}
 use Rattle.repo_ground.specs.Contents.{Contents, room_in}
 use Rattle.repo_ground.specs.Selecting.{IsPutAway}
 use Rattle.repo_ground.proofs.GroundLaws.{ground-away}
 use Rattle.repo_ground.proofs.Stopping.{adds_none}
-use Rattle.proj_words.specs.Words.{Command, loads}
+use Rattle.proj_words.specs.Words.{Command, loads, writes}
 use Rattle.proj_words.specs.declared.outcome.Outcome.{Outcome}
 use Rattle.proj_words.specs.declared.outcome.Outcome.TheVariants.{Done, OutOfMemory, ReadFault, StoreFault, WriteFault}
-use Rattle.proj_cli.specs.Cases.{Case, ExportCase, Made, NameCase, head_of, unchanged}
+use Rattle.proj_cli.specs.Cases.{Case, ExportCase, Made, head_of, loaded, unchanged}
 use Rattle.proj_cli.specs.Steps.{case, IsLawful}
 use Rattle.proj_cli.specs.Export.{export_case}
 use Rattle.proj_cli.specs.Filters.{history}
 use Rattle.proj_cli.specs.Forms.{FormPlan, IsFormMade}
 use Rattle.proj_cli.specs.Hands.{IsInHands}
 use Rattle.proj_cli.specs.Judging.{IsJudged, IsUnjudged}
-use Rattle.proj_cli.specs.Makes.{IsAtHand, IsExported, IsFlowed, IsMadeOf, IsPlanned, IsRefusal, IsReportOf, IsReported, IsStateAfter, IsStateOf, PlansFor, hands_of, step_in}
+use Rattle.proj_cli.specs.Makes.{IsAtHand, IsExported, IsFlowed, IsMadeOf, IsPlanned, IsRefusal, IsReportOf, IsReported, IsStateAfter, IsStateOf, IsStored, PlansFor, hands_of, step_in}
 use Rattle.proj_cli.specs.Running.{IsCommandMade}
 use Rattle.proj_cli.specs.declared.judging.Judged.{Judged}
+use Rattle.proj_cli.proofs.CasePlans.{from, unwritten-plan}
 use Rattle.proj_cli.proofs.Committing.{good-none, keeps-self, none-planned, none-stored, state-stays, stop-as}
 use Rattle.proj_cli.proofs.ExportAnswers.{not-store}
 use Rattle.proj_cli.proofs.Forming.{reported-at, twice-at}
 use Rattle.proj_cli.proofs.Judged.{case-upon, is_stored, judged-loads, upon}
-use Rattle.proj_cli.proofs.NameForms.{named-made}
+use Rattle.proj_cli.proofs.AloneForms.{IsAlone, alone-made}
 use Rattle.proj_cli.proofs.Refusing.{reported-err, unjudged-refusal}
 use Rattle.proj_cli.proofs.StatesAfter.{room-same}
 
@@ -57,6 +57,23 @@ performed asked j w is all items h s s' k l a b x y result p made stops = record
   stops = stops;
   unloaded = λ no. absurd (true≢false (sym (judged-loads asked j w is) ∙ no));
 }
+
+-- Items that a command was performed upon are those of a store that tells them; a form that doesn't write has left them.
+pub unwritten-kept : (asked : Command) (all : Bytes) (items : List Bytes) (h : Held) (s s' : Contents) (k l : KeeperView) (p : Plan) → loaded items ≡ Ok h → (result : Result Bytes Outcome)
+    → IsMadeOf (case asked (Ok h) all) items h s s' k l p result → writes asked ≡ false → KeepsItems k l
+unwritten-kept asked all items h s s' k l p read result made none = by result made.planned made.stored
+  where
+    planned-none : IsPlanned (room_in s) (case asked (Ok h) all) p → p ≡ NoPlan
+    planned-none w = unwritten-plan asked items (room_in s) w.case w.step p (from asked items all w.case (ap (λ (g : Result Held Outcome). case asked g all) read ∙ w.came_up)) w.done w.planned none
+
+    gets-none : p ≡ NoPlan → GetsItems (plan_items p) k l → KeepsItems k l
+    gets-none e h = subst (λ (q : Plan). GetsItems (plan_items q) k l) e h
+
+    by : (r : Result Bytes Outcome) → PlansFor (room_in s) (case asked (Ok h) all) p r → IsStored r p k l → KeepsItems k l
+    by (Ok report) w stored = gets-none (planned-none w) stored
+    by (Err StoreFault) w (inl stays) = stays
+    by (Err StoreFault) w (inr gets) = gets-none (planned-none w) gets
+    by (Err _) w stored = stored
 
 -- A command that appends nothing has made what was made of its case.
 pub still-made : (asked : Command) (all : Bytes) (items : List Bytes) (h : Held) (s s' : Contents) (k : KeeperView) (a : ℕ) (x : ℕ → List Bytes → Type 0) (result : Result Bytes Outcome)
@@ -149,35 +166,32 @@ state-behind : (items : List Bytes) (h : Held) (s : Contents) (result : Result B
 state-behind items h s (Ok report) w = behind-none items h s w
 state-behind items h s (Err e) w = state-stays items h s e w
 
--- ---- a name, which is of no state
+-- ---- a case that is of no state
 
-module _ (f : Filter) (refname all : Bytes) (items : List Bytes) (h : Held) (s : Contents) (w : IsStateOf items h s) (k : KeeperView) where
-  abbrev named : Result Case Outcome
-  named = Ok (NameCase f refname (ran empty_base all))
+module _ (c : Case) (alone : IsAlone c) (all : Bytes) (items : List Bytes) (h : Held) (s : Contents) (w : IsStateOf items h s) (k : KeeperView) where
+  plan-upon : (result : Result Bytes Outcome) → result ≢ Err StoreFault → FormPlan (room_of items) (Ok c) NoPlan result → PlansFor (room_in s) (Ok c) NoPlan result
+  plan-upon (Ok report) apart plan = subst (λ (room : Room). IsPlanned room (Ok c) NoPlan) (sym (room-same items h s w.current)) plan.planned
+  plan-upon (Err e) apart plan = none-planned (room_in s) (Ok c) e (λ is. apart (ap Err is))
 
-  plan-upon : (result : Result Bytes Outcome) → result ≢ Err StoreFault → FormPlan (room_of items) named NoPlan result → PlansFor (room_in s) named NoPlan result
-  plan-upon (Ok report) apart plan = subst (λ (room : Room). IsPlanned room named NoPlan) (sym (room-same items h s w.current)) plan.planned
-  plan-upon (Err e) apart plan = none-planned (room_in s) named e (λ is. apart (ap Err is))
-
-  name-upon : (result : Result Bytes Outcome) → result ≢ Err StoreFault → IsFormMade named items k k NoPlan result → IsMadeOf named items h s s k k NoPlan result
-  name-upon result apart made = record {
+  alone-upon : (result : Result Bytes Outcome) → result ≢ Err StoreFault → IsFormMade (Ok c) items k k NoPlan result → IsMadeOf (Ok c) items h s s k k NoPlan result
+  alone-upon result apart made = record {
     reported =
-        subst (λ (room : Room). IsReported (IsAtHand s.basis.store named) (step_in room named) result) (sym (room-same items h s w.current))
-        (reported-at (IsInHands (hands_of named)) (IsAtHand s.basis.store named) (twice-at (IsInHands (hands_of named)) (IsAtHand s.basis.store named) (λ o there. inr there))
-        (step_in (room_of items) named) result made.reported);
+        subst (λ (room : Room). IsReported (IsAtHand s.basis.store (Ok c)) (step_in room (Ok c)) result) (sym (room-same items h s w.current))
+        (reported-at (IsInHands (hands_of (Ok c))) (IsAtHand s.basis.store (Ok c)) (twice-at (IsInHands (hands_of (Ok c))) (IsAtHand s.basis.store (Ok c)) (λ o there. inr there))
+        (step_in (room_of items) (Ok c)) result made.reported);
     planned = plan-upon result apart made.planned;
     good = good-none items h (room_in s);
     stored = made.stored;
     state = state-behind items h s result w;
-    grown = self-grown items h s w named;
+    grown = self-grown items h s w (Ok c);
   }
 
-  pub name-command : (asked : Command) → case asked (Ok h) all ≡ named → (a : ℕ) (x : ℕ → List Bytes → Type 0) (result : Result Bytes Outcome) → result ≢ Err StoreFault → IsReportOf named result
+  pub alone-command : (asked : Command) → case asked (Ok h) all ≡ Ok c → (a : ℕ) (x : ℕ → List Bytes → Type 0) (result : Result Bytes Outcome) → result ≢ Err StoreFault → IsReportOf (Ok c) result
       → IsCommandMade asked all items h s s k k (OnlyAdds a a x x) result
-  name-command asked is a x result apart report =
+  alone-command asked is a x result apart report =
       still-made asked all items h s s k a x result
-      (λ no. subst (λ (r : Result Case Outcome). IsReported (IsInHands (hands_of r)) (step_in (room_of items) r) result) (sym is) (named-made items f refname (ran empty_base all) k result report).reported)
-      (subst (λ (r : Result Case Outcome). IsMadeOf r items h s s k k NoPlan result) (sym is) (name-upon result apart (named-made items f refname (ran empty_base all) k result report)))
+      (λ no. subst (λ (r : Result Case Outcome). IsReported (IsInHands (hands_of r)) (step_in (room_of items) r) result) (sym is) (alone-made c alone items k result report).reported)
+      (subst (λ (r : Result Case Outcome). IsMadeOf r items h s s k k NoPlan result) (sym is) (alone-upon result apart (alone-made c alone items k result report)))
 
 -- ---- an export, of which the whole text is kept
 

@@ -8,9 +8,9 @@ use Rattle.state_items.specs.Fields.{BrokenAt}
 use Rattle.state_items.specs.Items.{Break, Held, read_item, read_items}
 use Rattle.state_items.specs.Changes.{ChangePlan, KeepPlan, NoPlan, Plan, RulePlan, plan_items}
 use Rattle.proj_io.specs.Stops.{OnlyAdds, Nothing}
-use Rattle.proj_disk.specs.Disks.{DiskView, IsImage, IsLeftBy, furthest, stable}
+use Rattle.proj_disk.specs.Disks.{DiskView, IsImage, IsLeftBy, IsTornIfKnown, furthest, stable}
 use Rattle.proj_journal.specs.Journals.{IsBrokenAt, IsEmpty, IsSameOrSynced, ListsLeft, SpellsItsItems, TellsWhy, items_of}
-use Rattle.proj_journal.specs.Rest.{Leaves}
+use Rattle.proj_journal.specs.Rest.{Leaves, new_bytes}
 use Rattle.proj_journal.specs.Spelling.{list_in, listed, spelled}
 use Rattle.proj_journal.specs.Spelled.{spelled-other}
 use Rattle.proj_journal.specs.declared.opening.JournalError.{JournalError}
@@ -20,7 +20,7 @@ use Rattle.proj_words.specs.Words.{Batch, Command, Trial}
 use Rattle.proj_words.specs.declared.outcome.Outcome.{Outcome}
 use Rattle.proj_cli.specs.Batches.{BatchLeaves}
 use Rattle.proj_cli.specs.Runs.{MayLeave}
-use Rattle.proj_cli.specs.Served.{HasList, IsOnlySynced, IsSteady, IsWhole, KeepsBytes, LeavesList, LeavesWhole, SaysWhy, Spells}
+use Rattle.proj_cli.specs.Served.{HasList, IsBegun, IsOnlySynced, IsSteady, IsWhole, KeepsBytes, LeavesList, LeavesWhole, SaysWhy, Spells}
 use Rattle.proj_cli.specs.Stopped.{ForInput, IsLengthened}
 use Rattle.proj_cli.specs.Turns.{AreTurns, IsSafeTurn, Turn, begun, items_after}
 use Rattle.proj_cli.proofs.ListLengths.{list_short}
@@ -138,6 +138,41 @@ pub unopened_kept_in : {T E : Type 0} (result : Result T E) (content : E → Opt
     → IfErr result (λ none. KeepsBytes o (content none))
 unopened_kept_in (Ok journal) content o p same kept = tt
 unopened_kept_in (Err e) content o p same kept = unopened_kept o p (content e) kept same
+
+-- ---- an empty disk
+
+pub same_begun : (o p : Option DiskView) (e : JournalError) → p ≡ o → IsBegun o p e
+same_begun None p e same = tt
+same_begun (Some d) p e same = λ empty. inl same
+
+-- a disk with bytes isn't empty
+pub long_begun : (o p q : Option DiskView) (n : ℕ) (e : JournalError) → IfSome o (λ disk. n ≡ length disk.bytes) → p ≡ o → n ≢ 0 → IsBegun o q e
+long_begun None p q n e count same some = tt
+long_begun (Some d) p q n e count same some = λ empty. absurd (some (count ∙ ap length empty))
+
+made_begun : (o p q : Option DiskView) (e : JournalError) → p ≡ o → (e ≡ Failed → IsTornIfKnown 0 (length new_bytes) p q) → (e ≡ NoMemory → q ≡ p) → ((place : ℕ) → e ≢ Broken place) → IsBegun o q e
+made_begun None p q e same torn memory whole = tt
+made_begun (Some d) p q Failed same torn memory whole = λ empty. inr (refl, subst (λ (x : Option DiskView). IsTornIfKnown 0 (length new_bytes) x q) same (torn refl))
+made_begun (Some d) p q NoMemory same torn memory whole = λ empty. inl (memory refl ∙ same)
+made_begun (Some d) p q (Broken place) same torn memory whole = absurd (whole place refl)
+
+-- of what came of making a journal, and of opening one
+pub made_begun_in : {T E : Type 0} (result : Result T E) (content : E → Option DiskView) (error : E → JournalError) (o p : Option DiskView) → p ≡ o
+    → IfErr result (λ none. error none ≡ Failed → IsTornIfKnown 0 (length new_bytes) p (content none)) → IfErr result (λ none. error none ≡ NoMemory → content none ≡ p)
+    → IfErr result (λ none. (place : ℕ) → error none ≢ Broken place) → IfErr result (λ none. IsBegun o (content none) (error none))
+made_begun_in (Ok journal) content error o p same torn memory whole = tt
+made_begun_in (Err none) content error o p same torn memory whole = made_begun o p (content none) (error none) same torn memory whole
+
+pub long_begun_in : {T E : Type 0} (result : Result T E) (content : E → Option DiskView) (error : E → JournalError) (o p : Option DiskView) (n : ℕ) → IfSome o (λ disk. n ≡ length disk.bytes) → p ≡ o → n ≢ 0
+    → IfErr result (λ none. IsBegun o (content none) (error none))
+long_begun_in (Ok journal) content error o p n count same some = tt
+long_begun_in (Err none) content error o p n count same some = long_begun o p (content none) n (error none) count same some
+
+-- where there was no memory for the text of a broken journal, its disk wasn't empty
+pub told_begun : (o q : Option DiskView) (e told : JournalError) → SaysWhy o e → (told ≡ e) ⊎ ((told ≡ NoMemory) × ((at : ℕ) × (e ≡ Broken at))) → IsBegun o q e → IsBegun o q told
+told_begun o q e told why (inl same) begun = subst (IsBegun o q) (sym same) begun
+told_begun None q e told why (inr broken) begun = tt
+told_begun (Some d) q e told why (inr broken) begun = λ empty. absurd ((subst (SaysWhy (Some d)) broken.1.1 why).0 empty)
 
 -- ---- what a stop leaves
 

@@ -1,5 +1,5 @@
 -- What is said of each form of the words: of a batch, of a trial, and of every other form as of a single command.
-use Rattle.std.proofs.Common.{◌≡◌, ◌≢◌, ◌⊎◌, inl, inr, ◌≤◌, ℕ, Bool, false, true, List, Option, None, Some, Result, Ok, Err, IfSome, IsErr, refl, sym, ap, subst, ◌∙◌, arith, true≢false}
+use Rattle.std.proofs.Common.{◌≡◌, ◌≢◌, ◌⊎◌, inl, inr, ◌≤◌, ℕ, true, List, Option, None, Some, Result, Ok, Err, IfSome, IsErr, refl, sym, ap, subst, ◌∙◌, arith, true≢false}
 use Rattle.std.specs.Io.KnownBytes.{Keeps}
 use Rattle.std.proofs.KnownBytes.{Keeps-refl}
 use Rattle.git_objects.specs.Paths.{Bytes}
@@ -14,7 +14,7 @@ use Rattle.proj_words.specs.declared.outcome.Outcome.{Outcome}
 use Rattle.proj_words.specs.declared.outcome.Outcome.TheVariants.{Done, OutOfMemory, ReadFault, WriteFault, StoreFault}
 use Rattle.proj_cli.specs.Answers.{Devices, IsCaused, IsCommandAnswer, IsOutcome, IsStepDelivered}
 use Rattle.proj_cli.specs.Batches.{BatchLeaves, IsBatchAnswer, IsBatchBy, IsBatchComplete, IsEnded, IsUnbegun, begun_outcome}
-use Rattle.proj_cli.specs.Cases.{Made}
+use Rattle.proj_cli.specs.Cases.{Made, is_one}
 use Rattle.proj_cli.specs.Hands.{IsInHands}
 use Rattle.proj_cli.specs.Judging.{IsJudged}
 use Rattle.proj_cli.specs.Makes.{IsRefusal, IsReported}
@@ -31,12 +31,6 @@ use Rattle.proj_cli.proofs.Joining.{command-complete, command-finished, not-kept
 use Rattle.proj_cli.proofs.Refusing.{refusal-of}
 
 -- ---- single commands
-
--- whether a form is one command
-abbrev pub is_one : Command → Bool
-is_one Batch = false
-is_one (Trial n) = false
-is_one _ = true
 
 -- its answer
 pub one-answer : (asked : Command) (b a : Devices) (outcome : Outcome) → is_one asked ≡ true → IsCommandAnswer asked b a outcome → IsAnswer asked b a outcome
@@ -58,6 +52,8 @@ judged-one asked (judged.Push s) w = ap is_one w.asked_is
 judged-one asked (judged.Export s) w = ap is_one w.asked_is
 judged-one asked (judged.Name s) w = ap is_one w.asked_is
 judged-one asked (judged.Rule r) w = ap is_one w
+judged-one asked (judged.Audit s q) w = ap is_one w.of_subject.asked_is
+judged-one asked (judged.Verify c) w = ap is_one w.asked_is
 
 module _ (left : Option Bytes) (items : List Bytes) (a b : ℕ) (x y : ℕ → List Bytes → Type 0) where
   pub one-adds : (asked : Command) → is_one asked ≡ true → ForInput left (λ all. OnlyAdds a b x y (CommandLeaves asked items all)) → ForInput left (λ all. OnlyAdds a b x y (MayLeave asked items all))

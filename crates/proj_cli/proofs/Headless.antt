@@ -18,6 +18,7 @@ use Rattle.proj_cli.specs.Cases.{Case, PushCase}
 use Rattle.proj_cli.specs.Steps.{case}
 use Rattle.proj_cli.specs.Filters.{rule_by}
 use Rattle.proj_cli.specs.Judging.{IsJudged}
+use Rattle.proj_cli.specs.declared.judging.Claim.{Claim}
 use Rattle.proj_cli.specs.declared.judging.Judged.{Judged}
 use Rattle.proj_cli.specs.declared.judging.Judged.TheVariants as judged
 use Rattle.proj_cli.specs.declared.judging.Subject.{Subject}
@@ -31,6 +32,9 @@ no-import asked force w h none = true≢false (sym (no-case asked (judged.Import
 
 pub no-name : (asked : Command) (s : Subject) → IsJudged asked (judged.Name s) → (h : Held) → ((all : Bytes) → IsErr (case asked (Ok h) all)) → ⊥
 no-name asked s w h none = true≢false (sym (no-case asked (judged.Name s) w h [] (none [])))
+
+pub no-claim : (asked : Command) (c : Claim) → IsJudged asked (judged.Verify c) → (h : Held) → ((all : Bytes) → IsErr (case asked (Ok h) all)) → ⊥
+no-claim asked c w h none = true≢false (sym (no-case asked (judged.Verify c) w h [] (none [])))
 
 none-at : (o : Option Bytes) (K : Bytes → Case) → IsErr (or_refuse UnknownRef o >>= λ n. Ok (K n)) → o ≡ None
 none-at None K e = refl

@@ -9,7 +9,7 @@ use Rattle.proj_io.specs.Views.{SourceView, SinkView, KeeperView}
 use Rattle.state_items.specs.Items.{Held, read_items}
 use Rattle.state_items.specs.Changes.{Plan, Room, plan_items, room_of}
 use Rattle.state_items.specs.Hands.{IsTwice}
-use Rattle.proj_words.specs.Words.{Command, Import, Project, Push, Export, Name, Batch, Trial, Rule, Unknown}
+use Rattle.proj_words.specs.Words.{Command, Import, Project, Push, Export, Name, Batch, Trial, Rule, Audit, Verify, Unknown}
 use Rattle.proj_words.specs.declared.outcome.Outcome.{Outcome}
 use Rattle.proj_words.specs.declared.outcome.Outcome.TheVariants.{Done, OutOfMemory, Collision, ReadFault, WriteFault, StoreFault}
 use Rattle.proj_cli.specs.Answers.{AreItems, Devices, IsCommandAnswer, IsCollision, IsCommandComplete, IsDelivered, IsOutcome, IsRecalled, IsRecalledCase, IsSafe, IsStepDelivered, HasAnswer, outcome_of}
@@ -72,6 +72,8 @@ module _ (items : List Bytes) (all : Bytes) (i j : SourceView) (o q : SinkView) 
   recalled-of (Push x y) e = other (Push x y) (λ r t g. let no : ⊥ = cc in no)
   recalled-of (Name x y) e = other (Name x y) (λ r t g. let no : ⊥ = cc in no)
   recalled-of (Rule n) e = other (Rule n) (λ r t g. let no : ⊥ = cc in no)
+  recalled-of (Audit x y z) e = other (Audit x y z) (λ r t g. let no : ⊥ = cc in no)
+  recalled-of (Verify x y z) e = other (Verify x y z) (λ r t g. let no : ⊥ = cc in no)
   recalled-of Batch e = other Batch (λ r t g. let no : ⊥ = cc in no)
   recalled-of (Trial n) e = other (Trial n) (λ r t g. let no : ⊥ = cc in no)
   recalled-of Unknown e = other Unknown (λ r t g. let no : ⊥ = cc in no)

@@ -1,7 +1,7 @@
 -- The case of a judged command, and what is held in it.
-use Rattle.std.proofs.Common.{◌≡◌, ◌⊎◌, inl, inr, Bool, false, true, true≢false, ℕ, List, Option, Some, Result, Ok, Err, IfErr, IfSome, refl, sym, ap, subst, subst₂, ◌∙◌}
+use Rattle.std.proofs.Common.{◌≡◌, ◌⊎◌, inl, inr, Bool, false, true, true≢false, ℕ, List, Option, Some, Result, Ok, Err, IfErr, IfSome, IsErr, refl, sym, ap, subst, subst₂, ◌∙◌}
 use Rattle.std.specs.Result.{IsErrAnd}
-use Rattle.git_objects.specs.Paths.{Bytes}
+use Rattle.git_objects.specs.Paths.{Bytes, Path}
 use Rattle.git_objects.specs.Results.{◌>>=◌}
 use Rattle.object_store.specs.Objects.{Object, IsStore}
 use Rattle.filter_text.specs.Filters.{Filter}
@@ -15,16 +15,19 @@ use Rattle.state_items.specs.Repos.{repo}
 use Rattle.repo_ground.specs.Contents.{Contents}
 use Rattle.repo_ground.specs.Loads.{IsLoadFault, IsLoaded}
 use Rattle.repo_ground.specs.declared.state.LoadError.{LoadError}
-use Rattle.proj_words.specs.Words.{Command, Import, Project, Push, Export, Name, Rule, loads, writes}
+use Rattle.proj_words.specs.Words.{Command, Import, Project, Push, Export, Name, Rule, Audit, Verify, loads}
 use Rattle.proj_words.specs.declared.outcome.Outcome.{Outcome}
 use Rattle.proj_words.specs.declared.outcome.Outcome.TheVariants.{OutOfMemory}
-use Rattle.proj_cli.specs.Cases.{Case, ImportCase, ProjectCase, ExportCase, PushCase, NameCase, RuleCase, head_of, verdict}
+use Rattle.proj_cli.specs.Cases.{Case, ImportCase, ProjectCase, ExportCase, PushCase, NameCase, RuleCase, AuditCase, VerifyCase, head_of, verdict}
 use Rattle.proj_cli.specs.Steps.{case, hand}
+use Rattle.proj_cli.specs.Audit.{audit_case, path_by}
 use Rattle.proj_cli.specs.Export.{export_case}
+use Rattle.proj_cli.specs.Verify.{name_by}
+use Rattle.proj_cli.specs.declared.judging.Claim.{Claim}
 use Rattle.proj_cli.specs.Project.{project_case}
 use Rattle.proj_cli.specs.Push.{push_case}
 use Rattle.proj_cli.specs.Filters.{rule_by, sound}
-use Rattle.proj_cli.specs.Judging.{IsJudged, IsUnjudged}
+use Rattle.proj_cli.specs.Judging.{IsClaimed, IsJudged, IsUnjudged}
 use Rattle.proj_cli.specs.Makes.{IsState}
 use Rattle.proj_cli.specs.declared.judging.Judged.{Judged}
 use Rattle.proj_cli.specs.declared.judging.Judged.TheVariants as judged
@@ -56,6 +59,16 @@ upon (judged.Push s) h all = push_case h (shape s.filter) s.refname all
 upon (judged.Export s) h all = export_case h (shape s.filter) s.refname
 upon (judged.Name s) h all = Ok (NameCase (shape s.filter) s.refname (ran empty_base all))
 upon (judged.Rule r) h all = Ok (RuleCase h (rule_number r))
+upon (judged.Audit s q) h all = audit_case h (shape s.filter) s.refname q
+upon (judged.Verify c) h all = Ok (VerifyCase (shape c.filter) c.commit.0 c.path all)
+
+-- a certificate needs nothing that is loaded
+pub claim-case : (asked : Command) (c : Claim) → IsClaimed asked c → (loading : Result Held Outcome) (all : Bytes) → case asked loading all ≡ Ok (VerifyCase (shape c.filter) c.commit.0 c.path all)
+claim-case asked c w loading all =
+    ap (λ (a : Command). case a loading all) w.asked_is
+    ∙ read-filter w.text (shape c.filter) (λ f. Ok (VerifyCase f (name_by w.digits) (path_by w.path) all)) w.sound_is
+    ∙ ap (λ (n : Bytes). Ok (VerifyCase (shape c.filter) n (path_by w.path) all)) w.name_is
+    ∙ ap (λ (q : Path). Ok (VerifyCase (shape c.filter) c.commit.0 q all)) w.path_is
 
 pub case-upon : (asked : Command) (j : Judged) → IsJudged asked j → (h : Held) (all : Bytes) → case asked (Ok h) all ≡ upon j h all
 case-upon asked (judged.Import force) w h all = ap (λ (a : Command). case a (Ok h) all) w
@@ -65,6 +78,11 @@ case-upon asked (judged.Export s) w h all = ap (λ (a : Command). case a (Ok h) 
 case-upon asked (judged.Name s) w h all =
     ap (λ (a : Command). case a (Ok h) all) w.asked_is ∙ read-filter w.text (shape s.filter) (λ f. Ok (NameCase f s.refname (ran empty_base all))) w.sound_is
 case-upon asked (judged.Rule r) w h all = ap (λ (a : Command). case a (Ok h) all) w
+case-upon asked (judged.Audit s q) w h all =
+    ap (λ (a : Command). case a (Ok h) all) w.of_subject.asked_is
+    ∙ read-filter w.of_subject.text (shape s.filter) (λ f. audit_case h f s.refname (path_by w.path)) w.of_subject.sound_is
+    ∙ ap (audit_case h (shape s.filter) s.refname) w.path_is
+case-upon asked (judged.Verify c) w h all = claim-case asked c w (Ok h) all
 
 -- the first refusal of what is loaded is that of loading
 pub case-unloaded : (asked : Command) (j : Judged) → IsJudged asked j → loads asked ≡ true → (x : Outcome) (all : Bytes) → case asked (Err x) all ≡ Err x
@@ -74,17 +92,31 @@ case-unloaded asked (judged.Push s) w l x all = ap (λ (a : Command). case a (Er
 case-unloaded asked (judged.Export s) w l x all = ap (λ (a : Command). case a (Err x) all) w.asked_is ∙ read-filter w.text (shape s.filter) (λ f. Err x) w.sound_is
 case-unloaded asked (judged.Name s) w l x all = absurd (true≢false (sym l ∙ ap loads w.asked_is))
 case-unloaded asked (judged.Rule r) w l x all = ap (λ (a : Command). case a (Err x) all) w
+case-unloaded asked (judged.Audit s q) w l x all =
+    ap (λ (a : Command). case a (Err x) all) w.of_subject.asked_is ∙ read-filter w.of_subject.text (shape s.filter) (λ f. Err x) w.of_subject.sound_is
+case-unloaded asked (judged.Verify c) w l x all = absurd (true≢false (sym l ∙ ap loads w.asked_is))
+
+read-whole : (r : Result (Unit {0}) Outcome) (f : Filter) (text : Bytes) → sound text ≡ Ok f → r ≡ (sound text >>= λ _. Ok tt) → IsErr r → ⊥
+read-whole r f text is same refuses = true≢false (sym (subst (λ (x : Result (Unit {0}) Outcome). IsErr x) (same ∙ ap (λ (s : Result Filter Outcome). s >>= λ _. Ok tt) is) refuses))
+
+-- judging a command that is judged doesn't refuse it
+pub judged-whole : (asked : Command) (j : Judged) → IsJudged asked j → IsErr (verdict asked) → ⊥
+judged-whole asked (judged.Import force) w refuses = true≢false (sym (subst (λ (a : Command). IsErr (verdict a)) w refuses))
+judged-whole asked (judged.Project s) w refuses = read-whole (verdict asked) (shape s.filter) w.text w.sound_is (ap verdict w.asked_is) refuses
+judged-whole asked (judged.Push s) w refuses = read-whole (verdict asked) (shape s.filter) w.text w.sound_is (ap verdict w.asked_is) refuses
+judged-whole asked (judged.Export s) w refuses = read-whole (verdict asked) (shape s.filter) w.text w.sound_is (ap verdict w.asked_is) refuses
+judged-whole asked (judged.Name s) w refuses = read-whole (verdict asked) (shape s.filter) w.text w.sound_is (ap verdict w.asked_is) refuses
+judged-whole asked (judged.Rule r) w refuses = true≢false (sym (subst (λ (a : Command). IsErr (verdict a)) w refuses))
+judged-whole asked (judged.Audit s q) w refuses = read-whole (verdict asked) (shape s.filter) w.of_subject.text w.of_subject.sound_is (ap verdict w.of_subject.asked_is) refuses
+judged-whole asked (judged.Verify c) w refuses = read-whole (verdict asked) (shape c.filter) w.text w.sound_is (ap verdict w.asked_is) refuses
 
 -- ---- forms
 
--- whether it is performed upon what is loaded, and may change it
+-- whether it is performed upon what is loaded
 abbrev pub is_stored : Judged → Bool
 is_stored (judged.Name s) = false
+is_stored (judged.Verify c) = false
 is_stored _ = true
-
-abbrev pub is_told : Judged → Bool
-is_told (judged.Export s) = false
-is_told j = is_stored j
 
 pub judged-loads : (asked : Command) (j : Judged) → IsJudged asked j → is_stored j ≡ true → loads asked ≡ true
 judged-loads asked (judged.Import force) w is = ap loads w
@@ -93,19 +125,8 @@ judged-loads asked (judged.Push s) w is = ap loads w.asked_is
 judged-loads asked (judged.Export s) w is = ap loads w.asked_is
 judged-loads asked (judged.Name s) w is = absurd (true≢false (sym is))
 judged-loads asked (judged.Rule r) w is = ap loads w
-
-pub judged-writes : (asked : Command) (j : Judged) → IsJudged asked j → is_told j ≡ true → writes asked ≡ true
-judged-writes asked (judged.Import force) w is = ap writes w
-judged-writes asked (judged.Project s) w is = ap writes w.asked_is
-judged-writes asked (judged.Push s) w is = ap writes w.asked_is
-judged-writes asked (judged.Export s) w is = absurd (true≢false (sym is))
-judged-writes asked (judged.Name s) w is = absurd (true≢false (sym is))
-judged-writes asked (judged.Rule r) w is = ap writes w
-
--- a form that writes loads
-pub writes-loads : (asked : Command) → writes asked ≡ true → loads asked ≡ true
-writes-loads (Export r t) is = absurd (true≢false (sym is))
-writes-loads _ is = is
+judged-loads asked (judged.Audit s q) w is = ap loads w.of_subject.asked_is
+judged-loads asked (judged.Verify c) w is = absurd (true≢false (sym is))
 
 -- ---- what a case holds
 
@@ -133,6 +154,8 @@ case-holds (Export r t) h input = inr (by-text h.objects r h (sound t) (λ f n. 
 case-holds (Push r t) h input = inr (by-text h.objects r h (sound t) (λ f n. PushCase h f r n (pushing (rule_by h.rule) f (repo h).commits n r input)) (λ f n. refl))
 case-holds (Name r t) h input = inl (refl, behind HoldsStore (λ e. tt) (sound t) (λ f. Ok (NameCase f r (ran empty_base input))) (λ f. tt))
 case-holds (Rule k) h input = inr refl
+case-holds (Audit r t p) h input = inr (by-text h.objects r h (sound t) (λ f n. AuditCase h f n (path_by p)) (λ f n. refl))
+case-holds (Verify n t p) h input = inl (refl, behind HoldsStore (λ e. tt) (sound t) (λ f. Ok (VerifyCase f (name_by n) (path_by p) input)) (λ f. tt))
 case-holds _ h input = inr tt
 
 pub loaded-holds : (asked : Command) (h : Held) (input : Bytes) → loads asked ≡ true → HoldsAll h.objects (case asked (Ok h) input)

@@ -7,6 +7,7 @@ mod RulesSet
 mod InHands
 mod StatesShown
 mod Exports
+mod Audits
 mod SoundTexts
 mod NewRows
 mod Keeps
@@ -28,7 +29,7 @@ pub mod Joining
 pub mod Lengthening
 pub mod Dispatching
 pub mod ExportAnswers
-pub mod NameForms
+pub mod AloneForms
 pub mod Making
 mod CommandsMade
 pub mod Outcomes
@@ -48,6 +49,8 @@ pub mod TurnsMade
 pub mod EntriesAnswered
 pub mod Pieces
 pub mod BatchesRun
+pub mod InputsRead
+mod Claims
 pub mod Fronts
 pub mod BatchesAnswered
 mod TrialSteps

@@ -22,11 +22,12 @@ use Rattle.repo_ground.specs.Loads.{IsLoadFault}
 use Rattle.repo_ground.specs.declared.state.LoadError.{LoadError}
 use Rattle.repo_ground.specs.declared.state.LoadError.TheVariants as load
 use Rattle.proj_words.specs.Faults.{filter_outcome, route_outcome}
-use Rattle.proj_words.specs.Words.{Command, Import, Project, Push, Export, Name, Rule}
+use Rattle.proj_words.specs.Words.{Command, Import, Project, Push, Export, Name, Rule, Audit, Verify}
 use Rattle.proj_words.specs.declared.outcome.Outcome.{Outcome}
 use Rattle.proj_words.specs.declared.outcome.Outcome.TheVariants.{Done, OutOfMemory, Collision, ReadFault, WriteFault, StoreFault, Usage}
-use Rattle.proj_cli.specs.Cases.{Case, Made, break_outcome, loaded, NameCase, verdict}
+use Rattle.proj_cli.specs.Cases.{Case, Made, break_outcome, loaded, NameCase, VerifyCase, verdict}
 use Rattle.proj_cli.specs.Steps.{case}
+use Rattle.proj_cli.specs.Audit.{audit_case, path_by}
 use Rattle.proj_cli.specs.Export.{export_case}
 use Rattle.proj_cli.specs.Project.{project_case}
 use Rattle.proj_cli.specs.Push.{push_case}
@@ -36,6 +37,7 @@ use Rattle.proj_cli.specs.Hands.{IsInHands}
 use Rattle.proj_cli.specs.Judging.{IsOwn, IsUnjudged}
 use Rattle.proj_cli.specs.Makes.{IsGoodPlan, IsRefusal, IsReported, IsStored, hands_of, step_in}
 use Rattle.proj_cli.specs.Plans.{AreKept}
+use Rattle.proj_cli.specs.Verify.{name_by}
 use Rattle.proj_cli.proofs.Forming.{adds-nothing}
 
 -- ---- outcomes that no device tells, and that aren't the last
@@ -215,6 +217,8 @@ of-text (Err x) next e g = ap Err (err-same {A = Unit {0}} x e g)
 
 -- it has no case, whatever is loaded and read
 verdict-case : (asked : Command) (e : Outcome) → verdict asked ≡ Err e → (loading : Result Held Outcome) (all : Bytes) → case asked loading all ≡ Err e
+verdict-case (Audit r t p) e g loading all = of-text (sound t) (λ f. loading >>= λ h. audit_case h f r (path_by p)) e g
+verdict-case (Verify n t p) e g loading all = of-text (sound t) (λ f. Ok (VerifyCase f (name_by n) (path_by p) all)) e g
 verdict-case (Import force) e g loading all = cc
 verdict-case (Project r t) e g loading all = of-text (sound t) (λ f. loading >>= λ h. project_case h f r) e g
 verdict-case (Push r t) e g loading all = of-text (sound t) (λ f. loading >>= λ h. push_case h f r all) e g

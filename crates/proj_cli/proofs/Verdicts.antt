@@ -1,12 +1,14 @@
 -- Which refusals are of words or of a filter: those of judging a command, and no other.
 use Rattle.std.proofs.Common.{◌≡◌, ◌⊎◌, inl, inr, ◌++◌, ℕ, Bool, true, false, List, [], Option, None, Some, Result, Ok, Err, IfErr, refl, sym, ap, subst, ◌∙◌, true≢false}
-use Rattle.std.specs.Prelude.{reverse, zip}
+use Rattle.std.specs.Prelude.{length, nat_le, reverse, zip}
 use Rattle.std.specs.List.{flat_map, last_or}
 use Rattle.git_objects.specs.Paths.{Bytes}
 use Rattle.git_objects.specs.Refs.{Refs, bytes_cmp}
-use Rattle.git_objects.specs.Results.{◌>>=◌, or_refuse, refused_by}
+use Rattle.git_objects.specs.Results.{◌>>=◌, must, or_refuse, refused_by}
 use Rattle.git_objects.specs.Snapshots.{Snapshot}
+use Rattle.git_objects.specs.declared.limits.TheConstants.{INPUT_BYTES}
 use Rattle.git_objects.specs.declared.quantity.Quantity.{Quantity}
+use Rattle.git_objects.specs.declared.quantity.Quantity.TheVariants.{Input}
 use Rattle.std.specs.FinMap.{find as find_entry}
 use Rattle.object_store.specs.Objects.{Object}
 use Rattle.filter_text.specs.Filters.{Filter}
@@ -16,6 +18,7 @@ use Rattle.fast_import.specs.Replays.{Ran, outcome_of}
 use Rattle.push_laws.specs.Pushes.{PushRefusal, StreamRefused, CommitRefused}
 use Rattle.push_laws.specs.PushReplays.{StreamRefusal, OtherRef, NotAtHead, MergePushed, Faulty}
 use Rattle.push_laws.specs.PushVerdicts.{Refusal, NoChange, BadWorkspace, Unseen, NotHeld, Blocked, TreeLimit}
+use Rattle.proj_audit.specs.Certificates.{Fault, Syntax, NotProved, verify}
 use Rattle.state_items.specs.Fields.{BrokenAt, Clash}
 use Rattle.state_items.specs.Items.{Break, Held, read_items}
 use Rattle.state_items.specs.Changes.{Plan, Room, fresh, objects_of, passed, passed_by_objects, rule_plan}
@@ -26,15 +29,16 @@ use Rattle.repo_ground.specs.Moves.{Move, first_backward}
 use Rattle.repo_ground.specs.declared.state.LoadError.{LoadError}
 use Rattle.repo_ground.specs.declared.state.LoadError.TheVariants as load
 use Rattle.proj_words.specs.Faults.{stream_outcome}
-use Rattle.proj_words.specs.Words.{Command, Import, Project, Push, Export, Name, Batch, Trial, Rule, Unknown}
+use Rattle.proj_words.specs.Words.{Command, Import, Project, Push, Export, Name, Batch, Trial, Rule, Audit, Verify, Unknown}
 use Rattle.proj_words.specs.declared.outcome.Outcome.{Outcome}
-use Rattle.proj_words.specs.declared.outcome.Outcome.TheVariants.{Done, OutOfMemory, UnknownRef, Collision, ReadFault, WriteFault, StoreFault}
-use Rattle.proj_cli.specs.Cases.{Case, ImportCase, ProjectCase, ExportCase, PushCase, NameCase, RuleCase, IsJudgedRightly, Made, break_outcome, head_of, is_verdict, loaded, no_limit, streamed, verdict, within}
+use Rattle.proj_words.specs.declared.outcome.Outcome.TheVariants.{Done, Limit, OutOfMemory, UnknownRef, Collision, ReadFault, WriteFault, StoreFault}
+use Rattle.proj_cli.specs.Cases.{Case, ImportCase, ProjectCase, ExportCase, PushCase, NameCase, RuleCase, AuditCase, VerifyCase, IsJudgedRightly, Made, break_outcome, head_of, is_verdict, loaded, no_limit, streamed, verdict, within}
 use Rattle.proj_cli.specs.Import.{all_forward, import_plan, no_backward, ref_line}
 use Rattle.proj_cli.specs.Steps.{case}
 use Rattle.proj_cli.specs.Push.{commit_refusal, no_refusal, pair_line, push_outcome, push_plan, stream_refusal}
 use Rattle.proj_cli.specs.Export.{export_case}
 use Rattle.proj_cli.specs.Rule.{rule_line}
+use Rattle.proj_cli.specs.Verify.{verify_outcome}
 use Rattle.proj_cli.specs.Filters.{sound}
 use Rattle.proj_cli.specs.Forms.{load_outcome}
 use Rattle.proj_cli.specs.Judging.{IsUnjudged}
@@ -125,6 +129,14 @@ pushed-other : (o : Option PushRefusal) → IsOther (no_refusal o)
 pushed-other None = tt
 pushed-other (Some e) = push-other e
 
+must-other : (e : Outcome) (b : Bool) → is_verdict e ≡ false → IsOther (must e b)
+must-other e true w = tt
+must-other e false w = w
+
+certificate-other : (e : Fault) → is_verdict (verify_outcome e) ≡ false
+certificate-other (Syntax at) = refl
+certificate-other (NotProved n) = refl
+
 pub made-other : (room : Room) (c : Case) → IsOther (recalled_made room c)
 made-other room (ImportCase force h x) =
     other-on (streamed x) _ (streamed-other x) (λ r. other-on (all_forward force (reverse r.commits ++ (repo h).commits) h.refs r.heads) _
@@ -139,6 +151,10 @@ made-other room (NameCase f refname x) =
     (limit-other (passed_by_objects (fresh [] (objects_of r.blobs r.commits)) None))
     (λ _. other-on (head_of refname r.heads) _ (other-found (find_entry bytes_cmp refname r.heads)) (λ n. tt)))
 made-other room (RuleCase h k) = within-other room h (rule_line k) (rule_plan h k)
+made-other room (AuditCase h f n q) = tt
+made-other room (VerifyCase f n q text) =
+    other-on (must (Limit Input None) (nat_le (length text) INPUT_BYTES)) _ (must-other (Limit Input None) (nat_le (length text) INPUT_BYTES) refl)
+    (λ _. other-on (refused_by verify_outcome (verify n f q text)) _ (other-by verify_outcome (verify n f q text) certificate-other) (λ x. tt))
 
 -- ---- cases
 
@@ -164,6 +180,9 @@ case-judged (Push r t) loading input w =
     of-sound (Push r t) (sound t) _ (λ f. other-on loading _ w (λ h. other-on (head_of r h.refs) _ (other-found (find_entry bytes_cmp r h.refs)) (λ n. tt))) refl
 case-judged (Name r t) loading input w = of-sound (Name r t) (sound t) _ (λ f. tt) refl
 case-judged (Rule k) loading input w = other-judged (Rule k) (case (Rule k) loading input) (other-on loading _ w (λ h. tt))
+case-judged (Audit r t p) loading input w =
+    of-sound (Audit r t p) (sound t) _ (λ f. other-on loading _ w (λ h. other-on (head_of r h.refs) _ (other-found (find_entry bytes_cmp r h.refs)) (λ n. tt))) refl
+case-judged (Verify n t p) loading input w = of-sound (Verify n t p) (sound t) _ (λ f. tt) refl
 case-judged Batch loading input w = λ _. refl
 case-judged (Trial n) loading input w = λ _. refl
 case-judged Unknown loading input w = λ _. refl

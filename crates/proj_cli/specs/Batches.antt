@@ -1,14 +1,12 @@
 -- What comes of a batch: which of its entries were answered, what has then been written, and what the store has got.
 use Rattle.std.specs.Prelude.{◌≡◌, ◌≢◌, ◌⊎◌, ℕ, false, List, [], ◌∷◌, ◌++◌, take, Option, Some, None, Result, Ok, Err, IfSome}
 use Rattle.git_objects.specs.Paths.{Bytes}
-use Rattle.git_objects.specs.declared.quantity.Quantity.TheVariants as limits
 use Rattle.proj_io.specs.Counts.{Rose}
-use Rattle.proj_words.specs.Entries.{Entry, entries}
+use Rattle.proj_words.specs.Entries.{Entry}
 use Rattle.proj_words.specs.declared.outcome.Outcome.{Outcome}
-use Rattle.proj_words.specs.declared.outcome.Outcome.TheVariants.{Done, Limit, OutOfMemory, ReadFault, WriteFault, StoreFault}
+use Rattle.proj_words.specs.declared.outcome.Outcome.TheVariants.{Done, OutOfMemory, ReadFault, WriteFault, StoreFault}
 use Rattle.proj_cli.specs.Answers.{Devices, Got, Idle, IsCaused, NoneFailed, Wrote}
 use Rattle.proj_cli.specs.Cases.{is_verdict}
-use Rattle.proj_cli.specs.Stopped.{ForInput}
 use Rattle.proj_cli.specs.Turns.{AreTurns, IsLastTurn, IsSafeTurn, IsTurn, Turn, appended, begun, entries_of, items_after, turn_text, turn_texts}
 
 -- the turns whose replies were written whole, and behind them the one that was begun then, if one was
@@ -47,10 +45,6 @@ pub record IsRun (items : List Bytes) (es : List Entry) (before after : Devices)
   pub got : Got (appended (all_turns turns last)) before after
   pub safe : AreTurns (IsSafeTurn items) (all_turns turns last)
   pub in_turn : AreTurns (IsTurn items) turns × IfSome last (IsLastTurn items turns)
-
--- why an input isn't read: want of memory, a fault of the source, or that it has more bytes than a batch may have
-abbrev pub IsUnread : Option Bytes → Outcome → Type 0
-IsUnread left e = (e ≡ OutOfMemory) ⊎ (e ≡ ReadFault) ⊎ ((e ≡ Limit limits.Input None) × ForInput left (λ all. entries all ≡ Err e))
 
 -- a refusal before any entry is begun: this one, or want of memory, or a fault of the input or the store
 abbrev pub IsUnbegun : Outcome → Outcome → Type 0

@@ -1,7 +1,7 @@
 -- What judging a command gives; what a command works with, its case; and what comes of it: what is written, and what is new in the state.
 use Rattle.std.specs.FinMap.{find as find_entry}
 use Rattle.std.specs.Prelude.{Result, Ok, Err, Bool, true, false, ◌≡◌, List, ℕ, Option, Some, None}
-use Rattle.git_objects.specs.Paths.{Bytes}
+use Rattle.git_objects.specs.Paths.{Bytes, Path}
 use Rattle.git_objects.specs.Refs.{Refs, bytes_cmp}
 use Rattle.git_objects.specs.Results.{◌>>=◌, refused_by, or_refuse}
 use Rattle.git_objects.specs.declared.quantity.Quantity.{Quantity}
@@ -13,7 +13,7 @@ use Rattle.state_items.specs.Fields.{BrokenAt, Clash}
 use Rattle.state_items.specs.Items.{Break, Held, read_items, nothing}
 use Rattle.push_laws.specs.Pushes.{Pushing}
 use Rattle.proj_words.specs.Faults.{stream_outcome}
-use Rattle.proj_words.specs.Words.{Command, Import, Project, Push, Export, Name, Rule}
+use Rattle.proj_words.specs.Words.{Command, Import, Project, Push, Export, Name, Rule, Audit, Verify, Batch, Trial}
 use Rattle.proj_words.specs.declared.outcome.Outcome.TheVariants.{Usage, FilterFault, Overlap, NotKeeping, Collision, Damaged, UnknownRef, Limit}
 use Rattle.proj_words.specs.declared.outcome.Outcome.{Outcome}
 use Rattle.proj_cli.specs.Filters.{sound}
@@ -27,9 +27,17 @@ verdict (Project refname text) = sound text >>= λ _. Ok tt
 verdict (Push refname text) = sound text >>= λ _. Ok tt
 verdict (Export refname text) = sound text >>= λ _. Ok tt
 verdict (Name refname text) = sound text >>= λ _. Ok tt
+verdict (Audit refname text path) = sound text >>= λ _. Ok tt
+verdict (Verify digits text path) = sound text >>= λ _. Ok tt
 verdict (Import force) = Ok tt
 verdict (Rule k) = Ok tt
 verdict asked = Err Usage
+
+-- whether a form is one command; a batch and a trial are made of several
+abbrev pub is_one : Command → Bool
+is_one Batch = false
+is_one (Trial n) = false
+is_one _ = true
 
 -- whether an outcome is a refusal of words or of a filter
 abbrev pub is_verdict : Outcome → Bool
@@ -71,8 +79,12 @@ pub data Case : Type 0 where
   -- of the ref, and the stream upon nothing
   NameCase : Filter → Bytes → Ran StreamFault → Case
   RuleCase : Held → ℕ → Case
+  -- of the ref's commit, at a path
+  AuditCase : Held → Filter → Bytes → Path → Case
+  -- of a commit's name, at a path, and a text, which may be a certificate
+  VerifyCase : Filter → Bytes → Path → Bytes → Case
 
--- what is held before it; a stream that is named stands upon nothing
+-- what is held before it; a stream that is named and a certificate stand upon nothing
 abbrev pub held_in : Case → Held
 held_in (ImportCase force h x) = h
 held_in (ProjectCase h f n) = h
@@ -80,6 +92,8 @@ held_in (ExportCase h f refname n) = h
 held_in (PushCase h f refname n p) = h
 held_in (NameCase f refname x) = nothing
 held_in (RuleCase h k) = h
+held_in (AuditCase h f n q) = h
+held_in (VerifyCase f n q text) = nothing
 
 -- ---- what comes of a case
 

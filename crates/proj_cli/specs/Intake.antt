@@ -13,19 +13,20 @@ use Rattle.state_items.specs.Items.{Held}
 use Rattle.state_items.specs.Repos.{repo}
 use Rattle.push_back.specs.Waited.{push_waited}
 use Rattle.proj_words.specs.declared.outcome.Outcome.{Outcome}
-use Rattle.proj_cli.specs.Cases.{Case, ImportCase, NameCase, PushCase}
+use Rattle.proj_cli.specs.Cases.{Case, ImportCase, NameCase, PushCase, VerifyCase}
 use Rattle.proj_cli.specs.Filters.{projected}
 
 -- for a push to a ref that is at the commit n
 abbrev pub pushed_to : Held → Filter → Bytes → Bytes → Bytes → ℕ
 pushed_to h f refname n all = push_waited refname (option_map (λ s. s.commit) (projected h f n)) (shown f (tree_at (repo h).commits n)) all
 
--- the place up to which an input has to be read for a case: the place of its fault, of the line behind the command that is refused, or behind
--- the stream's last line
+-- The place up to which an input has to be read for a case: the place of its fault, of the line behind the command that is refused, or behind
+-- the stream's last line. A certificate is read whole, up to 2^29 + 1 bytes of it: 2^25 bytes behind this place.
 abbrev pub waited_in : Case → Bytes → ℕ
 waited_in (ImportCase force h x) all = waited (base_of h) all
 waited_in (PushCase h f refname n p) all = pushed_to h f refname n all
 waited_in (NameCase f refname x) all = waited empty_base all
+waited_in (VerifyCase f n q text) all = 503316481
 waited_in _ all = 0
 
 abbrev pub waited_if : Result Case Outcome → Bytes → ℕ

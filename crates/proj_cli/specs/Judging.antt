@@ -1,14 +1,17 @@
 -- What judging says of a command: of its words and its filter, before any device is touched.
 use Rattle.std.specs.Prelude.{◌≡◌, ◌≢◌, ◌⊎◌, Ok, Err}
-use Rattle.git_objects.specs.Paths.{Bytes}
+use Rattle.git_objects.specs.Paths.{Bytes, Path}
 use Rattle.filter_text.specs.Shapes.{shape}
 use Rattle.commit_map.specs.Rules.{rule_number}
 use Rattle.workspace.specs.Laws.{IsUsable}
-use Rattle.proj_words.specs.Words.{Command, Import, Project, Push, Export, Name, Rule}
+use Rattle.proj_words.specs.Words.{Command, Import, Project, Push, Export, Name, Rule, Audit, Verify}
 use Rattle.proj_words.specs.declared.outcome.Outcome.{Outcome}
 use Rattle.proj_words.specs.declared.outcome.Outcome.TheVariants.{Done, OutOfMemory, ReadFault, WriteFault, StoreFault}
+use Rattle.proj_cli.specs.Audit.{path_by}
 use Rattle.proj_cli.specs.Cases.{verdict}
 use Rattle.proj_cli.specs.Filters.{sound}
+use Rattle.proj_cli.specs.Verify.{name_by}
+use Rattle.proj_cli.specs.declared.judging.Claim.{Claim}
 use Rattle.proj_cli.specs.declared.judging.Judged.{Judged}
 use Rattle.proj_cli.specs.declared.judging.Judged.TheVariants as judged
 use Rattle.proj_cli.specs.declared.judging.Subject.{Subject}
@@ -22,6 +25,23 @@ pub record IsOf (form : Bytes → Bytes → Command) (asked : Command) (s : Subj
   pub sound_is : sound text ≡ Ok (shape s.filter)
   pub usable : IsUsable (shape s.filter)
 
+-- It is of the subject's ref, of a text of its filter, which is sound, and of a text of the path.
+pub record IsAuditOf (asked : Command) (s : Subject) (q : Path) : Type 0 where
+  pub path : Bytes
+  pub path_is : path_by path ≡ q
+  pub of_subject : IsOf (λ refname text. Audit refname text path) asked s
+
+-- It is of the digits of the claim's commit, and of texts of its filter, which is sound, and of its path.
+pub record IsClaimed (asked : Command) (c : Claim) : Type 0 where
+  pub digits : Bytes
+  pub text : Bytes
+  pub path : Bytes
+  pub asked_is : asked ≡ Verify digits text path
+  pub sound_is : sound text ≡ Ok (shape c.filter)
+  pub usable : IsUsable (shape c.filter)
+  pub name_is : name_by digits ≡ c.commit.0
+  pub path_is : path_by path ≡ c.path
+
 -- The command is judged to be this.
 abbrev pub IsJudged : Command → Judged → Type 0
 IsJudged asked (judged.Import force) = asked ≡ Import force
@@ -30,6 +50,8 @@ IsJudged asked (judged.Push s) = IsOf Push asked s
 IsJudged asked (judged.Export s) = IsOf Export asked s
 IsJudged asked (judged.Name s) = IsOf Name asked s
 IsJudged asked (judged.Rule r) = asked ≡ Rule (rule_number r)
+IsJudged asked (judged.Audit s q) = IsAuditOf asked s q
+IsJudged asked (judged.Verify c) = IsClaimed asked c
 
 -- some command is
 abbrev pub IsSomeJudged : Judged → Type 0

@@ -8,6 +8,8 @@ pub mod Export
 pub mod Push
 pub mod Name
 pub mod Rule
+pub mod Audit
+pub mod Verify
 pub mod Steps
 pub mod Intake
 pub mod Judging
@@ -21,6 +23,7 @@ pub mod Answers
 pub mod Forms
 pub mod Stopped
 pub mod Turns
+pub mod Inputs
 pub mod Batches
 pub mod Trials
 pub mod Runs

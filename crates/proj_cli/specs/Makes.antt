@@ -23,13 +23,15 @@ use Rattle.repo_ground.specs.Changes.{GetsItems, KeepsItems}
 use Rattle.repo_ground.specs.Contents.{Contents, IsCurrent, Spells, room_in}
 use Rattle.proj_words.specs.declared.outcome.Outcome.{Outcome}
 use Rattle.proj_words.specs.declared.outcome.Outcome.TheVariants.{Done, OutOfMemory, Collision, ReadFault, WriteFault, StoreFault}
-use Rattle.proj_cli.specs.Cases.{Case, ExportCase, ProjectCase, PushCase, Made, unchanged}
+use Rattle.proj_cli.specs.Audit.{IsAudited}
+use Rattle.proj_cli.specs.Cases.{AuditCase, Case, ExportCase, ProjectCase, PushCase, VerifyCase, Made, unchanged}
 use Rattle.proj_cli.specs.Steps.{made, hand, IsLawful}
 use Rattle.proj_cli.specs.Project.{name_line, in_order_of}
 use Rattle.proj_cli.specs.Filters.{entries_of, recalled}
 use Rattle.proj_cli.specs.Hands.{Hand, IsInHands}
 use Rattle.proj_cli.specs.Export.{EndsAtProjection}
 use Rattle.proj_cli.specs.Push.{IsPushed}
+use Rattle.proj_cli.specs.Verify.{IsVerified}
 use Rattle.proj_cli.specs.Plans.{AreKept}
 use Rattle.proj_cli.specs.Sent.{Fronts}
 
@@ -112,10 +114,12 @@ pub record IsKeepPlanOf (h : Held) (f : Filter) (n : Bytes) (room : Room) (p : P
   pub plan : (p ≡ NoPlan) ⊎ ((es : Entries) × (p ≡ KeepPlan h.rule (printed f) es) × IsKeepOf h f room es)
   pub holds : HoldsEntry h f n room p
 
--- what a case appends: its step's plan, but for projections that are kept; a push and an export are lawful besides
+-- what a case appends: its step's plan, but for projections that are kept; and the law of its command
 abbrev pub IsPlanIn : Room → Case → Made → Plan → Type 0
 IsPlanIn room (ProjectCase h f n) m p = IsKeepPlanOf h f n room p
 IsPlanIn room (ExportCase h f refname n) m p = (p ≡ m.plan) × EndsAtProjection h f n
+IsPlanIn room (AuditCase h f n q) m p = (p ≡ m.plan) × IsAudited h f n q
+IsPlanIn room (VerifyCase f n q text) m p = (p ≡ m.plan) × IsVerified f n q text
 IsPlanIn room (PushCase h f refname n x) m p = (p ≡ m.plan) × IsPushed h (held_after h p) f refname n x
 IsPlanIn room other m p = p ≡ m.plan
 

@@ -4,7 +4,8 @@ use Rattle.std.specs.declared.option.Option.{Option}
 use Rattle.git_objects.specs.Paths.{Bytes}
 use Rattle.proj_io.specs.Counts.{Counts}
 use Rattle.proj_io.specs.Views.{SourceView, SinkView, source_view, sink_view}
-use Rattle.proj_disk.specs.Disks.{DiskView, IsImage, stable}
+use Rattle.proj_disk.specs.Disks.{DiskView, IsImage, IsTornIfKnown, stable}
+use Rattle.proj_journal.specs.Rest.{new_bytes}
 use Rattle.proj_journal.specs.Spelling.{listed, spelled}
 use Rattle.proj_journal.specs.Journals.{items_of}
 use Rattle.proj_journal.specs.declared.opening.JournalError.{JournalError}
@@ -116,6 +117,11 @@ abbrev pub KeepsBytes : Option DiskView → Option DiskView → Type 0
 KeepsBytes None now = ⊤
 KeepsBytes (Some disk) now = disk.bytes ≢ [] → (now ≡ Some disk) ⊎ (now ≡ Some (stable disk.bytes))
 
+-- A known disk that was empty is as it was; or a write failed, and then any bytes may stand where those of a new journal go, and no others.
+abbrev pub IsBegun : Option DiskView → Option DiskView → JournalError → Type 0
+IsBegun None now error = ⊤
+IsBegun (Some disk) now error = disk.bytes ≡ [] → (now ≡ Some disk) ⊎ ((error ≡ Failed) × IsTornIfKnown 0 (length new_bytes) (Some disk) now)
+
 -- There is no journal on the disk, or no memory for it or for its text. Input and output are untouched, and bytes that stood on the disk
 -- are still there.
 pub record IsUnopened (Untouched : Type 0) (before after : Seen) (exit : ℕ) : Type 0 where
@@ -124,6 +130,7 @@ pub record IsUnopened (Untouched : Type 0) (before after : Seen) (exit : ℕ) : 
   pub status : exit ≡ error_code error
   pub why : SaysWhy before.content error
   pub kept : KeepsBytes before.content after.content
+  pub begun : IsBegun before.content after.content error
   pub cause : Counts before.faults after.faults (error ≡ Failed)
   pub text : GetsText before.err after.err (error_text error)
 

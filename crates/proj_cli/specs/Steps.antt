@@ -9,10 +9,11 @@ use Rattle.fast_import.specs.Replays.{empty_base, ran}
 use Rattle.state_items.specs.Changes.{room_of, Room, rule_plan, Plan, held_after}
 use Rattle.state_items.specs.Items.{Held}
 use Rattle.import_laws.specs.Bases.{base_of}
-use Rattle.proj_words.specs.Words.{Command, Import, Project, Push, Export, Name, Rule}
+use Rattle.proj_words.specs.Words.{Command, Import, Project, Push, Export, Name, Rule, Audit, Verify}
 use Rattle.proj_words.specs.declared.outcome.Outcome.TheVariants.{Usage}
 use Rattle.proj_words.specs.declared.outcome.Outcome.{Outcome}
-use Rattle.proj_cli.specs.Cases.{Case, loaded, Made, ImportCase, ProjectCase, ExportCase, PushCase, NameCase, RuleCase, within, held_in}
+use Rattle.proj_cli.specs.Audit.{IsAudited, audit_case, audit_made, path_by}
+use Rattle.proj_cli.specs.Cases.{Case, loaded, Made, ImportCase, ProjectCase, ExportCase, PushCase, NameCase, RuleCase, AuditCase, VerifyCase, within, held_in}
 use Rattle.proj_cli.specs.Export.{EndsAtProjection, export_case, export_made}
 use Rattle.proj_cli.specs.Filters.{sound}
 use Rattle.proj_cli.specs.Hands.{Hand, still_hand, history_hand}
@@ -21,6 +22,7 @@ use Rattle.proj_cli.specs.Name.{name_hand, name_made}
 use Rattle.proj_cli.specs.Project.{IsKeepPlan, HoldsHead, project_case, project_made}
 use Rattle.proj_cli.specs.Push.{IsPushed, push_case, push_hand, push_made}
 use Rattle.proj_cli.specs.Rule.{rule_line}
+use Rattle.proj_cli.specs.Verify.{IsVerified, name_by, verify_made}
 
 -- The case of a command for what is loaded and an input, or the first refusal: of the filter, of loading, and of the ref. A batch and a
 -- trial are made of several commands, and are none in a batch.
@@ -31,6 +33,8 @@ case (Export refname text) loading input = sound text >>= λ f. loading >>= λ h
 case (Push refname text) loading input = sound text >>= λ f. loading >>= λ h. push_case h f refname input
 case (Name refname text) loading input = sound text >>= λ f. Ok (NameCase f refname (ran empty_base input))
 case (Rule k) loading input = loading >>= λ h. Ok (RuleCase h k)
+case (Audit refname text path) loading input = sound text >>= λ f. loading >>= λ h. audit_case h f refname (path_by path)
+case (Verify digits text path) loading input = sound text >>= λ f. Ok (VerifyCase f (name_by digits) (path_by path) input)
 case Rattle.proj_words.specs.Words.Batch loading input = Err Usage
 case (Rattle.proj_words.specs.Words.Trial n) loading input = Err Usage
 case Rattle.proj_words.specs.Words.Unknown loading input = Err Usage
@@ -44,6 +48,8 @@ made room (ExportCase h f refname n) = export_made h f refname n
 made room (PushCase h f refname n p) = push_made room h refname p
 made room (NameCase f refname x) = name_made f refname x
 made room (RuleCase h k) = within room h (rule_line k) (rule_plan h k)
+made room (AuditCase h f n q) = audit_made h f n q
+made room (VerifyCase f n q text) = verify_made f n q text
 
 -- the cases that come up, which are one or none
 abbrev pub cases : Command → List Bytes → Bytes → List Case
@@ -72,4 +78,6 @@ abbrev pub IsLawful : List Bytes → Plan → Case → Type 0
 IsLawful items plan (PushCase h f refname n p) = IsPushed h (held_after h plan) f refname n p
 IsLawful items plan (ProjectCase h f n) = HoldsHead h f n items plan
 IsLawful items plan (ExportCase h f refname n) = EndsAtProjection h f n
+IsLawful items plan (AuditCase h f n q) = IsAudited h f n q
+IsLawful items plan (VerifyCase f n q text) = IsVerified f n q text
 IsLawful items plan other = ⊤

@@ -8,7 +8,7 @@ ghost use Rattle.proj_io.specs.Uses.{IsUsed};
 ghost use Rattle.proj_io.specs.Views.{SourceView, keeper_view, sink_view};
 ghost use Rattle.proj_words.specs.Views.{entry_value};
 ghost use Rattle.state_items.specs.Items.{Held};
-ghost use Rattle.proj_cli.specs.Batches.{BatchLeaves, IsBatchAnswer, IsBatchBy, IsLeftBy, IsRun, IsUnread};
+ghost use Rattle.proj_cli.specs.Batches.{BatchLeaves, IsBatchAnswer, IsBatchBy, IsLeftBy, IsRun};
 ghost use Rattle.proj_cli.specs.Calls.{devices};
 ghost use Rattle.proj_cli.specs.Cases.{is_verdict};
 ghost use Rattle.proj_cli.specs.Makes.{IsStateOf};
@@ -21,9 +21,9 @@ use crate::deliver::write_reply;
 use crate::laws::recall_law;
 use crate::loading::load;
 use crate::performing::run_upon;
-use git_objects::limits::INPUT_BYTES;
-use git_objects::{Bytes, Quantity};
-use proj_io::{Keeper, ReadError, Sink, Source, Taken, read_up_to};
+use crate::reading::read_input;
+use git_objects::Bytes;
+use proj_io::{Keeper, Sink, Source};
 use proj_words::{Entry, Outcome, line_command, read_entries};
 use repo_ground::State;
 use std::alloc::Global;
@@ -165,35 +165,6 @@ fn answer_upon<O: Sink, K: Keeper>(
     }
 }
 
-// Reads the input of a batch, of at most 2^29 bytes.
-fn read_batch<S: Source>(alloc: Global, input: &mut S) -> Result<Bytes, Outcome>
-    ensures ok { IfOk result (λ bytes. IfSome (S.left input.old) (λ all. bytes ≡ all)) }
-    ensures within { IfOk result (λ bytes. length bytes ≤ 2 ^ 29) }
-    ensures err { IfErr result (IsUnread (S.left input.old)) }
-    ensures cause { Counts (S.faults input.old) (S.faults input.new) (result ≡ Err Outcome.ReadFault) }
-{
-    match read_up_to(alloc, input, INPUT_BYTES) {
-        Err(ReadError::Fault) => Err(Outcome::ReadFault),
-        Err(ReadError::OutOfMemory) => Err(Outcome::OutOfMemory),
-        Ok(taken) => whole_batch(taken),
-    }
-}
-
-// What was read, unless there is more of it.
-fn whole_batch(taken: Taken) -> Result<Bytes, Outcome>
-    ensures ok { IfOk result (λ bytes. (taken.more ≡ false) × (bytes ≡ taken.bytes)) }
-    ensures err { IfErr result (λ e. (taken.more ≡ true) × (e ≡ Outcome.Limit Quantity.Input None)) }
-{
-    let Taken { bytes, more } = taken;
-    if more {
-        return Err(Outcome::Limit {
-            which: Quantity::Input,
-            at: None,
-        });
-    }
-    Ok(bytes)
-}
-
 /// Reads the entries of a batch, loads the store, and answers them one after another.
 pub fn batch<S: Source, O: Sink, K: Keeper>(
     alloc: Global,
@@ -212,7 +183,7 @@ pub fn batch<S: Source, O: Sink, K: Keeper>(
         (K.left_since store.old) (K.left_since store.new)) }
     ensures is_open { result ≢ Outcome.StoreFault → K.is_open store.new }
 {
-    let taken = match read_batch(alloc, input) {
+    let taken = match read_input(alloc, input) {
         Err(outcome) => return outcome,
         Ok(taken) => taken,
     };

@@ -1,17 +1,21 @@
 // Judging a command: its words and its filter, before any device is touched.
 ghost use Rattle.std.specs.Prelude.{◌≡◌, ◌⊎◌, Err, Ok, IfErr, IfOk, true};
 ghost use Rattle.filter_text.specs.Shapes.{shape};
+ghost use Rattle.std.specs.Result.{is_ok};
+ghost use Rattle.path_names.specs.PathTexts.{path_of};
 ghost use Rattle.path_names.specs.RefNames.{is_ref_name};
 ghost use Rattle.proj_words.specs.Views.{command_of};
 ghost use Rattle.proj_words.specs.Words.{Unknown, is_formed};
 ghost use Rattle.workspace.specs.Laws.{IsUsable};
+ghost use Rattle.proj_cli.specs.Audit.{path_by};
 ghost use Rattle.proj_cli.specs.Filters.{sound};
 ghost use Rattle.proj_cli.specs.Judging.{IsJudged, IsUnjudged};
 
 use crate::filters::sound_filter;
 use commit_map::Rule;
 use filter_text::Filter;
-use path_names::{RefFault, RefName};
+use git_objects::Name;
+use path_names::{Path, PathFault, RefFault, RefName};
 use proj_words::{Command, Outcome};
 use std::alloc::Global;
 
@@ -20,6 +24,14 @@ use std::alloc::Global;
 pub(crate) struct Subject {
     pub(crate) filter: Filter,
     pub(crate) refname: RefName,
+}
+
+/// What a certificate is asked to prove: what a sound filter shows of a commit at a path.
+#[derive(Drop)]
+pub(crate) struct Claim {
+    pub(crate) commit: Name,
+    pub(crate) filter: Filter,
+    pub(crate) path: Path,
 }
 
 /// A command that is judged: what is left of it to do. A batch and a trial are made of several commands, and are none.
@@ -32,6 +44,9 @@ pub(crate) enum Judged {
     Export(Subject),
     Name(Subject),
     Rule(Rule),
+    /// At a path.
+    Audit(Subject, Path),
+    Verify(Claim),
 }
 
 /// The ref name that a text is.
@@ -44,6 +59,19 @@ pub(crate) fn ref_name(alloc: Global, text: &[u8]) -> Result<RefName, Outcome>
         Ok(refname) => Ok(refname),
         Err(RefFault::OutOfMemory) => Err(Outcome::OutOfMemory),
         Err(RefFault::Bad) => unreachable!(),
+    }
+}
+
+/// The path that a text is.
+fn path_in(alloc: Global, text: &[u8]) -> Result<Path, Outcome>
+    requires { is_ok (path_of text.now) ≡ true }
+    ensures ok { IfOk result (λ path. path_by text.now ≡ path) }
+    ensures err { IfErr result (λ e. e ≡ Outcome.OutOfMemory) }
+{
+    match Path::parse(alloc, text) {
+        Ok(path) => Ok(path),
+        Err(PathFault::OutOfMemory) => Err(Outcome::OutOfMemory),
+        Err(_) => unreachable!(),
     }
 }
 
@@ -89,6 +117,23 @@ pub(crate) fn judge(alloc: Global, asked: Command<'_>) -> Result<Judged, Outcome
             Some(rule) => Ok(Judged::Rule(rule)),
             None => unreachable!(),
         },
+        Command::Audit(refname, filter, path) => {
+            let subject = read_subject(alloc, refname, filter)?;
+            let path = path_in(alloc, path)?;
+            Ok(Judged::Audit(subject, path))
+        }
+        Command::Verify(commit, filter, path) => {
+            let filter = sound_filter(alloc, filter)?;
+            let path = path_in(alloc, path)?;
+            match Name::from_hex(commit) {
+                Some(commit) => Ok(Judged::Verify(Claim {
+                    commit,
+                    filter,
+                    path,
+                })),
+                None => unreachable!(),
+            }
+        }
         Command::Batch => Err(Outcome::Usage),
         Command::Trial(_) => Err(Outcome::Usage),
         Command::Unknown => Err(Outcome::Usage),

@@ -1,6 +1,7 @@
 //! What the program does: commands over a store, and their answers.
 #![tactic(auto)]
 
+mod auditing;
 mod batching;
 mod deliver;
 mod exporting;
@@ -15,10 +16,12 @@ mod performing;
 mod program;
 mod projecting;
 mod pushing;
+mod reading;
 mod refusals;
 mod rule;
 mod serving;
 mod trying;
+mod verifying;
 
 pub use batching::batch;
 pub use deliver::{conclude, finish, tell};
@@ -26,7 +29,7 @@ pub use exporting::export;
 pub use filters::sound_filter;
 pub use importing::import;
 pub use laws::{recall_law, stay_law};
-pub use lines::{projection_report, refs_report, rule_report};
+pub use lines::{leaf_report, projection_report, refs_report, rule_report};
 pub use naming::name;
 pub use program::run;
 pub use proj_words::{Outcome, outcome_code, outcome_text};
@@ -35,3 +38,4 @@ pub use pushing::push;
 pub use rule::set_rule;
 pub use serving::{Served, serve};
 pub use trying::trial;
+pub use verifying::verify_text;

@@ -5,6 +5,9 @@ ghost use Rattle.std.specs.Option.{option_map};
 ghost use Rattle.fast_import.specs.Replaying.{setting_value};
 ghost use Rattle.commit_map.specs.Rules.{rule_number};
 ghost use Rattle.commit_map.specs.Shown.{shown_value};
+ghost use Rattle.git_objects.specs.Names.{mode_text};
+ghost use Rattle.proj_audit.specs.Certificates.{found_text};
+ghost use Rattle.proj_audit.specs.Steps.{found_value};
 ghost use Rattle.proj_cli.specs.Project.{name_line};
 ghost use Rattle.proj_cli.specs.Import.{ref_line};
 ghost use Rattle.proj_cli.specs.Rule.{rule_line};
@@ -12,6 +15,8 @@ ghost use Rattle.proj_cli.specs.Pushing.{digits_line};
 
 use commit_map::{Rule, Shown};
 use fast_import::Setting;
+use git_objects::Mode;
+use path_trees::Leaf;
 use push_back::Pair;
 use std::alloc::{AllocError, Global};
 
@@ -81,5 +86,33 @@ pub fn rule_report(alloc: Global, rule: Rule) -> Result<Vec<u8>, AllocError>
     match rule {
         Rule::One => b"rule 1\n".to_vec(alloc),
         Rule::Two => b"rule 2\n".to_vec(alloc),
+    }
+}
+
+fn mode_text(mode: Mode) -> &'static [u8]
+    ensures { result.now ≡ mode_text mode }
+{
+    match mode {
+        Mode::File => b"100644",
+        Mode::Exec => b"100755",
+        Mode::Link => b"120000",
+        Mode::Module => b"160000",
+        Mode::Dir => b"40000",
+    }
+}
+
+/// The line of what stands at a path, or that nothing does.
+pub fn leaf_report(alloc: Global, leaf: Option<Leaf>) -> Result<Vec<u8>, AllocError>
+    ensures { IfOk result (λ report. report.items ≡ found_text (option_map found_value leaf)) }
+{
+    match leaf {
+        None => b"absent\n".to_vec(alloc),
+        Some(leaf) => {
+            let mut report = mode_text(leaf.mode).to_vec(alloc)?;
+            report.push(b' ')?;
+            report.extend_from_slice(&leaf.name.hex())?;
+            report.push(b'\n')?;
+            Ok(report)
+        }
     }
 }

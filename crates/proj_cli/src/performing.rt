@@ -15,6 +15,7 @@ ghost use Rattle.proj_cli.specs.Makes.{IsState, IsStateOf};
 ghost use Rattle.proj_cli.specs.Running.{IsCommandMade};
 ghost use Rattle.proj_cli.specs.Stopped.{ForInput};
 
+use crate::auditing::audited;
 use crate::exporting::exported;
 use crate::importing::import;
 use crate::judging::{Judged, judge};
@@ -22,6 +23,7 @@ use crate::naming::name;
 use crate::projecting::project_upon;
 use crate::pushing::push;
 use crate::rule::set_rule;
+use crate::verifying::verify_text;
 use git_objects::Bytes;
 use memory_devices::SliceSource;
 use proj_io::{Keeper, Source};
@@ -72,6 +74,10 @@ pub(crate) fn perform<S: Source, K: Keeper>(
         Judged::Export(subject) => exported(alloc, subject, state),
         Judged::Name(subject) => name(alloc, &subject.filter, &subject.refname, input),
         Judged::Rule(rule) => set_rule(alloc, state, store, *rule),
+        Judged::Audit(subject, path) => audited(alloc, subject, path, state),
+        Judged::Verify(claim) => {
+            verify_text(alloc, &claim.commit, &claim.filter, &claim.path, input)
+        }
     }
 }
 

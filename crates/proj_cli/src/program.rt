@@ -3,13 +3,13 @@ ghost use Rattle.std.specs.Prelude.{◌≡◌, ◌≢◌, ◌⊎◌, List, map, 
 ghost use Rattle.git_objects.specs.Paths.{Bytes};
 ghost use Rattle.proj_io.specs.Stops.{OnlyAdds};
 ghost use Rattle.proj_io.specs.Views.{source_view, sink_view, keeper_view};
-ghost use Rattle.proj_words.specs.Words.{Command as Asked, Unknown, command, is_formed, loads, reads, writes};
+ghost use Rattle.proj_words.specs.Words.{Command as Asked, Unknown, command, is_formed, loads, reads};
 ghost use Rattle.proj_words.specs.Views.{command_of};
 ghost use Rattle.proj_words.specs.Outcomes.{text_of};
 ghost use Rattle.proj_cli.specs.Answers.{GetsText};
 ghost use Rattle.proj_cli.specs.Calls.{devices};
 ghost use Rattle.proj_cli.specs.Steps.{case};
-ghost use Rattle.proj_cli.specs.Cases.{loaded};
+ghost use Rattle.proj_cli.specs.Cases.{is_one, loaded, verdict};
 ghost use Rattle.proj_cli.specs.Forms.{IsMade};
 ghost use Rattle.proj_cli.specs.Intake.{TakesUpTo, waited_by};
 ghost use Rattle.proj_cli.specs.Judging.{IsJudged, IsSomeJudged};
@@ -25,6 +25,7 @@ use crate::loading::load;
 use crate::naming::name;
 use crate::performing::perform;
 use crate::trying::trial;
+use crate::verifying::verify_text;
 use git_objects::Bytes;
 use proj_io::{Keeper, Sink, Source};
 use proj_words::{Command, Outcome, read_command};
@@ -40,7 +41,7 @@ fn perform_loaded<S: Source, K: Keeper>(
     requires open { K.is_open store.old }
     requires judged { IsSomeJudged judged.now }
     ensures made { let read = source_view S.left S.faults in let kept = keeper_view K.items K.number K.faults in
-        (asked : Asked) → IsJudged asked judged.now → writes asked ≡ true →
+        (asked : Asked) → IsJudged asked judged.now → loads asked ≡ true →
         IsMade asked (read input.old) (read input.new) (kept store.old) (kept store.new)
         (OnlyAdds (K.moment store.old) (K.moment store.new) (K.left_since store.old) (K.left_since store.new)) result }
     ensures taken { (asked : Asked) (items : List Bytes) → IsJudged asked judged.now → K.items store.old ≡ Some items →
@@ -54,6 +55,48 @@ fn perform_loaded<S: Source, K: Keeper>(
     match load(alloc, store) {
         Err(outcome) => Err(outcome),
         Ok(mut state) => perform(alloc, judged, input, &mut state, store),
+    }
+}
+
+// Performs a judged command, and writes its report.
+fn perform_judged<S: Source, O: Sink, K: Keeper>(
+    alloc: Global,
+    judged: &Judged,
+    input: &mut S,
+    out: &mut O,
+    store: &mut K,
+) -> Outcome
+    requires open { K.is_open store.old }
+    requires judged { IsSomeJudged judged.now }
+    ensures answer { let seen = devices S.left S.faults O.written O.faults O.refusals K.items K.number K.faults in
+        (asked : Asked) → IsJudged asked judged.now →
+        IsAnswer asked (seen input.old out.old store.old) (seen input.new out.new store.new) result }
+    ensures adds { (asked : Asked) (items : List Bytes) → IsJudged asked judged.now →
+        K.items store.old ≡ Some items → ForInput (S.left input.old) (λ all.
+        OnlyAdds (K.moment store.old) (K.moment store.new) (K.left_since store.old) (K.left_since store.new)
+        (MayLeave asked items all)) }
+    ensures fronts { (items : List Bytes) → K.items store.old ≡ Some items → result ≢ Outcome.StoreFault →
+        OnlyGrows items (K.items store.new) (OnlyAdds (K.moment store.old) (K.moment store.new)
+        (K.left_since store.old) (K.left_since store.new)) }
+    ensures unread { (asked : Asked) → IsJudged asked judged.now → reads asked ≡ false → input.new ≡ input.old }
+    ensures unloaded { (asked : Asked) → IsJudged asked judged.now → loads asked ≡ false → store.new ≡ store.old }
+    ensures is_open { result ≢ Outcome.StoreFault → K.is_open store.new }
+{
+    recall_law();
+    match judged {
+        Judged::Export(subject) => export_loaded(alloc, subject, out, store),
+        Judged::Name(subject) => {
+            let made = name(alloc, &subject.filter, &subject.refname, input);
+            conclude(made, out)
+        }
+        Judged::Verify(claim) => {
+            let made = verify_text(alloc, &claim.commit, &claim.filter, &claim.path, input);
+            conclude(made, out)
+        }
+        _ => {
+            let made = perform_loaded(alloc, judged, input, store);
+            conclude(made, out)
+        }
     }
 }
 
@@ -77,6 +120,8 @@ fn act<S: Source, O: Sink, K: Keeper>(
         (K.left_since store.old) (K.left_since store.new)) }
     ensures unread { reads (command_of asked.entry) ≡ false → input.new ≡ input.old }
     ensures unloaded { loads (command_of asked.entry) ≡ false → store.new ≡ store.old }
+    ensures unjudged { is_one (command_of asked.entry) ≡ true → IsErr (verdict (command_of asked.entry)) →
+        (input.new ≡ input.old) × (store.new ≡ store.old) }
     ensures idle { command_of asked.entry ≡ Unknown → (out.new ≡ out.old) × (result ≡ Outcome.Usage) }
     ensures is_open { result ≢ Outcome.StoreFault → K.is_open store.new }
 {
@@ -86,17 +131,7 @@ fn act<S: Source, O: Sink, K: Keeper>(
         Command::Trial(count) => conclude(trial(alloc, count), out),
         _ => match judge(alloc, asked) {
             Err(outcome) => outcome,
-            Ok(judged) => match &judged {
-                Judged::Export(subject) => export_loaded(alloc, subject, out, store),
-                Judged::Name(subject) => {
-                    let made = name(alloc, &subject.filter, &subject.refname, input);
-                    conclude(made, out)
-                }
-                _ => {
-                    let made = perform_loaded(alloc, &judged, input, store);
-                    conclude(made, out)
-                }
-            },
+            Ok(judged) => perform_judged(alloc, &judged, input, out, store),
         },
     }
 }
@@ -124,6 +159,9 @@ pub fn run<S: Source, O: Sink, E: Sink, K: Keeper>(
     // A form that doesn't read leaves the input, and one that doesn't load leaves the store.
     ensures untouched { let asked = command (map (λ word. string_bytes word) words.now) in
         (reads asked ≡ false → input.new ≡ input.old) × (loads asked ≡ false → store.new ≡ store.old) }
+    // A command whose filter is refused leaves both.
+    ensures unjudged { let asked = command (map (λ word. string_bytes word) words.now) in
+        is_one asked ≡ true → IsErr (verdict asked) → (input.new ≡ input.old) × (store.new ≡ store.old) }
     // Words without a form are answered without a look at any device.
     ensures idle { command (map (λ word. string_bytes word) words.now) ≡ Unknown →
         (out.new ≡ out.old) × (result ≡ Outcome.Usage) }

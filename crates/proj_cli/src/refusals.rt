@@ -1,10 +1,11 @@
 // The outcomes of what lower crates refuse.
 ghost use Rattle.std.specs.Prelude.{◌≡◌};
 ghost use Rattle.proj_cli.specs.Pushing.{fault_outcome};
-ghost use Rattle.proj_cli.specs.Refusals.{apply_outcome, commit_outcome, replay_outcome};
+ghost use Rattle.proj_cli.specs.Refusals.{apply_outcome, certificate_outcome, commit_outcome, replay_outcome};
 
 use fast_import::ReplayError;
 use filter_apply::ApplyError;
+use proj_audit::VerifyFault;
 use proj_words::Outcome;
 use push_back::PushFault;
 use repo_ground::CommitError;
@@ -17,6 +18,17 @@ pub(crate) fn commit_outcome(error: CommitError) -> Outcome
         CommitError::StoreFault => Outcome::StoreFault,
         CommitError::Limit { which } => Outcome::Limit { which, at: None },
         CommitError::OutOfMemory => Outcome::OutOfMemory,
+    }
+}
+
+/// Why a certificate isn't accepted.
+pub(crate) fn certificate_outcome(fault: VerifyFault) -> Outcome
+    ensures { result ≡ certificate_outcome fault }
+{
+    match fault {
+        VerifyFault::Syntax { at } => Outcome::Syntax { at },
+        VerifyFault::NotProved { name } => Outcome::NotProved { name },
+        VerifyFault::OutOfMemory => Outcome::OutOfMemory,
     }
 }
 

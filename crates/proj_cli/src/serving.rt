@@ -10,8 +10,8 @@ ghost use Rattle.proj_journal.specs.Spelling.{listed};
 ghost use Rattle.proj_words.specs.Words.{Unknown, command, reads};
 ghost use Rattle.proj_cli.specs.Answers.{GetsText};
 ghost use Rattle.proj_cli.specs.Stopped.{ForInput};
-ghost use Rattle.proj_cli.specs.Served.{HasList, IsOnlySynced, IsServed, IsSteady, IsWhole, KeepsBytes};
-ghost use Rattle.proj_cli.specs.Served.{LeavesList, LeavesWhole, SaysWhy, error_code, error_text, seen};
+ghost use Rattle.proj_cli.specs.Served.{HasList, IsBegun, IsOnlySynced, IsServed, IsSteady, IsWhole};
+ghost use Rattle.proj_cli.specs.Served.{KeepsBytes, LeavesList, LeavesWhole, SaysWhy, error_code, error_text, seen};
 
 use crate::deliver::{tell, tell_plain};
 use crate::program::run;
@@ -37,6 +37,7 @@ fn journal_on<D: Disk>(alloc: Global, disk: D) -> Result<Journal<D>, NoJournal<D
     ensures synced { IfOk result (λ journal. IsOnlySynced (D.content disk) (D.content (disk_of journal))) }
     ensures why { IfErr result (λ none. SaysWhy (D.content disk) none.error) }
     ensures kept { IfErr result (λ none. KeepsBytes (D.content disk) (D.content none.disk)) }
+    ensures begun { IfErr result (λ none. IsBegun (D.content disk) (D.content none.disk) none.error) }
     // A stop leaves nothing of a disk that wasn't empty that it wouldn't have left before.
     ensures stops { (view : DiskView) → D.content disk ≡ Some view → view.bytes ≢ [] → MatchResult result
         (λ journal. OnlyAdds (D.moment disk) (D.moment (disk_of journal))
@@ -77,7 +78,8 @@ fn broken_text(alloc: Global, at: u64) -> Result<Vec<u8>, AllocError>
 // Writes why there is no journal, and answers what was written: where there is no memory for the text of a broken one,
 // it is that.
 fn tell_error<E: Sink>(alloc: Global, error: JournalError, err: &mut E) -> JournalError
-    ensures error { (result ≡ error) ⊎ (result ≡ JournalError.OutOfMemory) }
+    ensures error { (result ≡ error) ⊎ ((result ≡ JournalError.OutOfMemory) ×
+        ((at : ℕ) × (error ≡ JournalError.Broken at))) }
     ensures text { let seen = sink_view E.written E.faults E.refusals in GetsText (seen err.old) (seen err.new)
         (error_text result) }
 {

@@ -2,10 +2,11 @@
 use Rattle.std.specs.Prelude.{◌≡◌, refl, true, false, [], ◌∷◌}
 use Rattle.std.specs.Prelude.{◌++◌, codes, replicate, Some, None, Ok, Err}
 use Rattle.std.specs.Fmt.{digits}
-use Rattle.hex.specs.Hex.{encode_with}
+use Rattle.hex.specs.Hex.{decode_pairs, encode_with}
 use Rattle.git_objects.specs.Paths.{Bytes, Path}
 use Rattle.git_objects.specs.declared.name.Name.{Name as ObjectName}
 use Rattle.git_objects.specs.declared.quantity.Quantity.TheVariants as limits
+use Rattle.path_names.specs.PathTexts.{path_of}
 use Rattle.path_names.specs.Quoting.{quote, quoted_byte}
 use Rattle.path_names.specs.RefNames.{is_ref_name}
 use Rattle.path_names.specs.Words.{number}
@@ -13,7 +14,7 @@ use Rattle.stream_reader.specs.declared.fault.Feature.TheVariants as features
 use Rattle.stream_reader.specs.declared.fault.StreamFault.TheVariants as streams
 use Rattle.filter_text.specs.declared.filter.FilterFault.TheVariants as texts
 use Rattle.filter_routes.specs.declared.fault.RouteFault.TheVariants as routes
-use Rattle.proj_words.specs.Words.{Import, Project, Push, Export, Name, Batch, Trial, Rule, Unknown}
+use Rattle.proj_words.specs.Words.{Import, Project, Push, Export, Name, Batch, Trial, Rule, Audit, Verify, Unknown}
 use Rattle.proj_words.specs.Words.{command, line_command, line_words, loads, reads, writes}
 use Rattle.proj_words.specs.Outcomes.{code_of, text_of, usage}
 use Rattle.proj_words.specs.Entries.{byte_count, entries, reply_text}
@@ -97,26 +98,56 @@ pub no_words : command [] ≡ Unknown
 no_words = refl
 
 pub a_word_too_many : command (codes "project" ∷ main ∷ codes ":/a" ∷ codes "b" ∷ []) ≡ Unknown
+unfolding path_of
 a_word_too_many = refl
 
--- ---- lines of a batch
+-- ---- certificates
 
--- the filter is all that stands behind the second space
-pub a_filter_with_spaces : line_words (codes "push r :/a b ") ≡ codes "push" ∷ codes "r" ∷ codes ":/a b " ∷ []
-a_filter_with_spaces = refl
+abbrev digits_of_a_commit : Bytes
+digits_of_a_commit = replicate 40 97
 
-pub a_line_of_one_word : line_words (codes "import") ≡ codes "import" ∷ []
-a_line_of_one_word = refl
+pub an_audit : command (codes "audit" ∷ main ∷ codes ":/a" ∷ codes "b/f" ∷ []) ≡ Audit main (codes ":/a") (codes "b/f")
+unfolding is_ref_name path_of
+an_audit = refl
 
-pub a_batch_in_a_batch : line_command (codes "batch") ≡ Unknown
-a_batch_in_a_batch = refl
+pub an_audit_of_no_path : command (codes "audit" ∷ main ∷ codes ":/a" ∷ codes "b//f" ∷ []) ≡ Unknown
+unfolding path_of
+an_audit_of_no_path = refl
 
-pub a_trial_in_a_batch : line_command (codes "trial 1") ≡ Unknown
-unfolding number
-a_trial_in_a_batch = refl
+pub an_audit_of_no_ref : command (codes "audit" ∷ digits_of_a_commit ∷ codes ":/a" ∷ codes "f" ∷ []) ≡ Unknown
+unfolding is_ref_name path_of
+an_audit_of_no_ref = refl
 
-pub a_forced_import_in_a_batch : line_command (codes "import --force") ≡ Import true
-a_forced_import_in_a_batch = refl
+pub an_audit_without_a_path : command (codes "audit" ∷ main ∷ codes ":/a" ∷ []) ≡ Unknown
+unfolding is_ref_name
+an_audit_without_a_path = refl
+
+pub a_verification : command (codes "verify" ∷ digits_of_a_commit ∷ codes ":/a" ∷ codes "f" ∷ []) ≡
+    Verify digits_of_a_commit (codes ":/a") (codes "f")
+unfolding path_of decode_pairs
+a_verification = refl
+
+pub digits_of_the_upper_case : command (codes "verify" ∷ replicate 40 65 ∷ [] ∷ codes "f" ∷ []) ≡
+    Verify (replicate 40 65) [] (codes "f")
+unfolding path_of decode_pairs
+digits_of_the_upper_case = refl
+
+pub a_verification_of_39_digits : command (codes "verify" ∷ replicate 39 97 ∷ codes ":/a" ∷ codes "f" ∷ []) ≡ Unknown
+unfolding path_of
+a_verification_of_39_digits = refl
+
+pub a_verification_of_a_ref : command (codes "verify" ∷ main ∷ codes ":/a" ∷ codes "f" ∷ []) ≡ Unknown
+unfolding path_of
+a_verification_of_a_ref = refl
+
+-- the third word is all that is left, so that no line has a word for a path
+pub an_audit_in_a_batch : line_command (codes "audit refs/heads/main :/a f") ≡ Unknown
+unfolding is_ref_name
+an_audit_in_a_batch = refl
+
+pub a_verification_in_a_batch : line_command (codes "verify " ++ digits_of_a_commit ++ codes " :/a f") ≡ Unknown
+unfolding is_ref_name
+a_verification_in_a_batch = refl
 
 -- bytes that are no UTF-8 are told from a word as others are
 pub a_word_that_is_no_text : line_command (255 ∷ []) ≡ Unknown
@@ -264,6 +295,22 @@ a_name_loads_nothing = refl
 
 pub a_trial_reads_nothing : reads (Trial 1) ≡ false
 a_trial_reads_nothing = refl
+
+-- an audit loads as an export does, and a verification reads as a name does
+pub an_audit_loads : loads (Audit main [] []) ≡ true
+an_audit_loads = refl
+
+pub an_audit_reads_nothing : reads (Audit main [] []) ≡ false
+an_audit_reads_nothing = refl
+
+pub an_audit_writes_no_item : writes (Audit main [] []) ≡ false
+an_audit_writes_no_item = refl
+
+pub a_verification_reads : reads (Verify digits_of_a_commit [] []) ≡ true
+a_verification_reads = refl
+
+pub a_verification_loads_nothing : loads (Verify digits_of_a_commit [] []) ≡ false
+a_verification_loads_nothing = refl
 
 -- ---- texts
 

@@ -110,8 +110,9 @@ path_words p = quote (text p)
 -- the forms of the words
 abbrev pub usage : Bytes
 usage =
-    codes "usage: proj STORE (import [--force] | project REF FILTER | push REF FILTER | export REF FILTER | batch | "
-    ++ codes "rule (1 | 2)), proj name REF FILTER, proj trial N"
+    codes "usage: proj STORE (import [--force] | project REF FILTER | push REF FILTER | export REF FILTER | "
+    ++ codes "audit REF FILTER PATH | batch | "
+    ++ codes "rule (1 | 2)), proj name REF FILTER, proj trial N, proj verify COMMIT FILTER PATH"
 
 -- the line for the error stream, without its end
 abbrev pub words_of : Outcome → Bytes

@@ -2,9 +2,12 @@
 use Rattle.std.specs.Prelude.{ℕ, Bool, true, false, ◌&&◌, ◌||◌, ◌==◌, nat_eq, nat_le, if◌then◌else◌}
 use Rattle.std.specs.Prelude.{List, [], ◌∷◌, codes, Option, Some, None}
 use Rattle.std.specs.List.{starts_with}
-use Rattle.std.specs.Option.{option_and_then}
+use Rattle.std.specs.Option.{is_some, option_and_then}
+use Rattle.std.specs.Result.{is_ok}
 use Rattle.git_objects.specs.Paths.{Bytes, same_bytes}
+use Rattle.git_objects.specs.CommitBodies.{digits_name}
 use Rattle.git_objects.specs.Idents.{cut_at}
+use Rattle.path_names.specs.PathTexts.{path_of}
 use Rattle.path_names.specs.RefNames.{is_ref_name}
 use Rattle.path_names.specs.Words.{number}
 
@@ -20,6 +23,10 @@ pub data Command : Type 0 where
   Trial : ℕ → Command
   -- of the number of a rule
   Rule : ℕ → Command
+  -- of a ref, the text of a filter, and that of a path
+  Audit : Bytes → Bytes → Bytes → Command
+  -- of a commit's digits, the text of a filter, and that of a path
+  Verify : Bytes → Bytes → Bytes → Command
   -- no form
   Unknown : Command
 
@@ -56,14 +63,34 @@ three_words w r f =
     (if same_bytes w (codes "export") then Export r f else
     (if same_bytes w (codes "name") then Name r f else Unknown)))
 
+-- 40 digits of either case
+abbrev pub is_commit_word : Bytes → Bool
+is_commit_word t = is_some (digits_name t)
+
+-- whether a text is read as a path
+abbrev pub is_path_word : Bytes → Bool
+is_path_word t = is_ok (path_of t)
+
+-- of a word, a ref or a commit's digits, the text of a filter, and that of a path
+abbrev pub certificate_words : Bytes → Bytes → Bytes → Bytes → Command
+certificate_words w n f p =
+    if same_bytes w (codes "audit") then (if is_ref_name n then Audit n f p else Unknown) else
+    (if same_bytes w (codes "verify") then (if is_commit_word n then Verify n f p else Unknown) else Unknown)
+
+-- a path must be one that can be read
+abbrev pub four_words : Bytes → Bytes → Bytes → Bytes → Command
+four_words w n f p = if is_path_word p then certificate_words w n f p else Unknown
+
 -- the form of the words; a ref must be a ref name
 abbrev pub command : List Bytes → Command
 command (w ∷ []) = one_word w
 command (w ∷ v ∷ []) = two_words w v
 command (w ∷ r ∷ f ∷ []) = if is_ref_name r then three_words w r f else Unknown
+command (w ∷ n ∷ f ∷ p ∷ []) = four_words w n f p
 command _ = Unknown
 
--- whether the ref of a command is a ref name, the number of a rule 1 or 2, and that of a trial from 1 to 100,000
+-- Whether the ref of a command is a ref name, its commit 40 digits, its path one that can be read, the number of a rule 1
+-- or 2, and that of a trial from 1 to 100,000.
 abbrev pub is_formed : Command → Bool
 is_formed (Project r f) = is_ref_name r
 is_formed (Push r f) = is_ref_name r
@@ -71,6 +98,8 @@ is_formed (Export r f) = is_ref_name r
 is_formed (Name r f) = is_ref_name r
 is_formed (Trial n) = nat_le 1 n && nat_le n 100000
 is_formed (Rule k) = k == 1 || k == 2
+is_formed (Audit r f p) = is_ref_name r && is_path_word p
+is_formed (Verify n f p) = is_commit_word n && is_path_word p
 is_formed _ = true
 
 -- ---- in a batch
@@ -101,16 +130,19 @@ reads (Import force) = true
 reads (Push r f) = true
 reads (Name r f) = true
 reads Batch = true
+reads (Verify n f p) = true
 reads _ = false
 
 -- whether it reads the items of the store
 abbrev pub loads : Command → Bool
 loads (Name r f) = false
 loads (Trial n) = false
+loads (Verify n f p) = false
 loads Unknown = false
 loads _ = true
 
 -- whether it may append an item
 abbrev pub writes : Command → Bool
 writes (Export r f) = false
+writes (Audit r f p) = false
 writes c = loads c

@@ -12,8 +12,9 @@ use std::alloc::{AllocError, Global};
 use stream_reader::Feature;
 
 const USAGE: &[u8] =
-    b"usage: proj STORE (import [--force] | project REF FILTER | push REF FILTER | export REF FILTER | batch | \
-    rule (1 | 2)), proj name REF FILTER, proj trial N\n";
+    b"usage: proj STORE (import [--force] | project REF FILTER | push REF FILTER | export REF FILTER | \
+    audit REF FILTER PATH | batch | \
+    rule (1 | 2)), proj name REF FILTER, proj trial N, proj verify COMMIT FILTER PATH\n";
 
 /// The line for the error stream where it says no number, name, path or other cause. It takes no memory.
 pub fn plain_text(outcome: &Outcome) -> Option<&'static [u8]>

@@ -1,12 +1,14 @@
 // The forms of the words.
 ghost use Rattle.std.specs.Prelude.{◌≡◌, true, map, string_bytes, IfSome};
+ghost use Rattle.path_names.specs.RefNames.{is_ref_name};
 ghost use Rattle.proj_words.specs.Views.{command_of};
 ghost use Rattle.proj_words.specs.Words.{command, is_formed, one_word, rule_word, two_words, three_words, trial_number};
-ghost use Rattle.proj_words.specs.Words.{Trial};
+ghost use Rattle.proj_words.specs.Words.{Trial, certificate_words, four_words, is_path_word};
 ghost use Rattle.proj_words.specs.Words.{in_batch, line_command, line_words};
 
 use crate::cut::cut;
-use path_names::{is_ref_name, number};
+use git_objects::Name;
+use path_names::{is_path_text, is_ref_name, number};
 
 // The most commits of a trial.
 const TRIAL_COMMITS: u64 = 100_000;
@@ -25,6 +27,10 @@ pub enum Command<'a> {
     Trial(u64),
     /// The number of a rule, 1 or 2.
     Rule(u8),
+    /// A ref, the text of a filter, and that of a path, which is read as one.
+    Audit(&'a [u8], &'a [u8], &'a [u8]),
+    /// A commit's 40 digits of either case, the text of a filter, and that of a path, which is read as one.
+    Verify(&'a [u8], &'a [u8], &'a [u8]),
     /// The words have none of the forms.
     Unknown,
 }
@@ -109,6 +115,43 @@ fn three_words<'a>(word: &[u8], refname: &'a [u8], filter: &'a [u8]) -> Command<
     Command::Unknown
 }
 
+// A certificate is made of a ref, and checked of a commit.
+fn certificate_words<'a>(
+    word: &[u8],
+    name: &'a [u8],
+    filter: &'a [u8],
+    path: &'a [u8],
+) -> Command<'a>
+    requires path { is_path_word path.now ≡ true }
+    ensures command { command_of result ≡ certificate_words word.now name.now filter.now path.now }
+    ensures formed { is_formed (command_of result) ≡ true }
+{
+    if word == b"audit".as_slice() {
+        if is_ref_name(name) {
+            return Command::Audit(name, filter, path);
+        }
+        return Command::Unknown;
+    }
+    if word == b"verify".as_slice() {
+        if Name::from_hex(name).is_some() {
+            return Command::Verify(name, filter, path);
+        }
+        return Command::Unknown;
+    }
+    Command::Unknown
+}
+
+fn four_words<'a>(word: &[u8], name: &'a [u8], filter: &'a [u8], path: &'a [u8]) -> Command<'a>
+    ensures command { command_of result ≡ four_words word.now name.now filter.now path.now }
+    ensures formed { is_formed (command_of result) ≡ true }
+{
+    if is_path_text(path) {
+        certificate_words(word, name, filter, path)
+    } else {
+        Command::Unknown
+    }
+}
+
 /// What the words ask for, by their form alone: no device is looked at, and a filter's text isn't read.
 pub fn read_command<'a>(words: &'a [String]) -> Command<'a>
     ensures command { command_of result ≡ command (map (λ word. string_bytes word) words.now) }
@@ -120,6 +163,12 @@ pub fn read_command<'a>(words: &'a [String]) -> Command<'a>
         [word, refname, filter] if is_ref_name(refname.as_bytes()) => {
             three_words(word.as_bytes(), refname.as_bytes(), filter.as_bytes())
         }
+        [word, name, filter, path] => four_words(
+            word.as_bytes(),
+            name.as_bytes(),
+            filter.as_bytes(),
+            path.as_bytes(),
+        ),
         _ => Command::Unknown,
     }
 }

@@ -9,11 +9,12 @@ use Rattle.proj_words.specs.Views.{entry_value}
 use Rattle.proj_words.specs.declared.entries.Entry.{Entry as ReadEntry}
 use Rattle.proj_words.specs.declared.outcome.Outcome.{Outcome}
 use Rattle.proj_cli.specs.Batches.{BatchLeaves, IsBatchBy}
-use Rattle.proj_cli.proofs.BatchesAnswered.{begun-loads, early-adds, early-answer, entry-own, entry-verdict, unread-other, unread-run, unread-store, unread-write, unspelled-run}
+use Rattle.proj_cli.proofs.BatchesAnswered.{begun-loads, early-adds, early-answer, entry-own, entry-verdict, unread-run, unspelled-run}
 use Rattle.proj_cli.proofs.BatchesRun.{counts-without}
 use Rattle.proj_cli.proofs.Delivering.{after, before}
 use Rattle.proj_cli.proofs.Forming.{keeps-self}
 use Rattle.proj_cli.proofs.Fronts.{grows-self}
+use Rattle.proj_cli.proofs.InputsRead.{unread-other, unread-store, unread-write}
 use Rattle.proj_cli.proofs.batching.batch.Goals as goal
 
 pub returns-in-Err-clause-answer : goal.returns-in-Err-clause-answer
@@ -22,7 +23,7 @@ returns-in-Err-clause-answer g c =
     let shown = sink_view g.O.Sink.written g.O.Sink.faults g.O.Sink.refusals in
     let k = keeper_view g.K.Keeper.items g.K.Keeper.number g.K.Keeper.faults c.args.store.now in
     let i = read c.args.input.now in
-    let j = read c.read_batch.new.input in
+    let j = read c.read_input.new.input in
     let o = shown c.args.out.now in
     let e = c.in-Err.outcome in
     let does = c.in-Err.ensures in
@@ -41,7 +42,7 @@ returns-in-Err-read_entries-clause-answer g c =
     let shown = sink_view g.O.Sink.written g.O.Sink.faults g.O.Sink.refusals in
     let k = keeper_view g.K.Keeper.items g.K.Keeper.number g.K.Keeper.faults c.args.store.now in
     let i = read c.args.input.now in
-    let j = read c.read_batch.new.input in
+    let j = read c.read_input.new.input in
     let o = shown c.args.out.now in
     let e = c.in-Err-read_entries.outcome in
     let does = c.in-Err-read_entries.ensures in
@@ -61,7 +62,7 @@ returns-clause-answer g c =
     let shown = sink_view g.O.Sink.written g.O.Sink.faults g.O.Sink.refusals in
     let kept = keeper_view g.K.Keeper.items g.K.Keeper.number g.K.Keeper.faults in
     let i = read c.args.input.now in
-    let j = read c.read_batch.new.input in
+    let j = read c.read_input.new.input in
     let o = shown c.args.out.now in
     let q = shown c.answer_upon.new.out in
     let k = kept c.args.store.now in

@@ -1,7 +1,7 @@
 -- Proves what src/judging.rt needs of `judge`.
 use Rattle.std.proofs.Common.{sym, refl, ap}
 use Rattle.proj_words.specs.Views.{command_of}
-use Rattle.proj_words.specs.Words.{Project, Push, Export, Name}
+use Rattle.proj_words.specs.Words.{Project, Push, Export, Name, Audit, Verify}
 use Rattle.proj_cli.proofs.Judged.{text-refused}
 use Rattle.proj_cli.proofs.judging.judge.Goals as goal
 
@@ -24,3 +24,13 @@ pub returns-in_err-subject-in-Name-clause-err : goal.returns-in_err-subject-in-N
 returns-in_err-subject-in-Name-clause-err c =
     let t = c.in-Name.filter.now in
     text-refused (Name c.in-Name.refname.now t) (command_of c.args.asked) t (sym (ap command_of c.in-Name.is)) refl c.from_residual-in_err-subject-in-Name.result c.in_err-subject-in-Name.field-0.0 c.from_residual-in_err-subject-in-Name.ensures.1 c.in_err-subject-in-Name.ensures.err
+
+pub returns-in_err-subject-in-Audit-clause-err : goal.returns-in_err-subject-in-Audit-clause-err
+returns-in_err-subject-in-Audit-clause-err c =
+    let t = c.in-Audit.filter.now in
+    text-refused (Audit c.in-Audit.refname.now t c.in-Audit.path.now) (command_of c.args.asked) t (sym (ap command_of c.in-Audit.is)) refl c.from_residual-in_err-subject-in-Audit.result c.in_err-subject-in-Audit.field-0.0 c.from_residual-in_err-subject-in-Audit.ensures.1 c.in_err-subject-in-Audit.ensures.err
+
+pub returns-in_err-filter-in-Verify-clause-err : goal.returns-in_err-filter-in-Verify-clause-err
+returns-in_err-filter-in-Verify-clause-err c =
+    let t = c.in-Verify.filter.now in
+    text-refused (Verify c.in-Verify.commit.now t c.in-Verify.path.now) (command_of c.args.asked) t (sym (ap command_of c.in-Verify.is)) refl c.from_residual-in_err-filter-in-Verify.result c.in_err-filter-in-Verify.field-0.0 c.from_residual-in_err-filter-in-Verify.ensures.1 c.in_err-filter-in-Verify.ensures.err

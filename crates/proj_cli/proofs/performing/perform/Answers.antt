@@ -2,18 +2,21 @@
 use Rattle.std.proofs.Common.{◌∙◌, List, Ok, ap, refl, subst}
 use Rattle.filter_text.specs.Shapes.{shape}
 use Rattle.git_objects.specs.Paths.{Bytes}
+use Rattle.fast_import.specs.Replays.{empty_base, ran}
 use Rattle.proj_io.specs.Views.{keeper_view}
 use Rattle.repo_ground.proofs.Stopping.{adds_none}
 use Rattle.repo_ground.specs.Changes.{IsStopOf}
 use Rattle.proj_words.specs.Words.{Command}
 use Rattle.state_items.specs.Changes.{NoPlan}
 use Rattle.state_items.specs.Items.{Held}
+use Rattle.proj_cli.specs.Cases.{NameCase, VerifyCase}
 use Rattle.proj_cli.specs.Steps.{case}
 use Rattle.proj_cli.specs.Intake.{waited_by}
 use Rattle.proj_cli.specs.Judging.{IsJudged}
 use Rattle.proj_cli.specs.declared.judging.Judged.TheVariants as judged
-use Rattle.proj_cli.proofs.CommandsMade.{name-command, performed}
-use Rattle.proj_cli.proofs.Headless.{head-held, no-head, no-import, no-name}
+use Rattle.proj_cli.proofs.AloneForms.{claim-alone, name-alone}
+use Rattle.proj_cli.proofs.CommandsMade.{alone-command, performed}
+use Rattle.proj_cli.proofs.Headless.{head-held, no-claim, no-head, no-import, no-name}
 use Rattle.proj_cli.proofs.Intaking.{push-takes, takes-by, takes-none}
 use Rattle.proj_cli.proofs.Judged.{case-upon}
 use Rattle.proj_cli.proofs.Lengthening.{for-any}
@@ -45,6 +48,12 @@ returns-in-Export-clause-made g c = λ (asked : Command) (items : List Bytes) (h
     for-any (g.S.Source.left c.args.input.now) _
     (λ all. performed asked (judged.Export _) (subst (IsJudged asked) c.in-Export.is w) refl all items h _ _ _ _ _ _ _ _ _ NoPlan (c.exported.ensures.made items h seen st) (adds_none _ _ (IsStopOf h c.args.state.now NoPlan seen.items)))
 
+pub returns-in-Audit-clause-made : goal.returns-in-Audit-clause-made
+returns-in-Audit-clause-made g c = λ (asked : Command) (items : List Bytes) (h : Held) w st.
+    let seen = keeper_view g.K.Keeper.items g.K.Keeper.number g.K.Keeper.faults c.args.store.now in
+    for-any (g.S.Source.left c.args.input.now) _
+    (λ all. performed asked (judged.Audit _ _) (subst (IsJudged asked) c.in-Audit.is w) refl all items h _ _ _ _ _ _ _ _ _ NoPlan (c.audited.ensures.made items h seen st) (adds_none _ _ (IsStopOf h c.args.state.now NoPlan seen.items)))
+
 pub returns-in-Name-clause-made : goal.returns-in-Name-clause-made
 returns-in-Name-clause-made g c = λ (asked : Command) (items : List Bytes) (h : Held) w st.
     let seen = keeper_view g.K.Keeper.items g.K.Keeper.number g.K.Keeper.faults c.args.store.now in
@@ -53,7 +62,22 @@ returns-in-Name-clause-made g c = λ (asked : Command) (items : List Bytes) (h :
     record {
       all = m.0;
       told = m.1;
-      says = name-command (shape s.filter) s.refname m.0 items h c.args.state.now st seen asked (case-upon asked (judged.Name s) (subst (IsJudged asked) c.in-Name.is w) h m.0) _ _ c.name.result c.name.ensures.early.1 m.2;
+      says =
+          alone-command (NameCase (shape s.filter) s.refname (ran empty_base m.0)) (name-alone (shape s.filter) s.refname (ran empty_base m.0)) m.0 items h c.args.state.now st seen
+          asked (case-upon asked (judged.Name s) (subst (IsJudged asked) c.in-Name.is w) h m.0) _ _ c.name.result c.name.ensures.early.1 m.2;
+    }
+
+pub returns-in-Verify-clause-made : goal.returns-in-Verify-clause-made
+returns-in-Verify-clause-made g c = λ (asked : Command) (items : List Bytes) (h : Held) w st.
+    let seen = keeper_view g.K.Keeper.items g.K.Keeper.number g.K.Keeper.faults c.args.store.now in
+    let m = c.verify_text.ensures.made in
+    let x = c.in-Verify.claim in
+    record {
+      all = m.0;
+      told = m.1;
+      says =
+          alone-command (VerifyCase (shape x.filter) x.commit.0 x.path m.0) (claim-alone (shape x.filter) x.commit.0 x.path m.0 (c.verify_text.ensures.lawful m.0)) m.0 items h c.args.state.now st seen
+          asked (case-upon asked (judged.Verify x) (subst (IsJudged asked) c.in-Verify.is w) h m.0) _ _ c.verify_text.result c.verify_text.ensures.early.1 m.2;
     }
 
 -- ---- nothing is read where no case comes up
@@ -70,6 +94,10 @@ returns-in-Push-clause-caseless g c = λ (asked : Command) (items : List Bytes) 
 pub returns-in-Name-clause-caseless : goal.returns-in-Name-clause-caseless
 returns-in-Name-clause-caseless g c = λ (asked : Command) (items : List Bytes) (h : Held) w st none.
     absurd (no-name asked _ (subst (IsJudged asked) c.in-Name.is w) h none)
+
+pub returns-in-Verify-clause-caseless : goal.returns-in-Verify-clause-caseless
+returns-in-Verify-clause-caseless g c = λ (asked : Command) (items : List Bytes) (h : Held) w st none.
+    absurd (no-claim asked _ (subst (IsJudged asked) c.in-Verify.is w) h none)
 
 -- ---- how much is read
 
@@ -96,3 +124,10 @@ returns-in-Export-clause-taken g c = λ (asked : Command) (items : List Bytes) (
 
 pub returns-in-Rule-clause-taken : goal.returns-in-Rule-clause-taken
 returns-in-Rule-clause-taken g c = λ (asked : Command) (items : List Bytes) (h : Held) w st. takes-none (waited_by (case asked (Ok h))) (g.S.Source.left c.args.input.now)
+
+pub returns-in-Audit-clause-taken : goal.returns-in-Audit-clause-taken
+returns-in-Audit-clause-taken g c = λ (asked : Command) (items : List Bytes) (h : Held) w st. takes-none (waited_by (case asked (Ok h))) (g.S.Source.left c.args.input.now)
+
+pub returns-in-Verify-clause-taken : goal.returns-in-Verify-clause-taken
+returns-in-Verify-clause-taken g c = λ (asked : Command) (items : List Bytes) (h : Held) w st.
+    takes-by asked (judged.Verify _) (subst (IsJudged asked) c.in-Verify.is w) h _ _ c.verify_text.ensures.taken

@@ -15,9 +15,10 @@ use Rattle.proj_cli.specs.Forms.{IsForm}
 use Rattle.proj_cli.specs.Intake.{TakesUpTo, waited_by}
 use Rattle.proj_cli.specs.Makes.{IsAtHand}
 use Rattle.proj_cli.specs.Running.{IsCommandMade}
-use Rattle.proj_cli.proofs.Forming.{command-form, loaded-state, used-on}
+use Rattle.proj_cli.proofs.CommandsMade.{unwritten-kept}
+use Rattle.proj_cli.proofs.Forming.{command-form, keeps-on, loaded-state, used-on}
 use Rattle.proj_cli.proofs.Intaking.{takes-none}
-use Rattle.proj_cli.proofs.Judged.{case-unloaded, loaded-holds, state-of, writes-loads}
+use Rattle.proj_cli.proofs.Judged.{case-unloaded, loaded-holds, state-of}
 use Rattle.proj_cli.proofs.Lengthening.{for-later}
 use Rattle.proj_cli.proofs.Making.{unloaded-made, whole-made}
 use Rattle.proj_cli.proofs.Refusing.{load-refused, none-read, of-counts, refused-form}
@@ -33,10 +34,10 @@ returns-in-Err-clause-made g c = λ (asked : Command) w may.
     let now = c.load.new.store in
     let does = c.in-Err.ensures in
     let e = c.in-Err.outcome in
-    unloaded-made (source_view g.S.Source.left g.S.Source.faults c.args.input.now) (kept then) (kept now) (at then) (at now) (since then) (since now) asked may e
+    unloaded-made (source_view g.S.Source.left g.S.Source.faults c.args.input.now) (kept then) (kept now) (at then) (at now) (since then) (since now) asked may (does.kept.number, does.kept.items) e
     (none-read e does.early) (λ is. does.early.0 (ap Err is)) (of-counts _ _ e does.cause) does.other
     (λ (items : List Bytes) told all. refused-form asked items all e (kept then) (kept now) (at then) (at now) (since then) (since now)
-    (load-refused asked items all e (λ x. case-unloaded asked c.args.judged.now w (writes-loads asked may) x all) (does.err items told)) (does.kept.number, does.kept.items) does.kept.stops)
+    (load-refused asked items all e (λ x. case-unloaded asked c.args.judged.now w may x all) (does.err items told)) (does.kept.number, does.kept.items) does.kept.stops)
 
 pub perform-requires-clause-state : goal.perform-requires-clause-state
 perform-requires-clause-state g c = state-of _ _ c.in-Ok.state c.in-Ok.ensures.ok
@@ -75,7 +76,12 @@ returns-in-Ok-clause-made g c = λ (asked : Command) w may.
     let does = c.perform.ensures in
     let s = c.in-Ok.state in
     let used = used-on _ _ _ _ _ _ _ _ _ _ _ _ was.kept was.cause does.used in
-    whole-made (read c.args.input.now) (read c.perform.new.input) (kept then) (kept now) (at then) (at now) (since then) (since now) c.perform.result asked may does.read
+    whole-made (read c.args.input.now) (read c.perform.new.input) (kept then) (kept now) (at then) (at now) (since then) (since now) c.perform.result asked may
+    (λ none.
+    let st = was.ok in let m = does.made asked st.items st.held w (record { current = st.current; spells = st.spells; ground = st.ground }) in
+    keeps-on (kept then) (kept mid) (kept now) (was.kept.number, was.kept.items)
+    (unwritten-kept asked m.all st.items st.held s c.perform.new.state (kept mid) (kept now) m.says.plan (ap (refused_by break_outcome) st.current.read) c.perform.result m.says.made none))
+    does.read
     (λ no. (does.unread asked w no).1) used.cause does.early
     (λ items told. returns-in-Ok-clause-taken g c asked items w told) (λ items told none. ap read (returns-in-Ok-clause-caseless g c asked items w told none))
     (let st = was.ok in let m = does.made asked st.items st.held w (record { current = st.current; spells = st.spells; ground = st.ground }) in
@@ -85,7 +91,7 @@ returns-in-Ok-clause-made g c = λ (asked : Command) w may.
     for-later (g.S.Source.left c.args.input.now)
     (λ all. IsCommandMade asked all items was.ok.held s c.perform.new.state (kept mid) (kept now) (OnlyAdds (at mid) (at now) (since mid) (since now)) c.perform.result)
     (λ all. IsForm asked items all (kept then) (kept now) (OnlyAdds (at then) (at now) (since then) (since now)) c.perform.result)
-    (λ all m. command-form items (kept then) (kept mid) (g.K.Keeper.number then) s told same was.ok asked all (loaded-holds asked was.ok.held all (writes-loads asked may)) c.perform.new.state (kept now) c.perform.result
+    (λ all m. command-form items (kept then) (kept mid) (g.K.Keeper.number then) s told same was.ok asked all (loaded-holds asked was.ok.held all may) c.perform.new.state (kept now) c.perform.result
     (at then) (at mid) (at now) (since then) (since mid) (since now) was.kept.stops m)
     (does.made asked items was.ok.held w (loaded-state items (kept then) (kept mid) (g.K.Keeper.number then) s told same was.ok)))
 

@@ -1,9 +1,10 @@
 -- Proves what src/program.rt needs of `run`.
-use Rattle.std.proofs.Common.{◌∙◌, List, ap, subst, map, string_bytes}
+use Rattle.std.proofs.Common.{◌≡◌, ◌∙◌, true, IsErr, List, ap, subst, map, string_bytes}
 use Rattle.git_objects.specs.Paths.{Bytes}
 use Rattle.proj_io.specs.Stops.{OnlyAdds}
 use Rattle.proj_words.specs.Words.{command, loads, reads}
 use Rattle.proj_cli.specs.Calls.{devices}
+use Rattle.proj_cli.specs.Cases.{is_one, verdict}
 use Rattle.proj_cli.specs.Runs.{IsAnswer, MayLeave}
 use Rattle.proj_cli.specs.Stopped.{ForInput}
 use Rattle.proj_cli.proofs.Dispatching.{complete, finished}
@@ -27,6 +28,11 @@ returns-clause-untouched g c =
     let asked = c.read_command-asked.ensures.command in
     let does = c.act-outcome.ensures in
     (λ no. does.unread (ap reads asked ∙ no), λ no. does.unloaded (ap loads asked ∙ no))
+
+pub returns-clause-unjudged : goal.returns-clause-unjudged
+returns-clause-unjudged g c =
+    subst (λ asked. is_one asked ≡ true → IsErr (verdict asked) → (c.act-outcome.new.input ≡ c.args.input.now) × (c.act-outcome.new.store ≡ c.args.store.now))
+    c.read_command-asked.ensures.command c.act-outcome.ensures.unjudged
 
 pub returns-clause-idle : goal.returns-clause-idle
 returns-clause-idle g c = λ unknown.

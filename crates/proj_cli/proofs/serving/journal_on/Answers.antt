@@ -1,5 +1,6 @@
 use Rattle.proj_journal.specs.Journals.{disk_of}
-use Rattle.proj_cli.proofs.DiskLists.{empty_kept_in, new_items_in, none_long, same_kept, unopened_kept_in}
+use Rattle.proj_journal.specs.declared.opening.JournalError.TheVariants.{Failed}
+use Rattle.proj_cli.proofs.DiskLists.{empty_kept_in, long_begun_in, made_begun_in, new_items_in, none_long, same_begun, same_kept, unopened_kept_in}
 use Rattle.proj_cli.proofs.serving.journal_on.Goals as goal
 
 pub returns-then-count-eq0-clause-items : goal.returns-then-count-eq0-clause-items
@@ -22,3 +23,15 @@ returns-then-count-eq0-clause-kept g c =
 pub returns-else-count-eq0-clause-kept : goal.returns-else-count-eq0-clause-kept
 returns-else-count-eq0-clause-kept g c =
     unopened_kept_in c.open.result (λ none. g.D.Disk.content none.disk) (g.D.Disk.content c.args.disk) (g.D.Disk.content c.len.new.self) c.in-Ok.ensures.same c.open.ensures.kept
+
+pub returns-in-Err-clause-begun : goal.returns-in-Err-clause-begun
+returns-in-Err-clause-begun g c = same_begun (g.D.Disk.content c.args.disk) (g.D.Disk.content c.len.new.self) Failed c.in-Err.ensures.same
+
+pub returns-then-count-eq0-clause-begun : goal.returns-then-count-eq0-clause-begun
+returns-then-count-eq0-clause-begun g c =
+    let does = c.create.ensures in
+    made_begun_in c.create.result (λ none. g.D.Disk.content none.disk) (λ none. none.error) (g.D.Disk.content c.args.disk) (g.D.Disk.content c.len.new.self) c.in-Ok.ensures.same does.begun does.memory does.not_broken
+
+pub returns-else-count-eq0-clause-begun : goal.returns-else-count-eq0-clause-begun
+returns-else-count-eq0-clause-begun g c =
+    long_begun_in c.open.result (λ none. g.D.Disk.content none.disk) (λ none. none.error) (g.D.Disk.content c.args.disk) (g.D.Disk.content c.len.new.self) c.in-Ok.count c.in-Ok.ensures.count c.in-Ok.ensures.same c.if-count-eq0.false
