@@ -54,7 +54,8 @@ head=$(git -C "$work/mono.git" rev-parse main)
 
 # What `verify` says of a path, by a certificate that is written for it.
 said() {
-    "$proj" "$store" audit refs/heads/main "$1" "$2" >"$work/certificate" && "$proj" verify "$head" "$1" "$2" <"$work/certificate"
+    "$proj" "$store" audit refs/heads/main "$1" "$2" >"$work/certificate" || return
+    "$proj" verify "$head" "$1" "$2" <"$work/certificate"
 }
 
 # ---- each path of a projection
@@ -97,7 +98,10 @@ size=$(wc -c <"$work/whole")
 for ((n = 0; n < size; n++)); do
     head -c "$n" "$work/whole" | "$proj" verify "$head" :/a f >"$work/out" 2>"$work/err"
     status=$?
-    if [ "$status" -eq 3 ] || [ "$status" -eq 30 ] && [ ! -s "$work/out" ]; then right; else wrong "a front of $n bytes: status $status"; fi
+    case $status in
+    3 | 30) if [ -s "$work/out" ]; then wrong "a front of $n bytes: something is said"; else right; fi ;;
+    *) wrong "a front of $n bytes: status $status" ;;
+    esac
 done
 
 # ---- odd texts

@@ -115,6 +115,9 @@ try "$work/push" COPY push $main :/a
 try "$work/none" COPY rule 2
 try "$work/batch" COPY batch
 try "$work/first" name $main :/a
+try "$work/none" COPY audit $main :/a d1/f1
+"$proj" "$work/store" audit $main :/a d1/f1 >"$work/certificate" || fail 'no certificate is written'
+try "$work/certificate" verify "$head" :/a d1/f1
 try "$work/none" trial 300
 printf 'memory: %d runs, %d of them without enough, and each store loads with the state before or after\n' \
     "$runs" "$refused"

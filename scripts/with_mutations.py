@@ -1,7 +1,8 @@
 #!/usr/bin/env python3
-"""Gives the program inputs that are changed at random: streams, batches, journals and filters.
+"""Gives the program inputs that are changed at random: streams, batches, journals, filters and certificates.
 
-No run may end by a signal or with a status that has no meaning, and a store that loads must load behind every run.
+No run may end by a signal or with a status that has no meaning, and a store that loads must load behind every run. A
+certificate that is accepted must say what the unchanged one says.
 Words of which one isn't UTF-8 must be answered by the usage, and a text that can't be printed by `write fault`. It
 takes the program that PROJ names, or the built one, and builds that where it isn't there; INPUTS is how many inputs
 are tried, SEED where the numbers begin.
@@ -96,7 +97,7 @@ def fail(what, words, data):
 
 def run(words, data):
     done = subprocess.run([PROJ] + words, input=data, stdout=subprocess.PIPE, stderr=subprocess.PIPE, check=False)
-    if not 0 <= done.returncode <= 27:
+    if not 0 <= done.returncode <= 27 and done.returncode != 30:
         fail("status %d" % done.returncode, words, data)
     if (done.returncode == 0) != (done.stderr == b""):
         fail("status %d with the text %r" % (done.returncode, done.stderr), words, data)
@@ -123,6 +124,32 @@ def odd_words(work):
             for words in (["--help"], ["--version"]):
                 if told(words, full) != (23, b"write fault\n"):
                     fail("an output that takes nothing", words, b"")
+
+
+def certificates(store):
+    """Certificates of the store, with the words that check each of them and what is said of it."""
+    found = []
+    line = subprocess.run([PROJ, store, "import", "--force"], input=STREAMS[3], stdout=subprocess.PIPE, check=True)
+    commit = line.stdout.split()[1].decode()
+    views = [(":nop", "ws/workspace.josh"), (":workspace=ws", "workspace.josh"), (":/ws", "none"), (":nop", "b")]
+    for text, path in views:
+        done = subprocess.run([PROJ, store, "audit", MAIN, text, path], stdout=subprocess.PIPE, check=True)
+        words = ["verify", commit, text, path]
+        said = subprocess.run([PROJ] + words, input=done.stdout, stdout=subprocess.PIPE, check=True).stdout
+        found.append((words, done.stdout, said))
+    return found
+
+
+def verify(found):
+    """Checks a changed certificate: it is refused, or says what the unchanged one says."""
+    words, text, said = random.choice(found)
+    text = mutated(text)
+    done = subprocess.run([PROJ] + words, input=text, stdout=subprocess.PIPE, stderr=subprocess.PIPE, check=False)
+    if done.returncode not in (0, 3, 30) or (done.returncode == 0) != (done.stderr == b""):
+        fail("status %d with the text %r" % (done.returncode, done.stderr), words, text)
+    if done.stdout != (said if done.returncode == 0 else b""):
+        fail("a changed certificate says %r" % done.stdout, words, text)
+    return done.returncode
 
 
 def loads(store):
@@ -153,10 +180,12 @@ def main():
         run([seeds[1], "project", MAIN, ":[x=:/a,y=:/c]"], b"")
         journals = [open(seed, "rb").read() for seed in seeds]
         store = os.path.join(work, "store")
+        shutil.copy(seeds[0], store)
+        found = certificates(store)
         counts = {}
         for i in range(INPUTS):
-            kind = i % 5
-            if i % 500 == 0:
+            kind = i % 6
+            if i % 600 == 0:
                 shutil.copy(random.choice(seeds), store)
             if kind == 0:
                 status = run([store, "import"] + random.choice([[], ["--force"]]), mutated(random.choice(STREAMS)))
@@ -176,11 +205,13 @@ def main():
                 if not loads(other):
                     fail("a journal that loaded does not", ["batch"], b"")
                 continue
+            elif kind == 5:
+                status = verify(found)
             else:
                 text = mutated(random.choice(FILTERS)).replace(b"\0", b"")
                 status = run([store, random.choice(["project", "export"]), MAIN, text], b"")
             counts[status] = counts.get(status, 0) + 1
-            if kind != 4 and not loads(store):
+            if kind < 4 and not loads(store):
                 fail("a store that loaded does not", ["status %d" % status], b"")
         counted = ", ".join("%s: %d" % (key, counts[key]) for key in sorted(counts, key=str))
         print("mutations: %d inputs, none ended by a signal, each store loads (%s)" % (INPUTS, counted))
