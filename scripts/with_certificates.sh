@@ -70,9 +70,10 @@ for filter in :nop :/a :/a/deep :prefix=x :/a:prefix=lib/x :workspace=ws ':[p=:/
     while read -r mode name path; do
         same "$filter $path" "$mode $name" "$(said "$filter" "$path")"
     done <"$work/list"
-    git -C "$shown" ls-tree -rd --name-only main >"$work/directories"
-    while read -r path; do
-        same "$filter $path, a directory" absent "$(said "$filter" "$path")"
+    # Git lists modules among the directories, too.
+    git -C "$shown" ls-tree -rd --format='%(objecttype) %(path)' main >"$work/directories"
+    while read -r type path; do
+        [ "$type" != tree ] || same "$filter $path, a directory" absent "$(said "$filter" "$path")"
     done <"$work/directories"
     for path in no-such no/such "$(head -n 1 "$work/list" | cut -d ' ' -f 3)/below"; do
         same "$filter $path" absent "$(said "$filter" "$path")"
