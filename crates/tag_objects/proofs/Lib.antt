@@ -1,0 +1,5 @@
+mod Fields
+mod Written
+mod Places
+mod TagLists
+mod TagOrder
