@@ -47,7 +47,7 @@ upon_known base r first n t e q = ap (λ (o : Option Name). tree_upon base r (op
 -- ---- a commit begins
 
 pub with_draft : (S : List Object) (v : Replaying) (r : Replay) (x : Option DraftNames) (d : Option Draft) → IsReplayOf S v r → IsDraftIn S x d → IsReplayOf S (record v { draft = x }) (record r { draft = d })
-with_draft S v r x d h k = record { blobs = h.blobs; commits = h.commits; branches = h.branches; sorted = h.sorted; held = h.held; marks = h.marks; draft = k }
+with_draft S v r x d h k = record { blobs = h.blobs; commits = h.commits; branches = h.branches; sorted = h.sorted; held = h.held; marks = h.marks; draft = k; tags = h.tags }
 
 module _ (S : List Object) (v : Replaying) (r : Replay) (h : IsReplayOf S v r) (commits : List (Bytes × Bytes)) (refs : Refs) (blobs : List Bytes) (b : IsBaseIn S commits refs blobs) (at : ℕ) (head : CommitHead) where
   abbrev base : Base
@@ -115,7 +115,7 @@ entered_done S v v₁ v₂ w r d e h k q₁ q₂ g =
     at_commit : IsReplayOf S v₁ more
     at_commit =
         subst (λ (u : Replaying). IsReplayOf S u more) (sym q₁)
-        (record { blobs = h.blobs; commits = commits-push S v.commits r.commits e.made (commit_of d) h.commits k.made_commit; branches = h.branches; sorted = h.sorted; held = h.held; marks = h.marks; draft = h.draft })
+        (record { blobs = h.blobs; commits = commits-push S v.commits r.commits e.made (commit_of d) h.commits k.made_commit; branches = h.branches; sorted = h.sorted; held = h.held; marks = h.marks; draft = h.draft; tags = h.tags })
 
     at_branch : IsReplayOf S v₂ (with_branch e.refname (Some (snapshot_name (commit_of d))) more)
     at_branch =

@@ -1,22 +1,24 @@
 -- A stream without the line `done` is read to its end.
 use Rattle.std.proofs.Common.{◌≡◌, ◌+◌, ◌<◌, ℕ, zero, suc, Bool, true, false, [], length, Option, Some, None, Result, Ok, Err, refl, sym, ap, ◌∙◌, arith, subst}
 use Rattle.git_objects.specs.Lists.{Each}
+use Rattle.git_objects.specs.Paths.{Bytes}
 use Rattle.git_objects.specs.Results.{◌>>=◌}
 use Rattle.stream_lex.specs.Cutting.{◌then◌, Steps}
 use Rattle.stream_lex.specs.Lines.{Input, Lex, Line, line_at}
 use Rattle.stream_lex.specs.declared.stop.Stop.TheVariants.{More, Fault}
 use Rattle.stream_lex.proofs.Spelled.{Spelled, line_at-spelled}
 use Rattle.stream_reader.specs.Changes.{ChangeLine, ModifyIs, DeleteIs, RenameIs, CopyIs, DeleteAllIs, NotesAre, EmptyIs, NoChange, change, change_line}
-use Rattle.stream_reader.specs.Commands.{CommandLine, EmptyLine, BlobLine, CommitLine, ResetLine, IdleLine, WantsDone, DoneLine, RefusedLine, OtherLine, Told, Turn, at_the_end, between, between_at, by_event, changed, command_line, gives, in_commit_at, read_command, turn, turn_in, turn_on}
-use Rattle.stream_reader.specs.Heads.{blob, head, reset}
+use Rattle.stream_reader.specs.Commands.{CommandLine, EmptyLine, BlobLine, CommitLine, ResetLine, TagLine, IdleLine, WantsDone, DoneLine, RefusedLine, OtherLine, Told, Turn, ends_at, tag_turn, between, between_at, by_event, changed, command_line, gives, in_commit_at, read_command, turn, turn_in, turn_on}
+use Rattle.stream_reader.specs.Heads.{blob, head, reset, tag}
 use Rattle.stream_reader.specs.Reading.{Read, lifted}
-use Rattle.stream_reader.specs.Verdicts.{Verdict, from_start, go_on, size, start, verdict_from}
+use Rattle.stream_reader.specs.Verdicts.{Verdict, from_start, go_on, size, start_in, verdict_from}
 use Rattle.stream_reader.specs.declared.command.Command.{Command}
 use Rattle.stream_reader.specs.declared.command.Command.TheVariants as commands
 use Rattle.stream_reader.specs.declared.command.Placed.{Placed}
 use Rattle.stream_reader.specs.declared.fault.StreamFault.{StreamFault}
 use Rattle.stream_reader.specs.declared.progress.Event.{Event}
 use Rattle.stream_reader.specs.declared.progress.Event.TheVariants.{Gives, Skips, Ends}
+use Rattle.stream_reader.specs.declared.progress.Manner.{Manner}
 use Rattle.stream_reader.specs.declared.progress.Phase.{Phase}
 use Rattle.stream_reader.specs.declared.progress.Phase.TheVariants.{Between, InCommit, Finished}
 use Rattle.stream_reader.specs.declared.progress.Progress.{Progress}
@@ -24,7 +26,7 @@ use Rattle.stream_reader.proofs.Commanding.{CommandLowers, IfCommand, command-is
 use Rattle.stream_reader.proofs.Iterating.{verdict-is}
 use Rattle.stream_reader.proofs.Lowering.{Lowers, TurnLowers, turn_lowers}
 use Rattle.stream_reader.proofs.Reading.{came_along}
-use Rattle.fast_import.specs.Replays.{Replay, Replayed, gone_on, nothing_yet, outcome_of, ran, ran_by, step}
+use Rattle.fast_import.specs.Replays.{Replay, Replayed, gone_on, nothing_yet, outcome_of, ran_in, ran_by, step}
 use Rattle.fast_import.specs.Waited.{Step, WaitedLaw, is_done, waited_behind, waited_from, waited_on, waited_told}
 use Rattle.fast_import.proofs.Taking.{waited-is}
 
@@ -45,29 +47,34 @@ PlainTurn (Err e) = Unit {0}
 
 -- ---- one line or one command
 
-given_plain : (at : ℕ) (p : Phase) (d : Bool) → IsOpen p → (r : Read Command) → PlainTurn (r >>= λ x. gives at p d x.0 true x.1)
+given_plain : (at : ℕ) (p : Phase) (d : Manner) → IsOpen p → (r : Read Command) → PlainTurn (r >>= λ x. gives at p d x.0 true x.1)
 given_plain at p d h (Ok x) = λ q. h
 given_plain at p d h (Err e) = tt
 
-module _ (d : Bool) where
+module _ (d : Manner) where
+  tag_plain : (t : Option Bytes) (at : ℕ) (i : Input) (b : Bool) → PlainTurn (tag_turn at t d b true i)
+  tag_plain t at i true = given_plain at Between d tt (tag at t true i)
+  tag_plain t at i false = tt
+
   between_plain : (k : CommandLine) (at : ℕ) (i : Input) → PlainTurn (between k at d true i)
   between_plain EmptyLine at i = tt
   between_plain BlobLine at i = given_plain at Between d tt (blob true i)
   between_plain (CommitLine t) at i = given_plain at InCommit d tt (head at t true i)
   between_plain (ResetLine t) at i = given_plain at Between d tt (reset at t true i)
+  between_plain (TagLine t) at i = tag_plain t at i d.takes_tags
   between_plain IdleLine at i = tt
   between_plain WantsDone at i = tt
   between_plain DoneLine at i = λ q. let no : ⊥ = cc in absurd no
   between_plain (RefusedLine f) at i = tt
   between_plain OtherLine at i = tt
 
-  end_plain : (e : Bool) (at : ℕ) (i : Input) → i.rest ≡ [] → PlainTurn (at_the_end at e true i)
+  end_plain : (e : Bool) (at : ℕ) (i : Input) → i.rest ≡ [] → PlainTurn (ends_at at d e true i)
   end_plain true at i h = tt
   end_plain false at i h = h
 
   line_plain : (i : Input) (r : Lex (Option Line)) → Spelled true i r → PlainTurn (lifted r >>= between_at d true)
   line_plain i (Ok (Some l, j)) h = between_plain (command_line l.bytes) l.place j
-  line_plain i (Ok (None, j)) h = end_plain d j.at j h.0.nothing
+  line_plain i (Ok (None, j)) h = end_plain d.wants_done j.at j h.0.nothing
   line_plain i (Err e) h = tt
 
   change_plain : (k : ChangeLine) (at : ℕ) (i : Input) → PlainTurn ((change at k then λ c. gives at InCommit d (commands.Change c)) true i)
@@ -99,7 +106,7 @@ module _ (d : Bool) where
 
 turn_plain : (p : Progress) (i : Input) → IsOpen p.phase → PlainTurn (turn p true i)
 unfolding turn
-turn_plain p i h = phase_plain p.wants_done p.phase i h
+turn_plain p i h = phase_plain p.manner p.phase i h
 
 -- ---- the next command
 
@@ -171,4 +178,5 @@ no_fault r None g h = refl
 no_fault r (Some f) g h = let no : ⊥ = cc in absurd no
 
 pub waited_law : WaitedLaw
-waited_law base all g h plain = omega (arith, end_within (step base) (size start (from_start all) + 1) nothing_yet start (from_start all) (omega arith) tt (no_fault (ran base all).state (ran base all).fault g h) plain)
+waited_law tags base all g h plain =
+    omega (arith, end_within (step base) (size (start_in tags) (from_start all) + 1) nothing_yet (start_in tags) (from_start all) (omega arith) tt (no_fault (ran_in (start_in tags) base all).state (ran_in (start_in tags) base all).fault g h) plain)

@@ -22,7 +22,7 @@ use Rattle.stage_tree.specs.Stages.{Shows, Staged}
 use Rattle.stage_tree.proofs.Shown.{grown_store}
 use Rattle.fast_import.specs.Bases.{IsBaseIn, base_in}
 use Rattle.fast_import.specs.Made.{blob_object}
-use Rattle.fast_import.specs.Replays.{Draft, Marked, BlobMark, CommitMark, Replay}
+use Rattle.fast_import.specs.Replays.{Draft, Marked, BlobMark, CommitMark, TagMark, Replay}
 use Rattle.fast_import.specs.Replaying.{Replaying}
 use Rattle.fast_import.specs.Standing.{AreBlobsIn, AreCommitsIn, IsDraftIn, IsDraftOf, IsMarkIn, IsReplayOf}
 use Rattle.fast_import.specs.declared.draft.Draft.{Draft as DraftNames}
@@ -116,10 +116,16 @@ module _ {made : Object → Type 0} (S T : List Object) (g : IsGrownBy made S T)
   mark-grown None (Some y) h = absurd h
   mark-grown (Some (names.Blob n)) None h = absurd h
   mark-grown (Some (names.Commit n)) None h = absurd h
+  mark-grown (Some names.Tag) None h = absurd h
   mark-grown (Some (names.Blob n)) (Some (BlobMark b)) h = found-grown S T n.0 (blob_object b) g h
   mark-grown (Some (names.Blob n)) (Some (CommitMark c)) h = absurd h
   mark-grown (Some (names.Commit n)) (Some (BlobMark b)) h = absurd h
   mark-grown (Some (names.Commit n)) (Some (CommitMark c)) h = h
+  mark-grown (Some (names.Blob n)) (Some TagMark) h = absurd h
+  mark-grown (Some (names.Commit n)) (Some TagMark) h = absurd h
+  mark-grown (Some names.Tag) (Some (BlobMark b)) h = absurd h
+  mark-grown (Some names.Tag) (Some (CommitMark c)) h = absurd h
+  mark-grown (Some names.Tag) (Some TagMark) h = tt
 
   pub shows-grown : (v : Staged) (t : Flat) → Shows S v t → Shows T v t
   shows-grown v t h = subst (λ (R : List Object). Shows R v t) g.above (grown_store g.newer S v t (subst IsStore (sym g.above) g.store) h)
@@ -146,4 +152,5 @@ module _ {made : Object → Type 0} (S T : List Object) (g : IsGrownBy made S T)
     held = heads-grown v.branches h.held;
     marks = λ n. mark-grown (lookup (nat_eq n) v.marks) (Rattle.fast_import.specs.Replays.marked n r.marks) (h.marks n);
     draft = drafts-grown v.draft r.draft h.draft;
+    tags = h.tags;
   }

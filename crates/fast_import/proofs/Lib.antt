@@ -14,5 +14,6 @@ pub mod Taking
 pub mod Ended
 pub mod Running
 pub mod Stopping
+pub mod ReplayedTags
 pub mod StoredLeaves
 pub mod WalkedLeaves

@@ -22,12 +22,13 @@ use Rattle.stream_reader.proofs.Following.{later_told}
 use Rattle.fast_import.specs.Replays.{Base, Ran, Replay, also_tried, gone_on, nothing_yet, ran_by, step}
 use Rattle.fast_import.specs.Replaying.{Replaying}
 use Rattle.fast_import.specs.Standing.{IsReplayOf, IsStepped}
-use Rattle.stream_reader.specs.Verdicts.{Verdict, start, verdict, with_command}
-use Rattle.fast_import.specs.Waited.{waited, waited_from, waited_on, waited_told}
+use Rattle.stream_reader.specs.Verdicts.{Verdict, verdict, with_command}
+use Rattle.fast_import.specs.Waited.{waited_in, waited_from, waited_on, waited_told}
 use Rattle.fast_import.specs.Whole.{IsFed}
 use Rattle.fast_import.proofs.Growing.{base-grown, is_base-grown}
 use Rattle.fast_import.proofs.Taking.{next_near, waited-is}
 use Rattle.stream_reader.specs.declared.command.Placed.{Placed}
+use Rattle.stream_reader.specs.declared.progress.Progress.{Progress}
 use Rattle.stream_reader.specs.declared.fault.StreamFault.{StreamFault}
 
 -- ---- commands in a row
@@ -108,7 +109,7 @@ waited_with base r rd more = waited_from (step base) r rd.progress (grown more r
 
 -- S and before are the store and what the source had at first; T, now, rd and v are the store, the source, the reader and the
 -- replay as they are.
-pub record IsSoFar (base : Base) (S T : List Object) (before now : Option Bytes) (rd : Reading) (v : Replaying) : Type 0 where
+pub record IsSoFar (begins : Progress) (base : Base) (S T : List Object) (before now : Option Bytes) (rd : Reading) (v : Replaying) : Type 0 where
   pub taken : Bytes
   pub are_bytes : is_bytes taken ≡ true
   pub gone : Consumes before now taken
@@ -116,24 +117,24 @@ pub record IsSoFar (base : Base) (S T : List Object) (before now : Option Bytes)
   pub state : Replay
   pub run : after_all base nothing_yet told ≡ Ok state
   pub stands : IsReplayOf T v state
-  pub same : (more : Bytes) → MayFollow rd more true → verdict start (taken ++ more) ≡ with_all told (verdict_with more rd)
+  pub same : (more : Bytes) → MayFollow rd more true → verdict begins (taken ++ more) ≡ with_all told (verdict_with more rd)
   pub grown : IsGrownBy (IsMadeBy base nothing_yet told) S T
   pub at_end : rd.ended ≡ true → IsAtEnd now
   pub came : came rd ≡ length taken
-  pub waited : (more : Bytes) → MayFollow rd more true → waited base (taken ++ more) ≡ waited_with base state rd more
+  pub waited : (more : Bytes) → MayFollow rd more true → waited_in begins base (taken ++ more) ≡ waited_with base state rd more
   pub near : (more : Bytes) → MayFollow rd more true → length taken ≤ waited_with base state rd more + 33488896
 
 -- what was there before the stream is there still
-pub is_base-so_far : (base : Base) (S T : List Object) (before now : Option Bytes) (rd : Reading) (v : Replaying) → IsSoFar base S T before now rd v → (commits : List (Bytes × Bytes)) (refs : Refs) (blobs : List Bytes) → IsBaseIn S commits refs blobs → IsBaseIn T commits refs blobs
-is_base-so_far base S T before now rd v h commits refs blobs b = is_base-grown {made = IsMadeBy base nothing_yet h.told} S T h.grown commits refs blobs b
+pub is_base-so_far : (begins : Progress) (base : Base) (S T : List Object) (before now : Option Bytes) (rd : Reading) (v : Replaying) → IsSoFar begins base S T before now rd v → (commits : List (Bytes × Bytes)) (refs : Refs) (blobs : List Bytes) → IsBaseIn S commits refs blobs → IsBaseIn T commits refs blobs
+is_base-so_far begins base S T before now rd v h commits refs blobs b = is_base-grown {made = IsMadeBy base nothing_yet h.told} S T h.grown commits refs blobs b
 
-pub stepped_so_far : (S T : List Object) (before now : Option Bytes) (rd : Reading) (v : Replaying) (commits : List (Bytes × Bytes)) (refs : Refs) (blobs : List Bytes) → IsBaseIn S commits refs blobs → (h : IsSoFar (base_in S commits refs blobs) S T before now rd v)
+pub stepped_so_far : (begins : Progress) (S T : List Object) (before now : Option Bytes) (rd : Reading) (v : Replaying) (commits : List (Bytes × Bytes)) (refs : Refs) (blobs : List Bytes) → IsBaseIn S commits refs blobs → (h : IsSoFar begins (base_in S commits refs blobs) S T before now rd v)
     → (R : List Object) (w : Replaying) (p : Placed) (result : Result Unit StreamFault) → IsStepped (base_in T commits refs blobs) T R w h.state p result → IsStepped (base_in S commits refs blobs) T R w h.state p result
-stepped_so_far S T before now rd v commits refs blobs b h R w p result k =
+stepped_so_far begins S T before now rd v commits refs blobs b h R w p result k =
     subst (λ (x : Base). IsStepped x T R w h.state p result) (base-grown {made = IsMadeBy (base_in S commits refs blobs) nothing_yet h.told} S T h.grown commits refs blobs b) k
 
-pub nothing_so_far : (base : Base) (S : List Object) (before : Option Bytes) (v : Replaying) → IsStore S → IsReplayOf S v nothing_yet → IsSoFar base S S before before (record { progress = start; input = record { at = 0; rest = [] }; ended = false }) v
-nothing_so_far base S before v s h = record {
+pub nothing_so_far : (begins : Progress) (base : Base) (S : List Object) (before : Option Bytes) (v : Replaying) → IsStore S → IsReplayOf S v nothing_yet → IsSoFar begins base S S before before (record { progress = begins; input = record { at = 0; rest = [] }; ended = false }) v
+nothing_so_far begins base S before v s h = record {
   taken = [];
   are_bytes = refl;
   gone = Consumes-nil before;
@@ -149,7 +150,7 @@ nothing_so_far base S before v s h = record {
   near = λ more m. omega arith;
 }
 
-module _ (base : Base) (S T : List Object) (before now : Option Bytes) (old new : Reading) (v : Replaying) (h : IsSoFar base S T before now old v) where
+module _ (begins : Progress) (base : Base) (S T : List Object) (before now : Option Bytes) (old new : Reading) (v : Replaying) (h : IsSoFar begins base S T before now old v) where
   -- what follows behind the reading may have followed before it
   may_before : new.ended ≡ old.ended → (more : Bytes) → MayFollow new more true → MayFollow old more true
   may_before e more m q = m (e ∙ q)
@@ -157,7 +158,7 @@ module _ (base : Base) (S T : List Object) (before now : Option Bytes) (old new 
   -- ---- a command that is carried out
 
   module _ (p : Placed) (told : next_command old ≡ Ok (record { command = Some p; progress = new.progress }, new.input)) (ended : new.ended ≡ old.ended) (came_same : came new ≡ came old) (follows : (more : Bytes) → MayFollow old more true → verdict_with more old ≡ with_command p (verdict_with more new)) where
-    split : (more : Bytes) → MayFollow new more true → verdict start (h.taken ++ more) ≡ with_all (h.told ++ p ∷ []) (verdict_with more new)
+    split : (more : Bytes) → MayFollow new more true → verdict begins (h.taken ++ more) ≡ with_all (h.told ++ p ∷ []) (verdict_with more new)
     split more m =
         h.same more (may_before ended more m)
         ∙ ap (with_all h.told) (follows more (may_before ended more m))
@@ -171,10 +172,10 @@ module _ (base : Base) (S T : List Object) (before now : Option Bytes) (old new 
         (later_told old.progress old.input old.ended more (record { command = Some p; progress = new.progress }, new.input) (may_before ended more m) told)
         ∙ ap (waited_on (waited_from (step base)) new.progress (grown more new.input)) q
 
-    pub one_more : (R : List Object) (w : Replaying) → IsStepped base T R w h.state p (Ok tt) → IsSoFar base S R before now new w
+    pub one_more : (R : List Object) (w : Replaying) → IsStepped base T R w h.state p (Ok tt) → IsSoFar begins base S R before now new w
     one_more R w k = by (step base h.state p) refl k.done
       where
-        by : (x : Result Replay StreamFault) → step base h.state p ≡ x → IsOkAnd (step base h.state p) (IsReplayOf R w) → IsSoFar base S R before now new w
+        by : (x : Result Replay StreamFault) → step base h.state p ≡ x → IsOkAnd (step base h.state p) (IsReplayOf R w) → IsSoFar begins base S R before now new w
         by (Err f) q d = absurd (subst (λ (y : Result Replay StreamFault). IsOkAnd y (IsReplayOf R w)) q d)
         by (Ok s) q d = record {
           taken = h.taken;
@@ -203,7 +204,7 @@ module _ (base : Base) (S T : List Object) (before now : Option Bytes) (old new 
       ∙ ap (waited_told (waited_from (step base)) (step base) h.state) (b.same true more (may_before b.ended more m))
       ∙ sym (waited-is (step base) h.state new.progress (grown more new.input))
 
-  waiting : IsBefore old new → ((more : Bytes) → MayFollow old more true → verdict_with more old ≡ verdict_with more new) → IsSoFar base S T before now new v
+  waiting : IsBefore old new → ((more : Bytes) → MayFollow old more true → verdict_with more old ≡ verdict_with more new) → IsSoFar begins base S T before now new v
   waiting b follows = let ended = b.ended in record {
     taken = h.taken;
     are_bytes = h.are_bytes;
@@ -230,9 +231,9 @@ module _ (base : Base) (S T : List Object) (before now : Option Bytes) (old new 
 pub both_bytes : (a b : Bytes) → is_bytes a ≡ true → is_bytes b ≡ true → is_bytes (a ++ b) ≡ true
 both_bytes a b h k = list_all-append (λ x. nat_lt x 256) a b ∙ and_both h k
 
-fed_more : (base : Base) (S T : List Object) (before now later : Option Bytes) (rd new : Reading) (v : Replaying) (most : ℕ) → most ≤ 65536 → rd.ended ≡ false → (h : IsSoFar base S T before now rd v) →
-    ((more : Bytes) → MayFollow rd more true → length h.taken ≤ waited_with base h.state rd more + 16908290) → IsFed now later rd new most → IsSoFar base S T before later new v
-fed_more base S T before now later rd new v most few un h n (inl p) = record {
+fed_more : (begins : Progress) (base : Base) (S T : List Object) (before now later : Option Bytes) (rd new : Reading) (v : Replaying) (most : ℕ) → most ≤ 65536 → rd.ended ≡ false → (h : IsSoFar begins base S T before now rd v) →
+    ((more : Bytes) → MayFollow rd more true → length h.taken ≤ waited_with base h.state rd more + 16908290) → IsFed now later rd new most → IsSoFar begins base S T before later new v
+fed_more begins base S T before now later rd new v most few un h n (inl p) = record {
   taken = h.taken ++ p.bytes;
   are_bytes = both_bytes h.taken p.bytes h.are_bytes p.are_bytes;
   gone = Consumes-trans before now later h.taken p.bytes h.gone p.taken;
@@ -241,14 +242,14 @@ fed_more base S T before now later rd new v most few un h n (inl p) = record {
   run = h.run;
   stands = h.stands;
   same = λ more m.
-      ap (verdict start) (append_assoc h.taken p.bytes more)
+      ap (verdict begins) (append_assoc h.taken p.bytes more)
       ∙ h.same (p.bytes ++ more) (λ e. cc)
       ∙ ap (λ (i : Input). with_all h.told (Rattle.stream_reader.specs.Verdicts.verdict_from rd.progress i)) (sym (grown_twice p.bytes more rd.input))
       ∙ ap (λ (r : Reading). with_all h.told (verdict_with more r)) (sym p.now);
   grown = h.grown;
   at_end = λ e. let no : false ≡ true = ap (λ (r : Reading). r.ended) (sym p.now) ∙ e in cc;
   came = omega (arith, ap came p.now, h.came, length-append rd.input.rest p.bytes, length-append h.taken p.bytes);
-  waited = λ more m. ap (waited base) (append_assoc h.taken p.bytes more) ∙ h.waited (p.bytes ++ more) (λ e. cc) ∙ fed_waited more;
+  waited = λ more m. ap (waited_in begins base) (append_assoc h.taken p.bytes more) ∙ h.waited (p.bytes ++ more) (λ e. cc) ∙ fed_waited more;
   near = λ more m. subst (λ k. length (h.taken ++ p.bytes) ≤ k + 33488896) (fed_waited more) (omega (arith, n (p.bytes ++ more) (λ e. cc), few, p.few, length-append h.taken p.bytes));
 }
   where
@@ -256,7 +257,7 @@ fed_more base S T before now later rd new v most few un h n (inl p) = record {
     fed_waited more =
         ap (λ (i : Input). waited_from (step base) h.state rd.progress i) (sym (grown_twice p.bytes more rd.input))
         ∙ ap (λ (r : Reading). waited_with base h.state r more) (sym p.now)
-fed_more base S T before now later rd new v most few un h n (inr p) = record {
+fed_more begins base S T before now later rd new v most few un h n (inr p) = record {
   taken = h.taken;
   are_bytes = h.are_bytes;
   gone = subst (Consumes before later) (append-nil h.taken) (Consumes-trans before now later h.taken [] h.gone p.none);
@@ -273,8 +274,8 @@ fed_more base S T before now later rd new v most few un h n (inr p) = record {
 }
 
 -- more was waited for, and then fed
-pub fed_waiting : (base : Base) (S T : List Object) (before now later : Option Bytes) (old rd new : Reading) (v : Replaying) (most : ℕ) → most ≤ 65536 → IsSoFar base S T before now old v → IsBefore old rd → IsNear old →
-    ((more : Bytes) → MayFollow old more true → verdict_with more old ≡ verdict_with more rd) → rd.ended ≡ false → IsFed now later rd new most → IsSoFar base S T before later new v
+pub fed_waiting : (begins : Progress) (base : Base) (S T : List Object) (before now later : Option Bytes) (old rd new : Reading) (v : Replaying) (most : ℕ) → most ≤ 65536 → IsSoFar begins base S T before now old v → IsBefore old rd → IsNear old →
+    ((more : Bytes) → MayFollow old more true → verdict_with more old ≡ verdict_with more rd) → rd.ended ≡ false → IsFed now later rd new most → IsSoFar begins base S T before later new v
 unfolding waiting
-fed_waiting base S T before now later old rd new v most few h b n follows un fed =
-    fed_more base S T before now later rd new v most few un (waiting base S T before now old rd v h b follows) (waiting_near base S T before now old rd v h b n) fed
+fed_waiting begins base S T before now later old rd new v most few h b n follows un fed =
+    fed_more begins base S T before now later rd new v most few un (waiting begins base S T before now old rd v h b follows) (waiting_near begins base S T before now old rd v h b n) fed

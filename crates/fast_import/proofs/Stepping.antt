@@ -22,11 +22,14 @@ use Rattle.object_store.specs.Growth.{IsGrownBy, IsOnly}
 use Rattle.object_store.specs.Objects.{Object, IsStore, has}
 use Rattle.object_store.proofs.Growth.{grown_self}
 use Rattle.fast_import.specs.Made.{IsMadeAt, IsPutFault}
-use Rattle.fast_import.specs.Replays.{Base, Marked, BlobMark, Replay, command_step, said, step, with_branch, with_mark}
+use Rattle.fast_import.specs.Replays.{Base, Marked, BlobMark, TagMark, Replay, command_step, known, said, step, tag_of, tagged, with_branch, with_mark}
 use Rattle.fast_import.specs.Replaying.{Replaying, with_head, without_ref}
-use Rattle.fast_import.specs.Standing.{AreBlobsIn, AreCommitsIn, IsBlobIn, IsCommitIn, IsGivenMark, IsMarkIn, IsReplayOf, IsStepped, IsTried}
+use Rattle.fast_import.specs.Standing.{AreBlobsIn, AreCommitsIn, IsBlobIn, IsCommitIn, IsGivenMark, IsMarkIn, IsReplayOf, IsStepped, IsTagKept, IsTried}
 use Rattle.stream_reader.specs.declared.command.Command.TheVariants as commands
 use Rattle.stream_reader.specs.declared.command.Placed.{Placed}
+use Rattle.stream_reader.specs.declared.command.TagHead.{TagHead}
+use Rattle.tag_objects.specs.TagLists.{put_tag}
+use Rattle.tag_objects.specs.declared.tag.Tag.{Tag}
 use Rattle.stream_reader.specs.declared.commit_ref.CommitRef.{CommitRef}
 use Rattle.stream_reader.specs.declared.fault.StreamFault.{StreamFault}
 use Rattle.stream_reader.specs.declared.fault.StreamFault.TheVariants.{OutOfMemory}
@@ -59,6 +62,7 @@ with_blob S v r n b h k = record {
   held = h.held;
   marks = h.marks;
   draft = h.draft;
+  tags = h.tags;
 }
 
 -- ---- a mark
@@ -70,7 +74,7 @@ mark_here S false x y old older h g = g
 pub given_mark : (S : List Object) (v w : Replaying) (r : Replay) (mark : Option ℕ) (x : MarkedName) (y : Marked) → IsReplayOf S v r → IsGivenMark v w mark x → IsMarkIn S (Some x) (Some y) → IsReplayOf S w (with_mark mark y r)
 given_mark S v w r None x y h g k =
     subst (λ (u : Replaying). IsReplayOf S u r) (sym g.others)
-    (record { blobs = h.blobs; commits = h.commits; branches = h.branches; sorted = h.sorted; held = h.held; marks = λ q. subst (λ (o : Option MarkedName). IsMarkIn S o (Rattle.fast_import.specs.Replays.marked q r.marks)) (sym (g.named q)) (h.marks q); draft = h.draft })
+    (record { blobs = h.blobs; commits = h.commits; branches = h.branches; sorted = h.sorted; held = h.held; marks = λ q. subst (λ (o : Option MarkedName). IsMarkIn S o (Rattle.fast_import.specs.Replays.marked q r.marks)) (sym (g.named q)) (h.marks q); draft = h.draft; tags = h.tags })
 given_mark S v w r (Some n) x y h g k =
     subst (λ (u : Replaying). IsReplayOf S u (with_mark (Some n) y r)) (sym g.others)
     (record {
@@ -82,6 +86,7 @@ given_mark S v w r (Some n) x y h g k =
       marks = λ q. subst (λ (o : Option MarkedName). IsMarkIn S o (Rattle.fast_import.specs.Replays.marked q ((n, y) ∷ r.marks))) (sym (g.named q))
           (mark_here S (nat_eq n q) x y (lookup (nat_eq q) v.marks) (Rattle.fast_import.specs.Replays.marked q r.marks) k (h.marks q));
       draft = h.draft;
+      tags = h.tags;
     })
 
 -- ---- a branch
@@ -108,6 +113,7 @@ set_branch S v r n None h k = record {
   held = each-without S n v.branches h.held;
   marks = h.marks;
   draft = h.draft;
+  tags = h.tags;
 }
 set_branch S v r n (Some c) h k = record {
   blobs = h.blobs;
@@ -117,6 +123,7 @@ set_branch S v r n (Some c) h k = record {
   held = each-put S n c.0 v.branches h.held k;
   marks = h.marks;
   draft = h.draft;
+  tags = h.tags;
 }
 
 -- ---- commands
@@ -143,6 +150,26 @@ reset_done base S v w r at n from o h q k (Ok u) ok err = record {
       (subst (λ (x : Replaying). IsReplayOf S x (with_branch n (option_map name_bytes o) r)) (sym ok) (set_branch S v r n o h k));
   refused = tt;
 }
+
+-- a tag: its list and its mark
+with_tag : (S : List Object) (v : Replaying) (r : Replay) (t : Tag) → IsReplayOf S v r → IsReplayOf S (record v { tags = put_tag t v.tags }) (record r { tags = put_tag t r.tags })
+with_tag S v r t h = record { blobs = h.blobs; commits = h.commits; branches = h.branches; sorted = h.sorted; held = h.held; marks = h.marks; draft = h.draft; tags = ap (put_tag t) h.tags }
+
+pub tag_kept : (S : List Object) (v v' w : Replaying) (r : Replay) (g : TagHead) (n : Bytes) → IsReplayOf S v r → v' ≡ record v { tags = put_tag (tag_of g n) v.tags }
+    → (result : Result Unit StreamFault) → OnOk result (IsGivenMark v' w g.mark names.Tag) → IfErr result (λ f. f ≡ OutOfMemory) → IsTagKept S w (tagged g n r) result
+tag_kept S v v' w r g n h e (Err f) ok err = record { kept = tt; no_room = err }
+tag_kept S v v' w r g n h e (Ok u) ok err = record {
+  kept = given_mark S v' w (record r { tags = put_tag (tag_of g n) r.tags }) g.mark names.Tag TagMark (subst (λ (x : Replaying). IsReplayOf S x (record r { tags = put_tag (tag_of g n) r.tags })) (sym e) (with_tag S v r (tag_of g n) h)) ok tt;
+  no_room = tt;
+}
+
+pub tag_done : (base : Base) (S : List Object) (w : Replaying) (r : Replay) (at : ℕ) (g : TagHead) (n : Name) → known base r g.from ≡ Ok n.0
+    → (result : Result Unit StreamFault) → IsTagKept S w (tagged g n.0 r) result → IsTried S w (command_step base r at (commands.Tag g)) result
+tag_done base S w r at g n q (Err f) k = record { done = tt; refused = inr k.no_room }
+tag_done base S w r at g n q (Ok u) k = record { done = subst (λ (x : Result Replay StreamFault). IsOkAnd x (IsReplayOf S w)) (sym (ap (λ (x : Result Bytes StreamFault). x >>= λ m. Ok (tagged g m r)) q)) k.kept; refused = tt }
+
+pub tag_unknown : (base : Base) (S : List Object) (w : Replaying) (r : Replay) (at : ℕ) (g : TagHead) (f : StreamFault) → known base r g.from ≡ Err f → IsTried S w (command_step base r at (commands.Tag g)) (Err f)
+tag_unknown base S w r at g f q = record { done = tt; refused = inl (ap (λ (x : Result Bytes StreamFault). x >>= λ m. Ok (tagged g m r)) q) }
 
 -- a command that brings no object
 pub tried_stepped : (base : Base) (S : List Object) (w : Replaying) (r : Replay) (p : Placed) (result : Result Unit StreamFault) → IsStore S → IsTried S w (step base r p) result → IsStepped base S S w r p result

@@ -5,6 +5,7 @@ use Rattle.std.proofs.KnownBytes.{Consumes-trans}
 use Rattle.std.specs.Option.{unwrap_or}
 use Rattle.std.specs.Io.KnownBytes.{Consumes, IsAtEnd}
 use Rattle.git_objects.specs.Paths.{Bytes, is_bytes}
+use Rattle.git_objects.specs.Results.{◌>>=◌}
 use Rattle.git_objects.specs.declared.limits.TheConstants.{STREAM_BYTES}
 use Rattle.object_store.specs.Growth.{IsGrownBy}
 use Rattle.object_store.specs.Objects.{Object}
@@ -17,12 +18,14 @@ use Rattle.fast_import.specs.Made.{IsMadeAt, IsMadeBy, IsRefusal}
 use Rattle.stream_reader.specs.Readers.{MayFollow, Reading, TellsNext, came, fed, left, next_command, verdict_with}
 use Rattle.stream_reader.specs.Waited.{IsNear}
 use Rattle.stream_reader.proofs.Following.{later_told}
-use Rattle.fast_import.specs.Replays.{Base, Ran, Replay, Replayed, given_by, gone_on, nothing_yet, outcome_of, ran, ran_by, replay, step}
+use Rattle.fast_import.specs.Replays.{Base, Ran, Replay, TaggedReplayed, given_by, gone_on, nothing_yet, outcome_of, ran_in, ran_by, reached, replay_in, step, tagged_given, tagged_replay}
 use Rattle.fast_import.specs.Replaying.{Replaying}
-use Rattle.fast_import.specs.Standing.{IsReplayedOf, IsStepped}
-use Rattle.stream_reader.specs.Verdicts.{Verdict, stopped, weight, with_command}
-use Rattle.fast_import.specs.Waited.{IsTaken, waited, waited_from, waited_told}
-use Rattle.fast_import.specs.Whole.{IsFed, IsGiven, IsMadeOfStream, IsStreamError, IsWhole}
+use Rattle.fast_import.specs.Standing.{IsReplayOf, IsReplayedOf, IsStepped, IsTaggedReplayedOf}
+use Rattle.stream_reader.specs.Verdicts.{Verdict, start, stopped, tagged_start, weight, with_command}
+use Rattle.fast_import.specs.TagLaws.{ReplayedTagsLaw}
+use Rattle.tag_objects.specs.TagLists.{rise}
+use Rattle.fast_import.specs.Waited.{IsTakenIn, waited_in, waited_from, waited_told}
+use Rattle.fast_import.specs.Whole.{IsFed, IsGiven, IsMadeOfStreamIn, IsStreamErrorIn, IsTaggedWhole, IsWhole, IsWholeRun}
 use Rattle.fast_import.proofs.Taking.{next_near, waited-is}
 use Rattle.stream_reader.specs.declared.command.Placed.{Placed}
 use Rattle.stream_reader.specs.declared.fault.StreamFault.{StreamFault}
@@ -32,6 +35,7 @@ use Rattle.stream_reader.specs.declared.progress.Phase.TheVariants.{Between, InC
 use Rattle.stream_reader.specs.declared.progress.Progress.{Progress}
 use Rattle.stream_reader.specs.declared.reader.Next.TheVariants as nexts
 use Rattle.fast_import.specs.declared.replayed.Replayed.{Replayed as ReplayedNames}
+use Rattle.fast_import.specs.declared.replayed.TaggedReplay.{TaggedReplay as TaggedNames}
 use Rattle.fast_import.specs.declared.whole.ReplayError.{ReplayError}
 use Rattle.fast_import.specs.declared.whole.ReplayError.TheVariants.{ReadFault, Stream}
 use Rattle.stream_reader.proofs.Commanding.{command-reader}
@@ -51,14 +55,14 @@ told_all None now taken h = tt
 told_all (Some bs) None taken h = absurd h
 told_all (Some bs) (Some cs) taken h = h
 
-taken_by : {A E : Type 0} (base : Base) (before after : Option Bytes) (given : Bytes) → Consumes before after given → (result : Result A E) →
-    length given ≤ waited base (given ++ unwrap_or after []) + 33554432 → OnOk result (waited base (given ++ unwrap_or after []) ≤ length given) → IsTaken base before after result
-taken_by base None after given c result few least = tt
-taken_by base (Some bs) None given c result few least = absurd c
-taken_by base (Some bs) (Some cs) given c result few least =
-    subst (λ (all : Bytes). (g : Bytes) × Consumes (Some bs) (Some cs) g × (length g ≤ waited base all + 33554432) × OnOk result (waited base all ≤ length g)) (sym c) (given, c, few, least)
+taken_by : {A E : Type 0} (begins : Progress) (base : Base) (before after : Option Bytes) (given : Bytes) → Consumes before after given → (result : Result A E) →
+    length given ≤ waited_in begins base (given ++ unwrap_or after []) + 33554432 → OnOk result (waited_in begins base (given ++ unwrap_or after []) ≤ length given) → IsTakenIn begins base before after result
+taken_by begins base None after given c result few least = tt
+taken_by begins base (Some bs) None given c result few least = absurd c
+taken_by begins base (Some bs) (Some cs) given c result few least =
+    subst (λ (all : Bytes). (g : Bytes) × Consumes (Some bs) (Some cs) g × (length g ≤ waited_in begins base all + 33554432) × OnOk result (waited_in begins base all ≤ length g)) (sym c) (given, c, few, least)
 
-module _ (base : Base) (S T : List Object) (before now : Option Bytes) (rd : Reading) (v : Replaying) (h : IsSoFar base S T before now rd v) where
+module _ (begins : Progress) (base : Base) (S T : List Object) (before now : Option Bytes) (rd : Reading) (v : Replaying) (h : IsSoFar begins base S T before now rd v) where
   abbrev pub rest : Bytes
   rest = unwrap_or now []
 
@@ -79,72 +83,78 @@ module _ (base : Base) (S T : List Object) (before now : Option Bytes) (rd : Rea
   abbrev later : Verdict
   later = verdict_with rest rd
 
-  ran_all : IsRunTo (ran base all) h.told (ran_by (step base) later.fault h.state later.commands)
+  ran_all : IsRunTo (ran_in begins base all) h.told (ran_by (step base) later.fault h.state later.commands)
   ran_all = subst (λ (x : Verdict). IsRunTo (ran_by (step base) x.fault nothing_yet x.commands) h.told (ran_by (step base) later.fault h.state later.commands)) (sym (h.same rest may_rest)) (run-on (step base) later.fault nothing_yet h.state h.told later.commands h.run)
 
   -- what came up so far comes up in the stream
-  made_so_far : (o : Object) → IsMadeBy base nothing_yet h.told o → IsMadeOfStream base all o
+  made_so_far : (o : Object) → IsMadeBy base nothing_yet h.told o → IsMadeOfStreamIn begins base all o
   made_so_far o m = subst (λ (ps : List Placed). IsMadeBy base nothing_yet ps o) (sym ran_all.all_tried) (made-front base nothing_yet h.told (ran_by (step base) later.fault h.state later.commands).tried o m)
 
-  pub grown_so_far : IsGrownBy (IsMadeOfStream base all) S T
-  grown_so_far = grown_as (IsMadeBy base nothing_yet h.told) (IsMadeOfStream base all) S T made_so_far h.grown
+  pub grown_so_far : IsGrownBy (IsMadeOfStreamIn begins base all) S T
+  grown_so_far = grown_as (IsMadeBy base nothing_yet h.told) (IsMadeOfStreamIn begins base all) S T made_so_far h.grown
 
   -- ---- how much was given
 
-  waited_all : waited base all ≡ waited_with base h.state rd rest
+  waited_all : waited_in begins base all ≡ waited_with base h.state rd rest
   waited_all = h.waited rest may_rest
 
-  pub taken_few : length h.taken ≤ waited base all + 33488896
+  pub taken_few : length h.taken ≤ waited_in begins base all + 33488896
   taken_few = subst (λ n. length h.taken ≤ n + 33488896) (sym waited_all) (h.near rest may_rest)
 
-  pub taken_refused : (e : ReplayError) → IsTaken {A = ReplayedNames} base before now (Err e)
-  taken_refused e = taken_by {A = ReplayedNames} base before now h.taken h.gone (Err e) (omega (arith, taken_few)) tt
+  pub taken_refused : (e : ReplayError) → IsTakenIn {A = Replaying} begins base before now (Err e)
+  taken_refused e = taken_by {A = Replaying} begins base before now h.taken h.gone (Err e) (omega (arith, taken_few)) tt
 
-  pub taken_given : (new : Reading) → next_command rd ≡ Ok (record { command = None; progress = new.progress }, new.input) → came new ≡ came rd → {A : Type 0} (x : A) → IsTaken {E = ReplayError} base before now (Ok x)
+  pub taken_given : (new : Reading) → next_command rd ≡ Ok (record { command = None; progress = new.progress }, new.input) → came new ≡ came rd → {A : Type 0} (x : A) → IsTakenIn {E = ReplayError} begins base before now (Ok x)
   taken_given new told c x =
-      let here : waited base all ≡ new.input.at =
+      let here : waited_in begins base all ≡ new.input.at =
       waited_all ∙ waited-is (step base) h.state rd.progress (grown rest rd.input)
       ∙ ap (waited_told (waited_from (step base)) (step base) h.state) (later_told rd.progress rd.input rd.ended rest (record { command = None; progress = new.progress }, new.input) may_rest told) in
-      taken_by {E = ReplayError} base before now h.taken h.gone (Ok x) (omega (arith, taken_few)) (omega (arith, here, c, h.came))
+      taken_by {E = ReplayError} begins base before now h.taken h.gone (Ok x) (omega (arith, taken_few)) (omega (arith, here, c, h.came))
 
   -- the source fails, or there is no memory for what it gave
-  pub taken_feeding : IsNear rd → rd.ended ≡ false → (after : Option Bytes) → IsGiven now after 65536 → (e : ReplayError) → IsTaken {A = ReplayedNames} base before after (Err e)
+  pub taken_feeding : IsNear rd → rd.ended ≡ false → (after : Option Bytes) → IsGiven now after 65536 → (e : ReplayError) → IsTakenIn {A = Replaying} begins base before after (Err e)
   taken_feeding n un after g e =
       let more : Bytes = g.0 ++ unwrap_or after [] in
-      let far : waited base ((h.taken ++ g.0) ++ unwrap_or after []) ≡ waited_with base h.state rd more =
-      ap (waited base) (append_assoc h.taken g.0 (unwrap_or after [])) ∙ h.waited more (λ q. let no : ⊥ = cc in absurd no) in
-      taken_by {A = ReplayedNames} base before after (h.taken ++ g.0) (Consumes-trans before now after h.taken g.0 h.gone g.1) (Err e)
+      let far : waited_in begins base ((h.taken ++ g.0) ++ unwrap_or after []) ≡ waited_with base h.state rd more =
+      ap (waited_in begins base) (append_assoc h.taken g.0 (unwrap_or after [])) ∙ h.waited more (λ q. let no : ⊥ = cc in absurd no) in
+      taken_by {A = Replaying} begins base before after (h.taken ++ g.0) (Consumes-trans before now after h.taken g.0 h.gone g.1) (Err e)
       (omega (arith, far, n more, next_near (step base) h.state rd.progress (grown more rd.input), h.came, g.2, length-append h.taken g.0)) tt
 
   -- ---- the reader stops
 
-  stopped_all : (f : Option StreamFault) → later ≡ stopped f → replay base all ≡ outcome_of h.state f
+  stopped_all : (f : Option StreamFault) → later ≡ stopped f → replay_in begins base all ≡ outcome_of h.state f
   stopped_all f e =
       (λ i. outcome_of (ran_all.same_state i) (ran_all.same_fault i))
       ∙ ap (λ (x : Verdict). outcome_of (ran_by (step base) x.fault h.state x.commands).state (ran_by (step base) x.fault h.state x.commands).fault) e
 
-  pub all_given : ((more : Bytes) → MayFollow rd more true → verdict_with more rd ≡ stopped None) → (g : ReplayedNames) → IsReplayedOf T g (given_by h.state) → IsWhole base S T all (Ok g)
-  all_given e g k = record {
-    given = subst (λ (x : Result Replayed StreamFault). IsOkAnd x (IsReplayedOf T g)) (sym (stopped_all None (e rest may_rest))) k;
+  -- how far the replay has come then
+  reached_all : (f : Option StreamFault) → later ≡ stopped f → reached (ran_in begins base all).state (ran_in begins base all).fault ≡ reached h.state f
+  reached_all f e =
+      (λ i. reached (ran_all.same_state i) (ran_all.same_fault i))
+      ∙ ap (λ (x : Verdict). reached (ran_by (step base) x.fault h.state x.commands).state (ran_by (step base) x.fault h.state x.commands).fault) e
+
+  pub all_given : ((more : Bytes) → MayFollow rd more true → verdict_with more rd ≡ stopped None) → IsWholeRun begins base S T all (Ok v)
+  all_given e = record {
+    given = subst (λ (x : Result Replay StreamFault). IsOkAnd x (IsReplayOf T v)) (sym (reached_all None (e rest may_rest))) h.stands;
     refused = tt;
     grown = grown_so_far;
   }
 
-  pub reading_refused : (f : StreamFault) → ((more : Bytes) → MayFollow rd more true → (f ≡ OutOfMemory) ⊎ (verdict_with more rd ≡ stopped (Some f))) → IsWhole base S T all (Err (Stream f))
+  pub reading_refused : (f : StreamFault) → ((more : Bytes) → MayFollow rd more true → (f ≡ OutOfMemory) ⊎ (verdict_with more rd ≡ stopped (Some f))) → IsWholeRun begins base S T all (Err (Stream f))
   reading_refused f e = record { given = tt; refused = by (e rest may_rest); grown = grown_so_far }
     where
-      by : (f ≡ OutOfMemory) ⊎ (later ≡ stopped (Some f)) → IsRefusal (IsMadeOfStream base all) T (replay base all) f
+      by : (f ≡ OutOfMemory) ⊎ (later ≡ stopped (Some f)) → IsRefusal (IsMadeOfStreamIn begins base all) T (replay_in begins base all) f
       by (inl q) = inr (inl q)
       by (inr q) = inl (stopped_all (Some f) q)
 
   -- ---- the source fails, or there is no memory
 
-  pub feeding_refused : (e : ReplayError) → (e ≡ ReadFault) ⊎ (e ≡ Stream OutOfMemory) → IsWhole base S T all (Err e)
+  pub feeding_refused : (e : ReplayError) → (e ≡ ReadFault) ⊎ (e ≡ Stream OutOfMemory) → IsWholeRun begins base S T all (Err e)
   feeding_refused e k = record { given = tt; refused = by k; grown = grown_so_far }
     where
-      by : (e ≡ ReadFault) ⊎ (e ≡ Stream OutOfMemory) → IsStreamError base T all e
-      by (inl q) = subst (IsStreamError base T all) (sym q) tt
-      by (inr q) = subst (IsStreamError base T all) (sym q) (inr (inl refl))
+      by : (e ≡ ReadFault) ⊎ (e ≡ Stream OutOfMemory) → IsStreamErrorIn begins base T all e
+      by (inl q) = subst (IsStreamErrorIn begins base T all) (sym q) tt
+      by (inr q) = subst (IsStreamErrorIn begins base T all) (sym q) (inr (inl refl))
 
   -- ---- a command is refused
 
@@ -155,28 +165,70 @@ module _ (base : Base) (S T : List Object) (before now : Option Bytes) (rd : Rea
     abbrev gone : Result Replay StreamFault → Ran StreamFault
     gone x = gone_on p h.state (λ s. ran_by (step base) behind.fault s behind.commands) x
 
-    run_step : IsRunTo (ran base all) h.told (gone (step base h.state p))
-    run_step = subst (λ (x : Verdict). IsRunTo (ran base all) h.told (ran_by (step base) x.fault h.state x.commands)) (follows rest may_rest) ran_all
+    run_step : IsRunTo (ran_in begins base all) h.told (gone (step base h.state p))
+    run_step = subst (λ (x : Verdict). IsRunTo (ran_in begins base all) h.told (ran_by (step base) x.fault h.state x.commands)) (follows rest may_rest) ran_all
 
     tried_here : (x : Result Replay StreamFault) → (qs : List Placed) × ((gone x).tried ≡ p ∷ qs)
     tried_here (Ok s) = ((ran_by (step base) behind.fault s behind.commands).tried, refl)
     tried_here (Err f) = ([], refl)
 
-    made_here : (o : Object) → IsMadeAt h.state p.command o → IsMadeOfStream base all o
+    made_here : (o : Object) → IsMadeAt h.state p.command o → IsMadeOfStreamIn begins base all o
     made_here o m =
         let t = tried_here (step base h.state p) in
         subst (λ (ps : List Placed). IsMadeBy base nothing_yet ps o) (sym (run_step.all_tried ∙ ap (λ (qs : List Placed). h.told ++ qs) t.1)) (made-behind base nothing_yet h.state h.told p t.0 o h.run m)
 
-    pub step_refused : (R : List Object) (w : Replaying) (f : StreamFault) → IsStepped base T R w h.state p (Err f) → IsWhole base S R all (Err (Stream f))
+    pub step_refused : (R : List Object) (w : Replaying) (f : StreamFault) → IsStepped base T R w h.state p (Err f) → IsWholeRun begins base S R all (Err (Stream f))
     step_refused R w f k = record {
       given = tt;
       refused = by k.refused;
-      grown = grown_then (IsMadeOfStream base all) S T R grown_so_far (grown_as (IsMadeAt h.state p.command) (IsMadeOfStream base all) T R made_here k.grown);
+      grown = grown_then (IsMadeOfStreamIn begins base all) S T R grown_so_far (grown_as (IsMadeAt h.state p.command) (IsMadeOfStreamIn begins base all) T R made_here k.grown);
     }
       where
-        by : IsRefusal (IsMadeAt h.state p.command) R (step base h.state p) f → IsRefusal (IsMadeOfStream base all) R (replay base all) f
+        by : IsRefusal (IsMadeAt h.state p.command) R (step base h.state p) f → IsRefusal (IsMadeOfStreamIn begins base all) R (replay_in begins base all) f
         by (inl q) = inl ((λ i. outcome_of (run_step.same_state i) (run_step.same_fault i)) ∙ ap (λ (x : Result Replay StreamFault). outcome_of (gone x).state (gone x).fault) q)
-        by (inr q) = inr (fault_as (IsMadeAt h.state p.command) (IsMadeOfStream base all) R f made_here q)
+        by (inr q) = inr (fault_as (IsMadeAt h.state p.command) (IsMadeOfStreamIn begins base all) R f made_here q)
+
+-- ---- what the replay gives at its end
+
+replayed_from : (S : List Object) (v : Replaying) (r : Replay) (f : Option StreamFault) (g : ReplayedNames) → IsOkAnd (reached r f) (IsReplayOf S v)
+    → (IsReplayOf S v r → IsReplayedOf S g (given_by r)) → IsOkAnd (outcome_of r f) (IsReplayedOf S g)
+replayed_from S v r None g h k = k h
+replayed_from S v r (Some f) g h k = absurd h
+
+pub replayed_whole : (base : Base) (S S' : List Object) (input : Bytes) (v : Replaying) (g : ReplayedNames) → IsWholeRun start base S S' input (Ok v)
+    → ((r : Replay) → IsReplayOf S' v r → IsReplayedOf S' g (given_by r)) → IsWhole base S S' input (Ok g)
+replayed_whole base S S' input v g w k = record {
+  given = replayed_from S' v (ran_in start base input).state (ran_in start base input).fault g w.given (k (ran_in start base input).state);
+  refused = tt;
+  grown = w.grown;
+}
+
+pub replayed_refused : (base : Base) (S S' : List Object) (input : Bytes) (e : ReplayError) → IsWholeRun start base S S' input (Err e) → IsWhole base S S' input (Err e)
+replayed_refused base S S' input e w = record { given = tt; refused = w.refused; grown = w.grown }
+
+tagged_from : (S : List Object) (v : Replaying) (r : Replay) (f : Option StreamFault) (g : TaggedNames) → IsOkAnd (reached r f) (IsReplayOf S v)
+    → (IsReplayOf S v r → IsTaggedReplayedOf S g (tagged_given r)) → IsOkAnd (outcome_of r f >>= λ x. Ok (record { replayed = x; tags = r.tags })) (IsTaggedReplayedOf S g)
+tagged_from S v r None g h k = k h
+tagged_from S v r (Some f) g h k = absurd h
+
+pub tagged_whole : (base : Base) (S S' : List Object) (input : Bytes) (v : Replaying) (g : TaggedNames) → IsWholeRun tagged_start base S S' input (Ok v)
+    → ((r : Replay) → IsReplayOf S' v r → IsTaggedReplayedOf S' g (tagged_given r)) → IsTaggedWhole base S S' input (Ok g)
+tagged_whole base S S' input v g w k = record {
+  given = tagged_from S' v (ran_in tagged_start base input).state (ran_in tagged_start base input).fault g w.given (k (ran_in tagged_start base input).state);
+  refused = tt;
+  grown = w.grown;
+}
+
+pub tagged_refused : (base : Base) (S S' : List Object) (input : Bytes) (e : ReplayError) → IsWholeRun tagged_start base S S' input (Err e) → IsTaggedWhole base S S' input (Err e)
+tagged_refused base S S' input e w = record { given = tt; refused = w.refused; grown = w.grown }
+
+-- the names of the tags that are given rise
+pub tags_rise : ReplayedTagsLaw → (base : Base) (S S' : List Object) (input : Bytes) (g : TaggedNames) → IsTaggedWhole base S S' input (Ok g) → rise None g.tags.items ≡ true
+tags_rise law base S S' input g w = by (tagged_replay base input) refl w.given
+  where
+    by : (x : Result TaggedReplayed StreamFault) → tagged_replay base input ≡ x → IsOkAnd x (IsTaggedReplayedOf S' g) → rise None g.tags.items ≡ true
+    by (Ok y) e h = ap (rise None) h.tags ∙ (law base input y e).order
+    by (Err f) e h = absurd h
 
 -- ---- the end of the reading
 

@@ -5,4 +5,6 @@ pub mod Made
 pub mod Standing
 pub mod Whole
 pub mod Waited
+pub mod TagLaws
 pub mod Examples
+pub mod TagExamples

@@ -12,6 +12,7 @@ use Rattle.git_objects.specs.declared.name.Name.{Name}
 use Rattle.path_trees.specs.declared.found.TreeFault.{TreeFault}
 use Rattle.path_trees.specs.declared.found.TreeFault.TheVariants as trees
 use Rattle.git_objects.specs.declared.quantity.Quantity.TheVariants.{Files, PathBytes, PathDepth}
+use Rattle.tag_objects.specs.declared.tag.Tag.{Tag}
 use Rattle.stage_tree.specs.declared.fault.StageFault.{StageFault}
 use Rattle.stage_tree.specs.declared.fault.StageFault.TheVariants as edits
 use Rattle.fast_import.specs.declared.draft.Draft.{Draft}
@@ -68,6 +69,7 @@ pub record Replaying : Type 0 where
   pub branches : Refs
   pub marks : List (ℕ × Marked)
   pub draft : Option Draft
+  pub tags : List Tag
 
 -- an answer by names tells what the definition gives
 abbrev pub Answers : {A B : Type 0} → (A → B) → Result A StreamFault → Result B StreamFault → Type 0

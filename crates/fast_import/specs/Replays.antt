@@ -18,6 +18,9 @@ use Rattle.git_objects.specs.declared.quantity.Quantity.TheVariants.{PathDepth, 
 use Rattle.stream_reader.specs.declared.command.Command.{Command}
 use Rattle.stream_reader.specs.declared.command.Command.TheVariants as commands
 use Rattle.stream_reader.specs.declared.command.CommitHead.{CommitHead}
+use Rattle.stream_reader.specs.declared.command.TagHead.{TagHead}
+use Rattle.tag_objects.specs.TagLists.{put_tag}
+use Rattle.tag_objects.specs.declared.tag.Tag.{Tag}
 use Rattle.stream_reader.specs.declared.command.Change.{Change}
 use Rattle.stream_reader.specs.declared.command.Change.TheVariants as changes
 use Rattle.stream_reader.specs.declared.command.BlobRef.{BlobRef}
@@ -28,7 +31,8 @@ use Rattle.stream_reader.specs.declared.commit_ref.Target.{Target}
 use Rattle.stream_reader.specs.declared.commit_ref.Target.TheVariants as targets
 use Rattle.stream_reader.specs.declared.fault.StreamFault.{StreamFault}
 use Rattle.stream_reader.specs.declared.fault.StreamFault.TheVariants.{Syntax, Unresolved, NoSource, Limit}
-use Rattle.stream_reader.specs.Verdicts.{start, verdict}
+use Rattle.stream_reader.specs.Verdicts.{start, tagged_start, verdict}
+use Rattle.stream_reader.specs.declared.progress.Progress.{Progress}
 
 -- What is there before the stream: commits by their names, with their flat trees; refs with their commits; the contents of the
 -- known blobs.
@@ -37,10 +41,11 @@ pub record Base : Type 0 where
   pub refs : Refs
   pub blobs : List Bytes
 
--- what a mark names: a blob's bytes, or the name of a commit
+-- what a mark names: a blob's bytes, the name of a commit, or a tag
 pub data Marked : Type 0 where
   BlobMark : Bytes → Marked
   CommitMark : Bytes → Marked
+  TagMark : Marked
 
 -- a commit that is being made: its first lines, its parents, and its tree so far
 pub record Draft : Type 0 where
@@ -49,16 +54,18 @@ pub record Draft : Type 0 where
   pub tree : Flat
 
 -- How far a replay has come: the blobs that were read and the commits that were made, in order; the branches in byte order, each
--- with its commit, or unset; the marks, the last one given first; and the commit that is being made.
+-- with its commit, or unset; the marks, the last one given first; the commit that is being made; and the tags, the last one of
+-- each name, in the byte order of the names.
 pub record Replay : Type 0 where
   pub blobs : List Bytes
   pub commits : List Snapshot
   pub branches : List (Bytes × Option Bytes)
   pub marks : List (ℕ × Marked)
   pub draft : Option Draft
+  pub tags : List Tag
 
 abbrev pub nothing_yet : Replay
-nothing_yet = record { blobs = []; commits = []; branches = []; marks = []; draft = None }
+nothing_yet = record { blobs = []; commits = []; branches = []; marks = []; draft = None; tags = [] }
 
 -- ---- what names stand for
 
@@ -85,10 +92,12 @@ marked n (m ∷ ms) = if m.0 == n then Some m.1 else marked n ms
 abbrev pub marked_blob : Marked → Option Bytes
 marked_blob (BlobMark b) = Some b
 marked_blob (CommitMark n) = None
+marked_blob TagMark = None
 
 abbrev pub marked_commit : Marked → Option Bytes
 marked_commit (BlobMark b) = None
 marked_commit (CommitMark n) = Some n
+marked_commit TagMark = None
 
 -- the commit to which the stream has set a branch
 abbrev pub branch : Replay → Bytes → Option Bytes
@@ -223,6 +232,13 @@ entered refname mark c r = with_mark mark (CommitMark (snapshot_name c)) (with_b
 abbrev pub committed : Replay → Draft → Replay
 committed r d = entered d.head.refname d.head.mark (commit_of d) (record r { draft = None })
 
+abbrev pub tag_of : TagHead → Bytes → Tag
+tag_of h n = record { name = h.name; target = record { 0 = n }; tagger = h.tagger; message = h.message }
+
+-- a tag is read: its mark names no commit and no blob
+abbrev pub tagged : TagHead → Bytes → Replay → Replay
+tagged h n r = with_mark h.mark TagMark (record r { tags = put_tag (tag_of h n) r.tags })
+
 -- One command at a place, its faults in the order of its lines. Changes and the end of a commit come in a commit alone.
 abbrev pub command_step : Base → Replay → ℕ → Command → Result Replay StreamFault
 command_step base r at (commands.Blob mark b) = Ok (with_mark mark (BlobMark b) (record r { blobs = r.blobs ++ b ∷ [] }))
@@ -236,6 +252,7 @@ command_step base r at (commands.Change c) = do
   Ok (record r { blobs = r.blobs ++ inline_blob c; draft = Some (record d { tree = t }) })
 command_step base r at commands.CommitEnd = or_refuse (Syntax at) r.draft >>= λ d. Ok (committed r d)
 command_step base r at (commands.Reset refname from) = said base r from >>= λ n. Ok (with_branch refname n r)
+command_step base r at (commands.Tag h) = known base r h.from >>= λ n. Ok (tagged h n r)
 command_step base r at commands.Done = Ok r
 
 abbrev pub step : Base → Replay → Placed → Result Replay StreamFault
@@ -262,8 +279,12 @@ abbrev pub ran_by : {F : Type 0} → (Replay → Placed → Result Replay F) →
 ran_by one end r [] = record { tried = []; state = r; fault = end }
 ran_by one end r (p ∷ ps) = gone_on p r (λ s. ran_by one end s ps) (one r p)
 
+-- A stream, read from its start by a `Progress`: by `start`, or by `tagged_start`, where the command `tag` is read, too.
+abbrev pub ran_in : Progress → Base → Bytes → Ran StreamFault
+ran_in begins base input = ran_by (step base) (verdict begins input).fault nothing_yet (verdict begins input).commands
+
 abbrev pub ran : Base → Bytes → Ran StreamFault
-ran base input = ran_by (step base) (verdict start input).fault nothing_yet (verdict start input).commands
+ran base input = ran_in start base input
 
 -- what a stream gives: its blobs and its commits in order, and the heads that it has set, in byte order
 pub record Replayed : Type 0 where
@@ -277,13 +298,33 @@ heads_of r = filter_map (λ b. option_map (λ n. (b.0, n)) b.1) r.branches
 abbrev pub given_by : Replay → Replayed
 given_by r = record { blobs = r.blobs; commits = r.commits; heads = heads_of r }
 
+-- how far a replay has come, where it has no fault
+abbrev pub reached : Replay → Option StreamFault → Result Replay StreamFault
+reached r None = Ok r
+reached r (Some f) = Err f
+
 abbrev pub outcome_of : Replay → Option StreamFault → Result Replayed StreamFault
 outcome_of r None = Ok (given_by r)
 outcome_of r (Some f) = Err f
 
 -- what the stream gives, or its first fault
+abbrev pub replay_in : Progress → Base → Bytes → Result Replayed StreamFault
+replay_in begins base input = outcome_of (ran_in begins base input).state (ran_in begins base input).fault
+
 abbrev pub replay : Base → Bytes → Result Replayed StreamFault
-replay base input = outcome_of (ran base input).state (ran base input).fault
+replay base input = replay_in start base input
+
+-- what a stream gives, and the tags that were read, the last one of each name, in the byte order of the names
+pub record TaggedReplayed : Type 0 where
+  pub replayed : Replayed
+  pub tags : List Tag
+
+abbrev pub tagged_given : Replay → TaggedReplayed
+tagged_given r = record { replayed = given_by r; tags = r.tags }
+
+abbrev pub tagged_replay : Base → Bytes → Result TaggedReplayed StreamFault
+tagged_replay base input =
+    replay_in tagged_start base input >>= λ g. Ok (record { replayed = g; tags = (ran_in tagged_start base input).state.tags })
 
 abbrev pub empty_base : Base
 empty_base = record { commits = []; refs = []; blobs = [] }

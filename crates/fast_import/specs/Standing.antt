@@ -18,7 +18,7 @@ use Rattle.object_store.specs.StoredSnapshots.{snapshot_object}
 use Rattle.object_store.specs.Unfolding.{StandsFor}
 use Rattle.stage_tree.specs.Stages.{Shows, Staged}
 use Rattle.fast_import.specs.Made.{IsBlobAmong, IsMadeAt, IsPutFault, IsRefusal, blob_object}
-use Rattle.fast_import.specs.Replays.{Base, Marked, BlobMark, CommitMark, Draft, Replay, Replayed, blob_inline, commit_of, heads_of, inline_blob, letter_of, step}
+use Rattle.fast_import.specs.Replays.{Base, Marked, BlobMark, CommitMark, TagMark, Draft, Replay, Replayed, TaggedReplayed, blob_inline, commit_of, heads_of, inline_blob, letter_of, step}
 use Rattle.fast_import.specs.Replaying.{Replaying, setting_value}
 use Rattle.git_objects.specs.declared.mode.Mode.{Mode}
 use Rattle.git_objects.specs.declared.mode.Mode.TheVariants.{Module}
@@ -35,6 +35,7 @@ use Rattle.fast_import.specs.declared.marks.Marked.{Marked as MarkedName}
 use Rattle.fast_import.specs.declared.marks.Marked.TheVariants as marked
 use Rattle.fast_import.specs.declared.replayed.Made.{Made}
 use Rattle.fast_import.specs.declared.replayed.Replayed.{Replayed as ReplayedNames}
+use Rattle.fast_import.specs.declared.replayed.TaggedReplay.{TaggedReplay as TaggedNames}
 
 -- a blob of these bytes has the name
 abbrev pub IsBlobIn : List Object → Name → Bytes → Type 0
@@ -63,6 +64,7 @@ abbrev pub IsMarkIn : List Object → Option MarkedName → Option Marked → Ty
 IsMarkIn S None None = ⊤
 IsMarkIn S (Some (marked.Blob n)) (Some (BlobMark b)) = IsBlobIn S n b
 IsMarkIn S (Some (marked.Commit n)) (Some (CommitMark c)) = n.0 ≡ c
+IsMarkIn S (Some marked.Tag) (Some TagMark) = ⊤
 IsMarkIn S _ _ = ⊥
 
 -- author, committer and message of the commit that is being made
@@ -94,6 +96,7 @@ pub record IsReplayOf (S : List Object) (v : Replaying) (r : Replay) : Type 0 wh
   pub held : Each (λ e. has CommitKind S e.1 ≡ true) v.branches
   pub marks : (n : ℕ) → IsMarkIn S (lookup (nat_eq n) v.marks) (Rattle.fast_import.specs.Replays.marked n r.marks)
   pub draft : IsDraftIn S v.draft r.draft
+  pub tags : v.tags ≡ r.tags
 
 -- a command was tried: the names then stand for the replay behind it, or the command is refused
 pub record IsStepped (base : Base) (S S' : List Object) (after : Replaying) (r : Replay) (p : Placed) (result : Result Unit StreamFault) : Type 0 where
@@ -107,10 +110,20 @@ pub record IsReplayedOf (S : List Object) (v : ReplayedNames) (g : Replayed) : T
   pub made_commits : AreCommitsIn S v.commits.items g.commits
   pub settings : map setting_value v.heads.items ≡ g.heads
 
+-- what a stream gives, and its tags
+pub record IsTaggedReplayedOf (S : List Object) (v : TaggedNames) (g : TaggedReplayed) : Type 0 where
+  pub replayed : IsReplayedOf S v.replayed g.replayed
+  pub tags : v.tags.items ≡ g.tags
+
 -- a command was tried that brings no object: the names then stand for the replay behind it, or it is refused
 pub record IsTried (S : List Object) (after : Replaying) (left : Result Replay StreamFault) (result : Result Unit StreamFault) : Type 0 where
   pub done : OnOk result (IsOkAnd left (IsReplayOf S after))
   pub refused : IfErr result (λ f. (left ≡ Err f) ⊎ (f ≡ OutOfMemory))
+
+-- a tag was kept, or there was no memory
+pub record IsTagKept (S : List Object) (after : Replaying) (left : Replay) (result : Result Unit StreamFault) : Type 0 where
+  pub kept : OnOk result (IsReplayOf S after left)
+  pub no_room : IfErr result (λ f. f ≡ OutOfMemory)
 
 -- the draft of a commit that begins with this head, these parents and this stage
 pub record IsDrawnUp (h : CommitHead) (b : Begun) (v : DraftNames) : Type 0 where

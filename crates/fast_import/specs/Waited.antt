@@ -8,14 +8,14 @@ use Rattle.stream_lex.specs.Lines.{Input}
 use Rattle.stream_lex.specs.declared.stop.Stop.TheVariants as stops
 use Rattle.stream_reader.specs.Commands.{Told, read_command}
 use Rattle.stream_reader.specs.Reading.{Read}
-use Rattle.stream_reader.specs.Verdicts.{from_start, size, start, verdict}
+use Rattle.stream_reader.specs.Verdicts.{from_start, size, start, start_in, verdict}
 use Rattle.stream_reader.specs.Waited.{awaited, fault_place}
 use Rattle.stream_reader.specs.declared.command.Command.{Command}
 use Rattle.stream_reader.specs.declared.command.Command.TheVariants as commands
 use Rattle.stream_reader.specs.declared.command.Placed.{Placed}
 use Rattle.stream_reader.specs.declared.fault.StreamFault.{StreamFault}
 use Rattle.stream_reader.specs.declared.progress.Progress.{Progress}
-use Rattle.fast_import.specs.Replays.{Base, Replay, Replayed, nothing_yet, replay, step}
+use Rattle.fast_import.specs.Replays.{Base, Replay, Replayed, nothing_yet, replay_in, step}
 
 -- what one command makes of a replay
 abbrev pub Step : Type 0
@@ -44,24 +44,30 @@ waited_within (suc n) one r p i = waited_told (waited_within n one) one r (read_
 unfoldable pub waited_from : Step → Replay → Progress → Input → ℕ
 waited_from one r p i = waited_within (size p i + 1) one r p i
 
--- The place up to which a stream has to be read: of a fault of reading, its place; of a command that is refused, the place of
--- the next line behind it that is no comment, or the input's length where there is none; else the place behind the line
--- `done`, or the input's length where there is no such line.
+-- The place up to which a stream has to be read, which is read by such a `Progress` from its start: of a fault of reading, its
+-- place; of a command that is refused, the place of the next line behind it that is no comment, or the input's length where
+-- there is none; else the place behind the line `done`, or the input's length where there is no such line.
+abbrev pub waited_in : Progress → Base → Bytes → ℕ
+waited_in begins base all = waited_from (step base) nothing_yet begins (from_start all)
+
 abbrev pub waited : Base → Bytes → ℕ
-waited base all = waited_from (step base) nothing_yet start (from_start all)
+waited base all = waited_in start base all
 
 -- A source that tells has given at most 2^25 bytes behind that place, and no fewer than up to it where the stream was
 -- replayed.
+abbrev pub IsTakenIn : {A E : Type 0} → Progress → Base → Option Bytes → Option Bytes → Result A E → Type 0
+IsTakenIn begins base before after result =
+    IfSome before (λ all. (given : Bytes) × Consumes before after given × (length given ≤ waited_in begins base all + 33554432) × OnOk result (waited_in begins base all ≤ length given))
+
 abbrev pub IsTaken : {A E : Type 0} → Base → Option Bytes → Option Bytes → Result A E → Type 0
-IsTaken base before after result =
-    IfSome before (λ all. (given : Bytes) × Consumes before after given × (length given ≤ waited base all + 33554432) × OnOk result (waited base all ≤ length given))
+IsTaken base before after result = IsTakenIn start base before after result
 
 abbrev pub is_done : Command → Bool
 is_done commands.Done = true
 is_done c = false
 
--- A stream that is replayed is read to its end where it has no command `done`.
+-- A stream that is replayed, with its tags or without, is read to its end where it has no command `done`.
 abbrev pub WaitedLaw : Type 0
 WaitedLaw =
-    (base : Base) (all : Bytes) (g : Replayed) → replay base all ≡ Ok g → Each (λ p. is_done p.command ≡ false) (verdict start all).commands →
-    waited base all ≡ length all
+    (tags : Bool) (base : Base) (all : Bytes) (g : Replayed) → replay_in (start_in tags) base all ≡ Ok g →
+    Each (λ p. is_done p.command ≡ false) (verdict (start_in tags) all).commands → waited_in (start_in tags) base all ≡ length all

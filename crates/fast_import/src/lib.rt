@@ -20,11 +20,11 @@ mod whole;
 
 pub use base::{Base, EmptyBase};
 pub use blobs::Blobs;
-pub use laws::waited_law;
+pub use laws::{replayed_tags_law, waited_law};
 pub use replay::Replay;
-pub use replayed::{Made, Replayed, Setting};
+pub use replayed::{Made, Replayed, Setting, TaggedReplay};
 pub use stream_reader::{
     BlobRef, Change, Command, CommitHead, CommitRef, Feature, Merges, Next, Placed, Reader,
-    StreamFault, Target,
+    StreamFault, TagHead, Target,
 };
-pub use whole::{ReplayError, feed_on, replay_all};
+pub use whole::{ReplayError, feed_on, replay_all, replay_tagged};

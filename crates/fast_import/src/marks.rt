@@ -12,6 +12,8 @@ use std::marker::Model;
 pub(crate) enum Marked {
     Blob(Name),
     Commit(Name),
+    /// It names nothing that a later command can use.
+    Tag,
 }
 
 /// What each mark names. A mark that is given again names the new object.

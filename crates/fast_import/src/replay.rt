@@ -7,19 +7,20 @@ ghost use Rattle.git_objects.specs.Snapshots.{snapshot_name};
 ghost use Rattle.git_objects.specs.declared.limits.TheConstants.{STREAM_BYTES};
 ghost use Rattle.object_store.specs.Objects.{Object};
 ghost use Rattle.fast_import.specs.Bases.{base_in};
-ghost use Rattle.fast_import.specs.Replays.{Replay as ReplayOf, branch, given_by, nothing_yet, target_name};
-ghost use Rattle.fast_import.specs.Standing.{IsReplayOf, IsReplayedOf};
+ghost use Rattle.fast_import.specs.Replays.{Replay as ReplayOf, branch, given_by, nothing_yet, tagged_given, target_name};
+ghost use Rattle.fast_import.specs.Standing.{IsReplayOf, IsReplayedOf, IsTaggedReplayedOf};
 
 use crate::blobs::Blobs;
 use crate::branches::Branches;
 use crate::commits::Commits;
 use crate::draft::Draft;
 use crate::marks::{Marked, Marks};
-use crate::{Base, CommitRef, Replayed, Target};
+use crate::{Base, CommitRef, Replayed, TaggedReplay, Target};
 use git_objects::Name;
 use path_names::RefName;
 use std::alloc::Global;
 use std::marker::Model;
+use tag_objects::Tag;
 
 /// How far a replay has come: what the stream has brought, by the names of objects that a store has.
 #[derive(Drop)]
@@ -30,6 +31,7 @@ pub struct Replay {
     pub(crate) branches: Branches,
     pub(crate) marks: Marks,
     pub(crate) draft: Option<Draft>,
+    pub(crate) tags: Vec<Tag>,
 }
 
 impl Model for Replay {
@@ -43,6 +45,7 @@ impl Model for Replay {
       branches = r.branches;
       marks = r.marks;
       draft = r.draft;
+      tags = r.tags.items;
     } };
 }
 
@@ -58,13 +61,24 @@ impl Replay {
             branches: Branches::new(alloc),
             marks: Marks::new(alloc),
             draft: None,
+            tags: Vec::new(alloc),
         }
     }
 
-    /// What the commands have given. Takes no memory.
+    /// What the commands have given, without the tags. Takes no memory.
     pub fn finish(self) -> Replayed
         ensures gives { (S : List Object) (r : ReplayOf) → IsReplayOf S self r → IsReplayedOf S result (given_by r) }
         ensures few { length result.commits.items ≤ STREAM_BYTES }
+    {
+        let TaggedReplay { replayed, tags: _ } = self.finish_tagged();
+        replayed
+    }
+
+    /// What the commands have given, and the tags that were read. Takes no memory.
+    pub fn finish_tagged(self) -> TaggedReplay
+        ensures gives { (S : List Object) (r : ReplayOf) → IsReplayOf S self r →
+            IsTaggedReplayedOf S result (tagged_given r) }
+        ensures few { length result.replayed.commits.items ≤ STREAM_BYTES }
     {
         let Replay {
             alloc: _,
@@ -73,12 +87,21 @@ impl Replay {
             branches,
             marks: _,
             draft: _,
+            tags,
         } = self;
-        Replayed {
+        let replayed = Replayed {
             blobs: blobs.into_vec(),
             commits: commits.into_vec(),
             heads: branches.into_settings(),
-        }
+        };
+        TaggedReplay { replayed, tags }
+    }
+
+    /// The tags that were read, the last one of each name, in the byte order of their names. Takes no memory.
+    pub fn tags(&self) -> &[Tag]
+        ensures { (S : List Object) (r : ReplayOf) → IsReplayOf S self.now r → result.now ≡ r.tags }
+    {
+        &self.tags
     }
 
     /// How many commits the stream has made.

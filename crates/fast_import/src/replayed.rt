@@ -1,6 +1,7 @@
 // What a stream gives.
 use git_objects::Name;
 use path_names::RefName;
+use tag_objects::Tag;
 
 /// A commit that was made, and its tree.
 #[derive(Clone, Copy, PartialEq, Eq)]
@@ -23,4 +24,12 @@ pub struct Replayed {
     pub blobs: Vec<Name>,
     pub commits: Vec<Made>,
     pub heads: Vec<Setting>,
+}
+
+/// What a stream gives where tags are read: besides, the last tag that was read of each name, in the byte order of the
+/// names.
+#[derive(Drop)]
+pub struct TaggedReplay {
+    pub replayed: Replayed,
+    pub tags: Vec<Tag>,
 }

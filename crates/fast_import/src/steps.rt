@@ -2,19 +2,20 @@
 ghost use Rattle.std.specs.Prelude.{◌≡◌, ℕ, true, OnOk, IfErr, List};
 ghost use Rattle.object_store.specs.Objects.{Object};
 ghost use Rattle.fast_import.specs.Bases.{IsBaseIn, base_in};
-ghost use Rattle.fast_import.specs.Replays.{Base as BaseOf, Replay as ReplayOf, command_step};
+ghost use Rattle.fast_import.specs.Replays.{Base as BaseOf, Replay as ReplayOf, command_step, tagged};
 ghost use Rattle.stream_reader.specs.Replayable.{is_replayable};
 ghost use Rattle.fast_import.specs.Replaying.{with_head};
-ghost use Rattle.fast_import.specs.Standing.{IsBrought, IsGivenMark, IsReplayOf, IsStepped, IsTried};
-ghost use Rattle.stream_reader.specs.declared.command.Command.TheVariants.{Blob, Reset};
+ghost use Rattle.fast_import.specs.Standing.{IsBrought, IsGivenMark, IsReplayOf, IsStepped, IsTagKept, IsTried};
+ghost use Rattle.stream_reader.specs.declared.command.Command.TheVariants.{Blob, Reset, Tag as TagCommand};
 ghost use Rattle.stream_reader.specs.declared.fault.StreamFault.TheVariants.{OutOfMemory};
 
 use crate::marks::Marked;
 use crate::puts::put_fault;
-use crate::{Base, Command, CommitRef, Placed, Replay, StreamFault};
+use crate::{Base, Command, CommitRef, Placed, Replay, StreamFault, TagHead};
 use git_objects::{Bytes, Kind, Name};
 use object_store::{Store, store_law};
 use path_names::RefName;
+use tag_objects::{Tag, put_tag};
 
 impl Replay {
     /// Carries out a command that a reader gave behind those before it, none of which was refused. A base gives
@@ -46,6 +47,10 @@ impl Replay {
             Command::Reset { refname, from } => {
                 store_law(store);
                 self.reset(base, refname, &from)
+            }
+            Command::Tag(head) => {
+                store_law(store);
+                self.tag(base, head)
             }
             Command::Done => {
                 store_law(store);
@@ -108,6 +113,42 @@ impl Replay {
         match self.bring(store, content.bytes()) {
             Err(fault) => Err(fault),
             Ok(name) => self.mark(mark, Marked::Blob(name)),
+        }
+    }
+
+    // A tag of this commit.
+    pub(crate) fn keep_tag(&mut self, head: TagHead, target: Name) -> Result<(), StreamFault>
+        ensures { (S : List Object) (r : ReplayOf) → IsReplayOf S self.old r → IsTagKept S self.new
+            (tagged head target.0 r) result }
+    {
+        let TagHead {
+            name,
+            from: _,
+            mark,
+            tagger,
+            message,
+        } = head;
+        let tag = Tag {
+            name,
+            target,
+            tagger,
+            message,
+        };
+        let Ok(()) = put_tag(&mut self.tags, tag) else {
+            return Err(StreamFault::OutOfMemory);
+        };
+        self.mark(mark, Marked::Tag)
+    }
+
+    // A tag of a commit that is there.
+    pub(crate) fn tag<B: Base>(&mut self, base: &B, head: TagHead) -> Result<(), StreamFault>
+        ensures { (S : List Object) (at : ℕ) (r : ReplayOf) → IsReplayOf S self.old r →
+            IsTried S self.new (command_step (base_in S (B.commits base.now) (B.refs base.now) (B.blobs base.now))
+            r at (TagCommand head)) result }
+    {
+        match self.known(base, &head.from) {
+            Err(fault) => Err(fault),
+            Ok(target) => self.keep_tag(head, target),
         }
     }
 

@@ -1,15 +1,17 @@
 // The replay of a whole stream.
 ghost use Rattle.std.specs.Prelude.{◌≡◌, ◌⊎◌, ◌<◌, ◌≤◌, ◌↔◌, ℕ, List, true, false, length, take, IfErr, IfOk};
-ghost use Rattle.std.specs.Prelude.{IfSome, IsErrOf, OnErr, OnOk};
+ghost use Rattle.std.specs.Prelude.{[], IfSome, IsErrOf, None, OnErr, OnOk};
 ghost use Rattle.git_objects.specs.Paths.{is_bytes};
 ghost use Rattle.git_objects.specs.declared.limits.TheConstants.{STREAM_BYTES};
 ghost use Rattle.proj_io.specs.Counts.{Counts};
 ghost use Rattle.fast_import.specs.Bases.{IsBaseIn, base_in};
-ghost use Rattle.fast_import.specs.Waited.{IsTaken};
-ghost use Rattle.fast_import.specs.Whole.{IsFed, IsGiven, IsWhole};
+ghost use Rattle.fast_import.specs.Waited.{IsTaken, IsTakenIn};
+ghost use Rattle.fast_import.specs.Whole.{IsFed, IsGiven, IsTaggedWhole, IsWhole, IsWholeRun};
+ghost use Rattle.stream_reader.specs.Verdicts.{tagged_start};
 ghost use Rattle.stream_reader.specs.declared.fault.StreamFault.TheVariants.{OutOfMemory};
+ghost use Rattle.tag_objects.specs.TagLists.{rise};
 
-use crate::{Base, Next, Reader, Replay, Replayed, StreamFault};
+use crate::{Base, Next, Reader, Replay, Replayed, StreamFault, TaggedReplay, replayed_tags_law};
 use git_objects::Name;
 use object_store::{Store, store_law};
 use proj_io::Source;
@@ -26,7 +28,8 @@ pub enum ReplayError {
     Stream(StreamFault),
 }
 
-/// Replays a stream upon what is there. It is read in pieces, up to its end, its `done` line or its first fault.
+/// Replays a stream upon what is there. It is read in pieces, up to its end, its `done` line or its first fault. A
+/// command `tag` is Unsupported.
 pub fn replay_all<S: Source, B: Base>(
     alloc: Global,
     input: &mut S,
@@ -42,14 +45,65 @@ pub fn replay_all<S: Source, B: Base>(
     ensures told { S.tells input.new ↔ S.tells input.old }
     ensures cause { Counts (S.faults input.old) (S.faults input.new) (IsErrOf result ReplayError.ReadFault) }
 {
+    match run_whole(alloc, Reader::new(alloc), input, base, store) {
+        Err(error) => Err(error),
+        Ok(replay) => Ok(replay.finish()),
+    }
+}
+
+/// Replays a stream upon what is there, and gives its tags, too. It is read in pieces, up to its end, its `done` line or
+/// its first fault.
+pub fn replay_tagged<S: Source, B: Base>(
+    alloc: Global,
+    input: &mut S,
+    base: &B,
+    store: &mut Store,
+) -> Result<TaggedReplay, ReplayError>
+    requires { IsBaseIn store.old (B.commits base.now) (B.refs base.now) (B.blobs base.now) }
+    ensures stream { (all : List ℕ) × (is_bytes all ≡ true) × IfSome (S.left input.old) (λ bytes. bytes ≡ all)
+        × IsTaggedWhole (base_in store.old (B.commits base.now) (B.refs base.now) (B.blobs base.now))
+        store.old store.new all result }
+    ensures tags { IfOk result (λ g. rise None g.tags.items ≡ true) }
+    ensures taken { IsTakenIn tagged_start (base_in store.old (B.commits base.now) (B.refs base.now) (B.blobs base.now))
+        (S.left input.old) (S.left input.new) result }
+    ensures few { IfOk result (λ g. length g.replayed.commits.items ≤ STREAM_BYTES) }
+    ensures told { S.tells input.new ↔ S.tells input.old }
+    ensures cause { Counts (S.faults input.old) (S.faults input.new) (IsErrOf result ReplayError.ReadFault) }
+{
+    replayed_tags_law();
+    match run_whole(alloc, Reader::tagged(alloc), input, base, store) {
+        Err(error) => Err(error),
+        Ok(replay) => Ok(replay.finish_tagged()),
+    }
+}
+
+// Replays a stream upon what is there, by a reader of which nothing has come.
+fn run_whole<S: Source, B: Base>(
+    alloc: Global,
+    mut reader: Reader,
+    input: &mut S,
+    base: &B,
+    store: &mut Store,
+) -> Result<Replay, ReplayError>
+    requires base { IsBaseIn store.old (B.commits base.now) (B.refs base.now) (B.blobs base.now) }
+    requires unread { reader.input ≡ record { at = 0; rest = [] } }
+    requires open { reader.ended ≡ false }
+    ensures stream { (all : List ℕ) × (is_bytes all ≡ true) × IfSome (S.left input.old) (λ bytes. bytes ≡ all)
+        × IsWholeRun reader.progress (base_in store.old (B.commits base.now) (B.refs base.now) (B.blobs base.now))
+        store.old store.new all result }
+    ensures taken { IsTakenIn reader.progress
+        (base_in store.old (B.commits base.now) (B.refs base.now) (B.blobs base.now))
+        (S.left input.old) (S.left input.new) result }
+    ensures told { S.tells input.new ↔ S.tells input.old }
+    ensures cause { Counts (S.faults input.old) (S.faults input.new) (IsErrOf result ReplayError.ReadFault) }
+{
     store_law(store);
     let mut piece = [0u8; PIECE];
-    let mut reader = Reader::new(alloc);
     let mut replay = Replay::new(alloc);
     'stream: loop {
         match reader.next() {
             Err(fault) => return Err(ReplayError::Stream(fault)),
-            Ok(Next::Ended) => return Ok(replay.finish()),
+            Ok(Next::Ended) => return Ok(replay),
             Ok(Next::Command(placed)) => match replay.step(base, store, placed) {
                 Err(fault) => return Err(ReplayError::Stream(fault)),
                 Ok(()) => {}

@@ -6,24 +6,26 @@ use Rattle.git_objects.specs.declared.limits.TheConstants.{BLOB_BYTES, MESSAGE_B
 use Rattle.git_objects.specs.declared.quantity.Quantity.{Quantity}
 use Rattle.git_objects.specs.declared.quantity.Quantity.TheVariants as limits
 use Rattle.git_objects.specs.Paths.{Bytes}
+use Rattle.git_objects.specs.Results.{◌>>=◌}
 use Rattle.stream_lex.specs.Lines.{Line}
 use Rattle.stream_reader.specs.declared.fault.StreamFault.TheVariants.{Syntax, Limit}
 use Rattle.stream_reader.specs.declared.commit_ref.CommitRef.{CommitRef}
 use Rattle.stream_reader.specs.declared.modify.DataRef.{DataRef}
 use Rattle.stream_reader.specs.declared.modify.DataRef.TheVariants as datas
+use Rattle.stream_reader.specs.declared.progress.Manner.{Manner}
 use Rattle.stream_reader.specs.declared.progress.Phase.TheVariants.{Between, InCommit}
 use Rattle.stream_lex.specs.Cutting.{judged, refuse}
 use Rattle.stream_reader.specs.Reading.{Judged, Reader, or_fault, option_line, need_line}
-use Rattle.stream_reader.specs.Names.{refname}
-use Rattle.stream_reader.specs.Blocks.{count, sized_block, whole_block, data_behind, blob_data, message_behind, message_data}
+use Rattle.stream_reader.specs.Names.{refname, tag_name}
+use Rattle.stream_reader.specs.Blocks.{count, sized_block, whole_block, data_behind, blob_data, message_behind, message_data, tag_data}
 use Rattle.stream_reader.specs.PathWords.{last_path, two_paths}
 use Rattle.stream_reader.specs.Changes.{modify_line, blob_ref, modify, change, ChangeLine, ModifyIs, DeleteIs, RenameIs, CopyIs, DeleteAllIs, NotesAre, EmptyIs, NoChange}
-use Rattle.stream_reader.specs.Heads.{if_some, said, mark_in, mark_lines, blob, author_in, committer_of, people, ref_in, ref_line, more_merges, merges, merges_max, parents, head, reset}
-use Rattle.stream_reader.specs.Commands.{CommandLine, EmptyLine, BlobLine, CommitLine, ResetLine, IdleLine, WantsDone, DoneLine, RefusedLine, OtherLine, gives, between, at_the_end}
+use Rattle.stream_reader.specs.Heads.{if_some, said, mark_in, mark_lines, blob, author_in, committer_of, people, ref_in, ref_line, more_merges, merges, merges_max, parents, head, reset, behind_word, must_say, tagger_in, tag}
+use Rattle.stream_reader.specs.Commands.{CommandLine, EmptyLine, BlobLine, CommitLine, ResetLine, TagLine, IdleLine, WantsDone, DoneLine, RefusedLine, OtherLine, gives, tag_turn, between, ends_at, at_the_end}
 use Rattle.stream_lex.specs.Cutting.{IsReader}
 use Rattle.stream_lex.proofs.Combining.{then-reader, pure-reader, refuse-reader, judged-reader, cond-reader}
 use Rattle.stream_reader.proofs.Combining.{option_line-reader, need_line-reader, whole_block-reader}
-use Rattle.stream_reader.proofs.Judging.{IsJudged, given, refname-judged, last_path-judged, two_paths-judged, modify_line-judged, if_some-judged, mark_in-judged, author_in-judged, committer_of-judged, ref_in-judged}
+use Rattle.stream_reader.proofs.Judging.{IsJudged, given, refname-judged, last_path-judged, two_paths-judged, modify_line-judged, if_some-judged, mark_in-judged, author_in-judged, committer_of-judged, ref_in-judged, tag_name-judged, behind-judged, tagger_in-judged}
 
 sized_block-reader : (which : Quantity) (most at n : ℕ) → IsReader (sized_block which most at n)
 sized_block-reader which most at n = cond-reader (nat_le n most) (whole_block at n) (refuse (Limit at which)) (whole_block-reader at n) (refuse-reader (Limit at which))
@@ -124,19 +126,46 @@ unfolding reset
 reset-reader at t =
     then-reader (judged (refname at t)) _ (judged-reader (refname at t) (refname-judged at t).told) (λ r. then-reader (ref_line (codes "from ")) _ (ref_line-reader (codes "from ")) (λ f. pure-reader _))
 
+-- ---- tags
+
+pub must_say-reader : {A : Type 0} (word : Bytes) (says : Line → Judged A) → ((at : ℕ) (t : Bytes) → IsJudged at (says (record { place = at; bytes = t }))) → IsReader (must_say word says)
+must_say-reader word says h = then-reader need_line _ need_line-reader (λ l. judged-reader (behind_word word l >>= says) (behind-judged word says h l).told)
+
+pub tag_data-reader : IsReader tag_data
+unfolding tag_data
+tag_data-reader = then-reader need_line (data_behind limits.Message MESSAGE_BYTES) need_line-reader (data_behind-reader limits.Message MESSAGE_BYTES)
+
+pub tag-reader : (at : ℕ) (t : Option Bytes) → IsReader (tag at t)
+unfolding tag
+tag-reader at t =
+    then-reader (judged (tag_name at t)) _ (judged-reader (tag_name at t) (tag_name-judged at t).told) (λ n.
+    then-reader (said (codes "mark ") mark_in) _ (said-reader (codes "mark ") mark_in mark_in-judged) (λ m.
+    then-reader (must_say (codes "from ") ref_in) _ (must_say-reader (codes "from ") ref_in (λ at t. ref_in-judged (record { place = at; bytes = t }))) (λ f.
+    then-reader (option_line (codes "original-oid ")) _ (option_line-reader (codes "original-oid ")) (λ o.
+    then-reader (must_say (codes "tagger ") tagger_in) _ (must_say-reader (codes "tagger ") tagger_in (λ at t. tagger_in-judged (record { place = at; bytes = t }))) (λ p.
+    then-reader tag_data _ tag_data-reader (λ d. pure-reader _))))))
+
 -- ---- turns
 
-pub between-reader : (k : CommandLine) (at : ℕ) (d : Bool) → IsReader (between k at d)
+tag_turn-reader : (at : ℕ) (t : Option Bytes) (d : Manner) (b : Bool) → IsReader (tag_turn at t d b)
+tag_turn-reader at t d true = then-reader (tag at t) (gives at Between d) (tag-reader at t) (λ c. pure-reader _)
+tag_turn-reader at t d false = refuse-reader _
+
+pub between-reader : (k : CommandLine) (at : ℕ) (d : Manner) → IsReader (between k at d)
 between-reader EmptyLine at d = pure-reader _
 between-reader BlobLine at d = then-reader blob (gives at Between d) blob-reader (λ c. pure-reader _)
 between-reader (CommitLine t) at d = then-reader (head at t) (gives at InCommit d) (head-reader at t) (λ c. pure-reader _)
 between-reader (ResetLine t) at d = then-reader (reset at t) (gives at Between d) (reset-reader at t) (λ c. pure-reader _)
+between-reader (TagLine t) at d = tag_turn-reader at t d d.takes_tags
 between-reader IdleLine at d = pure-reader _
 between-reader WantsDone at d = pure-reader _
 between-reader DoneLine at d = pure-reader _
 between-reader (RefusedLine f) at d = refuse-reader _
 between-reader OtherLine at d = refuse-reader _
 
-pub at_the_end-reader : (at : ℕ) (d : Bool) → IsReader (at_the_end at d)
-at_the_end-reader at true = refuse-reader _
-at_the_end-reader at false = pure-reader _
+ends_at-reader : (at : ℕ) (d : Manner) (b : Bool) → IsReader (ends_at at d b)
+ends_at-reader at d true = refuse-reader _
+ends_at-reader at d false = pure-reader _
+
+pub at_the_end-reader : (at : ℕ) (d : Manner) → IsReader (at_the_end at d)
+at_the_end-reader at d = ends_at-reader at d d.wants_done

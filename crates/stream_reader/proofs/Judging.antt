@@ -18,12 +18,13 @@ use Rattle.stream_reader.specs.declared.fault.Feature.TheVariants.{DirectoryMode
 use Rattle.stream_reader.specs.declared.modify.DataRef.{DataRef}
 use Rattle.stream_reader.specs.Words.{first_word, mark}
 use Rattle.stream_reader.specs.Waited.{fault_place}
+use Rattle.git_objects.specs.CommitBodies.{strip}
 use Rattle.git_objects.specs.Results.{◌>>=◌}
 use Rattle.stream_reader.specs.Reading.{Judged, fault, or_fault}
-use Rattle.stream_reader.specs.Names.{refname, ident, some_name, without_zero, target_by, target}
+use Rattle.stream_reader.specs.Names.{refname, tag_name, ident, some_name, without_zero, target_by, target}
 use Rattle.stream_reader.specs.PathWords.{path_by, path_at, unquoted_at, last_path, behind_quote, first_path, two_paths}
 use Rattle.stream_reader.specs.Changes.{mode, dataref, fitting, data_part, mode_part, modify_line}
-use Rattle.stream_reader.specs.Heads.{if_some, mark_in, author_in, committer_by, committer_of, ref_in}
+use Rattle.stream_reader.specs.Heads.{if_some, mark_in, author_in, behind_word, committer_by, committer_of, ref_in, tagger_in}
 use Rattle.stream_lex.specs.Cutting.{IsTold}
 use Rattle.stream_lex.proofs.Combining.{bind_told}
 
@@ -60,6 +61,10 @@ next {at = at} {r = r} {f = f} h k = record { told = bind_told r f h.told (λ x.
 
 pub refname-judged : (at : ℕ) (t : Bytes) → IsJudged at (refname at t)
 refname-judged at t = either _ (ok _) (refused _)
+
+pub tag_name-judged : (at : ℕ) (t : Option Bytes) → IsJudged at (tag_name at t)
+tag_name-judged at None = refused _
+tag_name-judged at (Some t) = either _ (ok _) (refused _)
 
 ident-judged : (at : ℕ) (t : Bytes) → IsJudged at (ident at t)
 ident-judged at t = either _ (ok _) (refused _)
@@ -162,3 +167,17 @@ committer_of-judged l = committer_by-judged l.place (strip (codes "committer ") 
 
 pub ref_in-judged : (l : Line) → IsJudged l.place (ref_in l)
 ref_in-judged l = next (target-judged l.place l.bytes) (λ t. ok _)
+
+behind_word-judged : (word : Bytes) (l : Line) → IsJudged l.place (behind_word word l)
+behind_word-judged word l = next (given _ (strip word l.bytes)) (λ t. ok _)
+
+-- what a line says behind its word
+pub behind-judged : {A : Type 0} (word : Bytes) (says : Line → Judged A) → ((at : ℕ) (t : Bytes) → IsJudged at (says (record { place = at; bytes = t }))) → (l : Line) → IsJudged l.place (behind_word word l >>= says)
+behind-judged word says h l = go (strip word l.bytes)
+  where
+    go : (o : Option Bytes) → IsJudged l.place ((or_fault (Syntax l.place) o >>= λ t. Ok (record { place = l.place; bytes = t })) >>= says)
+    go None = refused _
+    go (Some t) = h l.place t
+
+pub tagger_in-judged : (l : Line) → IsJudged l.place (tagger_in l)
+tagger_in-judged l = ident-judged l.place l.bytes

@@ -5,20 +5,22 @@ use Rattle.stream_lex.specs.Cutting.{Advances}
 use Rattle.stream_lex.proofs.Fuel.{Moves, line_at-moves}
 use Rattle.stream_reader.specs.declared.command.Command.{Command}
 use Rattle.stream_reader.specs.declared.command.Command.TheVariants as commands
+use Rattle.stream_reader.specs.declared.progress.Manner.{Manner}
 use Rattle.stream_reader.specs.declared.progress.Phase.{Phase}
 use Rattle.stream_reader.specs.declared.progress.Phase.TheVariants.{Between, InCommit, Finished}
 use Rattle.stream_reader.specs.declared.progress.Progress.{Progress}
 use Rattle.stream_reader.specs.declared.progress.Event.{Event}
 use Rattle.stream_reader.specs.declared.progress.Event.TheVariants.{Gives, Skips, Ends}
+use Rattle.git_objects.specs.Paths.{Bytes}
 use Rattle.git_objects.specs.Results.{◌>>=◌}
 use Rattle.stream_lex.specs.Cutting.{◌then◌}
 use Rattle.stream_reader.specs.Reading.{Read, lifted}
-use Rattle.stream_reader.specs.Heads.{blob, head, reset}
+use Rattle.stream_reader.specs.Heads.{blob, head, reset, tag}
 use Rattle.stream_reader.specs.Changes.{change, change_line, ChangeLine, ModifyIs, DeleteIs, RenameIs, CopyIs, DeleteAllIs, NotesAre, EmptyIs, NoChange}
-use Rattle.stream_reader.specs.Commands.{CommandLine, EmptyLine, BlobLine, CommitLine, ResetLine, IdleLine, WantsDone, DoneLine, RefusedLine, OtherLine, command_line, Turn, turned, gives, between, at_the_end, between_at, changed, in_commit_at, turn_in, turn}
+use Rattle.stream_reader.specs.Commands.{CommandLine, EmptyLine, BlobLine, CommitLine, ResetLine, TagLine, IdleLine, WantsDone, DoneLine, RefusedLine, OtherLine, command_line, Turn, turned, gives, tag_turn, between, ends_at, between_at, changed, in_commit_at, turn_in, turn}
 use Rattle.stream_reader.specs.Verdicts.{size}
 use Rattle.stream_lex.specs.Cutting.{Steps}
-use Rattle.stream_reader.proofs.Composed.{blob-reader, head-reader, reset-reader, change-reader}
+use Rattle.stream_reader.proofs.Composed.{blob-reader, head-reader, reset-reader, tag-reader, change-reader}
 
 abbrev pub Lowers : Progress → Input → Event → Progress → Input → Type 0
 Lowers p i (Gives c) q j = size q j < size p i
@@ -38,31 +40,36 @@ then_lowers : {A : Type 0} (p : Progress) (i j : Input) (r : Read A) (make : A �
 then_lowers p i j (Ok x) make h k = k x.0 x.1 (not_longer j x.1 h)
 then_lowers p i j (Err e) make h k = tt
 
-abbrev here : Phase → Bool → Progress
-here p d = record { phase = p; wants_done = d }
+abbrev here : Phase → Manner → Progress
+here p d = record { phase = p; manner = d }
 
-abbrev given : ℕ → Phase → Bool → Command → Turn
+abbrev given : ℕ → Phase → Manner → Command → Turn
 given at p d c = turned (Gives (record { at = at; command = c })) p d
 
-module _ (ended : Bool) (d : Bool) where
+module _ (ended : Bool) (d : Manner) where
+  tag_lowers : (at : ℕ) (t : Option Bytes) (b : Bool) (i j : Input) → length j.rest < length i.rest → TurnLowers (here Between d) i (tag_turn at t d b ended j)
+  tag_lowers at t true i j h = then_lowers (here Between d) i j (tag at t ended j) (given at Between d) ((tag-reader at t).steps ended j) (λ x k g. omega arith)
+  tag_lowers at t false i j h = tt
+
   between_lowers : (k : CommandLine) (at : ℕ) (i j : Input) → length j.rest < length i.rest → TurnLowers (here Between d) i (between k at d ended j)
   between_lowers EmptyLine at i j h = (h, omega arith)
   between_lowers BlobLine at i j h = then_lowers (here Between d) i j (blob ended j) (given at Between d) (blob-reader.steps ended j) (λ x k g. omega arith)
   between_lowers (CommitLine t) at i j h = then_lowers (here Between d) i j (head at t ended j) (given at InCommit d) ((head-reader at t).steps ended j) (λ x k g. omega arith)
   between_lowers (ResetLine t) at i j h = then_lowers (here Between d) i j (reset at t ended j) (given at Between d) ((reset-reader at t).steps ended j) (λ x k g. omega arith)
+  between_lowers (TagLine t) at i j h = tag_lowers at t d.takes_tags i j h
   between_lowers IdleLine at i j h = (h, omega arith)
   between_lowers WantsDone at i j h = (h, omega arith)
   between_lowers DoneLine at i j h = omega arith
   between_lowers (RefusedLine f) at i j h = tt
   between_lowers OtherLine at i j h = tt
 
-  end_lowers : (e : Bool) (at : ℕ) (i j : Input) → TurnLowers (here Between d) i (at_the_end at e ended j)
+  end_lowers : (e : Bool) (at : ℕ) (i j : Input) → TurnLowers (here Between d) i (ends_at at d e ended j)
   end_lowers true at i j = tt
   end_lowers false at i j = tt
 
   between_line_lowers : (i : Input) (r : Lex (Option Line)) → Moves i r → TurnLowers (here Between d) i (lifted r >>= between_at d ended)
   between_line_lowers i (Ok (Some l, j)) h = between_lowers (command_line l.bytes) l.place i j h.0
-  between_line_lowers i (Ok (None, j)) h = end_lowers d j.at i j
+  between_line_lowers i (Ok (None, j)) h = end_lowers d.wants_done j.at i j
   between_line_lowers i (Err e) h = tt
 
   changing_lowers : (k : ChangeLine) (at : ℕ) (i j : Input) → length j.rest < length i.rest →
@@ -91,4 +98,4 @@ module _ (ended : Bool) (d : Bool) where
 
 pub turn_lowers : (p : Progress) (ended : Bool) (i : Input) → TurnLowers p i (turn p ended i)
 unfolding turn
-turn_lowers p ended i = turn_in_lowers ended p.wants_done p.phase i
+turn_lowers p ended i = turn_in_lowers ended p.manner p.phase i

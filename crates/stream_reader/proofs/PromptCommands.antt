@@ -15,19 +15,20 @@ use Rattle.stream_lex.specs.declared.stop.Stop.TheVariants.{More, Fault}
 use Rattle.stream_lex.specs.declared.stop.Wanted.{Wanted}
 use Rattle.stream_lex.proofs.BlockSpelled.{BlockTold, block_at-told}
 use Rattle.stream_lex.proofs.Combining.{judged-reader}
-use Rattle.stream_reader.specs.Blocks.{blob_data, block_in, count, data_behind, message_behind, message_data, sized_block, whole_block}
+use Rattle.stream_reader.specs.Blocks.{blob_data, block_in, count, data_behind, message_behind, message_data, sized_block, tag_data, whole_block}
 use Rattle.stream_reader.specs.Changes.{ChangeLine, ModifyIs, DeleteIs, RenameIs, CopyIs, DeleteAllIs, NotesAre, EmptyIs, NoChange, blob_ref, change, modify, modify_line}
-use Rattle.stream_reader.specs.Heads.{author_in, author_or, blob, committer_of, head, if_some, mark_in, mark_lines, merges, merges_max, more_merges, parents, people, ref_in, ref_line, reset, said}
-use Rattle.stream_reader.specs.Names.{refname}
+use Rattle.stream_reader.specs.Heads.{author_in, author_or, behind_word, blob, committer_of, head, if_some, mark_in, mark_lines, merges, merges_max, more_merges, parents, people, must_say, ref_in, ref_line, reset, said, tag, tagger_in}
+use Rattle.stream_reader.specs.Names.{refname, tag_name}
 use Rattle.stream_reader.specs.PathWords.{last_path, two_paths}
 use Rattle.stream_reader.specs.Reading.{Judged, Read, Reader, lifted, option_line, or_fault}
+use Rattle.stream_reader.specs.declared.command.Command.TheVariants as commands
 use Rattle.stream_reader.specs.declared.commit_ref.CommitRef.{CommitRef}
 use Rattle.stream_reader.specs.declared.commit_ref.Target.{Target}
 use Rattle.stream_reader.specs.declared.fault.StreamFault.TheVariants.{Limit, Syntax}
 use Rattle.stream_reader.specs.declared.modify.DataRef.{DataRef}
 use Rattle.stream_reader.specs.declared.modify.DataRef.TheVariants as datas
-use Rattle.stream_reader.proofs.Composed.{blob_data-reader, blob_ref-reader, mark_lines-reader, merges-reader, message_data-reader, parents-reader, people-reader, ref_line-reader, said-reader}
-use Rattle.stream_reader.proofs.Judging.{IsJudged, author_in-judged, committer_of-judged, if_some-judged, last_path-judged, mark_in-judged, modify_line-judged, ref_in-judged, refname-judged, target-judged, two_paths-judged}
+use Rattle.stream_reader.proofs.Composed.{blob_data-reader, blob_ref-reader, mark_lines-reader, merges-reader, message_data-reader, parents-reader, people-reader, must_say-reader, ref_line-reader, said-reader, tag_data-reader}
+use Rattle.stream_reader.proofs.Judging.{IsJudged, author_in-judged, behind-judged, committer_of-judged, if_some-judged, last_path-judged, mark_in-judged, modify_line-judged, ref_in-judged, refname-judged, tag_name-judged, tagger_in-judged, target-judged, two_paths-judged}
 use Rattle.stream_reader.proofs.Placing.{ahead}
 use Rattle.stream_reader.proofs.Prompting.{From, IsBeside, IsPrompt, Later, cond-beside, judged-prompt, need-prompt, option-prompt, prompt-beside, prompt_as, pure-prompt, refuse-prompt, then-prompt}
 
@@ -197,3 +198,24 @@ unfolding reset
 reset-prompt at t =
     then-prompt at (judged (refname at t)) _ (judged-reader (refname at t) (refname-judged at t).told) (judged-prompt at (refname at t) (refname-judged at t)) (λ c r.
     then-prompt c (ref_line (codes "from ")) _ (ref_line-reader (codes "from ")) (ref_line-prompt (codes "from ") c) (λ c f. pure-prompt c _))
+
+must_say-prompt : {A : Type 0} (word : Bytes) (says : Line → Judged A) → ((at : ℕ) (t : Bytes) → IsJudged at (says (record { place = at; bytes = t }))) → (at : ℕ) → IsPrompt at (must_say word says)
+must_say-prompt word says h = need-prompt (λ l. judged (behind_word word l >>= says)) (λ l. prompt-beside l.place _ (judged-prompt l.place (behind_word word l >>= says) (behind-judged word says h l)))
+
+tag_data-prompt : (at : ℕ) → IsPrompt at tag_data
+unfolding tag_data
+tag_data-prompt at = need-prompt (data_behind limits.Message MESSAGE_BYTES) (data_behind-beside limits.Message MESSAGE_BYTES (omega arith)) at
+
+pub tag-prompt : (at : ℕ) (t : Option Bytes) → IsPrompt at (tag at t)
+unfolding tag
+tag-prompt at t =
+    then-prompt at (judged (tag_name at t)) _ (judged-reader (tag_name at t) (tag_name-judged at t).told) (judged-prompt at (tag_name at t) (tag_name-judged at t)) (λ c n.
+    then-prompt c (said (codes "mark ") mark_in) _ (said-reader (codes "mark ") mark_in mark_in-judged) (said-prompt (codes "mark ") mark_in mark_in-judged c) (λ c m.
+    then-prompt c (must_say (codes "from ") ref_in) _ (must_say-reader (codes "from ") ref_in (λ at t. ref_in-judged (record { place = at; bytes = t }))) (must_say-prompt (codes "from ") ref_in (λ at t. ref_in-judged (record { place = at; bytes = t })) c) (λ c f.
+    option-prompt (codes "original-oid ") (λ o. must_say (codes "tagger ") tagger_in then λ p. tag_data then λ d. pure (commands.Tag (record { name = n; from = f; mark = m; tagger = p; message = d })))
+    (λ l. behind l.place n f m) (λ at. behind at n f m) c)))
+  where
+    behind : (c : ℕ) (n : Bytes) (f : CommitRef) (m : Option ℕ) → IsPrompt c (must_say (codes "tagger ") tagger_in then λ p. tag_data then λ d. pure (commands.Tag (record { name = n; from = f; mark = m; tagger = p; message = d })))
+    behind c n f m =
+        then-prompt c (must_say (codes "tagger ") tagger_in) _ (must_say-reader (codes "tagger ") tagger_in (λ at t. tagger_in-judged (record { place = at; bytes = t }))) (must_say-prompt (codes "tagger ") tagger_in (λ at t. tagger_in-judged (record { place = at; bytes = t })) c) (λ c p.
+        then-prompt c tag_data _ tag_data-reader (tag_data-prompt c) (λ c d. pure-prompt c _))

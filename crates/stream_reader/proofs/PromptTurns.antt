@@ -8,8 +8,8 @@ use Rattle.stream_lex.specs.Lines.{Input, Line}
 use Rattle.stream_lex.specs.declared.stop.Stop.TheVariants.{More, Fault}
 use Rattle.stream_lex.specs.declared.stop.Wanted.{Wanted}
 use Rattle.stream_reader.specs.Changes.{ChangeLine, ModifyIs, DeleteIs, RenameIs, CopyIs, DeleteAllIs, NotesAre, EmptyIs, NoChange, change, change_line}
-use Rattle.stream_reader.specs.Commands.{CommandLine, EmptyLine, BlobLine, CommitLine, ResetLine, IdleLine, WantsDone, DoneLine, RefusedLine, OtherLine, Told, Turn, at_the_end, between, between_at, by_event, changed, command_line, gives, in_commit_at, read_command, turn, turn_in, turn_on}
-use Rattle.stream_reader.specs.Heads.{blob, head, reset}
+use Rattle.stream_reader.specs.Commands.{CommandLine, EmptyLine, BlobLine, CommitLine, ResetLine, TagLine, IdleLine, WantsDone, DoneLine, RefusedLine, OtherLine, Told, Turn, ends_at, tag_turn, between, between_at, by_event, changed, command_line, gives, in_commit_at, read_command, turn, turn_in, turn_on}
+use Rattle.stream_reader.specs.Heads.{blob, head, reset, tag}
 use Rattle.stream_reader.specs.Readers.{OnMore, Reading, TellsNext}
 use Rattle.stream_reader.specs.Reading.{Read, Reader, lifted}
 use Rattle.stream_reader.specs.Waited.{IsNear, awaited, fault_place, next_place, place_behind, told_place}
@@ -18,16 +18,17 @@ use Rattle.stream_reader.specs.declared.command.Command.TheVariants as commands
 use Rattle.stream_reader.specs.declared.fault.StreamFault.{StreamFault}
 use Rattle.stream_reader.specs.declared.progress.Event.{Event}
 use Rattle.stream_reader.specs.declared.progress.Event.TheVariants.{Gives, Skips, Ends}
+use Rattle.stream_reader.specs.declared.progress.Manner.{Manner}
 use Rattle.stream_reader.specs.declared.progress.Phase.{Phase}
 use Rattle.stream_reader.specs.declared.progress.Phase.TheVariants.{Between, InCommit, Finished}
 use Rattle.stream_reader.specs.declared.progress.Progress.{Progress}
 use Rattle.stream_reader.specs.declared.reader.Next.{Next}
 use Rattle.stream_reader.specs.declared.reader.Next.TheVariants as nexts
 use Rattle.stream_reader.proofs.Commanding.{command-is, command-reader}
-use Rattle.stream_reader.proofs.Composed.{blob-reader, change-reader, head-reader, reset-reader}
+use Rattle.stream_reader.proofs.Composed.{blob-reader, change-reader, head-reader, reset-reader, tag-reader}
 use Rattle.stream_reader.proofs.Lowering.{TurnLowers, turn_lowers}
 use Rattle.stream_reader.proofs.Placing.{ahead}
-use Rattle.stream_reader.proofs.PromptCommands.{blob-prompt, change-prompt, head-prompt, reset-prompt}
+use Rattle.stream_reader.proofs.PromptCommands.{blob-prompt, change-prompt, head-prompt, reset-prompt, tag-prompt}
 use Rattle.stream_reader.proofs.Prompting.{From, IsNearIn, IsPrompt, Later, bind_from, by_line, line_came, line_later, line_more, line_near, then_near}
 use Rattle.stream_reader.proofs.Turning.{turn-reader}
 
@@ -51,7 +52,7 @@ before_next : (b : ℕ) (i : Input) → b ≤ i.at → i.at ≤ STREAM_BYTES →
 before_next b i l s = omega (arith, l, ahead i s)
 
 -- a command and the phase behind it
-command_turn : (at line : ℕ) (p : Phase) (d : Bool) → ((j : Input) → awaited p j ≡ next_place j) → (f : Reader Command) → IsReader f → IsPrompt at f → IsTurn at (f then gives line p d)
+command_turn : (at line : ℕ) (p : Phase) (d : Manner) → ((j : Input) → awaited p j ≡ next_place j) → (f : Reader Command) → IsReader f → IsPrompt at f → IsTurn at (f then gives line p d)
 command_turn at line p d same f r h = record {
   later = λ b i l m s. bind_from b (Later b) (TurnLater b) (f true i) (λ y. gives line p d y.0 true y.1) (h.later b i l (before_next b i (omega (arith, l, m)) s)) (λ c j n. subst (λ k. b ≤ k) (sym (same j)) n);
   near = λ i w s. then_near TurnLater f (gives line p d) r i w Later (h.near i) (λ c j e k. let no : ⊥ = cc in absurd no) (λ c j n. subst (λ k. place w ≤ k) (sym (same j)) n);
@@ -60,35 +61,40 @@ command_turn at line p d same f r h = record {
 refused_turn : (f : StreamFault) → IsTurn (fault_place f) (Rattle.stream_lex.specs.Cutting.refuse f)
 refused_turn f = record { later = λ b i l m s. omega (arith, l); near = λ i w s e. let no : ⊥ = cc in absurd no }
 
-between-turn : (k : CommandLine) (at : ℕ) (d : Bool) → IsTurn at (between k at d)
+tag_turn-turn : (at : ℕ) (t : Option Bytes) (d : Manner) (b : Bool) → IsTurn at (tag_turn at t d b)
+tag_turn-turn at t d true = command_turn at at Between d (λ j. refl) (tag at t) (tag-reader at t) (tag-prompt at t)
+tag_turn-turn at t d false = refused_turn _
+
+between-turn : (k : CommandLine) (at : ℕ) (d : Manner) → IsTurn at (between k at d)
 between-turn EmptyLine at d = at_front at _ before_next
 between-turn BlobLine at d = command_turn at at Between d (λ j. refl) blob blob-reader (blob-prompt at)
 between-turn (CommitLine t) at d = command_turn at at InCommit d (λ j. refl) (head at t) (head-reader at t) (head-prompt at t)
 between-turn (ResetLine t) at d = command_turn at at Between d (λ j. refl) (reset at t) (reset-reader at t) (reset-prompt at t)
+between-turn (TagLine t) at d = tag_turn-turn at t d d.takes_tags
 between-turn IdleLine at d = at_front at _ before_next
 between-turn WantsDone at d = at_front at _ before_next
 between-turn DoneLine at d = at_front at _ (λ b i l s. l)
 between-turn (RefusedLine f) at d = refused_turn _
 between-turn OtherLine at d = refused_turn _
 
-module _ (d : Bool) where
+module _ (d : Manner) where
   -- ---- between commands
 
   abbrev after_line : Bool → Input → Option Line × Input → Read Turn
   after_line ended i = between_at d ended
 
-  end_later : (e : Bool) (b : ℕ) (j : Input) → b ≤ j.at → From b (TurnLater b) (at_the_end j.at e true j)
+  end_later : (e : Bool) (b : ℕ) (j : Input) → b ≤ j.at → From b (TurnLater b) (ends_at j.at d e true j)
   end_later true b j h = omega (arith, h)
   end_later false b j h = h
 
-  end_tells : (e : Bool) (ended : Bool) (j : Input) (w : Wanted) → ¬ (at_the_end j.at e ended j ≡ Err (More w))
+  end_tells : (e : Bool) (ended : Bool) (j : Input) (w : Wanted) → ¬ (ends_at j.at d e ended j ≡ Err (More w))
   end_tells true ended j w h = cc
   end_tells false ended j w h = cc
 
   between_later : (b : ℕ) (i : Input) → b ≤ next_place i → From b (TurnLater b) (by_line after_line true i)
   between_later b i n = line_later TurnLater after_line b i n
       (λ l j e p m. (between-turn (command_line l.bytes) l.place d).later b j m p.to p.within)
-      (λ j e s m. end_later d b j m)
+      (λ j e s m. end_later d.wants_done b j m)
 
   between_near : (i : Input) (w : Wanted) → by_line after_line false i ≡ Err (More w) → IsNearIn TurnLater (by_line after_line) i w
   between_near i w = line_near TurnLater after_line i w between_later
@@ -97,7 +103,7 @@ module _ (d : Bool) where
         few = omega (arith, u.few, line_came i (Some l) j e);
         after = λ more. subst (From (place w) (TurnLater (place w))) (sym (ap (λ r. lifted r >>= between_at d true) (line_more i (Some l) j e more))) (u.after more);
       })
-      (λ j e k. absurd (end_tells d false j w k))
+      (λ j e k. absurd (end_tells d.wants_done false j w k))
 
   -- ---- in a commit
 
@@ -161,11 +167,11 @@ module _ (d : Bool) where
 
 turn_later : (p : Progress) (b : ℕ) (i : Input) → b ≤ awaited p.phase i → From b (TurnLater b) (turn p true i)
 unfolding turn
-turn_later p b i n = phase_later p.wants_done p.phase b i n
+turn_later p b i n = phase_later p.manner p.phase b i n
 
 turn_near : (p : Progress) (i : Input) (w : Wanted) → turn p false i ≡ Err (More w) → IsNearIn TurnLater (turn p) i w
 unfolding turn
-turn_near p i w e = phase_near p.wants_done p.phase i w e
+turn_near p i w e = phase_near p.manner p.phase i w e
 
 -- ---- the next command
 

@@ -7,13 +7,13 @@ use Rattle.git_objects.specs.declared.mode.Mode.{Mode}
 use Rattle.git_objects.specs.declared.mode.Mode.TheVariants.{File, Exec, Link, Module, Dir}
 use Rattle.stream_lex.specs.Cutting.{◌then◌, judged}
 use Rattle.stream_lex.specs.Lines.{Input, Line, line_at}
-use Rattle.stream_reader.specs.Blocks.{blob_data, message_data}
+use Rattle.stream_reader.specs.Blocks.{blob_data, message_data, tag_data}
 use Rattle.stream_reader.specs.Changes.{ChangeLine, ModifyIs, DeleteIs, RenameIs, CopyIs, DeleteAllIs, NotesAre, EmptyIs, NoChange, blob_ref, change, change_line, data_part, dataref, fitting, mode, modify, modify_line}
-use Rattle.stream_reader.specs.Commands.{gives, CommandLine, EmptyLine, BlobLine, CommitLine, ResetLine, IdleLine, WantsDone, DoneLine, RefusedLine, OtherLine, Told, Turn, between, between_at, by_event, changed, command_line, command_within, in_commit_at, read_command, turn, turn_in, turn_on}
-use Rattle.stream_reader.specs.Heads.{blob, head, head_of, mark_lines, parents, people, ref_line, reset}
-use Rattle.stream_reader.specs.Names.{refname}
+use Rattle.stream_reader.specs.Commands.{gives, tag_turn, ends_at, CommandLine, EmptyLine, BlobLine, CommitLine, ResetLine, TagLine, IdleLine, WantsDone, DoneLine, RefusedLine, OtherLine, Told, Turn, between, between_at, by_event, changed, command_line, command_within, in_commit_at, read_command, turn, turn_in, turn_on}
+use Rattle.stream_reader.specs.Heads.{blob, head, head_of, mark_in, mark_lines, must_say, parents, people, ref_in, ref_line, reset, said, tag, tagger_in}
+use Rattle.stream_reader.specs.Names.{refname, tag_name}
 use Rattle.stream_reader.specs.PathWords.{last_path, two_paths}
-use Rattle.stream_reader.specs.Reading.{Judged, Read, Reader, fault, lifted, or_fault}
+use Rattle.stream_reader.specs.Reading.{Judged, Read, Reader, fault, lifted, option_line, or_fault}
 use Rattle.stream_reader.specs.Readers.{Reading, TellsNext}
 use Rattle.stream_reader.specs.Replayable.{IfTold, is_fit, is_replayable}
 use Rattle.stream_reader.specs.Words.{first_word}
@@ -23,6 +23,7 @@ use Rattle.stream_reader.specs.declared.command.Change.TheVariants as changes
 use Rattle.stream_reader.specs.declared.command.Command.{Command}
 use Rattle.stream_reader.specs.declared.command.Command.TheVariants as commands
 use Rattle.stream_reader.specs.declared.command.Placed.{Placed}
+use Rattle.stream_reader.specs.declared.commit_ref.CommitRef.{CommitRef}
 use Rattle.stream_reader.specs.declared.fault.Feature.TheVariants as features
 use Rattle.stream_reader.specs.declared.fault.StreamFault.{StreamFault}
 use Rattle.stream_reader.specs.declared.fault.StreamFault.TheVariants.{Syntax, Unsupported}
@@ -31,6 +32,7 @@ use Rattle.stream_reader.specs.declared.modify.DataRef.TheVariants as datas
 use Rattle.stream_reader.specs.declared.modify.ModifyLine.{ModifyLine}
 use Rattle.stream_reader.specs.declared.progress.Event.{Event}
 use Rattle.stream_reader.specs.declared.progress.Event.TheVariants.{Gives, Skips, Ends}
+use Rattle.stream_reader.specs.declared.progress.Manner.{Manner}
 use Rattle.stream_reader.specs.declared.progress.Phase.{Phase}
 use Rattle.stream_reader.specs.declared.progress.Phase.TheVariants.{Between, InCommit, Finished}
 use Rattle.stream_reader.specs.declared.progress.Progress.{Progress}
@@ -189,21 +191,42 @@ reset_command at t ended i =
     part_read (judged (refname at t)) (λ r. ref_line (codes "from ") then λ f ended i. Ok (commands.Reset r f, i)) ended i
     (λ r j. last_fits (ref_line (codes "from ")) (λ f. commands.Reset r f) ended j (λ f. refl))
 
-between_fits : (l : CommandLine) (at : ℕ) (d : Bool) (ended : Bool) (i : Input) → OnRead TurnFits (between l at d ended i)
+tag_command : (at : ℕ) (t : Option Bytes) (ended : Bool) (i : Input) → OnRead CommandFits (tag at t ended i)
+unfolding tag
+tag_command at t ended i =
+    part_read (judged (tag_name at t)) (λ n. said (codes "mark ") mark_in then λ m. must_say (codes "from ") ref_in then λ f. behind n m f) ended i
+    (λ n j. part_read (said (codes "mark ") mark_in) (λ m. must_say (codes "from ") ref_in then λ f. behind n m f) ended j
+    (λ m k. part_read (must_say (codes "from ") ref_in) (λ f. behind n m f) ended k
+    (λ f l. part_read (option_line (codes "original-oid ")) (λ o. from_tagger n m f) ended l
+    (λ o q. part_read (must_say (codes "tagger ") tagger_in) (λ p. tag_data then λ d ended i. Ok (commands.Tag (record { name = n; from = f; mark = m; tagger = p; message = d }), i)) ended q
+    (λ p s. last_fits tag_data (λ d. commands.Tag (record { name = n; from = f; mark = m; tagger = p; message = d })) ended s (λ d. refl))))))
+  where
+    from_tagger : Bytes → Option ℕ → CommitRef → Reader Command
+    from_tagger n m f = must_say (codes "tagger ") tagger_in then λ p. tag_data then λ d ended i. Ok (commands.Tag (record { name = n; from = f; mark = m; tagger = p; message = d }), i)
+
+    behind : Bytes → Option ℕ → CommitRef → Reader Command
+    behind n m f = option_line (codes "original-oid ") then λ o. from_tagger n m f
+
+tag_fits : (at : ℕ) (t : Option Bytes) (d : Manner) (b : Bool) (ended : Bool) (i : Input) → OnRead TurnFits (tag_turn at t d b ended i)
+tag_fits at t d true ended i = read_bind CommandFits TurnFits (tag at t) (gives at Between d) ended i (tag_command at t ended i) (λ c j h. h)
+tag_fits at t d false ended i = tt
+
+between_fits : (l : CommandLine) (at : ℕ) (d : Manner) (ended : Bool) (i : Input) → OnRead TurnFits (between l at d ended i)
 between_fits EmptyLine at d ended i = tt
 between_fits BlobLine at d ended i = read_bind CommandFits TurnFits blob (gives at Between d) ended i (blob_command ended i) (λ c j h. h)
 between_fits (CommitLine t) at d ended i = read_bind CommandFits TurnFits (head at t) (gives at InCommit d) ended i (head_command at t ended i) (λ c j h. h)
 between_fits (ResetLine t) at d ended i = read_bind CommandFits TurnFits (reset at t) (gives at Between d) ended i (reset_command at t ended i) (λ c j h. h)
+between_fits (TagLine t) at d ended i = tag_fits at t d d.takes_tags ended i
 between_fits IdleLine at d ended i = tt
 between_fits WantsDone at d ended i = tt
 between_fits DoneLine at d ended i = refl
 between_fits (RefusedLine f) at d ended i = tt
 between_fits OtherLine at d ended i = tt
 
-in_change : (k : ChangeLine) (at : ℕ) (d ended : Bool) (i : Input) → OnRead TurnFits ((change at k then λ c. gives at InCommit d (commands.Change c)) ended i)
+in_change : (k : ChangeLine) (at : ℕ) (d : Manner) (ended : Bool) (i : Input) → OnRead TurnFits ((change at k then λ c. gives at InCommit d (commands.Change c)) ended i)
 in_change k at d ended i = read_bind ChangeFits TurnFits (change at k) (λ c. gives at InCommit d (commands.Change c)) ended i (change_fits at k ended i) (λ c j h. h)
 
-changed_fits : (k : ChangeLine) (at : ℕ) (d ended : Bool) (before i : Input) → OnRead TurnFits (changed k at d ended before i)
+changed_fits : (k : ChangeLine) (at : ℕ) (d : Manner) (ended : Bool) (before i : Input) → OnRead TurnFits (changed k at d ended before i)
 changed_fits EmptyIs at d ended before i = refl
 changed_fits NoChange at d ended before i = refl
 changed_fits (ModifyIs t) at d ended before i = in_change (ModifyIs t) at d ended i
@@ -213,27 +236,26 @@ changed_fits (CopyIs t) at d ended before i = in_change (CopyIs t) at d ended i
 changed_fits DeleteAllIs at d ended before i = in_change DeleteAllIs at d ended i
 changed_fits NotesAre at d ended before i = in_change NotesAre at d ended i
 
-between_here : (d ended : Bool) (x : Option Line × Input) → OnRead TurnFits (between_at d ended x)
-between_here true ended (None, i) = by ended
+between_here : (d : Manner) (ended : Bool) (x : Option Line × Input) → OnRead TurnFits (between_at d ended x)
+between_here d ended (None, i) = end_fits d.wants_done
   where
-    by : (ended : Bool) → OnRead TurnFits (between_at true ended (None, i))
-    by true = tt
-    by false = tt
-between_here false ended (None, i) = tt
+    end_fits : (e : Bool) → OnRead TurnFits (ends_at i.at d e ended i)
+    end_fits true = tt
+    end_fits false = tt
 between_here d ended (Some l, i) = between_fits (command_line l.bytes) l.place d ended i
 
-in_commit_here : (d ended : Bool) (before : Input) (x : Option Line × Input) → OnRead TurnFits (in_commit_at d ended before x)
+in_commit_here : (d : Manner) (ended : Bool) (before : Input) (x : Option Line × Input) → OnRead TurnFits (in_commit_at d ended before x)
 in_commit_here d ended before (None, i) = refl
 in_commit_here d ended before (Some l, i) = changed_fits (change_line l.bytes) l.place d ended before i
 
-phase_fits : (p : Phase) (d ended : Bool) (i : Input) → OnRead TurnFits (turn_in p d ended i)
+phase_fits : (p : Phase) (d : Manner) (ended : Bool) (i : Input) → OnRead TurnFits (turn_in p d ended i)
 phase_fits Between d ended i = value_bind (λ _. Unit {0}) (λ x. TurnFits x.0) (lifted (line_at ended i)) (between_at d ended) (any_value (lifted (line_at ended i))) (λ x _. between_here d ended x)
 phase_fits InCommit d ended i = value_bind (λ _. Unit {0}) (λ x. TurnFits x.0) (lifted (line_at ended i)) (in_commit_at d ended i) (any_value (lifted (line_at ended i))) (λ x _. in_commit_here d ended i x)
 phase_fits Finished d ended i = tt
 
 turn_fits : (p : Progress) (ended : Bool) (i : Input) → OnRead TurnFits (turn p ended i)
 unfolding turn
-turn_fits p ended i = phase_fits p.phase p.wants_done ended i
+turn_fits p ended i = phase_fits p.phase p.manner ended i
 
 -- ---- the next command
 

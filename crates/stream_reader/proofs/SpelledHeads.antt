@@ -11,6 +11,7 @@ use Rattle.git_objects.specs.CommitBodies.{strip}
 use Rattle.git_objects.proofs.CommitReading.{strip-spelled, strip-read}
 use Rattle.git_objects.proofs.TreeReading.{then_some}
 use Rattle.path_names.specs.RefNames.{is_ref_name}
+use Rattle.tag_objects.specs.TagNames.{is_tag_name}
 use Rattle.stream_lex.specs.Lines.{Input, Line}
 use Rattle.stream_lex.specs.Spelling.{NextLine, TakesBlock}
 use Rattle.stream_reader.specs.declared.fault.Feature.TheVariants.{Delimiter, Encoding, Signature}
@@ -19,15 +20,16 @@ use Rattle.stream_reader.specs.declared.fault.StreamFault.TheVariants.{Syntax, U
 use Rattle.stream_reader.specs.declared.command.Command.{Command}
 use Rattle.stream_reader.specs.declared.command.Command.TheVariants as commands
 use Rattle.stream_reader.specs.declared.command.CommitHead.{CommitHead}
+use Rattle.stream_reader.specs.declared.command.TagHead.{TagHead}
 use Rattle.stream_reader.specs.declared.commit_ref.CommitRef.{CommitRef}
 use Rattle.path_names.specs.Words.{number, number_from}
 use Rattle.git_objects.specs.Results.{◌>>=◌}
 use Rattle.stream_lex.specs.Cutting.{◌then◌, pure, judged, refuse}
-use Rattle.stream_reader.specs.Reading.{Reader, or_fault, fault, option_line, need_line}
-use Rattle.stream_reader.specs.Names.{refname, ident}
-use Rattle.stream_reader.specs.Blocks.{count, whole_block, sized_block, data_behind, blob_data, message_behind, message_data}
-use Rattle.stream_reader.specs.Heads.{said, mark_in, mark_lines, blob, author_in, author_or, committer_of, people, ref_in, ref_line, more_merges, merges, merges_max, parents, head_of, head, reset}
-use Rattle.stream_reader.specs.Spelling.{NoWord, OptionLine, Said, HasData, HasMarks, HasBlob, HasPeople, HasMerges, HasParents, HasHead}
+use Rattle.stream_reader.specs.Reading.{Judged, Reader, or_fault, fault, option_line, need_line}
+use Rattle.stream_reader.specs.Names.{refname, tag_name, ident}
+use Rattle.stream_reader.specs.Blocks.{count, whole_block, sized_block, data_behind, blob_data, message_behind, message_data, tag_data}
+use Rattle.stream_reader.specs.Heads.{said, mark_in, mark_lines, blob, author_in, author_or, committer_of, people, ref_in, ref_line, more_merges, merges, merges_max, parents, head_of, head, reset, behind_word, must_say, tagger_in, tag}
+use Rattle.stream_reader.specs.Spelling.{NoWord, OptionLine, Said, WordLine, HasData, HasMarks, HasBlob, HasPeople, HasMerges, HasParents, HasHead, HasTag}
 use Rattle.stream_reader.proofs.SpelledLines.{Reads, bind_ok, ok_is, or_ok, Then, then_reads, Same, pure_reads, Told, judged_reads, convert, option_line-reads, need_line-reads, said-reads, whole_block-reads}
 
 -- ---- data
@@ -421,3 +423,107 @@ reset-reads at t =
     (then_reads (judged (refname at t)) _ (Told (refname at t)) (λ r. Then (Said (codes "from ") ref_in) (λ f. Same (commands.Reset r f))) (judged_reads (refname at t))
     (λ r. then_reads (ref_line (codes "from ")) _ (Said (codes "from ") ref_in) (λ f. Same (commands.Reset r f)) (ref_line-reads (codes "from ")) (λ f. pure_reads (commands.Reset r f))))
     (reset_was at t) (reset_again at t)
+
+-- ---- tags
+
+-- a line that must be there, and what it says
+must_was : {A : Type 0} (word : Bytes) (says : Line → Judged A) (i : Input) (x : A) (j : Input) → Then NextLine (λ l. Told (behind_word word l >>= says)) i x j → Said word says i (Some x) j
+must_was word says i x j h =
+    let l : Line = h.0 in
+    let b = bind_ok (behind_word word l) says x h.3.0 in
+    let c = bind_ok (or_fault (Syntax l.place) (strip word l.bytes)) (λ t. Ok (record { place = l.place; bytes = t })) b.0 b.1 in
+    let t : Bytes = c.0 in
+    let e : record { place = l.place; bytes = t } ≡ b.0 = ok_is _ b.0 c.2 in (
+      record { place = l.place; bytes = t },
+      record { line = l; next = subst (NextLine i l) h.3.1 h.2; place = refl; bytes = strip-spelled word l.bytes t (or_ok (Syntax l.place) (strip word l.bytes) t c.1) },
+      ap says e ∙ b.2,
+    )
+
+must_again : {A : Type 0} (word : Bytes) (says : Line → Judged A) (i : Input) (x : A) (j : Input) → Said word says i (Some x) j → Then NextLine (λ l. Told (behind_word word l >>= says)) i x j
+must_again word says i x j h =
+    let l : Line = h.1.line in
+    (l, j, h.1.next, (ap (λ o. (or_fault (Syntax l.place) o >>= λ t. Ok (record { place = l.place; bytes = t })) >>= says) (ap (strip word) h.1.bytes ∙ strip-read word h.0.bytes) ∙ ap says (λ k. record { place = h.1.place k; bytes = h.0.bytes }) ∙ h.2, refl))
+
+must_say-reads : {A : Type 0} (word : Bytes) (says : Line → Judged A) → Reads (must_say word says) (λ i x j. Said word says i (Some x) j)
+must_say-reads word says =
+    convert (must_say word says) (Then NextLine (λ l. Told (behind_word word l >>= says))) (λ i x j. Said word says i (Some x) j)
+    (then_reads need_line (λ l. judged (behind_word word l >>= says)) NextLine (λ l. Told (behind_word word l >>= says)) need_line-reads (λ l. judged_reads (behind_word word l >>= says)))
+    (must_was word says) (must_again word says)
+
+tag_data-reads : Reads tag_data (HasData MESSAGE_BYTES)
+unfolding tag_data
+tag_data-reads =
+    convert tag_data (Then NextLine (DataLine MESSAGE_BYTES)) (HasData MESSAGE_BYTES)
+    (then_reads need_line (data_behind limits.Message MESSAGE_BYTES) NextLine (DataLine MESSAGE_BYTES) need_line-reads (data_behind-reads limits.Message MESSAGE_BYTES))
+    (data_has MESSAGE_BYTES) (data_then MESSAGE_BYTES)
+
+tag_name_ok : (at : ℕ) (o : Option Bytes) (n : Bytes) → tag_name at o ≡ Ok n → (o ≡ Some n) × (is_tag_name n ≡ true)
+tag_name_ok at None n e = absurd cc
+tag_name_ok at (Some t) n e = let w = tested (is_tag_name t) t n (Syntax at) e in (ap Some w.1, ap is_tag_name (sym w.1) ∙ w.0)
+
+abbrev tag_of : Bytes → Option ℕ → CommitRef → Bytes → Bytes → TagHead
+tag_of n m f p d = record { name = n; from = f; mark = m; tagger = p; message = d }
+
+abbrev pub TagIs : Option Bytes → Input → Command → Input → Type 0
+TagIs t i c j = (h : TagHead) × (t ≡ Some h.name) × HasTag i h j × (commands.Tag h ≡ c)
+
+abbrev TaggerIs : Input → Bytes → Input → Type 0
+TaggerIs i p j = Said (codes "tagger ") tagger_in i (Some p) j
+
+abbrev FromIs : Input → CommitRef → Input → Type 0
+FromIs i f j = Said (codes "from ") ref_in i (Some f) j
+
+abbrev ThenTag : ℕ → Option Bytes → Input → Command → Input → Type 0
+ThenTag at t =
+    Then (Told (tag_name at t)) (λ n. Then (Said (codes "mark ") mark_in) (λ m. Then FromIs (λ f. Then (OptionLine (codes "original-oid ")) (λ o. Then TaggerIs (λ p. Then (HasData MESSAGE_BYTES) (λ d. Same (commands.Tag (tag_of n m f p d))))))))
+
+tag_was : (at : ℕ) (t : Option Bytes) (i : Input) (c : Command) (j : Input) → ThenTag at t i c j → TagIs t i c j
+tag_was at t i c j h =
+    let n : Bytes = h.0 in
+    let named = tag_name_ok at t n h.2.0 in
+    let ms = h.3 in
+    let fs = ms.3 in
+    let os = fs.3 in
+    let ps = os.3 in
+    let ds = ps.3 in
+    let l : Line = ps.2.0 in
+    let q = ident_ok l.place l.bytes ps.0 ps.2.2 in (
+      tag_of n ms.0 fs.0 ps.0 ds.0,
+      named.0,
+      record {
+        named = named.1;
+        a = ms.1;
+        mark = subst (λ k. Said (codes "mark ") mark_in k ms.0 ms.1) (sym h.2.1) ms.2;
+        b = fs.1;
+        from = fs.2;
+        c = os.1;
+        other = os.0;
+        name = os.2;
+        d = ps.1;
+        place = l.place;
+        tagger = subst (λ z. WordLine (codes "tagger ") os.1 (record { place = l.place; bytes = z }) ps.1) q.1 ps.2.1;
+        ident = ap is_ident (sym q.1) ∙ q.0;
+        message = subst (λ k. HasData MESSAGE_BYTES ps.1 ds.0 k) ds.3.1 ds.2;
+      },
+      ds.3.0,
+    )
+
+tag_again : (at : ℕ) (t : Option Bytes) (i : Input) (c : Command) (j : Input) → TagIs t i c j → ThenTag at t i c j
+tag_again at t i c j h =
+    let g : TagHead = h.0 in
+    let w = h.2 in
+    let e : tag_name at t ≡ Ok g.name = ap (tag_name at) h.1 ∙ ap (λ b. cond b (Ok g.name) (fault (Syntax at))) w.named in
+    let p : tagger_in (record { place = w.place; bytes = g.tagger }) ≡ Ok g.tagger = ap (λ b. cond b (Ok g.tagger) (fault (Syntax w.place))) w.ident in
+    (g.name, i, (e, refl), (g.mark, w.a, w.mark, (g.from, w.b, w.from, (w.other, w.c, w.name, (g.tagger, w.d, (record { place = w.place; bytes = g.tagger }, w.tagger, p), (g.message, j, w.message, (h.3, refl)))))))
+
+pub tag-reads : (at : ℕ) (t : Option Bytes) → Reads (tag at t) (TagIs t)
+unfolding tag
+tag-reads at t =
+    convert (tag at t) (ThenTag at t) (TagIs t)
+    (then_reads (judged (tag_name at t)) _ (Told (tag_name at t)) _ (judged_reads (tag_name at t))
+    (λ n. then_reads (said (codes "mark ") mark_in) _ (Said (codes "mark ") mark_in) _ (said-reads (codes "mark ") mark_in)
+    (λ m. then_reads (must_say (codes "from ") ref_in) _ FromIs _ (must_say-reads (codes "from ") ref_in)
+    (λ f. then_reads (option_line (codes "original-oid ")) _ (OptionLine (codes "original-oid ")) _ (option_line-reads (codes "original-oid "))
+    (λ o. then_reads (must_say (codes "tagger ") tagger_in) _ TaggerIs _ (must_say-reads (codes "tagger ") tagger_in)
+    (λ p. then_reads tag_data _ (HasData MESSAGE_BYTES) (λ d. Same (commands.Tag (tag_of n m f p d))) tag_data-reads (λ d. pure_reads (commands.Tag (tag_of n m f p d)))))))))
+    (tag_was at t) (tag_again at t)

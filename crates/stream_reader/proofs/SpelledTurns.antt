@@ -14,6 +14,7 @@ use Rattle.stream_reader.specs.declared.command.Command.{Command}
 use Rattle.stream_reader.specs.declared.command.Command.TheVariants as commands
 use Rattle.stream_reader.specs.declared.command.Change.{Change}
 use Rattle.stream_reader.specs.declared.command.Placed.{Placed}
+use Rattle.stream_reader.specs.declared.progress.Manner.{Manner}
 use Rattle.stream_reader.specs.declared.progress.Phase.{Phase}
 use Rattle.stream_reader.specs.declared.progress.Phase.TheVariants.{Between, InCommit, Finished}
 use Rattle.stream_reader.specs.declared.progress.Progress.{Progress}
@@ -23,11 +24,11 @@ use Rattle.stream_reader.specs.Words.{first_word}
 use Rattle.git_objects.specs.Results.{◌>>=◌}
 use Rattle.stream_lex.specs.Cutting.{◌then◌}
 use Rattle.stream_reader.specs.Reading.{Read, lifted}
-use Rattle.stream_reader.specs.Heads.{blob, head, reset}
+use Rattle.stream_reader.specs.Heads.{blob, head, reset, tag}
 use Rattle.stream_reader.specs.Changes.{change, change_line, ChangeLine, ModifyIs, DeleteIs, RenameIs, CopyIs, DeleteAllIs, NotesAre, EmptyIs, NoChange}
-use Rattle.stream_reader.specs.Commands.{CommandLine, EmptyLine, BlobLine, CommitLine, ResetLine, IdleLine, WantsDone, DoneLine, RefusedLine, OtherLine, feature_by, refused_line, with_word, by_word, by_text, command_line, Turn, turned, gives, between, at_the_end, between_at, changed, in_commit_at, turn_in, turn}
+use Rattle.stream_reader.specs.Commands.{CommandLine, EmptyLine, BlobLine, CommitLine, ResetLine, TagLine, IdleLine, WantsDone, DoneLine, RefusedLine, OtherLine, feature_by, refused_line, with_word, by_word, by_text, command_line, Turn, turned, gives, tag_turn, between, ends_at, between_at, changed, in_commit_at, turn_in, turn}
 use Rattle.stream_reader.specs.Spelling.{WordLine, line_of, Spells, phase_behind, IsIdle, Passes, behind, EndsHere}
-use Rattle.stream_reader.proofs.SpelledHeads.{BlobIs, blob-reads, HeadIs, head-reads, ResetIs, reset-reads}
+use Rattle.stream_reader.proofs.SpelledHeads.{BlobIs, blob-reads, HeadIs, head-reads, ResetIs, reset-reads, TagIs, tag-reads}
 use Rattle.stream_reader.proofs.SpelledChanges.{ChangeTold, change_told, change_was, ReadsChange, change_again, empty_again, other_again}
 
 -- ---- lines by their first word
@@ -37,6 +38,8 @@ CommandTold l EmptyLine = l ≡ []
 CommandTold l BlobLine = l ≡ codes "blob"
 CommandTold l (CommitLine t) = l ≡ codes "commit " ++ t
 CommandTold l (ResetLine t) = l ≡ codes "reset " ++ t
+CommandTold l (TagLine (Some t)) = l ≡ codes "tag " ++ t
+CommandTold l (TagLine None) = Unit {0}
 CommandTold l IdleLine = IsIdle l
 CommandTold l WantsDone = l ≡ codes "feature done"
 CommandTold l DoneLine = l ≡ codes "done"
@@ -63,13 +66,19 @@ command_told l =
     (text_told l (codes "feature done") WantsDone _ (λ e. e)
     (word_told l (codes "feature ") _ _ (λ t e. tt)
     (text_told l (codes "done") DoneLine _ (λ e. e)
-    (refused_told (feature_by (first_word l).0))))))))))
+    (word_told l (codes "tag ") (λ r. TagLine (Some r)) _ (λ t e. e)
+    (text_told l (codes "tag") (TagLine None) _ (λ e. tt)
+    (refused_told (feature_by (first_word l).0))))))))))))
   where
     refused_told : (o : Option _) → CommandTold l (refused_line o)
     refused_told None = tt
     refused_told (Some f) = tt
 
 -- and the other way
+tag_line : (t : Bytes) → command_line (codes "tag " ++ t) ≡ TagLine (Some t)
+unfolding command_line
+tag_line t = refl
+
 commit_line : (t : Bytes) → command_line (codes "commit " ++ t) ≡ CommitLine t
 unfolding command_line
 commit_line t = refl
@@ -105,18 +114,18 @@ empty_line = refl
 -- ---- what is told is spelled
 
 abbrev pub EventSpelled : Progress → Input → Event → Progress → Input → Type 0
-EventSpelled p i (Gives c) q j = Spells p.phase i c.at c.command j × (q ≡ behind p c.command)
-EventSpelled p i Skips q j = (p.phase ≡ Between) × (q.phase ≡ Between) × Passes i p.wants_done j q.wants_done
+EventSpelled p i (Gives c) q j = Spells p.manner p.phase i c.at c.command j × (q ≡ behind p c.command)
+EventSpelled p i Skips q j = (p.phase ≡ Between) × (q.phase ≡ Between) × Passes i p.manner j q.manner
 EventSpelled p i Ends q j = EndsHere p i
 
 abbrev pub TurnSpelled : Progress → Input → Read Turn → Type 0
 TurnSpelled p i (Ok x) = EventSpelled p i x.0.event x.0.progress x.1
 TurnSpelled p i (Err e) = Unit {0}
 
-abbrev pub here : Phase → Bool → Progress
-here p d = record { phase = p; wants_done = d }
+abbrev pub here : Phase → Manner → Progress
+here p d = record { phase = p; manner = d }
 
-abbrev given : ℕ → Phase → Bool → Command → Turn
+abbrev given : ℕ → Phase → Manner → Command → Turn
 given at p d c = turned (Gives (record { at = at; command = c })) p d
 
 then_spelled : {A : Type 0} (p : Progress) (i : Input) (r : Read A) (make : A → Turn) → ((x : A) (j : Input) → r ≡ Ok (x, j) → EventSpelled p i (make x).event (make x).progress j) →
@@ -130,7 +139,13 @@ line_is i l k b n e = subst (λ z. NextLine i (line_of l.place z) k) e n
 word_is : (word : Bytes) (i : Input) (l : Line) (k : Input) (t : Bytes) → NextLine i l k → l.bytes ≡ word ++ t → WordLine word i (line_of l.place t) k
 word_is word i l k t n e = record { line = l; next = n; place = refl; bytes = e }
 
-module _ (d : Bool) (i k : Input) (l : Line) (n : NextLine i l k) where
+some_same : (t n : Bytes) → Some t ≡ Some n → t ≡ n
+some_same t n e = cc
+
+no_some : (o : Option Bytes) (n : Bytes) → o ≡ None → o ≡ Some n → ⊥
+no_some o n d e = cc
+
+module _ (d : Manner) (i k : Input) (l : Line) (n : NextLine i l k) where
   blob_spelled : l.bytes ≡ codes "blob" → (c : Command) (j : Input) → BlobIs k c j → EventSpelled (here Between d) i (Gives (record { at = l.place; command = c })) (here Between d) j
   blob_spelled e c j h =
       subst (λ z. EventSpelled (here Between d) i (Gives (record { at = l.place; command = z })) (here Between d) j) h.3 ((k, line_is i l k (codes "blob") n e, h.2), refl)
@@ -144,11 +159,24 @@ module _ (d : Bool) (i k : Input) (l : Line) (n : NextLine i l k) where
   reset_spelled t e c j h =
       subst (λ z. EventSpelled (here Between d) i (Gives (record { at = l.place; command = z })) (here Between d) j) h.3 ((k, word_is (codes "reset ") i l k t n e, h.1, h.2), refl)
 
+  tag_spelled : (t : Bytes) → d.takes_tags ≡ true → l.bytes ≡ codes "tag " ++ t → (c : Command) (j : Input) → TagIs (Some t) k c j → EventSpelled (here Between d) i (Gives (record { at = l.place; command = c })) (here Between d) j
+  tag_spelled t o e c j h =
+      let s : t ≡ h.0.name = some_same t h.0.name h.1 in
+      subst (λ z. EventSpelled (here Between d) i (Gives (record { at = l.place; command = z })) (here Between d) j) h.3
+      ((o, k, word_is (codes "tag ") i l k h.0.name n (e ∙ ap (λ z. codes "tag " ++ z) s), h.2), refl)
+
+  tag_turn_spelled : (t : Option Bytes) → CommandTold l.bytes (TagLine t) → (b : Bool) → d.takes_tags ≡ b → TurnSpelled (here Between d) i (tag_turn l.place t d b true k)
+  tag_turn_spelled t e false o = tt
+  tag_turn_spelled None e true o = then_spelled (here Between d) i (tag l.place None true k) (given l.place Between d) (λ c j r. let h = (tag-reads l.place None).was k c j r in absurd (no_some None h.0.name refl h.1))
+  tag_turn_spelled (Some t) e true o =
+      then_spelled (here Between d) i (tag l.place (Some t) true k) (given l.place Between d) (λ c j r. tag_spelled t o e c j ((tag-reads l.place (Some t)).was k c j r))
+
   between_spelled : (kind : CommandLine) → CommandTold l.bytes kind → TurnSpelled (here Between d) i (between kind l.place d true k)
   between_spelled EmptyLine e = (refl, refl, (l, n, inl (inl e, refl)))
   between_spelled BlobLine e = then_spelled (here Between d) i (blob true k) (given l.place Between d) (λ c j r. blob_spelled e c j (blob-reads.was k c j r))
   between_spelled (CommitLine t) e = then_spelled (here Between d) i (head l.place t true k) (given l.place InCommit d) (λ c j r. head_spelled t e c j ((head-reads l.place t).was k c j r))
   between_spelled (ResetLine t) e = then_spelled (here Between d) i (reset l.place t true k) (given l.place Between d) (λ c j r. reset_spelled t e c j ((reset-reads l.place t).was k c j r))
+  between_spelled (TagLine t) e = tag_turn_spelled t e d.takes_tags refl
   between_spelled IdleLine e = (refl, refl, (l, n, inl (e, refl)))
   between_spelled WantsDone e = (refl, refl, (l, n, inr (e, refl)))
   between_spelled DoneLine e = (line_is i l k (codes "done") n e, refl)
@@ -170,42 +198,42 @@ module _ (d : Bool) (i k : Input) (l : Line) (n : NextLine i l k) where
   changed_spelled DeleteAllIs e = changing_spelled DeleteAllIs e
   changed_spelled NotesAre e = changing_spelled NotesAre e
 
-end_spelled : (d : Bool) (at : ℕ) (i j : Input) → NoLine i j → TurnSpelled (here Between d) i (at_the_end at d true j)
-end_spelled true at i j h = tt
-end_spelled false at i j h = inr (refl, refl, j, h)
+end_spelled : (d : Manner) (e : Bool) → d.wants_done ≡ e → (at : ℕ) (i j : Input) → NoLine i j → TurnSpelled (here Between d) i (ends_at at d e true j)
+end_spelled d true o at i j h = tt
+end_spelled d false o at i j h = inr (refl, o, j, h)
 
-between_line : (d : Bool) (i : Input) (r : Result (Option Line × Input) (Stop LimitFault)) → Spelled true i r → TurnSpelled (here Between d) i (lifted r >>= between_at d true)
+between_line : (d : Manner) (i : Input) (r : Result (Option Line × Input) (Stop LimitFault)) → Spelled true i r → TurnSpelled (here Between d) i (lifted r >>= between_at d true)
 between_line d i (Ok (Some l, k)) h = between_spelled d i k l h.0 (command_line l.bytes) (command_told l.bytes)
-between_line d i (Ok (None, k)) h = end_spelled d k.at i k h.0
+between_line d i (Ok (None, k)) h = end_spelled d d.wants_done refl k.at i k h.0
 between_line d i (Err e) h = tt
 
-commit_spelled : (d : Bool) (i : Input) (r : Result (Option Line × Input) (Stop LimitFault)) → Spelled true i r → TurnSpelled (here InCommit d) i (lifted r >>= in_commit_at d true i)
+commit_spelled : (d : Manner) (i : Input) (r : Result (Option Line × Input) (Stop LimitFault)) → Spelled true i r → TurnSpelled (here InCommit d) i (lifted r >>= in_commit_at d true i)
 commit_spelled d i (Ok (Some l, k)) h = changed_spelled d i k l h.0 (change_line l.bytes) (change_told l.bytes)
 commit_spelled d i (Ok (None, k)) h = (inl (h.0, refl), refl)
 commit_spelled d i (Err e) h = tt
 
-turn_in_spelled : (p : Phase) (d : Bool) (i : Input) → TurnSpelled (here p d) i (turn_in p d true i)
+turn_in_spelled : (p : Phase) (d : Manner) (i : Input) → TurnSpelled (here p d) i (turn_in p d true i)
 turn_in_spelled Between d i = between_line d i (line_at true i) (line_at-spelled true i)
 turn_in_spelled InCommit d i = commit_spelled d i (line_at true i) (line_at-spelled true i)
 turn_in_spelled Finished d i = inl refl
 
 pub turn_spelled : (p : Progress) (i : Input) → TurnSpelled p i (turn p true i)
 unfolding turn
-turn_spelled p i = turn_in_spelled p.phase p.wants_done i
+turn_spelled p i = turn_in_spelled p.phase p.manner i
 
 -- ---- what is spelled is told
 
-at_between : (d : Bool) (i k : Input) (l : Line) (kind : CommandLine) → NextLine i l k → command_line l.bytes ≡ kind → turn_in Between d true i ≡ between kind l.place d true k
+at_between : (d : Manner) (i k : Input) (l : Line) (kind : CommandLine) → NextLine i l k → command_line l.bytes ≡ kind → turn_in Between d true i ≡ between kind l.place d true k
 at_between d i k l kind n e = ap (λ r. lifted r >>= between_at d true) (line_at-again i l k n) ∙ ap (λ c. between c l.place d true k) e
 
-at_change : (d : Bool) (i k : Input) (l : Line) (kind : ChangeLine) → NextLine i l k → change_line l.bytes ≡ kind → turn_in InCommit d true i ≡ changed kind l.place d true i k
+at_change : (d : Manner) (i k : Input) (l : Line) (kind : ChangeLine) → NextLine i l k → change_line l.bytes ≡ kind → turn_in InCommit d true i ≡ changed kind l.place d true i k
 at_change d i k l kind n e = ap (λ r. lifted r >>= in_commit_at d true i) (line_at-again i l k n) ∙ ap (λ c. changed c l.place d true i k) e
 
-abbrev Answer : ℕ → Phase → Bool → Command → Input → Read Turn
+abbrev Answer : ℕ → Phase → Manner → Command → Input → Read Turn
 Answer at p d c j = Ok (given at p d c, j)
 
 -- a kind of line that is a change
-reads_changed : (d : Bool) (at : ℕ) (i k : Input) (c : Change) (j : Input) (kind : ChangeLine) → change at kind true k ≡ Ok (c, j) → changed kind at d true i k ≡ Answer at InCommit d (commands.Change c) j
+reads_changed : (d : Manner) (at : ℕ) (i k : Input) (c : Change) (j : Input) (kind : ChangeLine) → change at kind true k ≡ Ok (c, j) → changed kind at d true i k ≡ Answer at InCommit d (commands.Change c) j
 unfolding change
 reads_changed d at i k c j EmptyIs e = absurd cc
 reads_changed d at i k c j NoChange e = absurd cc
@@ -216,7 +244,7 @@ reads_changed d at i k c j (CopyIs t) e = ap (λ r. r >>= λ x. gives at InCommi
 reads_changed d at i k c j DeleteAllIs e = ap (λ r. r >>= λ x. gives at InCommit d (commands.Change x.0) true x.1) e
 reads_changed d at i k c j NotesAre e = ap (λ r. r >>= λ x. gives at InCommit d (commands.Change x.0) true x.1) e
 
-read_again : (p : Phase) (d : Bool) (i : Input) (at : ℕ) (c : Command) (j : Input) → Spells p i at c j → turn_in p d true i ≡ Answer at (phase_behind c) d c j
+read_again : (p : Phase) (d : Manner) (i : Input) (at : ℕ) (c : Command) (j : Input) → Spells d p i at c j → turn_in p d true i ≡ Answer at (phase_behind c) d c j
 read_again Between d i at (commands.Blob m b) j h =
     at_between d i h.0 (line_of at (codes "blob")) BlobLine h.1 blob_line
     ∙ ap (λ r. r >>= λ x. gives at Between d x.0 true x.1) (blob-reads.again h.0 (commands.Blob m b) j (m, b, h.2, refl))
@@ -228,6 +256,11 @@ read_again Between d i at (commands.Reset t f) j h =
     at_between d i h.0 h.1.line (ResetLine t) h.1.next (ap command_line h.1.bytes ∙ reset_line t)
     ∙ ap (λ a. between (ResetLine t) a d true h.0) h.1.place
     ∙ ap (λ r. r >>= λ x. gives at Between d x.0 true x.1) ((reset-reads at t).again h.0 (commands.Reset t f) j (f, h.2, h.3, refl))
+read_again Between d i at (commands.Tag g) j h =
+    at_between d i h.1 h.2.line (TagLine (Some g.name)) h.2.next (ap command_line h.2.bytes ∙ tag_line g.name)
+    ∙ ap (λ a. between (TagLine (Some g.name)) a d true h.1) h.2.place
+    ∙ ap (λ b. tag_turn at (Some g.name) d b true h.1) h.0
+    ∙ ap (λ r. r >>= λ x. gives at Between d x.0 true x.1) ((tag-reads at (Some g.name)).again h.1 (commands.Tag g) j (g, refl, h.3, refl))
 read_again Between d i at commands.Done j h = at_between d i j (line_of at (codes "done")) DoneLine h done_line
 read_again Between d i at (commands.Change c) j h = absurd h
 read_again Between d i at commands.CommitEnd j h = absurd h
@@ -245,12 +278,13 @@ read_again InCommit d i at commands.CommitEnd j h =
 read_again InCommit d i at (commands.Blob m b) j h = absurd h
 read_again InCommit d i at (commands.Commit g) j h = absurd h
 read_again InCommit d i at (commands.Reset t f) j h = absurd h
+read_again InCommit d i at (commands.Tag g) j h = absurd h
 read_again InCommit d i at commands.Done j h = absurd h
 read_again Finished d i at c j h = absurd h
 
-pub turn_again : (p : Progress) (i j : Input) (c : Placed) → Spells p.phase i c.at c.command j → turn p true i ≡ Ok (record { event = Gives c; progress = behind p c.command }, j)
+pub turn_again : (p : Progress) (i j : Input) (c : Placed) → Spells p.manner p.phase i c.at c.command j → turn p true i ≡ Ok (record { event = Gives c; progress = behind p c.command }, j)
 unfolding turn
-turn_again p i j c h = read_again p.phase p.wants_done i c.at c.command j h
+turn_again p i j c h = read_again p.phase p.manner i c.at c.command j h
 
 idle_line : (l : Bytes) → IsIdle l → (command_line l ≡ EmptyLine) ⊎ (command_line l ≡ IdleLine)
 idle_line l h =
@@ -259,7 +293,7 @@ idle_line l h =
       | inr g ↦ elim g [ inl t ↦ inr (ap command_line t.1 ∙ progress_line t.0) | inr e ↦ inr (ap command_line e ∙ checkpoint_line) ]
     ]
 
-passes_again : (d e : Bool) (i j : Input) → Passes i d j e → turn_in Between d true i ≡ Ok (turned Skips Between e, j)
+passes_again : (d e : Manner) (i j : Input) → Passes i d j e → turn_in Between d true i ≡ Ok (turned Skips Between e, j)
 passes_again d e i j h =
     elim h.2 [
       | inl g ↦ elim (idle_line h.0.bytes g.0) [
@@ -269,6 +303,6 @@ passes_again d e i j h =
       | inr g ↦ at_between d i j h.0 WantsDone h.1 (ap command_line g.0 ∙ wants_line) ∙ ap (λ b. Ok (turned Skips Between b, j)) (sym g.1)
     ]
 
-pub turn_passes : (d e : Bool) (i j : Input) → Passes i d j e → turn (here Between d) true i ≡ Ok (turned Skips Between e, j)
+pub turn_passes : (d e : Manner) (i j : Input) → Passes i d j e → turn (here Between d) true i ≡ Ok (turned Skips Between e, j)
 unfolding turn
 turn_passes d e i j h = passes_again d e i j h

@@ -1,17 +1,18 @@
 -- The verdict of a whole stream without a fault is what it spells.
-use Rattle.std.proofs.Common.{◌≡◌, inl, inr, ℕ, zero, suc, Bool, true, false, List, [], ◌∷◌, Option, Some, None, Ok, Err, refl, sym, ap, ◌∙◌, subst}
+use Rattle.std.proofs.Common.{◌≡◌, inl, inr, ℕ, zero, suc, true, false, List, [], ◌∷◌, Option, Some, None, Ok, Err, refl, sym, ap, ◌∙◌, subst}
 use Rattle.stream_lex.specs.Lines.{Input, line_at}
 use Rattle.stream_lex.proofs.Spelled.{line_at-none}
 use Rattle.stream_reader.specs.declared.fault.StreamFault.{StreamFault}
 use Rattle.stream_lex.specs.declared.stop.Stop.TheVariants as stops
 use Rattle.stream_reader.specs.declared.command.Placed.{Placed}
+use Rattle.stream_reader.specs.declared.progress.Manner.{Manner}
 use Rattle.stream_reader.specs.declared.progress.Phase.TheVariants.{Between, Finished}
 use Rattle.stream_reader.specs.declared.progress.Progress.{Progress}
 use Rattle.stream_reader.specs.declared.progress.Event.{Event}
 use Rattle.stream_reader.specs.declared.progress.Event.TheVariants.{Gives, Skips, Ends}
 use Rattle.git_objects.specs.Results.{◌>>=◌}
 use Rattle.stream_reader.specs.Reading.{Read, Reader, lifted}
-use Rattle.stream_reader.specs.Commands.{Turn, turned, Told, between_at, turn_in, turn, by_event, turn_on, command_within, read_command}
+use Rattle.stream_reader.specs.Commands.{Turn, turned, Told, ends_at, between_at, turn, by_event, turn_on, command_within, read_command}
 use Rattle.stream_reader.specs.Spelling.{Spells, behind, PassesLines, Reaches, EndsHere, SpellsAll}
 use Rattle.stream_reader.specs.Verdicts.{Verdict, stopped, with_command, told_then, go_on, from_start, verdict_from}
 use Rattle.stream_lex.specs.Cutting.{IsTold}
@@ -23,7 +24,7 @@ use Rattle.stream_reader.proofs.SpelledTurns.{EventSpelled, TurnSpelled, turn_sp
 -- ---- the next command is spelled behind lines that give none
 
 abbrev TellsSpelled : Progress → Input → Option Placed → Progress → Input → Type 0
-TellsSpelled p i (Some c) q j = (r : Progress) × (k : Input) × Reaches p i r k × Spells r.phase k c.at c.command j × (q ≡ behind r c.command)
+TellsSpelled p i (Some c) q j = (r : Progress) × (k : Input) × Reaches p i r k × Spells r.manner r.phase k c.at c.command j × (q ≡ behind r c.command)
 TellsSpelled p i None q j = (r : Progress) × (k : Input) × Reaches p i r k × EndsHere r k
 
 abbrev CommandSpelled : Progress → Input → Read Told → Type 0
@@ -32,7 +33,7 @@ CommandSpelled p i (Err e) = Unit {0}
 
 -- one line more in front
 reached : (p q : Progress) (i j : Input) → EventSpelled p i Skips q j → (r : Progress) (k : Input) → Reaches q j r k → Reaches p i r k
-reached p q i j h r k g = (suc g.0, (h.0, j, q.wants_done, h.2, subst (λ ph. PassesLines g.0 (record { phase = ph; wants_done = q.wants_done }) j r k) h.1 g.1))
+reached p q i j h r k g = (suc g.0, (h.0, j, q.manner, h.2, subst (λ ph. PassesLines g.0 (record { phase = ph; manner = q.manner }) j r k) h.1 g.1))
 
 tells_in_front : (p q : Progress) (i j : Input) → EventSpelled p i Skips q j → (c : Option Placed) (s : Progress) (l : Input) → TellsSpelled q j c s l → TellsSpelled p i c s l
 tells_in_front p q i j h (Some c) s l g = (g.0, g.1, reached p q i j h g.0 g.1 g.2, g.3, g.4)
@@ -67,10 +68,10 @@ reach_same : (n : ℕ) (p : Progress) (i : Input) (q : Progress) (j : Input) →
 reach_same zero p i q j h = λ k. read_command (h.0 k) true (h.1 k)
 reach_same (suc n) p i q j h =
     let t : turn p true i ≡ Ok (turned Skips Between h.2, h.1) =
-    subst (λ ph. turn (record { phase = ph; wants_done = p.wants_done }) true i ≡ Ok (turned Skips Between h.2, h.1)) (sym h.0) (turn_passes p.wants_done h.2 i h.1 h.3) in
+    subst (λ ph. turn (record { phase = ph; manner = p.manner }) true i ≡ Ok (turned Skips Between h.2, h.1)) (sym h.0) (turn_passes p.manner h.2 i h.1 h.3) in
     command-is p true i ∙ ap (λ r. r >>= λ x. turn_on read_command x.0 true x.1) t ∙ reach_same n (here Between h.2) h.1 q j h.4
 
-command_again : (p : Progress) (i : Input) (q : Progress) (k j : Input) (c : Placed) → Reaches p i q k → Spells q.phase k c.at c.command j →
+command_again : (p : Progress) (i : Input) (q : Progress) (k j : Input) (c : Placed) → Reaches p i q k → Spells q.manner q.phase k c.at c.command j →
     read_command p true i ≡ Ok (record { command = Some c; progress = behind q c.command }, j)
 command_again p i q k j c h s =
     reach_same h.0 p i q k h.1 ∙ command-is q true k ∙ ap (λ r. r >>= λ x. turn_on read_command x.0 true x.1) (turn_again q k j c s)
@@ -79,26 +80,22 @@ command_again p i q k j c h s =
 abbrev IsEnd : Read Told → Type 0
 IsEnd r = (q : Progress) × (j : Input) × (r ≡ Ok (record { command = None; progress = q }, j))
 
-finished : (d : Bool) (i : Input) → turn (here Finished d) true i ≡ Ok (turned Ends Finished d, i)
+finished : (d : Manner) (i : Input) → turn (here Finished d) true i ≡ Ok (turned Ends Finished d, i)
 unfolding turn
 finished d i = refl
 
-nothing_left : (i j : Input) → turn_in Between false true i ≡ lifted (line_at true i) >>= between_at false true
-nothing_left i j = refl
-
-at_the_last : (i j : Input) → line_at true i ≡ Ok (None, j) → turn (here Between false) true i ≡ Ok (turned Ends Between false, j)
+at_the_last : (d : Manner) (i j : Input) → d.wants_done ≡ false → line_at true i ≡ Ok (None, j) → turn (here Between d) true i ≡ Ok (turned Ends Between d, j)
 unfolding turn
-at_the_last i j e = ap (λ r. lifted r >>= between_at false true) e
+at_the_last d i j o e = ap (λ r. lifted r >>= between_at d true) e ∙ ap (λ b. ends_at j.at d b true j) o
 
 turn_ends : (p : Progress) (i : Input) → EndsHere p i → (q : Progress) × (j : Input) × (turn p true i ≡ Ok (record { event = Ends; progress = q }, j))
 turn_ends p i h =
     elim h [
-      | inl e ↦ (here Finished p.wants_done, i, subst (λ ph. turn (record { phase = ph; wants_done = p.wants_done }) true i ≡ Ok (turned Ends Finished p.wants_done, i)) (sym e) (finished p.wants_done i))
+      | inl e ↦ (here Finished p.manner, i, subst (λ ph. turn (record { phase = ph; manner = p.manner }) true i ≡ Ok (turned Ends Finished p.manner, i)) (sym e) (finished p.manner i))
       | inr g ↦ (
-        here Between false,
+        here Between p.manner,
         g.2,
-        subst (λ ph. turn (record { phase = ph; wants_done = p.wants_done }) true i ≡ Ok (turned Ends Between false, g.2)) (sym g.0)
-            (subst (λ d. turn (here Between d) true i ≡ Ok (turned Ends Between false, g.2)) (sym g.1) (at_the_last i g.2 (line_at-none i g.2 g.3))),
+        subst (λ ph. turn (record { phase = ph; manner = p.manner }) true i ≡ Ok (turned Ends Between p.manner, g.2)) (sym g.0) (at_the_last p.manner i g.2 g.1 (line_at-none i g.2 g.3)),
       )
     ]
 
@@ -169,7 +166,7 @@ whole_was (c ∷ cs) p i e = some_was c cs (whole_was cs) p i (read_command p tr
 fault_told : (p : Progress) (i : Input) (f : StreamFault) → turn p true i ≡ Err (stops.Fault f) → verdict_from p i ≡ stopped (Some f)
 fault_told p i f e = verdict-is p i ∙ ap (go_on verdict_from) (command-is p true i ∙ ap (λ r. r >>= λ x. turn_on read_command x.0 true x.1) e)
 
-none_spelled : (p : Progress) (i : Input) (f : StreamFault) → turn p true i ≡ Err (stops.Fault f) → (j : Input) (c : Placed) → ¬ Spells p.phase i c.at c.command j
+none_spelled : (p : Progress) (i : Input) (f : StreamFault) → turn p true i ≡ Err (stops.Fault f) → (j : Input) (c : Placed) → ¬ Spells p.manner p.phase i c.at c.command j
 none_spelled p i f e j c h = let g = turn_again p i j c h in absurd cc
 
 not_whole : (p : Progress) (i : Input) (f : StreamFault) → turn p true i ≡ Err (stops.Fault f) → (cs : List Placed) → ¬ SpellsAll cs p i

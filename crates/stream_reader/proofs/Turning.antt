@@ -7,6 +7,7 @@ use Rattle.stream_lex.specs.declared.stop.Stop.TheVariants as stops
 use Rattle.stream_lex.specs.Cutting.{grown, Advances}
 use Rattle.stream_lex.proofs.Combining.{stays}
 use Rattle.stream_reader.specs.declared.command.Command.TheVariants as commands
+use Rattle.stream_reader.specs.declared.progress.Manner.{Manner}
 use Rattle.stream_reader.specs.declared.progress.Phase.{Phase}
 use Rattle.stream_reader.specs.declared.progress.Phase.TheVariants.{Between, InCommit, Finished}
 use Rattle.stream_reader.specs.declared.progress.Progress.{Progress}
@@ -20,7 +21,7 @@ use Rattle.stream_reader.proofs.Composed.{change-reader, between-reader, at_the_
 
 -- ---- between commands
 
-module _ (d : Bool) where
+module _ (d : Manner) where
   between_settles : (ended : Bool) (more : Bytes) (o : Option Line) (j : Input) → Agrees more (between_at d false (o, j)) (between_at d ended (o, grown more j))
   between_settles ended more None j = (at_the_end-reader j.at d).settles ended more j
   between_settles ended more (Some l) j = (between-reader (command_line l.bytes) l.place d).settles ended more j
@@ -130,4 +131,4 @@ module _ (d : Bool) where
 
 pub turn-reader : (p : Progress) → IsReader (turn p)
 unfolding turn
-turn-reader p = turn_in-reader p.wants_done p.phase
+turn-reader p = turn_in-reader p.manner p.phase

@@ -50,3 +50,7 @@ message_behind l =
 -- A commit's message, within its limit.
 unfoldable pub message_data : Reader Bytes
 message_data = need_line then message_behind
+
+-- A tag's message. No line `encoding` or `gpgsig` is looked for.
+unfoldable pub tag_data : Reader Bytes
+tag_data = need_line then data_behind limits.Message MESSAGE_BYTES

@@ -11,6 +11,7 @@ use Rattle.stream_lex.specs.declared.stop.Stop.TheVariants as stops
 use Rattle.stream_reader.specs.declared.command.Command.{Command}
 use Rattle.stream_reader.specs.declared.command.Command.TheVariants as commands
 use Rattle.stream_reader.specs.declared.command.Placed.{Placed}
+use Rattle.stream_reader.specs.declared.progress.Manner.{Manner}
 use Rattle.stream_reader.specs.declared.progress.Phase.{Phase}
 use Rattle.stream_reader.specs.declared.progress.Phase.TheVariants.{Between, InCommit, Finished}
 use Rattle.stream_reader.specs.declared.progress.Progress.{Progress}
@@ -20,7 +21,7 @@ use Rattle.stream_reader.specs.Words.{first_word}
 use Rattle.git_objects.specs.Results.{◌>>=◌}
 use Rattle.stream_lex.specs.Cutting.{◌then◌, pure, refuse}
 use Rattle.stream_reader.specs.Reading.{Reader, Read, lifted}
-use Rattle.stream_reader.specs.Heads.{blob, head, reset}
+use Rattle.stream_reader.specs.Heads.{blob, head, reset, tag}
 use Rattle.stream_reader.specs.Changes.{ChangeLine, EmptyIs, NoChange, change_line, change}
 
 -- ---- lines between commands, by their first word
@@ -30,6 +31,8 @@ pub data CommandLine : Type 0 where
   BlobLine : CommandLine
   CommitLine : Bytes → CommandLine
   ResetLine : Bytes → CommandLine
+  -- with no text where the line ends behind the word
+  TagLine : Option Bytes → CommandLine
   IdleLine : CommandLine
   WantsDone : CommandLine
   DoneLine : CommandLine
@@ -39,13 +42,12 @@ pub data CommandLine : Type 0 where
 -- a feature by the first word of its lines
 abbrev pub feature_by : Bytes → Option Feature
 feature_by w =
-    cond (same_bytes w (codes "tag")) (Some features.Tag)
-    (cond (same_bytes w (codes "option")) (Some features.Options)
+    cond (same_bytes w (codes "option")) (Some features.Options)
     (cond (same_bytes w (codes "alias")) (Some features.Alias)
     (cond (same_bytes w (codes "ls")) (Some features.Ls)
     (cond (same_bytes w (codes "cat-blob")) (Some features.CatBlob)
     (cond (same_bytes w (codes "get-mark")) (Some features.GetMark)
-    (cond (same_bytes w (codes "N")) (Some features.Notes) None))))))
+    (cond (same_bytes w (codes "N")) (Some features.Notes) None)))))
 
 abbrev pub refused_line : Option Feature → CommandLine
 refused_line None = OtherLine
@@ -73,7 +75,9 @@ command_line t =
     (by_text (codes "feature done") WantsDone t
     (by_word (codes "feature ") (λ r. RefusedLine features.FeatureLine) t
     (by_text (codes "done") DoneLine t
-    (refused_line (feature_by (first_word t).0))))))))))
+    (by_word (codes "tag ") (λ r. TagLine (Some r)) t
+    (by_text (codes "tag") (TagLine None) t
+    (refused_line (feature_by (first_word t).0))))))))))))
 
 -- ---- one line or one command: what it gives, and where the reading stands behind it
 
@@ -81,53 +85,62 @@ pub record Turn : Type 0 where
   pub event : Event
   pub progress : Progress
 
-abbrev pub turned : Event → Phase → Bool → Turn
-turned e p d = record { event = e; progress = record { phase = p; wants_done = d } }
+abbrev pub turned : Event → Phase → Manner → Turn
+turned e p d = record { event = e; progress = record { phase = p; manner = d } }
 
--- a command whose first line stands at a place; d says whether `done` is wanted
-abbrev pub gives : ℕ → Phase → Bool → Command → Reader Turn
+-- a command whose first line stands at a place; d says how it is read
+abbrev pub gives : ℕ → Phase → Manner → Command → Reader Turn
 gives at p d c = pure (turned (Gives (record { at = at; command = c })) p d)
 
-abbrev pub skips : Bool → Reader Turn
+abbrev pub skips : Manner → Reader Turn
 skips d = pure (turned Skips Between d)
 
-abbrev pub between : CommandLine → ℕ → Bool → Reader Turn
+-- the text of a tag, where one is read
+abbrev pub tag_turn : ℕ → Option Bytes → Manner → Bool → Reader Turn
+tag_turn at t d true = tag at t then gives at Between d
+tag_turn at t d false = refuse (Unsupported at features.Tag)
+
+abbrev pub between : CommandLine → ℕ → Manner → Reader Turn
 between EmptyLine at d = skips d
 between BlobLine at d = blob then gives at Between d
 between (CommitLine t) at d = head at t then gives at InCommit d
 between (ResetLine t) at d = reset at t then gives at Between d
+between (TagLine t) at d = tag_turn at t d d.takes_tags
 between IdleLine at d = skips d
-between WantsDone at d = skips true
+between WantsDone at d = skips (record d { wants_done = true })
 between DoneLine at d = gives at Finished d commands.Done
 between (RefusedLine f) at d = refuse (Unsupported at f)
 between OtherLine at d = refuse (Syntax at)
 
 -- a wanted `done` is missing at the end
-abbrev pub at_the_end : ℕ → Bool → Reader Turn
-at_the_end at true = refuse (Syntax at)
-at_the_end at false = pure (turned Ends Between false)
+abbrev pub ends_at : ℕ → Manner → Bool → Reader Turn
+ends_at at d true = refuse (Syntax at)
+ends_at at d false = pure (turned Ends Between d)
 
-abbrev pub between_at : Bool → Bool → Option Line × Input → Read Turn
+abbrev pub at_the_end : ℕ → Manner → Reader Turn
+at_the_end at d = ends_at at d d.wants_done
+
+abbrev pub between_at : Manner → Bool → Option Line × Input → Read Turn
 between_at d ended (None, i) = at_the_end i.at d ended i
 between_at d ended (Some l, i) = between (command_line l.bytes) l.place d ended i
 
 -- a line that is neither empty nor a change ends the commit and isn't taken
-abbrev pub changed : ChangeLine → ℕ → Bool → Bool → Input → Input → Read Turn
+abbrev pub changed : ChangeLine → ℕ → Manner → Bool → Input → Input → Read Turn
 changed EmptyIs at d ended before i = gives at Between d commands.CommitEnd ended i
 changed NoChange at d ended before i = gives at Between d commands.CommitEnd ended before
 changed k at d ended before i = (change at k then λ c. gives at InCommit d (commands.Change c)) ended i
 
-abbrev pub in_commit_at : Bool → Bool → Input → Option Line × Input → Read Turn
+abbrev pub in_commit_at : Manner → Bool → Input → Option Line × Input → Read Turn
 in_commit_at d ended before (None, i) = gives i.at Between d commands.CommitEnd ended i
 in_commit_at d ended before (Some l, i) = changed (change_line l.bytes) l.place d ended before i
 
-abbrev pub turn_in : Phase → Bool → Reader Turn
+abbrev pub turn_in : Phase → Manner → Reader Turn
 turn_in Between d ended i = lifted (line_at ended i) >>= between_at d ended
 turn_in InCommit d ended i = lifted (line_at ended i) >>= in_commit_at d ended i
 turn_in Finished d ended i = Ok (turned Ends Finished d, i)
 
 unfoldable pub turn : Progress → Reader Turn
-turn p = turn_in p.phase p.wants_done
+turn p = turn_in p.phase p.manner
 
 -- ---- the next command, behind lines that give none
 

@@ -13,8 +13,8 @@ use Rattle.stream_reader.specs.Words.{mark}
 use Rattle.git_objects.specs.Results.{◌>>=◌}
 use Rattle.stream_lex.specs.Cutting.{◌then◌, judged, pure, refuse}
 use Rattle.stream_reader.specs.Reading.{Judged, Reader, or_fault, option_line, need_line}
-use Rattle.stream_reader.specs.Names.{refname, ident, target}
-use Rattle.stream_reader.specs.Blocks.{blob_data, message_data}
+use Rattle.stream_reader.specs.Names.{refname, tag_name, ident, target}
+use Rattle.stream_reader.specs.Blocks.{blob_data, message_data, tag_data}
 use Rattle.git_objects.specs.CommitBodies.{strip}
 
 abbrev pub if_some : {A : Type 0} → (Line → Judged A) → Option Line → Judged (Option A)
@@ -98,3 +98,22 @@ head at t =
 
 unfoldable pub reset : ℕ → Bytes → Reader Command
 reset at t = judged (refname at t) then λ r. ref_line (codes "from ") then λ f. pure (commands.Reset r f)
+
+-- ---- tags, by the text behind `tag` and a space
+
+-- what stands behind a word, which must be there
+abbrev pub behind_word : Bytes → Line → Judged Line
+behind_word word l = or_fault (Syntax l.place) (strip word l.bytes) >>= λ t. Ok (record { place = l.place; bytes = t })
+
+-- The next line, which must begin with a word, and what its text says.
+abbrev pub must_say : {A : Type 0} → Bytes → (Line → Judged A) → Reader A
+must_say word says = need_line then λ l. judged (behind_word word l >>= says)
+
+abbrev pub tagger_in : Line → Judged Bytes
+tagger_in l = ident l.place l.bytes
+
+unfoldable pub tag : ℕ → Option Bytes → Reader Command
+tag at t =
+    judged (tag_name at t) then λ n. said (codes "mark ") mark_in then λ m. must_say (codes "from ") ref_in then λ f.
+    option_line (codes "original-oid ") then λ o. must_say (codes "tagger ") tagger_in then λ p. tag_data then λ d.
+    pure (commands.Tag (record { name = n; from = f; mark = m; tagger = p; message = d }))

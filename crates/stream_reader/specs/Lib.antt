@@ -14,3 +14,4 @@ pub mod Waited
 pub mod Spelling
 pub mod Laws
 pub mod Rows
+pub mod TagRows

@@ -6,6 +6,7 @@ use Rattle.git_objects.specs.Idents.{is_ident}
 use Rattle.git_objects.specs.CommitBodies.{digits_name}
 use Rattle.git_objects.specs.declared.name.Name.{Name}
 use Rattle.path_names.specs.RefNames.{is_ref_name}
+use Rattle.tag_objects.specs.TagNames.{is_tag_name}
 use Rattle.stream_reader.specs.declared.fault.Feature.TheVariants.{ZeroName}
 use Rattle.stream_reader.specs.declared.fault.StreamFault.TheVariants.{Syntax, Unsupported}
 use Rattle.stream_reader.specs.declared.commit_ref.Target.{Target}
@@ -17,6 +18,11 @@ use Rattle.stream_reader.specs.Reading.{Judged, fault, or_fault}
 -- at is the place of the line in which the text stands
 abbrev pub refname : ℕ → Bytes → Judged Bytes
 refname at t = cond (is_ref_name t) (Ok t) (fault (Syntax at))
+
+-- the name of a tag, where the line goes on behind its word
+abbrev pub tag_name : ℕ → Option Bytes → Judged Bytes
+tag_name at None = fault (Syntax at)
+tag_name at (Some t) = cond (is_tag_name t) (Ok t) (fault (Syntax at))
 
 abbrev pub ident : ℕ → Bytes → Judged Bytes
 ident at t = cond (is_ident t) (Ok t) (fault (Syntax at))

@@ -1,9 +1,10 @@
 -- What commands are, in the bytes of a whole stream: i is what stands from a place on, j what is left behind.
-use Rattle.std.specs.Prelude.{◌≡◌, ◌≢◌, ◌≤◌, ◌⊎◌, ℕ, zero, suc, Bool, true, false, List, [], ◌∷◌, ◌++◌, length, codes, Option, Some, None, Ok}
+use Rattle.std.specs.Prelude.{◌≡◌, ◌≢◌, ◌≤◌, ◌⊎◌, ℕ, zero, suc, true, false, List, [], ◌∷◌, ◌++◌, length, codes, Option, Some, None, Ok}
 use Rattle.git_objects.specs.declared.limits.TheConstants.{BLOB_BYTES, MESSAGE_BYTES}
 use Rattle.git_objects.specs.Paths.{Bytes}
 use Rattle.git_objects.specs.Idents.{is_ident}
 use Rattle.path_names.specs.RefNames.{is_ref_name}
+use Rattle.tag_objects.specs.TagNames.{is_tag_name}
 use Rattle.stream_lex.specs.Lines.{Input, Line}
 use Rattle.stream_lex.specs.Spelling.{NextLine, NoLine, TakesBlock}
 use Rattle.stream_reader.specs.declared.command.Command.{Command}
@@ -13,9 +14,11 @@ use Rattle.stream_reader.specs.declared.command.Change.TheVariants as changes
 use Rattle.stream_reader.specs.declared.command.BlobRef.{BlobRef}
 use Rattle.stream_reader.specs.declared.command.BlobRef.TheVariants as blobs
 use Rattle.stream_reader.specs.declared.command.CommitHead.{CommitHead}
+use Rattle.stream_reader.specs.declared.command.TagHead.{TagHead}
 use Rattle.stream_reader.specs.declared.commit_ref.CommitRef.{CommitRef}
 use Rattle.stream_reader.specs.declared.modify.DataRef.{DataRef}
 use Rattle.stream_reader.specs.declared.modify.DataRef.TheVariants as datas
+use Rattle.stream_reader.specs.declared.progress.Manner.{Manner}
 use Rattle.stream_reader.specs.declared.progress.Phase.{Phase}
 use Rattle.stream_reader.specs.declared.progress.Phase.TheVariants.{Between, InCommit, Finished}
 use Rattle.stream_reader.specs.declared.progress.Progress.{Progress}
@@ -105,6 +108,22 @@ pub record HasHead (i : Input) (h : CommitHead) (j : Input) : Type 0 where
   pub message : HasData MESSAGE_BYTES b h.message c
   pub parents : HasParents c h.from h.merges j
 
+-- what stands behind the line `tag NAME`
+pub record HasTag (i : Input) (h : TagHead) (j : Input) : Type 0 where
+  pub named : is_tag_name h.name ≡ true
+  pub a : Input
+  pub mark : Said (codes "mark ") mark_in i h.mark a
+  pub b : Input
+  pub from : Said (codes "from ") ref_in a (Some h.from) b
+  pub c : Input
+  pub other : Option Line
+  pub name : OptionLine (codes "original-oid ") b other c
+  pub d : Input
+  pub place : ℕ
+  pub tagger : WordLine (codes "tagger ") c (record { place = place; bytes = h.tagger }) d
+  pub ident : is_ident h.tagger ≡ true
+  pub message : HasData MESSAGE_BYTES d h.message j
+
 -- ---- changes
 
 abbrev pub HasBlobRef : DataRef → Input → BlobRef → Input → Type 0
@@ -137,23 +156,26 @@ pub record IsOther (l : Bytes) : Type 0 where
 abbrev pub line_of : ℕ → Bytes → Line
 line_of at b = record { place = at; bytes = b }
 
--- What stands between i and j is one spelling of the command, whose first line stands at a place.
-abbrev pub Spells : Phase → Input → ℕ → Command → Input → Type 0
-Spells Between i at (commands.Blob m b) j = (k : Input) × NextLine i (line_of at (codes "blob")) k × HasBlob k m b j
-Spells Between i at (commands.Commit h) j = (k : Input) × WordLine (codes "commit ") i (line_of at h.refname) k × HasHead k h j
-Spells Between i at (commands.Reset r f) j =
+-- What stands between i and j is one spelling of the command, whose first line stands at a place; d says whether tags are read.
+abbrev pub Spells : Manner → Phase → Input → ℕ → Command → Input → Type 0
+Spells d Between i at (commands.Blob m b) j = (k : Input) × NextLine i (line_of at (codes "blob")) k × HasBlob k m b j
+Spells d Between i at (commands.Commit h) j = (k : Input) × WordLine (codes "commit ") i (line_of at h.refname) k × HasHead k h j
+Spells d Between i at (commands.Reset r f) j =
     (k : Input) × WordLine (codes "reset ") i (line_of at r) k × (is_ref_name r ≡ true) × Said (codes "from ") ref_in k f j
-Spells Between i at commands.Done j = NextLine i (line_of at (codes "done")) j
-Spells Between i at (commands.Change c) j = ⊥
-Spells Between i at commands.CommitEnd j = ⊥
-Spells InCommit i at (commands.Change c) j = (l : Bytes) × (k : Input) × NextLine i (line_of at l) k × HasChange at l k c j
-Spells InCommit i at commands.CommitEnd j =
+Spells d Between i at (commands.Tag h) j =
+    (d.takes_tags ≡ true) × (k : Input) × WordLine (codes "tag ") i (line_of at h.name) k × HasTag k h j
+Spells d Between i at commands.Done j = NextLine i (line_of at (codes "done")) j
+Spells d Between i at (commands.Change c) j = ⊥
+Spells d Between i at commands.CommitEnd j = ⊥
+Spells d InCommit i at (commands.Change c) j = (l : Bytes) × (k : Input) × NextLine i (line_of at l) k × HasChange at l k c j
+Spells d InCommit i at commands.CommitEnd j =
     (NoLine i j × (at ≡ j.at)) ⊎ NextLine i (line_of at []) j ⊎ ((l : Bytes) × (k : Input) × NextLine i (line_of at l) k × IsOther l × (j ≡ i))
-Spells InCommit i at (commands.Blob m b) j = ⊥
-Spells InCommit i at (commands.Commit h) j = ⊥
-Spells InCommit i at (commands.Reset r f) j = ⊥
-Spells InCommit i at commands.Done j = ⊥
-Spells Finished i at c j = ⊥
+Spells d InCommit i at (commands.Blob m b) j = ⊥
+Spells d InCommit i at (commands.Commit h) j = ⊥
+Spells d InCommit i at (commands.Reset r f) j = ⊥
+Spells d InCommit i at (commands.Tag h) j = ⊥
+Spells d InCommit i at commands.Done j = ⊥
+Spells d Finished i at c j = ⊥
 
 -- what is expected behind a command
 abbrev pub phase_behind : Command → Phase
@@ -162,6 +184,7 @@ phase_behind (commands.Commit h) = InCommit
 phase_behind (commands.Change c) = InCommit
 phase_behind commands.CommitEnd = Between
 phase_behind (commands.Reset r f) = Between
+phase_behind (commands.Tag h) = Between
 phase_behind commands.Done = Finished
 
 -- ---- lines that give no command, and the end
@@ -170,26 +193,26 @@ phase_behind commands.Done = Finished
 abbrev pub IsIdle : Bytes → Type 0
 IsIdle l = (l ≡ []) ⊎ ((t : Bytes) × (l ≡ codes "progress " ++ t)) ⊎ (l ≡ codes "checkpoint")
 
--- such a line between commands, or `feature done`; d and e say whether `done` is wanted before and behind it
-abbrev pub Passes : Input → Bool → Input → Bool → Type 0
-Passes i d j e = (l : Line) × NextLine i l j × ((IsIdle l.bytes × (e ≡ d)) ⊎ ((l.bytes ≡ codes "feature done") × (e ≡ true)))
+-- such a line between commands, or `feature done`; d and e say how is read before and behind it
+abbrev pub Passes : Input → Manner → Input → Manner → Type 0
+Passes i d j e = (l : Line) × NextLine i l j × ((IsIdle l.bytes × (e ≡ d)) ⊎ ((l.bytes ≡ codes "feature done") × (e ≡ record d { wants_done = true })))
 
 -- behind a command
 abbrev pub behind : Progress → Command → Progress
-behind p c = record { phase = phase_behind c; wants_done = p.wants_done }
+behind p c = record { phase = phase_behind c; manner = p.manner }
 
 -- behind n such lines
 abbrev pub PassesLines : ℕ → Progress → Input → Progress → Input → Type 0
 PassesLines zero p i q j = (p ≡ q) × (i ≡ j)
 PassesLines (suc n) p i q j =
-    (p.phase ≡ Between) × (k : Input) × (d : Bool) × Passes i p.wants_done k d × PassesLines n (record { phase = Between; wants_done = d }) k q j
+    (p.phase ≡ Between) × (k : Input) × (d : Manner) × Passes i p.manner k d × PassesLines n (record { phase = Between; manner = d }) k q j
 
 abbrev pub Reaches : Progress → Input → Progress → Input → Type 0
 Reaches p i q j = (n : ℕ) × PassesLines n p i q j
 
 -- the stream ends, or `done` was read
 abbrev pub EndsHere : Progress → Input → Type 0
-EndsHere p i = (p.phase ≡ Finished) ⊎ ((p.phase ≡ Between) × (p.wants_done ≡ false) × (j : Input) × NoLine i j)
+EndsHere p i = (p.phase ≡ Finished) ⊎ ((p.phase ≡ Between) × (p.manner.wants_done ≡ false) × (j : Input) × NoLine i j)
 
 -- ---- whole streams
 
@@ -197,4 +220,4 @@ EndsHere p i = (p.phase ≡ Finished) ⊎ ((p.phase ≡ Between) × (p.wants_don
 abbrev pub SpellsAll : List Placed → Progress → Input → Type 0
 SpellsAll [] p i = (q : Progress) × (k : Input) × Reaches p i q k × EndsHere q k
 SpellsAll (c ∷ cs) p i =
-    (q : Progress) × (k : Input) × (j : Input) × Reaches p i q k × Spells q.phase k c.at c.command j × SpellsAll cs (behind q c.command) j
+    (q : Progress) × (k : Input) × (j : Input) × Reaches p i q k × Spells q.manner q.phase k c.at c.command j × SpellsAll cs (behind q c.command) j

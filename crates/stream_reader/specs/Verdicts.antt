@@ -1,5 +1,5 @@
 -- The commands that a stream spells from its start, and how it ends.
-use Rattle.std.specs.Prelude.{◌+◌, ◌*◌, ℕ, zero, suc, true, false, List, [], ◌∷◌, length, Option, Some, None, Ok, Err}
+use Rattle.std.specs.Prelude.{◌+◌, ◌*◌, ℕ, zero, suc, Bool, true, false, List, [], ◌∷◌, length, Option, Some, None, Ok, Err}
 use Rattle.std.specs.List.{concat}
 use Rattle.git_objects.specs.Paths.{Bytes}
 use Rattle.stream_lex.specs.Lines.{Input}
@@ -55,9 +55,15 @@ size p i = 2 * length i.rest + weight p.phase
 unfoldable pub verdict_from : Progress → Input → Verdict
 verdict_from p i = verdict_within (size p i + 1) p i
 
--- where the reading of a stream begins, unless a caller wants `done` from the start
+-- where the reading of a stream begins, unless a caller wants `done` from the start; whether the command `tag` is read
+abbrev pub start_in : Bool → Progress
+start_in t = record { phase = Between; manner = record { wants_done = false; takes_tags = t } }
+
 abbrev pub start : Progress
-start = record { phase = Between; wants_done = false }
+start = start_in false
+
+abbrev pub tagged_start : Progress
+tagged_start = start_in true
 
 abbrev pub from_start : Bytes → Input
 from_start b = record { at = 0; rest = b }

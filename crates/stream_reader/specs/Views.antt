@@ -24,7 +24,7 @@ use Rattle.stream_reader.specs.declared.kinds.ChangeKind.{ChangeKind}
 use Rattle.stream_reader.specs.declared.kinds.ChangeKind.TheVariants as changes
 use Rattle.stream_reader.specs.Reading.{Judged}
 use Rattle.stream_reader.specs.Changes.{ChangeLine, ModifyIs, DeleteIs, RenameIs, CopyIs, DeleteAllIs, NotesAre, EmptyIs, NoChange}
-use Rattle.stream_reader.specs.Commands.{CommandLine, EmptyLine, BlobLine, CommitLine, ResetLine, IdleLine, WantsDone, DoneLine, RefusedLine, OtherLine, Turn}
+use Rattle.stream_reader.specs.Commands.{CommandLine, EmptyLine, BlobLine, CommitLine, ResetLine, TagLine, IdleLine, WantsDone, DoneLine, RefusedLine, OtherLine, Turn}
 
 -- what a function returned, seen by view, is what reading gives, unless memory ran out
 abbrev pub Tells : {X Y : Type 0} → (X → Y) → Result X Halt → Judged Y → Type 0
@@ -83,6 +83,7 @@ command_kind commands.Empty = EmptyLine
 command_kind commands.Blob = BlobLine
 command_kind (commands.Commit t) = CommitLine t.now
 command_kind (commands.Reset t) = ResetLine t.now
+command_kind (commands.Tag t) = TagLine (maybe_bytes t)
 command_kind commands.Idle = IdleLine
 command_kind commands.WantsDone = WantsDone
 command_kind commands.Done = DoneLine

@@ -3,7 +3,7 @@ ghost use Rattle.std.specs.Prelude.{◌≡◌, ◌≤◌, ◌<◌, ◌^◌, IfOk
 ghost use Rattle.git_objects.specs.declared.limits.TheConstants.{STREAM_BYTES};
 ghost use Rattle.stream_lex.specs.Views.{input, line};
 ghost use Rattle.stream_reader.specs.Blocks.{count, whole_block, sized_block, data_behind, blob_data};
-ghost use Rattle.stream_reader.specs.Blocks.{message_behind, message_data};
+ghost use Rattle.stream_reader.specs.Blocks.{message_behind, message_data, tag_data};
 ghost use Rattle.stream_reader.specs.Views.{Tells, bytes_read};
 
 use crate::halt::Halt;
@@ -120,6 +120,17 @@ fn message_behind<'a>(
         }));
     }
     data_behind(Quantity::Message, MESSAGE_BYTES as u64, l, ended, i)
+}
+
+// A tag's message, before which no other lines are looked for.
+#[tactic(auto, unfolding(crate::specs::Blocks::tag_data))]
+pub fn tag_data<'a>(ended: bool, i: Cursor<'a>) -> Result<(&'a [u8], Cursor<'a>), Halt>
+    requires { i.at ≤ STREAM_BYTES }
+    ensures told { Tells bytes_read result (tag_data ended (input i.entry)) }
+    ensures within { IfOk result (λ x. x.1.at ≤ STREAM_BYTES) }
+{
+    let (l, after) = need_line(ended, i)?;
+    data_behind(Quantity::Message, MESSAGE_BYTES as u64, l, ended, after)
 }
 
 // A commit's message.

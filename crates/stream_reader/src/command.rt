@@ -5,6 +5,7 @@ use crate::CommitRef;
 use git_objects::{Bytes, Ident, Mode, Name};
 use path_names::{Path, RefName};
 use std::marker::Model;
+use tag_objects::TagName;
 
 /// A command of a stream.
 #[derive(Drop)]
@@ -21,6 +22,7 @@ pub enum Command {
         refname: RefName,
         from: Option<CommitRef>,
     },
+    Tag(TagHead),
     Done,
 }
 
@@ -42,6 +44,16 @@ pub struct CommitHead {
     pub message: Bytes,
     pub from: Option<CommitRef>,
     pub merges: Merges,
+}
+
+/// An annotated tag.
+#[derive(Drop)]
+pub struct TagHead {
+    pub name: TagName,
+    pub from: CommitRef,
+    pub mark: Option<u64>,
+    pub tagger: Ident,
+    pub message: Bytes,
 }
 
 /// The commits of a head's `merge` lines, in order: a vector of them, seen as a list.

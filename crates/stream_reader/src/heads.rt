@@ -1,17 +1,18 @@
 // Blobs, the heads of commits, and resets.
-ghost use Rattle.std.specs.Prelude.{◌≡◌, ◌≤◌, ◌<◌, ◌^◌, [], IfOk};
+ghost use Rattle.std.specs.Prelude.{◌≡◌, ◌≤◌, ◌<◌, ◌^◌, [], codes, IfOk};
 ghost use Rattle.git_objects.specs.declared.limits.TheConstants.{STREAM_BYTES};
-ghost use Rattle.stream_lex.specs.Views.{input, line, maybe_line};
-ghost use Rattle.stream_reader.specs.Heads.{if_some, mark_in, mark_lines, blob, author_in, author_or, committer_of};
+ghost use Rattle.stream_lex.specs.Views.{input, line, maybe_bytes, maybe_line};
+ghost use Rattle.stream_reader.specs.Heads.{if_some, said, mark_in, mark_lines, blob, author_in, author_or, committer_of};
 ghost use Rattle.stream_reader.specs.Heads.{people, ref_in, ref_line, merges, merges_max, parents, head, reset};
+ghost use Rattle.stream_reader.specs.Heads.{behind_word, must_say, tag, tagger_in};
 ghost use Rattle.stream_reader.specs.Views.{Tells, same, with_rest, people_read, parents_read};
 
-use crate::blocks::{blob_data, message_data};
+use crate::blocks::{blob_data, message_data, tag_data};
 use crate::halt::Halt;
 use crate::lines::{need_line, option_line};
-use crate::names::{ident, refname, target};
+use crate::names::{ident, refname, tag_name, target};
 use crate::words::mark;
-use crate::{Command, CommitHead, CommitRef, Merges, StreamFault};
+use crate::{Command, CommitHead, CommitRef, Merges, StreamFault, TagHead};
 use git_objects::limits::PARENTS;
 use git_objects::{Bytes, Ident, Quantity};
 use path_names::strip;
@@ -237,4 +238,86 @@ pub fn reset<'a>(
     let refname = refname(alloc, at, text)?;
     let (from, after) = ref_line(alloc, b"from ", ended, i)?;
     Ok((Command::Reset { refname, from }, after))
+}
+
+// What stands behind a word, which must be there.
+fn behind_word<'a>(word: &[u8], l: LineView<'a>) -> Result<LineView<'a>, Halt>
+    ensures { Tells line result (behind_word word.now (line l.entry)) }
+{
+    let Some(bytes) = strip(word, l.bytes) else {
+        return Err(Halt::Fault(StreamFault::Syntax { at: l.at }));
+    };
+    Ok(LineView { at: l.at, bytes })
+}
+
+fn from_of<'a>(alloc: Global, l: LineView<'a>) -> Result<CommitRef, Halt>
+    ensures { Tells same result (ref_in (line l.entry)) }
+{
+    let target = target(alloc, l.at, l.bytes)?;
+    Ok(CommitRef { at: l.at, target })
+}
+
+// The line `from NAME`.
+fn tag_from<'a>(alloc: Global, ended: bool, i: Cursor<'a>) -> Result<(CommitRef, Cursor<'a>), Halt>
+    requires { i.at ≤ STREAM_BYTES }
+    ensures told { Tells with_rest result (must_say (codes "from ") ref_in ended (input i.entry)) }
+    ensures within { IfOk result (λ x. x.1.at ≤ STREAM_BYTES) }
+{
+    let (l, after) = need_line(ended, i)?;
+    let l = behind_word(b"from ", l)?;
+    let from = from_of(alloc, l)?;
+    Ok((from, after))
+}
+
+// The line `tagger IDENT`.
+fn tagger<'a>(alloc: Global, ended: bool, i: Cursor<'a>) -> Result<(Ident, Cursor<'a>), Halt>
+    requires { i.at ≤ STREAM_BYTES }
+    ensures told { Tells with_rest result (must_say (codes "tagger ") tagger_in ended (input i.entry)) }
+    ensures within { IfOk result (λ x. x.1.at ≤ STREAM_BYTES) }
+{
+    let (l, after) = need_line(ended, i)?;
+    let l = behind_word(b"tagger ", l)?;
+    let tagger = ident(alloc, l.at, l.bytes)?;
+    Ok((tagger, after))
+}
+
+// The line `mark :N`, which may be missing.
+fn tag_mark<'a>(ended: bool, i: Cursor<'a>) -> Result<(Option<u64>, Cursor<'a>), Halt>
+    requires { i.at ≤ STREAM_BYTES }
+    ensures told { Tells with_rest result (said (codes "mark ") mark_in ended (input i.entry)) }
+    ensures within { IfOk result (λ x. x.1.at ≤ STREAM_BYTES) }
+{
+    let (l, after) = option_line(b"mark ", ended, i)?;
+    let mark = mark_of(l)?;
+    Ok((mark, after))
+}
+
+// What stands behind the line `tag NAME`, of which the text is this name; at is its place.
+#[tactic(auto, unfolding(crate::specs::Heads::tag))]
+pub fn tag<'a>(
+    alloc: Global,
+    at: u64,
+    text: Option<&'a [u8]>,
+    ended: bool,
+    i: Cursor<'a>,
+) -> Result<(Command, Cursor<'a>), Halt>
+    requires { i.at ≤ STREAM_BYTES }
+    ensures told { Tells with_rest result (tag at (maybe_bytes text.entry) ended (input i.entry)) }
+    ensures within { IfOk result (λ x. x.1.at ≤ STREAM_BYTES) }
+{
+    let name = tag_name(alloc, at, text)?;
+    let (mark, after) = tag_mark(ended, i)?;
+    let (from, after) = tag_from(alloc, ended, after)?;
+    let (_, after) = option_line(b"original-oid ", ended, after)?;
+    let (tagger, after) = tagger(alloc, ended, after)?;
+    let (bytes, after) = tag_data(ended, after)?;
+    let message = Bytes::of(bytes.to_vec(alloc)?);
+    let head = TagHead {
+        name,
+        from,
+        mark,
+        tagger,
+        message,
+    };
+    Ok((Command::Tag(head), after))
 }

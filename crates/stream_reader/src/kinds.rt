@@ -16,6 +16,8 @@ pub enum CommandKind<'a> {
     Blob,
     Commit(&'a [u8]),
     Reset(&'a [u8]),
+    /// The text is missing where the line ends behind the word.
+    Tag(Option<&'a [u8]>),
     /// `progress` and `checkpoint`, which change nothing.
     Idle,
     WantsDone,
@@ -41,9 +43,6 @@ pub enum ChangeKind<'a> {
 fn feature_by(word: &[u8]) -> Option<Feature>
     ensures { result ≡ feature_by word.now }
 {
-    if word == b"tag".as_slice() {
-        return Some(Feature::Tag);
-    }
     if word == b"option".as_slice() {
         return Some(Feature::Options);
     }
@@ -107,6 +106,12 @@ pub fn command_kind<'a>(line: &'a [u8]) -> CommandKind<'a>
     }
     if line == b"done".as_slice() {
         return CommandKind::Done;
+    }
+    if let Some(text) = strip(b"tag ".as_slice(), line) {
+        return CommandKind::Tag(Some(text));
+    }
+    if line == b"tag".as_slice() {
+        return CommandKind::Tag(None);
     }
     refused_kind(line)
 }

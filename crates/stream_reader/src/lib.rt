@@ -19,7 +19,7 @@ mod reader;
 mod turns;
 mod words;
 
-pub use command::{BlobRef, Change, Command, CommitHead, Merges, Placed};
+pub use command::{BlobRef, Change, Command, CommitHead, Merges, Placed, TagHead};
 pub use commit_ref::{CommitRef, Target};
 pub use fault::{Feature, StreamFault};
 pub use laws::{fault_law, spelling_law, verdict_law};

@@ -2,7 +2,8 @@
 ghost use Rattle.std.specs.Prelude.{◌≡◌, replicate};
 ghost use Rattle.git_objects.specs.Paths.{same_bytes};
 ghost use Rattle.git_objects.specs.CommitBodies.{digits_name};
-ghost use Rattle.stream_reader.specs.Names.{refname, ident, some_name, without_zero, target, name_of};
+ghost use Rattle.stream_lex.specs.Views.{maybe_bytes};
+ghost use Rattle.stream_reader.specs.Names.{refname, tag_name, ident, some_name, without_zero, target, name_of};
 ghost use Rattle.stream_reader.specs.Views.{Tells, same};
 
 use crate::halt::Halt;
@@ -11,6 +12,7 @@ use crate::{Feature, StreamFault, Target};
 use git_objects::{Ident, IdentFault, Name};
 use path_names::{RefFault, RefName};
 use std::alloc::Global;
+use tag_objects::{TagName, TagNameFault};
 
 // A ref name; at is the place of the line.
 pub fn refname(alloc: Global, at: u64, text: &[u8]) -> Result<RefName, Halt>
@@ -20,6 +22,20 @@ pub fn refname(alloc: Global, at: u64, text: &[u8]) -> Result<RefName, Halt>
         Ok(name) => Ok(name),
         Err(RefFault::Bad) => Err(Halt::Fault(StreamFault::Syntax { at })),
         Err(RefFault::OutOfMemory) => Err(Halt::Memory),
+    }
+}
+
+// The name of a tag, which must be there; at is the place of the line.
+pub fn tag_name<'a>(alloc: Global, at: u64, text: Option<&'a [u8]>) -> Result<TagName, Halt>
+    ensures { Tells same result (tag_name at (maybe_bytes text.entry)) }
+{
+    let Some(text) = text else {
+        return Err(Halt::Fault(StreamFault::Syntax { at }));
+    };
+    match TagName::parse(alloc, text) {
+        Ok(name) => Ok(name),
+        Err(TagNameFault::Bad) => Err(Halt::Fault(StreamFault::Syntax { at })),
+        Err(TagNameFault::OutOfMemory) => Err(Halt::Memory),
     }
 }
 

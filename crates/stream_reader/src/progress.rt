@@ -12,11 +12,18 @@ pub enum Phase {
     Finished,
 }
 
-/// What is expected next, and whether `done` is wanted at the end.
+/// Whether `done` is wanted at the end, and whether the command `tag` is read.
+#[derive(Clone, Copy)]
+pub struct Manner {
+    pub wants_done: bool,
+    pub takes_tags: bool,
+}
+
+/// What is expected next, and how it is read.
 #[derive(Clone, Copy)]
 pub struct Progress {
     pub phase: Phase,
-    pub wants_done: bool,
+    pub manner: Manner,
 }
 
 /// What a line or a command gives.

@@ -5,11 +5,11 @@ ghost use Rattle.stream_lex.specs.Cutting.{grown, place};
 ghost use Rattle.stream_reader.specs.Readers.{IsPlace, TellsTurn, TellsNext, reading, fed, wanted_now};
 ghost use Rattle.stream_reader.specs.Readers.{Follows, OnCommand, OnMore, came, left};
 ghost use Rattle.stream_reader.specs.Replayable.{IfTold};
-ghost use Rattle.stream_reader.specs.Verdicts.{start};
+ghost use Rattle.stream_reader.specs.Verdicts.{start, start_in, tagged_start};
 ghost use Rattle.stream_reader.specs.Waited.{IsNear};
 
 use crate::halt::Halt;
-use crate::progress::{Event, Phase, Progress};
+use crate::progress::{Event, Manner, Phase, Progress};
 use crate::turns::turn;
 use crate::{Placed, StreamFault};
 use std::alloc::{AllocError, Global};
@@ -49,10 +49,31 @@ impl Model for Reader {
 }
 
 impl Reader {
-    /// A reader of a stream of which nothing has come.
+    /// A reader of a stream of which nothing has come. It refuses the command `tag`.
     pub fn new(alloc: Global) -> Reader
         ensures { result ≡ record {
           progress = start;
+          input = record { at = 0; rest = [] };
+          ended = false;
+        } }
+    {
+        Reader::of(alloc, false)
+    }
+
+    /// A reader of a stream of which nothing has come. It reads the command `tag`, too.
+    pub fn tagged(alloc: Global) -> Reader
+        ensures { result ≡ record {
+          progress = tagged_start;
+          input = record { at = 0; rest = [] };
+          ended = false;
+        } }
+    {
+        Reader::of(alloc, true)
+    }
+
+    fn of(alloc: Global, takes_tags: bool) -> Reader
+        ensures { result ≡ record {
+          progress = start_in takes_tags;
           input = record { at = 0; rest = [] };
           ended = false;
         } }
@@ -61,7 +82,10 @@ impl Reader {
             lexer: Lexer::new(alloc),
             progress: Progress {
                 phase: Phase::Between,
-                wants_done: false,
+                manner: Manner {
+                    wants_done: false,
+                    takes_tags,
+                },
             },
             waits: None,
             alloc,

@@ -7,10 +7,10 @@ ghost use Rattle.stream_reader.specs.Views.{Tells, turn_read, command_kind, chan
 
 use crate::changes::change;
 use crate::halt::Halt;
-use crate::heads::{blob, head, reset};
+use crate::heads::{blob, head, reset, tag};
 use crate::kinds::{ChangeKind, CommandKind, change_kind, command_kind};
-use crate::progress::{Event, Phase, Progress};
-use crate::{Command, Placed, StreamFault};
+use crate::progress::{Event, Manner, Phase, Progress};
+use crate::{Command, Feature, Placed, StreamFault};
 use std::alloc::Global;
 use stream_lex::{Cursor, line};
 
@@ -18,24 +18,24 @@ use stream_lex::{Cursor, line};
 fn gives<'a>(
     at: u64,
     phase: Phase,
-    wants_done: bool,
+    manner: Manner,
     command: Command,
     rest: Cursor<'a>,
 ) -> (Event, Progress, Cursor<'a>)
-    ensures value { Ok (turn_read result) ≡ gives at phase wants_done command true (input rest.entry) }
+    ensures value { Ok (turn_read result) ≡ gives at phase manner command true (input rest.entry) }
     ensures rest { result.2 ≡ rest.entry }
 {
-    let progress = Progress { phase, wants_done };
+    let progress = Progress { phase, manner };
     (Event::Gives(Placed { at, command }), progress, rest)
 }
 
-fn skips<'a>(wants_done: bool, rest: Cursor<'a>) -> (Event, Progress, Cursor<'a>)
-    ensures value { Ok (turn_read result) ≡ skips wants_done true (input rest.entry) }
+fn skips<'a>(manner: Manner, rest: Cursor<'a>) -> (Event, Progress, Cursor<'a>)
+    ensures value { Ok (turn_read result) ≡ skips manner true (input rest.entry) }
     ensures rest { result.2 ≡ rest.entry }
 {
     let progress = Progress {
         phase: Phase::Between,
-        wants_done,
+        manner,
     };
     (Event::Skips, progress, rest)
 }
@@ -45,29 +45,45 @@ fn between<'a>(
     alloc: Global,
     kind: CommandKind<'a>,
     at: u64,
-    wants_done: bool,
+    manner: Manner,
     ended: bool,
     i: Cursor<'a>,
 ) -> Result<(Event, Progress, Cursor<'a>), Halt>
     requires { i.at ≤ STREAM_BYTES }
-    ensures told { Tells turn_read result (between (command_kind kind.entry) at wants_done ended (input i.entry)) }
+    ensures told { Tells turn_read result (between (command_kind kind.entry) at manner ended (input i.entry)) }
     ensures within { IfOk result (λ x. x.2.at ≤ STREAM_BYTES) }
 {
     match kind {
-        CommandKind::Empty | CommandKind::Idle => Ok(skips(wants_done, i)),
-        CommandKind::WantsDone => Ok(skips(true, i)),
-        CommandKind::Done => Ok(gives(at, Phase::Finished, wants_done, Command::Done, i)),
+        CommandKind::Empty | CommandKind::Idle => Ok(skips(manner, i)),
+        CommandKind::WantsDone => {
+            let manner = Manner {
+                wants_done: true,
+                takes_tags: manner.takes_tags,
+            };
+            Ok(skips(manner, i))
+        }
+        CommandKind::Done => Ok(gives(at, Phase::Finished, manner, Command::Done, i)),
         CommandKind::Blob => {
             let (command, rest) = blob(alloc, ended, i)?;
-            Ok(gives(at, Phase::Between, wants_done, command, rest))
+            Ok(gives(at, Phase::Between, manner, command, rest))
         }
         CommandKind::Commit(text) => {
             let (command, rest) = head(alloc, at, text, ended, i)?;
-            Ok(gives(at, Phase::InCommit, wants_done, command, rest))
+            Ok(gives(at, Phase::InCommit, manner, command, rest))
         }
         CommandKind::Reset(text) => {
             let (command, rest) = reset(alloc, at, text, ended, i)?;
-            Ok(gives(at, Phase::Between, wants_done, command, rest))
+            Ok(gives(at, Phase::Between, manner, command, rest))
+        }
+        CommandKind::Tag(text) => {
+            if !manner.takes_tags {
+                return Err(Halt::Fault(StreamFault::Unsupported {
+                    at,
+                    what: Feature::Tag,
+                }));
+            }
+            let (command, rest) = tag(alloc, at, text, ended, i)?;
+            Ok(gives(at, Phase::Between, manner, command, rest))
         }
         CommandKind::Refused(what) => Err(Halt::Fault(StreamFault::Unsupported { at, what })),
         CommandKind::Other => Err(Halt::Fault(StreamFault::Syntax { at })),
@@ -75,17 +91,17 @@ fn between<'a>(
 }
 
 // Behind the last line.
-fn at_the_end<'a>(wants_done: bool, i: Cursor<'a>) -> Result<(Event, Progress, Cursor<'a>), Halt>
+fn at_the_end<'a>(manner: Manner, i: Cursor<'a>) -> Result<(Event, Progress, Cursor<'a>), Halt>
     requires { i.at ≤ STREAM_BYTES }
-    ensures told { Tells turn_read result (at_the_end i.entry.at wants_done true (input i.entry)) }
+    ensures told { Tells turn_read result (at_the_end i.entry.at manner true (input i.entry)) }
     ensures within { IfOk result (λ x. x.2.at ≤ STREAM_BYTES) }
 {
-    if wants_done {
+    if manner.wants_done {
         return Err(Halt::Fault(StreamFault::Syntax { at: i.at }));
     }
     let progress = Progress {
         phase: Phase::Between,
-        wants_done,
+        manner,
     };
     Ok((Event::Ends, progress, i))
 }
@@ -95,7 +111,7 @@ fn changed<'a>(
     alloc: Global,
     kind: ChangeKind<'a>,
     at: u64,
-    wants_done: bool,
+    manner: Manner,
     ended: bool,
     before: Cursor<'a>,
     i: Cursor<'a>,
@@ -103,12 +119,12 @@ fn changed<'a>(
     requires before { before.at ≤ STREAM_BYTES }
     requires after { i.at ≤ STREAM_BYTES }
     ensures told { Tells turn_read result
-        (changed (change_kind kind.entry) at wants_done ended (input before.entry) (input i.entry)) }
+        (changed (change_kind kind.entry) at manner ended (input before.entry) (input i.entry)) }
     ensures within { IfOk result (λ x. x.2.at ≤ STREAM_BYTES) }
 {
     match kind {
-        ChangeKind::Empty => Ok(gives(at, Phase::Between, wants_done, Command::CommitEnd, i)),
-        ChangeKind::Other => Ok(gives(at, Phase::Between, wants_done, Command::CommitEnd, before)),
+        ChangeKind::Empty => Ok(gives(at, Phase::Between, manner, Command::CommitEnd, i)),
+        ChangeKind::Other => Ok(gives(at, Phase::Between, manner, Command::CommitEnd, before)),
         ChangeKind::Modify(_)
         | ChangeKind::Delete(_)
         | ChangeKind::Rename(_)
@@ -116,13 +132,7 @@ fn changed<'a>(
         | ChangeKind::DeleteAll
         | ChangeKind::Notes => {
             let (change, rest) = change(alloc, at, kind, ended, i)?;
-            Ok(gives(
-                at,
-                Phase::InCommit,
-                wants_done,
-                Command::Change(change),
-                rest,
-            ))
+            Ok(gives(at, Phase::InCommit, manner, Command::Change(change), rest))
         }
     }
 }
@@ -139,24 +149,24 @@ pub fn turn<'a>(
     ensures told { Tells turn_read result (turn progress ended (input i.entry)) }
     ensures within { IfOk result (λ x. x.2.at ≤ STREAM_BYTES) }
 {
-    let wants_done = progress.wants_done;
+    let manner = progress.manner;
     match progress.phase {
         Phase::Finished => Ok((Event::Ends, progress, i)),
         Phase::Between => match line(ended, i)? {
-            (None, after) => at_the_end(wants_done, after),
+            (None, after) => at_the_end(manner, after),
             (Some(l), after) => {
                 let kind = command_kind(l.bytes);
-                between(alloc, kind, l.at, wants_done, ended, after)
+                between(alloc, kind, l.at, manner, ended, after)
             }
         },
         Phase::InCommit => match line(ended, i)? {
             (None, after) => {
                 let at = after.at;
-                Ok(gives(at, Phase::Between, wants_done, Command::CommitEnd, after))
+                Ok(gives(at, Phase::Between, manner, Command::CommitEnd, after))
             }
             (Some(l), after) => {
                 let kind = change_kind(l.bytes);
-                changed(alloc, kind, l.at, wants_done, ended, i, after)
+                changed(alloc, kind, l.at, manner, ended, i, after)
             }
         },
     }

@@ -1,5 +1,5 @@
 mod Fields
 mod Written
 mod Places
-mod TagLists
-mod TagOrder
+pub mod TagLists
+pub mod TagOrder

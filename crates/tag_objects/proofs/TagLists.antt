@@ -25,14 +25,14 @@ less Greater e = absurd cc
 pub below : (a b : Bytes) → bytes_cmp a b ≡ Less → is_lt (bytes_cmp a b) ≡ true
 below a b e = ap is_lt e
 
-over : (a b : Bytes) → bytes_cmp a b ≡ Greater → bytes_cmp b a ≡ Less
+pub over : (a b : Bytes) → bytes_cmp a b ≡ Greater → bytes_cmp b a ≡ Less
 over a b e = nat_list_cmp_total.antisymm b a ∙ ap ordering_reverse e
 
-one_name : (a b : Bytes) → bytes_cmp a b ≡ Equal → a ≡ b
+pub one_name : (a b : Bytes) → bytes_cmp a b ≡ Equal → a ≡ b
 one_name a b e = slice_cmp-IsAntisymmetric nat_cmp-IsAntisymmetric a b e
 
 -- where names don't tie they differ
-apart : (a b : Bytes) → is_eq (bytes_cmp a b) ≡ false → same_bytes a b ≡ false
+pub apart : (a b : Bytes) → is_eq (bytes_cmp a b) ≡ false → same_bytes a b ≡ false
 apart a b e =
     elim (same_bytes a b) as (λ v. same_bytes a b ≡ v → v ≡ false) [
       | true ↦ λ f. absurd (true≢false (ap is_eq (sym (tied_itself nat_list_cmp_total b)) ∙ ap (λ (x : Bytes). is_eq (bytes_cmp x b)) (sym ((bytes_decides a b).0 f)) ∙ e))
@@ -68,7 +68,7 @@ tail_rises : (n : Bytes) (ts : List Tag) → rise (Some n) ts ≡ true → rise 
 tail_rises n [] r = refl
 tail_rises n (t ∷ ts) r = second_so _ _ r
 
-later_none : (m n : Bytes) (ts : List Tag) → bytes_cmp m n ≡ Less → rise (Some n) ts ≡ true → tag_named m ts ≡ None
+pub later_none : (m n : Bytes) (ts : List Tag) → bytes_cmp m n ≡ Less → rise (Some n) ts ≡ true → tag_named m ts ≡ None
 later_none m n [] e r = refl
 later_none m n (t ∷ ts) e r =
     let l : bytes_cmp n t.name ≡ Less = less (bytes_cmp n t.name) (first_so _ _ r) in

@@ -1,131 +1,34 @@
-use Rattle.std.proofs.Common.{◌≡◌, ◌<◌, ◌≤◌, length, rules, Ok, Err, sym, subst, ap, arith, ◌∙◌}
-use Rattle.git_objects.specs.declared.limits.TheConstants.{STREAM_BYTES}
+use Rattle.std.proofs.Common.{Ok, Err, ap, subst}
+use Rattle.stream_reader.specs.Readers.{Reading}
+use Rattle.stream_reader.specs.declared.progress.Progress.{Progress}
 use Rattle.fast_import.specs.Bases.{base_in}
-use Rattle.stream_reader.specs.Readers.{Follows, OnMore, Reading, TellsNext, came}
-use Rattle.stream_reader.specs.Waited.{IsNear}
-use Rattle.fast_import.specs.declared.whole.ReplayError.TheVariants.{Stream}
-use Rattle.stream_reader.specs.declared.reader.Next.{Next}
-use Rattle.fast_import.proofs.Running.{IsSoFar, fed_waiting, is_base-so_far, nothing_so_far, one_more, stepped_so_far}
-use Rattle.fast_import.proofs.Stopping.{ahead, ahead_fed, all, all_bytes, all_given, all_told, feeding_refused, more_open, reading_refused, step_refused, taken_feeding, taken_given, taken_refused, within_fed}
+use Rattle.fast_import.specs.Replaying.{Replaying}
+use Rattle.fast_import.specs.declared.whole.ReplayError.{ReplayError}
+use Rattle.fast_import.specs.Waited.{IsTakenIn}
+use Rattle.fast_import.specs.Whole.{IsWholeRun}
+use Rattle.fast_import.proofs.Stopping.{replayed_refused, replayed_whole}
 use Rattle.fast_import.proofs.whole.replay_all.Goals as goal
-
-pub stream-init : goal.stream-init
-stream-init g c = record {
-  so_far = subst (λ (rd : Reading). IsSoFar (base_in c.args.store.now (g.B.Base.commits c.args.base.now) (g.B.Base.refs c.args.base.now) (g.B.Base.blobs c.args.base.now)) c.args.store.now c.args.store.now (g.S.Source.left c.args.input.now) (g.S.Source.left c.args.input.now) rd c.new-replay.result) (sym c.new-reader.ensures)
-      (nothing_so_far (base_in c.args.store.now (g.B.Base.commits c.args.base.now) (g.B.Base.refs c.args.base.now) (g.B.Base.blobs c.args.base.now)) c.args.store.now (g.S.Source.left c.args.input.now) c.new-replay.result c.store_law.ensures.store (c.new-replay.ensures c.args.store.now));
-  told = (λ x. x, λ x. x);
-  later = omega arith;
-  within = let e : came c.new-reader.result ≡ 0 = ap came c.new-reader.ensures in omega arith;
-}
 
 pub returns-in-Err-clause-stream : goal.returns-in-Err-clause-stream
 returns-in-Err-clause-stream g c =
-    let h = c.stream.invariant.so_far in (
-      all (base_in c.args.store.now (g.B.Base.commits c.args.base.now) (g.B.Base.refs c.args.base.now) (g.B.Base.blobs c.args.base.now)) c.args.store.now c.stream.store (g.S.Source.left c.args.input.now) (g.S.Source.left c.stream.input) c.stream.reader c.stream.replay h,
-      all_bytes (base_in c.args.store.now (g.B.Base.commits c.args.base.now) (g.B.Base.refs c.args.base.now) (g.B.Base.blobs c.args.base.now)) c.args.store.now c.stream.store (g.S.Source.left c.args.input.now) (g.S.Source.left c.stream.input) c.stream.reader c.stream.replay h (g.met.S.Source.bytes c.stream.input),
-      all_told (base_in c.args.store.now (g.B.Base.commits c.args.base.now) (g.B.Base.refs c.args.base.now) (g.B.Base.blobs c.args.base.now)) c.args.store.now c.stream.store (g.S.Source.left c.args.input.now) (g.S.Source.left c.stream.input) c.stream.reader c.stream.replay h,
-      reading_refused (base_in c.args.store.now (g.B.Base.commits c.args.base.now) (g.B.Base.refs c.args.base.now) (g.B.Base.blobs c.args.base.now)) c.args.store.now c.stream.store (g.S.Source.left c.args.input.now) (g.S.Source.left c.stream.input) c.stream.reader c.stream.replay h c.in-Err.fault c.in-Err.ensures.follows,
-    )
+    let base = base_in c.args.store.now (g.B.Base.commits c.args.base.now) (g.B.Base.refs c.args.base.now) (g.B.Base.blobs c.args.base.now) in
+    let h = c.in-Err.ensures.stream in
+    let w = subst (λ (p : Progress). IsWholeRun p base c.args.store.now c.run_whole.new.store h.0 (Err c.in-Err.error)) (ap (λ (r : Reading). r.progress) c.new.ensures) h.3 in
+    (h.0, h.1, h.2, replayed_refused base c.args.store.now c.run_whole.new.store h.0 c.in-Err.error w)
 
-pub returns-in-Ok-Ended-clause-stream : goal.returns-in-Ok-Ended-clause-stream
-returns-in-Ok-Ended-clause-stream g c =
-    let h = c.stream.invariant.so_far in (
-      all (base_in c.args.store.now (g.B.Base.commits c.args.base.now) (g.B.Base.refs c.args.base.now) (g.B.Base.blobs c.args.base.now)) c.args.store.now c.stream.store (g.S.Source.left c.args.input.now) (g.S.Source.left c.stream.input) c.stream.reader c.stream.replay h,
-      all_bytes (base_in c.args.store.now (g.B.Base.commits c.args.base.now) (g.B.Base.refs c.args.base.now) (g.B.Base.blobs c.args.base.now)) c.args.store.now c.stream.store (g.S.Source.left c.args.input.now) (g.S.Source.left c.stream.input) c.stream.reader c.stream.replay h (g.met.S.Source.bytes c.stream.input),
-      all_told (base_in c.args.store.now (g.B.Base.commits c.args.base.now) (g.B.Base.refs c.args.base.now) (g.B.Base.blobs c.args.base.now)) c.args.store.now c.stream.store (g.S.Source.left c.args.input.now) (g.S.Source.left c.stream.input) c.stream.reader c.stream.replay h,
-      all_given (base_in c.args.store.now (g.B.Base.commits c.args.base.now) (g.B.Base.refs c.args.base.now) (g.B.Base.blobs c.args.base.now)) c.args.store.now c.stream.store (g.S.Source.left c.args.input.now) (g.S.Source.left c.stream.input) c.stream.reader c.stream.replay h (subst (λ (n : Next). Follows (Ok n) c.stream.reader c.next.new.self) c.in-Ok-Ended.field-0-is c.in-Ok-Ended.ensures.follows) c.finish.result (c.finish.ensures.gives c.stream.store h.state h.stands),
-    )
-
-pub step-requires-clause-base : goal.step-requires-clause-base
-step-requires-clause-base g c =
-    let h = c.stream.invariant.so_far in
-    is_base-so_far (base_in c.args.store.now (g.B.Base.commits c.args.base.now) (g.B.Base.refs c.args.base.now) (g.B.Base.blobs c.args.base.now)) c.args.store.now c.stream.store (g.S.Source.left c.args.input.now) (g.S.Source.left c.stream.input) c.stream.reader c.stream.replay h (g.B.Base.commits c.args.base.now) (g.B.Base.refs c.args.base.now) (g.B.Base.blobs c.args.base.now) c.requires
-
-pub returns-in-Err-step-clause-stream : goal.returns-in-Err-step-clause-stream
-returns-in-Err-step-clause-stream g c =
-    let h = c.stream.invariant.so_far in
-    let p = c.in-Ok-Command.placed in (
-      all (base_in c.args.store.now (g.B.Base.commits c.args.base.now) (g.B.Base.refs c.args.base.now) (g.B.Base.blobs c.args.base.now)) c.args.store.now c.stream.store (g.S.Source.left c.args.input.now) (g.S.Source.left c.stream.input) c.stream.reader c.stream.replay h,
-      all_bytes (base_in c.args.store.now (g.B.Base.commits c.args.base.now) (g.B.Base.refs c.args.base.now) (g.B.Base.blobs c.args.base.now)) c.args.store.now c.stream.store (g.S.Source.left c.args.input.now) (g.S.Source.left c.stream.input) c.stream.reader c.stream.replay h (g.met.S.Source.bytes c.stream.input),
-      all_told (base_in c.args.store.now (g.B.Base.commits c.args.base.now) (g.B.Base.refs c.args.base.now) (g.B.Base.blobs c.args.base.now)) c.args.store.now c.stream.store (g.S.Source.left c.args.input.now) (g.S.Source.left c.stream.input) c.stream.reader c.stream.replay h,
-      step_refused (base_in c.args.store.now (g.B.Base.commits c.args.base.now) (g.B.Base.refs c.args.base.now) (g.B.Base.blobs c.args.base.now)) c.args.store.now c.stream.store (g.S.Source.left c.args.input.now) (g.S.Source.left c.stream.input) c.stream.reader c.stream.replay h p c.next.new.self
-          (subst (λ (n : Next). Follows (Ok n) c.stream.reader c.next.new.self) c.in-Ok-Command.field-0-is c.in-Ok-Command.ensures.follows)
-          c.step.new.store c.step.new.self c.in-Err-step.fault
-          (stepped_so_far c.args.store.now c.stream.store (g.S.Source.left c.args.input.now) (g.S.Source.left c.stream.input) c.stream.reader c.stream.replay (g.B.Base.commits c.args.base.now) (g.B.Base.refs c.args.base.now) (g.B.Base.blobs c.args.base.now) c.requires h c.step.new.store c.step.new.self p (Err c.in-Err-step.fault) (c.in-Err-step.ensures h.state h.stands)),
-    )
-
-pub stream-preserved-in-Ok : goal.stream-preserved-in-Ok
-stream-preserved-in-Ok g c =
-    let h = c.stream.invariant.so_far in
-    let p = c.in-Ok-Command.placed in
-    let t = subst (λ (n : Next). TellsNext (Ok n) c.stream.reader c.next.new.self) c.in-Ok-Command.field-0-is c.in-Ok-Command.ensures.told in
-    record {
-      so_far = one_more (base_in c.args.store.now (g.B.Base.commits c.args.base.now) (g.B.Base.refs c.args.base.now) (g.B.Base.blobs c.args.base.now)) c.args.store.now c.stream.store (g.S.Source.left c.args.input.now) (g.S.Source.left c.stream.input) c.stream.reader c.next.new.self c.stream.replay h p t.0 t.1 c.in-Ok-Command.ensures.came
-          (subst (λ (n : Next). Follows (Ok n) c.stream.reader c.next.new.self) c.in-Ok-Command.field-0-is c.in-Ok-Command.ensures.follows)
-          c.step.new.store c.step.new.self
-          (stepped_so_far c.args.store.now c.stream.store (g.S.Source.left c.args.input.now) (g.S.Source.left c.stream.input) c.stream.reader c.stream.replay (g.B.Base.commits c.args.base.now) (g.B.Base.refs c.args.base.now) (g.B.Base.blobs c.args.base.now) c.requires h c.step.new.store c.step.new.self p (Ok c.in-Ok.field-0) (c.in-Ok.ensures h.state h.stands));
-      told = c.stream.invariant.told;
-      later = c.stream.invariant.later;
-      within = omega (arith, c.in-Ok-Command.ensures.came, c.stream.invariant.within);
-    }
-
-pub feed_on-requires-clause-open : goal.feed_on-requires-clause-open
-feed_on-requires-clause-open g c =
-    more_open c.stream.reader c.next.new.self (subst (λ (n : Next). TellsNext (Ok n) c.stream.reader c.next.new.self) c.in-Ok-More.field-0-is c.in-Ok-More.ensures.told)
-
-pub returns-in-Err-feed_on-clause-stream : goal.returns-in-Err-feed_on-clause-stream
-returns-in-Err-feed_on-clause-stream g c =
-    let h = c.stream.invariant.so_far in (
-      all (base_in c.args.store.now (g.B.Base.commits c.args.base.now) (g.B.Base.refs c.args.base.now) (g.B.Base.blobs c.args.base.now)) c.args.store.now c.stream.store (g.S.Source.left c.args.input.now) (g.S.Source.left c.stream.input) c.stream.reader c.stream.replay h,
-      all_bytes (base_in c.args.store.now (g.B.Base.commits c.args.base.now) (g.B.Base.refs c.args.base.now) (g.B.Base.blobs c.args.base.now)) c.args.store.now c.stream.store (g.S.Source.left c.args.input.now) (g.S.Source.left c.stream.input) c.stream.reader c.stream.replay h (g.met.S.Source.bytes c.stream.input),
-      all_told (base_in c.args.store.now (g.B.Base.commits c.args.base.now) (g.B.Base.refs c.args.base.now) (g.B.Base.blobs c.args.base.now)) c.args.store.now c.stream.store (g.S.Source.left c.args.input.now) (g.S.Source.left c.stream.input) c.stream.reader c.stream.replay h,
-      feeding_refused (base_in c.args.store.now (g.B.Base.commits c.args.base.now) (g.B.Base.refs c.args.base.now) (g.B.Base.blobs c.args.base.now)) c.args.store.now c.stream.store (g.S.Source.left c.args.input.now) (g.S.Source.left c.stream.input) c.stream.reader c.stream.replay h c.in-Err-feed_on.error c.in-Err-feed_on.ensures.err,
-    )
-
-pub stream-smaller : goal.stream-smaller
-stream-smaller g c =
-    let t = subst (λ (n : Next). TellsNext (Ok n) c.stream.reader c.next.new.self) c.in-Ok-More.field-0-is c.in-Ok-More.ensures.told in
-    let w = subst (λ (n : Next). OnMore (Ok n) (came c.stream.reader ≤ STREAM_BYTES)) c.in-Ok-More.field-0-is c.in-Ok-More.ensures.more in
-    let s : ahead c.feed_on.new.reader < ahead c.stream.reader = ahead_fed (g.S.Source.left c.stream.input) (g.S.Source.left c.feed_on.new.input) c.stream.reader c.next.new.self c.feed_on.new.reader _ c.in-Ok-More.ensures.came t.1.ended (more_open c.stream.reader c.next.new.self t) w (search rules) c.in-Ok-feed_on.ensures.fed in
-    s
-
-pub stream-preserved : goal.stream-preserved
-stream-preserved g c =
-    let h = c.stream.invariant.so_far in
-    let t = subst (λ (n : Next). TellsNext (Ok n) c.stream.reader c.next.new.self) c.in-Ok-More.field-0-is c.in-Ok-More.ensures.told in
-    let w = subst (λ (n : Next). OnMore (Ok n) (came c.stream.reader ≤ STREAM_BYTES)) c.in-Ok-More.field-0-is c.in-Ok-More.ensures.more in
-    record {
-      so_far = fed_waiting (base_in c.args.store.now (g.B.Base.commits c.args.base.now) (g.B.Base.refs c.args.base.now) (g.B.Base.blobs c.args.base.now)) c.args.store.now c.stream.store (g.S.Source.left c.args.input.now) (g.S.Source.left c.stream.input) (g.S.Source.left c.feed_on.new.input) c.stream.reader c.next.new.self c.feed_on.new.reader c.stream.replay _ (search rules) h t.1
-          (subst (λ (n : Next). OnMore (Ok n) (IsNear c.stream.reader)) c.in-Ok-More.field-0-is c.in-Ok-More.ensures.near)
-          (subst (λ (n : Next). Follows (Ok n) c.stream.reader c.next.new.self) c.in-Ok-More.field-0-is c.in-Ok-More.ensures.follows)
-          (more_open c.stream.reader c.next.new.self t) c.in-Ok-feed_on.ensures.fed;
-      told = (λ x. c.stream.invariant.told.0 (c.in-Ok-feed_on.ensures.told.0 x), λ x. c.in-Ok-feed_on.ensures.told.1 (c.stream.invariant.told.1 x));
-      later = omega (arith, c.stream.invariant.later, c.in-Ok-feed_on.ensures.cause.later);
-      within = within_fed (g.S.Source.left c.stream.input) (g.S.Source.left c.feed_on.new.input) c.next.new.self c.feed_on.new.reader _ (omega (arith, w, c.in-Ok-More.ensures.came)) c.in-Ok-feed_on.ensures.fed (search rules);
-    }
-
--- ---- how much was given
+pub returns-in-Ok-clause-stream : goal.returns-in-Ok-clause-stream
+returns-in-Ok-clause-stream g c =
+    let base = base_in c.args.store.now (g.B.Base.commits c.args.base.now) (g.B.Base.refs c.args.base.now) (g.B.Base.blobs c.args.base.now) in
+    let h = c.in-Ok.ensures.stream in
+    let w = subst (λ (p : Progress). IsWholeRun p base c.args.store.now c.run_whole.new.store h.0 (Ok c.in-Ok.replay)) (ap (λ (r : Reading). r.progress) c.new.ensures) h.3 in
+    (h.0, h.1, h.2, replayed_whole base c.args.store.now c.run_whole.new.store h.0 c.in-Ok.replay c.finish.result w (c.finish.ensures.gives c.run_whole.new.store))
 
 pub returns-in-Err-clause-taken : goal.returns-in-Err-clause-taken
 returns-in-Err-clause-taken g c =
-    let h = c.stream.invariant.so_far in
-    taken_refused (base_in c.args.store.now (g.B.Base.commits c.args.base.now) (g.B.Base.refs c.args.base.now) (g.B.Base.blobs c.args.base.now)) c.args.store.now c.stream.store (g.S.Source.left c.args.input.now) (g.S.Source.left c.stream.input) c.stream.reader c.stream.replay h (Stream c.in-Err.fault)
+    let base = base_in c.args.store.now (g.B.Base.commits c.args.base.now) (g.B.Base.refs c.args.base.now) (g.B.Base.blobs c.args.base.now) in
+    subst (λ (p : Progress). IsTakenIn {A = Replaying} {E = ReplayError} p base (g.S.Source.left c.args.input.now) (g.S.Source.left c.run_whole.new.input) (Err c.in-Err.error)) (ap (λ (r : Reading). r.progress) c.new.ensures) c.in-Err.ensures.taken
 
-pub returns-in-Ok-Ended-clause-taken : goal.returns-in-Ok-Ended-clause-taken
-returns-in-Ok-Ended-clause-taken g c =
-    let h = c.stream.invariant.so_far in
-    let t = subst (λ (n : Next). TellsNext (Ok n) c.stream.reader c.next.new.self) c.in-Ok-Ended.field-0-is c.in-Ok-Ended.ensures.told in
-    taken_given (base_in c.args.store.now (g.B.Base.commits c.args.base.now) (g.B.Base.refs c.args.base.now) (g.B.Base.blobs c.args.base.now)) c.args.store.now c.stream.store (g.S.Source.left c.args.input.now) (g.S.Source.left c.stream.input) c.stream.reader c.stream.replay h c.next.new.self t.0 c.in-Ok-Ended.ensures.came c.finish.result
-
-pub returns-in-Err-step-clause-taken : goal.returns-in-Err-step-clause-taken
-returns-in-Err-step-clause-taken g c =
-    let h = c.stream.invariant.so_far in
-    taken_refused (base_in c.args.store.now (g.B.Base.commits c.args.base.now) (g.B.Base.refs c.args.base.now) (g.B.Base.blobs c.args.base.now)) c.args.store.now c.stream.store (g.S.Source.left c.args.input.now) (g.S.Source.left c.stream.input) c.stream.reader c.stream.replay h (Stream c.in-Err-step.fault)
-
-pub returns-in-Err-feed_on-clause-taken : goal.returns-in-Err-feed_on-clause-taken
-returns-in-Err-feed_on-clause-taken g c =
-    let h = c.stream.invariant.so_far in
-    let t = subst (λ (n : Next). TellsNext (Ok n) c.stream.reader c.next.new.self) c.in-Ok-More.field-0-is c.in-Ok-More.ensures.told in
-    taken_feeding (base_in c.args.store.now (g.B.Base.commits c.args.base.now) (g.B.Base.refs c.args.base.now) (g.B.Base.blobs c.args.base.now)) c.args.store.now c.stream.store (g.S.Source.left c.args.input.now) (g.S.Source.left c.stream.input) c.stream.reader c.stream.replay h (subst (λ (n : Next). OnMore (Ok n) (IsNear c.stream.reader)) c.in-Ok-More.field-0-is c.in-Ok-More.ensures.near)
-    (sym t.1.ended ∙ more_open c.stream.reader c.next.new.self t) (g.S.Source.left c.feed_on.new.input)
-    (c.in-Err-feed_on.ensures.given.0, c.in-Err-feed_on.ensures.given.1, (let few : length c.stream.piece ≤ 65536 = search rules in omega (arith, c.in-Err-feed_on.ensures.given.2, few))) c.in-Err-feed_on.error
+pub returns-in-Ok-clause-taken : goal.returns-in-Ok-clause-taken
+returns-in-Ok-clause-taken g c =
+    let base = base_in c.args.store.now (g.B.Base.commits c.args.base.now) (g.B.Base.refs c.args.base.now) (g.B.Base.blobs c.args.base.now) in
+    subst (λ (p : Progress). IsTakenIn {A = Replaying} {E = ReplayError} p base (g.S.Source.left c.args.input.now) (g.S.Source.left c.run_whole.new.input) (Ok c.in-Ok.replay)) (ap (λ (r : Reading). r.progress) c.new.ensures) c.in-Ok.ensures.taken

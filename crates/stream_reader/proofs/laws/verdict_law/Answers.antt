@@ -1,4 +1,4 @@
-use Rattle.stream_reader.proofs.Composed.{blob-reader, head-reader, reset-reader, change-reader}
+use Rattle.stream_reader.proofs.Composed.{blob-reader, head-reader, reset-reader, tag-reader, change-reader}
 use Rattle.stream_reader.proofs.Turning.{turn-reader}
 use Rattle.stream_reader.proofs.Commanding.{command-reader}
 use Rattle.stream_reader.proofs.Iterating.{verdict-is, pieces_same}
@@ -9,6 +9,7 @@ returns c = record {
   blob_is = blob-reader;
   head_is = head-reader;
   reset_is = reset-reader;
+  tag_is = tag-reader;
   change_is = change-reader;
   turn_is = turn-reader;
   command_is = command-reader;

@@ -32,7 +32,7 @@ returns-in_err-add-in-Ok c =
     let b = c.args.content.now in
     let ok = c.in-Ok.ensures.ok in
     let p = err_from_is_err_and c.from_residual.result c.from_residual.ensures.1 in
-    let after : Replaying = the_view record { alloc = c.self.inside.alloc; blobs = c.add.new.self; commits = c.self.inside.commits; branches = c.self.inside.branches; marks = c.self.inside.marks; draft = c.self.inside.draft } in
+    let after : Replaying = the_view record { alloc = c.self.inside.alloc; blobs = c.add.new.self; commits = c.self.inside.commits; branches = c.self.inside.branches; marks = c.self.inside.marks; draft = c.self.inside.draft; tags = c.self.inside.tags } in
     subst (IsBrought S T c.args.self.now after b) (sym (p.1 ∙ ap Err p.2))
     (record { named = tt; behind = tt; refused = inl refl; grown = (put_is S Blob b T refl ok.1 c.put_fitting.ensures.store ok.2).grown })
 

@@ -31,3 +31,10 @@ returns-in-Reset g c = λ r h.
     let base = base_in S (g.B.Base.commits c.args.base.now) (g.B.Base.refs c.args.base.now) (g.B.Base.blobs c.args.base.now) in
     subst (λ (x : Command). IsStepped base S S c.reset.new.self r (record { at = c.args.placed.at; command = x }) c.reset.result) (sym c.in-Reset.is)
     (tried_stepped base S c.reset.new.self r (record { at = c.args.placed.at; command = commands.Reset c.in-Reset.refname c.in-Reset.from }) c.reset.result c.store_law-in-Reset.ensures.store (c.reset.ensures S c.args.placed.at r c.requires.base h))
+
+pub returns-in-Tag : goal.returns-in-Tag
+returns-in-Tag g c = λ r h.
+    let S = c.args.store.now in
+    let base = base_in S (g.B.Base.commits c.args.base.now) (g.B.Base.refs c.args.base.now) (g.B.Base.blobs c.args.base.now) in
+    subst (λ (x : Command). IsStepped base S S c.tag.new.self r (record { at = c.args.placed.at; command = x }) c.tag.result) (sym c.in-Tag.is)
+    (tried_stepped base S c.tag.new.self r (record { at = c.args.placed.at; command = commands.Tag c.in-Tag.head }) c.tag.result c.store_law-in-Tag.ensures.store (c.tag.ensures S c.args.placed.at r h))
