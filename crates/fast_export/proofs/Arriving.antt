@@ -56,6 +56,7 @@ pub record Standing (ref : Bytes) (made : List Snapshot) (blobs names : List (�
   pub branches : One ref s.branches
   pub files : AreMarked BlobMark blobs top s.marks
   pub heads : AreMarked CommitMark names top s.marks
+  pub tags : s.tags ≡ []
 
 -- the mark that comes next can be written
 pub record Few (n top : ℕ) (t : Bytes) : Type 0 where
@@ -96,7 +97,7 @@ blobs_arrive n ref made (b ∷ fs) blobs names top rest s r f h =
     (command_goes start start (left n (blob_lines top b t)) (left n t) s (λ c. c ≡ commands.Blob (Some top) b) (Standing ref made (blobs ++ (top, b) ∷ []) names (top + 1))
     (blob_turn top n b t r (few_mark n top (blob_lines top b t) f r.most))
     (λ c k. Stepped (with_mark (Some top) (BlobMark b) (record s { blobs = s.blobs ++ b ∷ [] })) (blob_step s c top b k)
-    (record { commits = h.commits; branches = h.branches; files = newer_marked BlobMark blobs top s.marks b f.some h.files; heads = older_marked CommitMark names top s.marks (BlobMark b) h.heads })))
+    (record { commits = h.commits; branches = h.branches; files = newer_marked BlobMark blobs top s.marks b f.some h.files; heads = older_marked CommitMark names top s.marks (BlobMark b) h.heads; tags = h.tags })))
     (λ u g. subst (λ (S : Replay → Type 0). Arrives start (left n t) u start (left n rest) S)
     (λ i. Standing ref made (append_assoc blobs ((top, b) ∷ []) (enumerate_from (top + 1) fs) i) names (e i))
     (blobs_arrive n ref made fs (blobs ++ (top, b) ∷ []) names (top + 1) rest u (blob_room n top b t r) (blob_few n top b t f) g))
@@ -186,6 +187,7 @@ after_commit ref made blobs names number c r s one h d = record {
     branches = inr (Some (snapshot_name c), d.branches ∙ put_one ref (Some (snapshot_name c)) r.branches h.branches);
     files = subst (AreMarked BlobMark blobs (number + 1)) (sym d.marks) (older_marked BlobMark blobs number r.marks (CommitMark (snapshot_name c)) h.files);
     heads = subst (AreMarked CommitMark (names ++ (number, snapshot_name c) ∷ []) (number + 1)) (sym d.marks) (newer_marked CommitMark names number r.marks (snapshot_name c) one h.heads);
+    tags = d.tags ∙ h.tags;
   };
   last = ap (marked number) d.marks ∙ ap (λ b. if b then Some (CommitMark (snapshot_name c)) else marked number r.marks) (own_number number);
 }
@@ -260,7 +262,7 @@ start_arrives n ref made blobs names top [] more s name r h =
     command_goes start start (left n (word_text (codes "reset ") ref t)) (left n t) s (λ c. c ≡ commands.Reset ref None) (Ready ref made blobs names top [])
     (reset_turn ref n (codes "commit " ++ ref) more r name (record { plain = ref_plain ref name; seen = refl }) refl)
     (λ p g. Stepped (with_branch ref None s) (reset_step s p ref g)
-    (record { commits = h.commits; branches = inr (None, put); files = h.files; heads = h.heads }, λ e. unset (with_branch ref None s) ref put))
+    (record { commits = h.commits; branches = inr (None, put); files = h.files; heads = h.heads; tags = h.tags }, λ e. unset (with_branch ref None s) ref put))
 start_arrives n ref made blobs names top (p ∷ ps) more s name r h =
     stays start (left n (word_text (codes "commit ") ref more)) s (Ready ref made blobs names top (p ∷ ps)) (h, λ e. absurd (no_parents p ps e))
   where

@@ -57,7 +57,7 @@ use Rattle.stream_reader.proofs.SpelledChanges.{modify_again, all_again, empty_a
 use Rattle.fast_export.proofs.Goings.{Reads, Read, Limited, Says, Said, Over, then_reads, judged_reads, bind_says, is_command}
 use Rattle.fast_export.proofs.Numbers.{mark_again, digits_of_number, digits_plain, all_front, all_so}
 use Rattle.fast_export.proofs.ReadLines.{left, Room, IsLine, LineTold, LineIs, LineLong, line_told}
-use Rattle.fast_export.proofs.Heads.{inside, pure_reads, between_turn, colon, IsMark}
+use Rattle.fast_export.proofs.Heads.{calm, inside, pure_reads, between_turn, colon, IsMark}
 
 -- ---- quoted texts have no LF
 
@@ -206,7 +206,7 @@ no_digit b d none lt =
       | false ↦ λ e. refl
     ] refl
 
-hex_avoids : (b : ℕ) (n : Bytes) → hex_digit_value b ≡ None → is_bytes n ≡ true → avoids b (hex n) ≡ true
+pub hex_avoids : (b : ℕ) (n : Bytes) → hex_digit_value b ≡ None → is_bytes n ≡ true → avoids b (hex n) ≡ true
 unfolding encode_with
 hex_avoids b [] none h = refl
 hex_avoids b (x ∷ n) none h =
@@ -226,7 +226,7 @@ not_inline n h =
       | false ↦ λ e. refl
     ] refl
 
-not_colon : (t : Bytes) → avoids 58 t ≡ true → starts_with nat_eq t (codes ":") ≡ false
+pub not_colon : (t : Bytes) → avoids 58 t ≡ true → starts_with nat_eq t (codes ":") ≡ false
 not_colon [] h = refl
 not_colon (x ∷ t) h = let d : nat_eq 58 x ≡ false = swap (first_so _ _ h) in rw d refl
   where
@@ -345,28 +345,28 @@ line_says at k p x h v =
 -- ---- turns within a commit
 
 pub inside_turn : (n : ℕ) (l rest : Bytes) (kind : ChangeLine) (P : Turn → Type 0) (j : Input) → Room n (l ++ 10 ∷ rest) → IsLine l → change_line l ≡ kind →
-    ((at : ℕ) → Reads (changed kind at false true (left n (l ++ 10 ∷ rest)) (left n rest)) P j) → Reads (turn inside true (left n (l ++ 10 ∷ rest))) P j
+    ((at : ℕ) → Reads (changed kind at calm true (left n (l ++ 10 ∷ rest)) (left n rest)) P j) → Reads (turn inside true (left n (l ++ 10 ∷ rest))) P j
 unfolding turn
 inside_turn n l rest kind P j r k e h = by (line_told n l rest r k)
   where
     told : line_at true (left n (l ++ 10 ∷ rest)) ≡ Ok (Some (record { place = n - length (l ++ 10 ∷ rest); bytes = l }), left n rest) →
-        turn_in InCommit false true (left n (l ++ 10 ∷ rest)) ≡ changed kind (n - length (l ++ 10 ∷ rest)) false true (left n (l ++ 10 ∷ rest)) (left n rest)
+        turn_in InCommit calm true (left n (l ++ 10 ∷ rest)) ≡ changed kind (n - length (l ++ 10 ∷ rest)) calm true (left n (l ++ 10 ∷ rest)) (left n rest)
     told d =
-        ap (λ r. lifted r >>= in_commit_at false true (left n (l ++ 10 ∷ rest))) d
-        ∙ ap (λ c. changed c (n - length (l ++ 10 ∷ rest)) false true (left n (l ++ 10 ∷ rest)) (left n rest)) e
+        ap (λ r. lifted r >>= in_commit_at calm true (left n (l ++ 10 ∷ rest))) d
+        ∙ ap (λ c. changed c (n - length (l ++ 10 ∷ rest)) calm true (left n (l ++ 10 ∷ rest)) (left n rest)) e
 
-    by : LineTold n l rest → Reads (turn_in InCommit false true (left n (l ++ 10 ∷ rest))) P j
+    by : LineTold n l rest → Reads (turn_in InCommit calm true (left n (l ++ 10 ∷ rest))) P j
     by (LineIs d) = subst (λ r. Reads r P j) (sym (told d)) (h (n - length (l ++ 10 ∷ rest)))
-    by (LineLong at d) = Limited at limits.Line (ap (λ r. lifted r >>= in_commit_at false true (left n (l ++ 10 ∷ rest))) d)
+    by (LineLong at d) = Limited at limits.Line (ap (λ r. lifted r >>= in_commit_at calm true (left n (l ++ 10 ∷ rest))) d)
 
 abbrev pub is_change : Change → Command → Type 0
 is_change c d = d ≡ commands.Change c
 
 changed_reads : (f : Reader Change) (i j : Input) (at : ℕ) (c : Change) → Reads (f true i) (λ d. d ≡ c) j →
-    Reads ((f then λ c. gives at InCommit false (commands.Change c)) true i) (is_command (is_change c) inside) j
+    Reads ((f then λ c. gives at InCommit calm (commands.Change c)) true i) (is_command (is_change c) inside) j
 changed_reads f i j at c h =
-    then_reads f (λ c. gives at InCommit false (commands.Change c)) i j j (λ d. d ≡ c) (is_command (is_change c) inside) h
-    (λ d k. pure_reads (turned (Gives (record { at = at; command = commands.Change d })) InCommit false) j (is_command (is_change c) inside) (record { at = at; command = commands.Change d }, refl, ap commands.Change k))
+    then_reads f (λ c. gives at InCommit calm (commands.Change c)) i j j (λ d. d ≡ c) (is_command (is_change c) inside) h
+    (λ d k. pure_reads (turned (Gives (record { at = at; command = commands.Change d })) InCommit calm) j (is_command (is_change c) inside) (record { at = at; command = commands.Change d }, refl, ap commands.Change k))
 
 pub all_turn : (n : ℕ) (rest : Bytes) → Room n (codes "deleteall" ++ 10 ∷ rest) →
     Reads (turn inside true (left n (codes "deleteall" ++ 10 ∷ rest))) (is_command (is_change changes.DeleteAll) inside) (left n rest)
@@ -415,7 +415,7 @@ leaf_turn k p x n rest r h v =
 pub end_turn : (n : ℕ) (rest : Bytes) → Room n (10 ∷ rest) → Reads (turn inside true (left n (10 ∷ rest))) (is_command (λ c. c ≡ commands.CommitEnd) start) (left n rest)
 end_turn n rest r =
     inside_turn n [] rest EmptyIs (is_command (λ c. c ≡ commands.CommitEnd) start) (left n rest) r (record { plain = refl; seen = refl }) empty_again
-    (λ at. pure_reads (turned (Gives (record { at = at; command = commands.CommitEnd })) Between false) (left n rest) (is_command (λ c. c ≡ commands.CommitEnd) start) (record { at = at; command = commands.CommitEnd }, refl, refl))
+    (λ at. pure_reads (turned (Gives (record { at = at; command = commands.CommitEnd })) Between calm) (left n rest) (is_command (λ c. c ≡ commands.CommitEnd) start) (record { at = at; command = commands.CommitEnd }, refl, refl))
 
 -- ---- behind the last command
 
@@ -426,11 +426,11 @@ empty_kind = refl
 pub skip_turn : (n : ℕ) (rest : Bytes) → Room n (10 ∷ rest) → Reads (turn start true (left n (10 ∷ rest))) (λ t. t ≡ record { event = Skips; progress = start }) (left n rest)
 skip_turn n rest r =
     between_turn n [] rest EmptyLine (λ t. t ≡ record { event = Skips; progress = start }) (left n rest) r (record { plain = refl; seen = refl }) empty_kind
-    (λ at. pure_reads (turned Skips Between false) (left n rest) (λ t. t ≡ record { event = Skips; progress = start }) refl)
+    (λ at. pure_reads (turned Skips Between calm) (left n rest) (λ t. t ≡ record { event = Skips; progress = start }) refl)
 
 pub last_turn : (n : ℕ) → Room n [] → turn start true (left n []) ≡ Ok (record { event = Ends; progress = start }, left n [])
 unfolding turn
 last_turn n r =
     let m = r.most in
     let none : NoLine (left n []) (left n []) = record { comments = []; skips = refl; within = omega arith; nothing = refl } in
-    ap (λ r. lifted r >>= between_at false true) (line_at-none (left n []) (left n []) none)
+    ap (λ r. lifted r >>= between_at calm true) (line_at-none (left n []) (left n []) none)

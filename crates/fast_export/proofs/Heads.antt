@@ -1,5 +1,5 @@
 -- What is read of blobs, of the heads of commits and of resets.
-use Rattle.std.proofs.Common.{◌≡◌, ℕ, zero, suc, ◌-◌, ◌^◌, ◌<◌, ◌≤◌, Bool, true, false, cond, not, ◌&&◌, List, [], ◌∷◌, ◌++◌, length, map, Option, Some, None, Ok, Err, refl, sym, ap, ◌∙◌, subst, arith, append_assoc, append-nil}
+use Rattle.std.proofs.Common.{◌≡◌, ℕ, zero, suc, ◌-◌, ◌^◌, ◌<◌, ◌≤◌, Bool, true, cond, not, ◌&&◌, List, [], ◌∷◌, ◌++◌, length, map, Option, Some, None, Ok, Err, refl, sym, ap, ◌∙◌, subst, arith, append_assoc, append-nil}
 use Rattle.std.specs.Prelude.{codes, nat_eq, nat_le}
 use Rattle.std.specs.Fmt.{decimal}
 use Rattle.std.specs.Cmp.{first_so, second_so}
@@ -23,6 +23,7 @@ use Rattle.stream_reader.specs.declared.command.CommitHead.{CommitHead}
 use Rattle.stream_reader.specs.declared.commit_ref.CommitRef.{CommitRef}
 use Rattle.stream_reader.specs.declared.commit_ref.Target.{Target}
 use Rattle.stream_reader.specs.declared.commit_ref.Target.TheVariants as targets
+use Rattle.stream_reader.specs.declared.progress.Manner.{Manner}
 use Rattle.stream_reader.specs.declared.progress.Phase.{Phase}
 use Rattle.stream_reader.specs.declared.progress.Phase.TheVariants.{Between, InCommit}
 use Rattle.stream_reader.specs.declared.progress.Progress.{Progress}
@@ -39,8 +40,12 @@ use Rattle.fast_export.proofs.Goings.{Reads, Read, Limited, Says, Said, then_rea
 use Rattle.fast_export.proofs.Numbers.{digit_plain, mark_again, digits_plain, all_front, all_so}
 use Rattle.fast_export.proofs.ReadLines.{left, Room, room_behind, IsLine, LineTold, LineIs, LineLong, line_told, other_reads, need_reads, said_reads, missing_reads, data_text, data_line, blob_data_reads, message_data_reads, data_short}
 
+-- how a reader reads that refuses tags
+abbrev pub calm : Manner
+calm = start.manner
+
 abbrev pub inside : Progress
-inside = record { phase = InCommit; wants_done = false }
+inside = record { phase = InCommit; manner = calm }
 
 pub pure_reads : {A : Type 0} (x : A) (i : Input) (P : A → Type 0) → P x → Reads (pure x true i) P i
 pure_reads x i P h = Read x refl h
@@ -52,23 +57,23 @@ reads_so r P Q j h (Limited at which e) = Limited at which e
 -- ---- a turn
 
 pub between_turn : (n : ℕ) (l rest : Bytes) (kind : CommandLine) (P : Turn → Type 0) (j : Input) → Room n (l ++ 10 ∷ rest) → IsLine l → command_line l ≡ kind →
-    ((at : ℕ) → Reads (between kind at false true (left n rest)) P j) → Reads (turn start true (left n (l ++ 10 ∷ rest))) P j
+    ((at : ℕ) → Reads (between kind at calm true (left n rest)) P j) → Reads (turn start true (left n (l ++ 10 ∷ rest))) P j
 unfolding turn
 between_turn n l rest kind P j r k e h = by (line_told n l rest r k)
   where
     told : line_at true (left n (l ++ 10 ∷ rest)) ≡ Ok (Some (record { place = n - length (l ++ 10 ∷ rest); bytes = l }), left n rest) →
-        turn_in Between false true (left n (l ++ 10 ∷ rest)) ≡ between kind (n - length (l ++ 10 ∷ rest)) false true (left n rest)
-    told d = ap (λ r. lifted r >>= between_at false true) d ∙ ap (λ c. between c (n - length (l ++ 10 ∷ rest)) false true (left n rest)) e
+        turn_in Between calm true (left n (l ++ 10 ∷ rest)) ≡ between kind (n - length (l ++ 10 ∷ rest)) calm true (left n rest)
+    told d = ap (λ r. lifted r >>= between_at calm true) d ∙ ap (λ c. between c (n - length (l ++ 10 ∷ rest)) calm true (left n rest)) e
 
-    by : LineTold n l rest → Reads (turn_in Between false true (left n (l ++ 10 ∷ rest))) P j
+    by : LineTold n l rest → Reads (turn_in Between calm true (left n (l ++ 10 ∷ rest))) P j
     by (LineIs d) = subst (λ r. Reads r P j) (sym (told d)) (h (n - length (l ++ 10 ∷ rest)))
-    by (LineLong at d) = Limited at limits.Line (ap (λ r. lifted r >>= between_at false true) d)
+    by (LineLong at d) = Limited at limits.Line (ap (λ r. lifted r >>= between_at calm true) d)
 
 pub given_reads : (f : Reader Command) (i j : Input) (at : ℕ) (p : Phase) (C : Command → Type 0) → Reads (f true i) C j →
-    Reads ((f then gives at p false) true i) (is_command C (record { phase = p; wants_done = false })) j
+    Reads ((f then gives at p calm) true i) (is_command C (record { phase = p; manner = calm })) j
 given_reads f i j at p C h =
-    then_reads f (gives at p false) i j j C (is_command C (record { phase = p; wants_done = false })) h
-    (λ c k. pure_reads (turned (Gives (record { at = at; command = c })) p false) j (is_command C (record { phase = p; wants_done = false })) (record { at = at; command = c }, refl, k))
+    then_reads f (gives at p calm) i j j C (is_command C (record { phase = p; manner = calm })) h
+    (λ c k. pure_reads (turned (Gives (record { at = at; command = c })) p calm) j (is_command C (record { phase = p; manner = calm })) (record { at = at; command = c }, refl, k))
 
 -- ---- marks
 

@@ -11,6 +11,7 @@ pub mod StoredHistories
 pub mod Listed
 pub mod Exported
 pub mod WrittenCommits
+pub mod Manners
 pub mod Goings
 pub mod Numbers
 pub mod ReadLines
@@ -22,4 +23,6 @@ pub mod Stepping
 pub mod Texts
 pub mod Arriving
 pub mod ReadingAgain
+pub mod TagReads
+pub mod TagsAgain
 pub mod StoredAgain

@@ -1,5 +1,5 @@
 -- What is exported is read again.
-use Rattle.std.proofs.Common.{inr, Err, Result, ◌⊎◌, ◌≡◌, inl, ℕ, ◌+◌, ◌-◌, ◌^◌, ◌<◌, ◌≤◌, Bool, true, false, not, ◌||◌, List, [], ◌∷◌, ◌++◌, length, map, refl, sym, ap, ◌∙◌, subst, Option, Some, Ok, append_assoc, arith, length-append}
+use Rattle.std.proofs.Common.{inr, Err, Result, ◌⊎◌, ◌≡◌, inl, ℕ, ◌+◌, ◌-◌, ◌^◌, ◌<◌, ◌≤◌, Bool, true, false, not, ◌||◌, List, [], ◌∷◌, ◌++◌, length, map, refl, sym, ap, ◌∙◌, subst, Option, Some, None, Ok, append_assoc, append-nil, arith, length-append}
 use Rattle.std.specs.Prelude.{codes}
 use Rattle.std.specs.Option.{is_some, option_map, option_to_list}
 use Rattle.std.specs.List.{list_all, enumerate_from, last_or, filter_map}
@@ -9,6 +9,7 @@ use Rattle.git_objects.specs.Paths.{Bytes, same_bytes}
 use Rattle.git_objects.specs.declared.quantity.Quantity.{Quantity}
 use Rattle.git_objects.specs.Trees.{Flat}
 use Rattle.git_objects.specs.Lists.{Each}
+use Rattle.git_objects.specs.Results.{◌>>=◌}
 use Rattle.git_objects.proofs.Basics.{same_bytes-self}
 use Rattle.git_objects.proofs.IdentSpelling.{not-false}
 use Rattle.path_names.specs.RefNames.{is_ref_name}
@@ -20,10 +21,11 @@ use Rattle.stream_reader.specs.declared.progress.Progress.{Progress}
 use Rattle.stream_reader.specs.Commands.{turn}
 use Rattle.stream_reader.specs.Verdicts.{start, from_start}
 use Rattle.git_objects.specs.Snapshots.{Snapshot, snapshot_name}
-use Rattle.fast_import.specs.Replays.{Replayed, Replay, BlobMark, CommitMark, marked, value_at, named_tree, with_branch, given_by, replay, nothing_yet, empty_base}
+use Rattle.fast_import.specs.Replays.{Replayed, Replay, BlobMark, CommitMark, marked, value_at, named_tree, with_branch, given_by, heads_of, outcome_of, ran, reached, replay, nothing_yet, empty_base}
 use Rattle.fast_export.specs.ExportTexts.{Marks, no_marks, is_among, new_blobs, further, marks_after, marks_behind, commits_text, export_text}
-use Rattle.fast_export.specs.Laws.{IsHistory, is_zero_module, has_no_zero, IsReadAgain, ReadingAgainLaw}
-use Rattle.fast_export.proofs.Goings.{Reads, Read, Limited, result, NoLimit, Arrives, Stepped, goes, command_goes, on_skip, on_end, on_fault}
+use Rattle.fast_export.specs.Laws.{IsHistory, is_zero_module, has_no_zero, head_at_last, IsReadAgain, ReadingAgainLaw}
+use Rattle.fast_export.proofs.Goings.{Reads, Read, Limited, result, NoLimit, Arrives, Stepped, goes, command_goes, on_skip, on_end, on_limit}
+use Rattle.fast_export.proofs.Manners.{taking}
 use Rattle.fast_export.proofs.ReadLines.{left, Room}
 use Rattle.fast_export.proofs.Heads.{word_text, colon, IsMark, head_lines, commit_lines, all_text, is_reset, reset_from_turn}
 use Rattle.fast_export.proofs.Changing.{skip_turn, last_turn}
@@ -125,6 +127,7 @@ last_of c (d ∷ cs) = last_of d cs
 pub record Whole (ref : Bytes) (made : List Snapshot) (m : Marks) (c : Snapshot) (cs : List Snapshot) (s : Replay) : Type 0 where
   pub commits : s.commits ≡ made ++ c ∷ cs
   pub branches : One ref s.branches
+  pub tags : s.tags ≡ []
   pub number : ℕ
   pub same : (marks_behind m (c ∷ cs)).next - 1 ≡ number
   pub mark : IsMark number
@@ -152,7 +155,7 @@ listed_more before names k q l p h =
     ∙ among_end p q (contents names) (or_also (same_bytes p q) (is_among p before) (is_among p (contents names)) h (l p))
 
 arrives_so : (p q : Progress) (i j : Input) (r : Replay) (S U : Replay → Type 0) → ((s : Replay) → S s → U s) → Arrives p i r q j S → Arrives p i r q j U
-arrives_so p q i j r S U h a n = let x = a n in record { state = x.state; same = x.same; such = h x.state x.such }
+arrives_so p q i j r S U h a t n = let x = a t n in record { state = x.state; same = x.same; such = h x.state x.such }
 
 few_next : (n k : ℕ) (a b : Bytes) → Few n k a → length b < length a → Few n (k + 1) b
 few_next n k a b f h = let l = f.few in record { few = omega arith; some = omega arith }
@@ -191,7 +194,7 @@ commits_arrive n ref before made m c [] rest s name h z listed names_are r f st 
     let e : k + 1 - 1 ≡ k = omega arith in
     let few = first_few n ref m c rest good.parents f in
     arrives_so start start (left n (one_lines ref m c rest)) (left n rest) s (After ref made (m.blobs ++ new_blobs m c.tree) m.commits k c) (Whole ref made m c [])
-    (λ u a. record { commits = a.standing.commits; branches = a.standing.branches; number = k; same = e; mark = few_mark n k (start_lines ref c.parents (lines n ref [] m c rest)) few r.most; last = a.last })
+    (λ u a. record { commits = a.standing.commits; branches = a.standing.branches; tags = a.standing.tags; number = k; same = e; mark = few_mark n k (start_lines ref c.parents (lines n ref [] m c rest)) few r.most; last = a.last })
     (first_arrives n ref made m c rest s name good names_are r f st)
 commits_arrive n ref before made m c (d ∷ ds) rest s name h z listed names_are r f st =
     let good = good_of before m c (d ∷ ds) h z listed in
@@ -204,7 +207,7 @@ commits_arrive n ref before made m c (d ∷ ds) rest s name h z listed names_are
     goes start start start (left n (one_lines ref m c t)) (left n t) (left n rest) s (After ref made (m.blobs ++ new_blobs m c.tree) m.commits k c) (Whole ref made m c (d ∷ ds))
     (first_arrives n ref made m c t s name good names_are r f st)
     (λ u a. arrives_so start start (left n t) (left n rest) u (Whole ref (made ++ c ∷ []) (marks_after m c) d ds) (Whole ref made m c (d ∷ ds))
-    (λ v w. record { commits = w.commits ∙ append_assoc made (c ∷ []) (d ∷ ds); branches = w.branches; number = w.number; same = w.same; mark = w.mark; last = w.last })
+    (λ v w. record { commits = w.commits ∙ append_assoc made (c ∷ []) (d ∷ ds); branches = w.branches; tags = w.tags; number = w.number; same = w.same; mark = w.mark; last = w.last })
     (commits_arrive n ref (snapshot_name c ∷ before) (made ++ c ∷ []) (marks_after m c) d ds rest u name h.4 (second_so _ _ z) (listed_more before m.commits k (snapshot_name c) listed)
     (names_more m.commits made k c names_are) room few a.standing))
 
@@ -214,109 +217,127 @@ last_among : (c : Snapshot) (cs : List Snapshot) → is_among (snapshot_name (la
 last_among c [] = ap (λ b. b || false) (same_bytes-self (snapshot_name c))
 last_among c (d ∷ cs) = or_right (same_bytes (snapshot_name (last_of d cs)) (snapshot_name c)) _ (last_among d cs)
 
-record Done (ref : Bytes) (c : Snapshot) (cs : List Snapshot) (s : Replay) : Type 0 where
-  commits : s.commits ≡ c ∷ cs
-  branches : s.branches ≡ (ref, Some (snapshot_name (last_of c cs))) ∷ []
+pub record Done (ref : Bytes) (c : Snapshot) (cs : List Snapshot) (s : Replay) : Type 0 where
+  pub commits : s.commits ≡ c ∷ cs
+  pub branches : s.branches ≡ (ref, Some (snapshot_name (last_of c cs))) ∷ []
+  pub tags : s.tags ≡ []
 
-abbrev end_lines : Bytes → ℕ → Bytes
-end_lines ref k = word_text (codes "reset ") ref (word_text (codes "from ") (colon k) (10 ∷ []))
+abbrev end_lines : Bytes → ℕ → Bytes → Bytes
+end_lines ref k rest = word_text (codes "reset ") ref (word_text (codes "from ") (colon k) (10 ∷ rest))
 
-end_arrives : (n : ℕ) (ref : Bytes) (m : Marks) (c : Snapshot) (cs : List Snapshot) (k : ℕ) (s : Replay) → is_ref_name ref ≡ true → Room n (end_lines ref k) → (w : Whole ref [] m c cs s) → k ≡ w.number →
-    Arrives start (left n (end_lines ref k)) s start (left n (10 ∷ [])) (Done ref c cs)
-end_arrives n ref m c cs k s name r w e =
+end_arrives : (n : ℕ) (ref : Bytes) (m : Marks) (c : Snapshot) (cs : List Snapshot) (k : ℕ) (rest : Bytes) (s : Replay) → is_ref_name ref ≡ true → Room n (end_lines ref k rest) → (w : Whole ref [] m c cs s) → k ≡ w.number →
+    Arrives start (left n (end_lines ref k rest)) s start (left n (10 ∷ rest)) (Done ref c cs)
+end_arrives n ref m c cs k rest s name r w e =
     let nm = snapshot_name (last_of c cs) in
     let last : marked k s.marks ≡ Some (CommitMark nm) = ap (λ k. marked k s.marks) e ∙ w.last in
     let tree : is_some (value_at nm (map named_tree s.commits ++ [])) ≡ true = ap (λ (ds : List Snapshot). is_some (value_at nm (map named_tree ds ++ []))) w.commits ∙ has_tree nm (c ∷ cs) (last_among c cs) in
-    command_goes start start (left n (end_lines ref k)) (left n (10 ∷ [])) s (is_reset ref k) (Done ref c cs)
-    (reset_from_turn ref k n (10 ∷ []) r name (subst IsMark (sym e) w.mark))
-    (λ p g. Stepped (with_branch ref (Some nm) s) (reset_number_step s k p ref nm last tree g) (record { commits = w.commits; branches = put_one ref (Some nm) s.branches w.branches }))
+    command_goes start start (left n (end_lines ref k rest)) (left n (10 ∷ rest)) s (is_reset ref k) (Done ref c cs)
+    (reset_from_turn ref k n (10 ∷ rest) r name (subst IsMark (sym e) w.mark))
+    (λ p g. Stepped (with_branch ref (Some nm) s) (reset_number_step s k p ref nm last tree g) (record { commits = w.commits; branches = put_one ref (Some nm) s.branches w.branches; tags = w.tags }))
 
-skips : (p q : Progress) (i j : Input) (r : Replay) (S : Replay → Type 0) → S r → Reads (turn p true i) (λ t. t ≡ record { event = Skips; progress = q }) j → Arrives p i r q j S
-skips p q i j r S h (Read t e g) n = record { state = r; same = on_skip p q i j r (e ∙ (λ k. Ok (g k, j))); such = h }
-skips p q i j r S h (Limited at which e) n = absurd (n at which (on_fault p i r (Limit at which) e))
+skips : (p q : Progress) (i j : Input) (r : Replay) (S : Replay → Type 0) → S r → Reads (turn (taking false p) true i) (λ t. t ≡ record { event = Skips; progress = q }) j → Arrives p i r q j S
+skips p q i j r S h (Read x e g) t n = record { state = r; same = on_skip t p i r q j (e ∙ (λ k. Ok (g k, j))); such = h }
+skips p q i j r S h (Limited at which e) t n = absurd (n at which (on_limit t p i r at which e))
 
-room_of : (n : ℕ) (t : Bytes) → length t ≤ n → n ≤ 2 ^ 28 → Room n t
+pub room_of : (n : ℕ) (t : Bytes) → length t ≤ n → n ≤ 2 ^ 28 → Room n t
 room_of n t h k = record { fits = h; most = k }
 
-abbrev whole_lines : Bytes → List Snapshot → Bytes
-whole_lines ref cs = commits_lines ref no_marks cs (end_lines ref ((marks_behind no_marks cs).next - 1))
+abbrev pub whole_lines : Bytes → List Snapshot → Bytes → Bytes
+whole_lines ref cs rest = commits_lines ref no_marks cs (end_lines ref ((marks_behind no_marks cs).next - 1) rest)
 
 lines_longer : (ref : Bytes) (m : Marks) (cs : List Snapshot) (rest : Bytes) → length rest ≤ length (commits_text ref m cs ++ rest)
 lines_longer ref m cs rest = omega (arith, length-append (commits_text ref m cs) rest)
 
-whole_arrives : (n : ℕ) (ref : Bytes) (c : Snapshot) (cs : List Snapshot) → is_ref_name ref ≡ true → IsHistory [] (c ∷ cs) → has_no_zero (c ∷ cs) ≡ true → length (whole_lines ref (c ∷ cs)) ≤ n → n ≤ 2 ^ 28 →
-    Arrives start (left n (whole_lines ref (c ∷ cs))) nothing_yet start (left n []) (Done ref c cs)
-whole_arrives n ref c cs name h z l most =
-    goes start start start (left n (whole_lines ref (c ∷ cs))) (left n (end_lines ref k)) (left n []) nothing_yet (Whole ref [] no_marks c cs) (Done ref c cs)
-    (commits_arrive n ref [] [] no_marks c cs (end_lines ref k) nothing_yet name h z (λ p e. absurd (never e)) refl (room_of n (whole_lines ref (c ∷ cs)) l most) few
-    (record { commits = refl; branches = inl refl; files = none_marked BlobMark 1 []; heads = none_marked CommitMark 1 [] }))
-    (λ s w. goes start start start (left n (end_lines ref k)) (left n (10 ∷ [])) (left n []) s (Done ref c cs) (Done ref c cs)
-    (end_arrives n ref no_marks c cs k s name room w w.same)
-    (λ u d. skips start start (left n (10 ∷ [])) (left n []) u (Done ref c cs) d (skip_turn n [] end_room)))
-  where
-    k : ℕ
-    k = (marks_behind no_marks (c ∷ cs)).next - 1
+module _ (n : ℕ) (ref : Bytes) (c : Snapshot) (cs : List Snapshot) (rest : Bytes) where
+  abbrev k : ℕ
+  k = (marks_behind no_marks (c ∷ cs)).next - 1
 
-    never : false ≡ true → ⊥
-    never e = cc
+  never : false ≡ true → ⊥
+  never e = cc
 
-    few : Few n 1 (whole_lines ref (c ∷ cs))
-    few = record { few = omega arith; some = omega arith }
+  few : length (whole_lines ref (c ∷ cs) rest) ≤ n → Few n 1 (whole_lines ref (c ∷ cs) rest)
+  few l = record { few = omega arith; some = omega arith }
 
-    longer : length (end_lines ref k) ≤ length (whole_lines ref (c ∷ cs))
-    longer = subst (λ (t : Bytes). length (end_lines ref k) ≤ length t) (history_text ref no_marks (c ∷ cs) (end_lines ref k)) (lines_longer ref no_marks (c ∷ cs) (end_lines ref k))
+  longer : length (end_lines ref k rest) ≤ length (whole_lines ref (c ∷ cs) rest)
+  longer = subst (λ (t : Bytes). length (end_lines ref k rest) ≤ length t) (history_text ref no_marks (c ∷ cs) (end_lines ref k rest)) (lines_longer ref no_marks (c ∷ cs) (end_lines ref k rest))
 
-    room : Room n (end_lines ref k)
-    room = let a = longer in room_of n (end_lines ref k) (omega arith) most
+  room : length (whole_lines ref (c ∷ cs) rest) ≤ n → n ≤ 2 ^ 28 → Room n (end_lines ref k rest)
+  room l most = let a = longer in room_of n (end_lines ref k rest) (omega arith) most
 
-    end_room : Room n (10 ∷ [])
-    end_room =
-        let f = room.fits in
-        let a = word_longer (codes "reset ") ref (word_text (codes "from ") (colon k) (10 ∷ [])) in
-        let b = word_longer (codes "from ") (colon k) (10 ∷ []) in
-        room_of n (10 ∷ []) (omega arith) most
+  pub end_room : length (whole_lines ref (c ∷ cs) rest) ≤ n → n ≤ 2 ^ 28 → Room n (10 ∷ rest)
+  end_room l most =
+      let f = (room l most).fits in
+      let a = word_longer (codes "reset ") ref (word_text (codes "from ") (colon k) (10 ∷ rest)) in
+      let b = word_longer (codes "from ") (colon k) (10 ∷ rest) in
+      room_of n (10 ∷ rest) (omega arith) most
+
+  pub whole_arrives : is_ref_name ref ≡ true → IsHistory [] (c ∷ cs) → has_no_zero (c ∷ cs) ≡ true → length (whole_lines ref (c ∷ cs) rest) ≤ n → n ≤ 2 ^ 28 →
+      Arrives start (left n (whole_lines ref (c ∷ cs) rest)) nothing_yet start (left n rest) (Done ref c cs)
+  whole_arrives name h z l most =
+      goes start start start (left n (whole_lines ref (c ∷ cs) rest)) (left n (end_lines ref k rest)) (left n rest) nothing_yet (Whole ref [] no_marks c cs) (Done ref c cs)
+      (commits_arrive n ref [] [] no_marks c cs (end_lines ref k rest) nothing_yet name h z (λ p e. absurd (never e)) refl (room_of n (whole_lines ref (c ∷ cs) rest) l most) (few l)
+      (record { commits = refl; branches = inl refl; files = none_marked BlobMark 1 []; heads = none_marked CommitMark 1 []; tags = refl }))
+      (λ s w. goes start start start (left n (end_lines ref k rest)) (left n (10 ∷ rest)) (left n rest) s (Done ref c cs) (Done ref c cs)
+      (end_arrives n ref no_marks c cs k rest s name (room l most) w w.same)
+      (λ u d. skips start start (left n (10 ∷ rest)) (left n rest) u (Done ref c cs) d (skip_turn n rest (end_room l most))))
 
 -- ---- the law
 
-export_parts : (t w r lf v d : Bytes) → ((t ++ ((w ++ r) ++ lf)) ++ ((v ++ d) ++ lf)) ++ lf ≡ t ++ ((w ++ r) ++ (lf ++ ((v ++ d) ++ (lf ++ lf))))
-export_parts t w r lf v d = simp append_assoc
+export_parts : (t w r lf v d u : Bytes) → (((t ++ ((w ++ r) ++ lf)) ++ ((v ++ d) ++ lf)) ++ lf) ++ u ≡ t ++ ((w ++ r) ++ (lf ++ ((v ++ d) ++ (lf ++ (lf ++ u)))))
+export_parts t w r lf v d u = simp append_assoc
 
-export_lines : (c : Snapshot) (cs : List Snapshot) (ref : Bytes) → export_text (c ∷ cs) ref ≡ whole_lines ref (c ∷ cs)
+-- with a text behind it
+pub export_lines : (c : Snapshot) (cs : List Snapshot) (ref rest : Bytes) → export_text (c ∷ cs) ref ++ rest ≡ whole_lines ref (c ∷ cs) rest
 unfolding export_text
-export_lines c cs ref =
+export_lines c cs ref rest =
     let k = (marks_behind no_marks (c ∷ cs)).next - 1 in
-    export_parts (commits_text ref no_marks (c ∷ cs)) (codes "reset ") ref (10 ∷ []) (codes "from " ++ codes ":") (decimal k)
-    ∙ history_text ref no_marks (c ∷ cs) (end_lines ref k)
+    export_parts (commits_text ref no_marks (c ∷ cs)) (codes "reset ") ref (10 ∷ []) (codes "from " ++ codes ":") (decimal k) rest
+    ∙ history_text ref no_marks (c ∷ cs) (end_lines ref k rest)
 
-left_whole : (t : Bytes) → left (length t) t ≡ from_start t
+pub left_whole : (t : Bytes) → left (length t) t ≡ from_start t
 left_whole t = let e : length t - length t ≡ 0 = omega arith in λ i. record { at = e i; rest = t }
 
 last_is : (c : Snapshot) (cs : List Snapshot) → last_or (Some c) cs ≡ Some (last_of c cs)
 last_is c [] = refl
 last_is c (d ∷ cs) = last_is d cs
 
+pub head_is : (ref : Bytes) (c : Snapshot) (cs : List Snapshot) (s : Replay) → Done ref c cs s → heads_of s ≡ head_at_last ref (c ∷ cs)
+head_is ref c cs s d =
+    ap (λ (bs : List (Bytes × Option Bytes)). filter_map (λ b. option_map (λ n. (b.0, n)) b.1) bs) d.branches
+    ∙ ap (λ o. option_to_list (option_map (λ c. (ref, snapshot_name c)) o)) (sym (last_is c cs))
+
+outcome_is : (s : Replay) (f : Option StreamFault) → outcome_of s f ≡ (reached s f >>= λ s. Ok (given_by s))
+outcome_is s None = refl
+outcome_is s (Some f) = refl
+
+-- what replaying gives, by the state that it leaves
+replay_is : (t : Bytes) → replay empty_base t ≡ (result false start (left (length t) t) nothing_yet >>= λ s. Ok (given_by s))
+replay_is t = outcome_is (ran empty_base t).state (ran empty_base t).fault ∙ ap (λ i. result false start i nothing_yet >>= λ s. Ok (given_by s)) (sym (left_whole t))
+
+no_limit_before : (t : Bytes) → NoLimit (replay empty_base t) → NoLimit (result false start (left (length t) t) nothing_yet)
+no_limit_before t none at which e = none at which (replay_is t ∙ ap (λ o. o >>= λ s. Ok (given_by s)) e)
+
 some_again : (c : Snapshot) (cs : List Snapshot) (ref : Bytes) → IsHistory [] (c ∷ cs) → is_ref_name ref ≡ true → has_no_zero (c ∷ cs) ≡ true → length (export_text (c ∷ cs) ref) ≤ 2 ^ 28 →
     NoLimit (replay empty_base (export_text (c ∷ cs) ref)) → IsReadAgain (c ∷ cs) ref
 some_again c cs ref h name z most none =
-    let t = whole_lines ref (c ∷ cs) in
+    let t = whole_lines ref (c ∷ cs) [] in
     let n = length t in
-    let same = export_lines c cs ref in
-    let input : result start (left n t) nothing_yet ≡ replay empty_base (export_text (c ∷ cs) ref) = ap (λ i. result start i nothing_yet) (left_whole t) ∙ ap (replay empty_base) (sym same) in
+    let same : export_text (c ∷ cs) ref ≡ t = sym (append-nil (export_text (c ∷ cs) ref)) ∙ export_lines c cs ref [] in
     let small : n ≤ 2 ^ 28 = subst (λ (t : Bytes). length t ≤ 2 ^ 28) same most in
-    let a = whole_arrives n ref c cs name h z (omega arith) small (subst NoLimit (sym input) none) in
-    let d = a.such in
+    let a = whole_arrives n ref c cs [] name h z (omega arith) small false (no_limit_before t (subst (λ (t : Bytes). NoLimit (replay empty_base t)) same none)) in
     record {
       replayed = given_by a.state;
-      read = sym input ∙ a.same ∙ on_end start start (left n []) (left n []) a.state (last_turn n (room_of n [] (omega arith) small));
-      commits = d.commits;
-      heads = ap (λ (bs : List (Bytes × Option Bytes)). filter_map (λ b. option_map (λ n. (b.0, n)) b.1) bs) d.branches ∙ ap (λ o. option_to_list (option_map (λ c. (ref, snapshot_name c)) o)) (sym (last_is c cs));
+      read = ap (replay empty_base) same ∙ replay_is t
+          ∙ ap (λ o. o >>= λ s. Ok (given_by s)) (a.same ∙ on_end false start (left n []) a.state start (left n []) (last_turn n (room_of n [] (omega arith) small)));
+      commits = a.such.commits;
+      heads = head_is ref c cs a.state a.such;
     }
 
 none_again : (ref : Bytes) → IsReadAgain [] ref
 unfolding export_text
 none_again ref = record {
   replayed = given_by nothing_yet;
-  read = on_end start start (left 0 []) (left 0 []) nothing_yet (last_turn 0 (room_of 0 [] (omega arith) (omega arith)));
+  read = replay_is [] ∙ ap (λ o. o >>= λ s. Ok (given_by s)) (on_end false start (left 0 []) nothing_yet start (left 0 []) (last_turn 0 (room_of 0 [] (omega arith) (omega arith))));
   commits = refl;
   heads = refl;
 }

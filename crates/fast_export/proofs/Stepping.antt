@@ -85,6 +85,7 @@ pub record Drafting (r : Replay) (ref : Bytes) (number : ℕ) (l : Letter) (ps :
   pub commits : s.commits ≡ r.commits
   pub branches : s.branches ≡ r.branches
   pub marks : s.marks ≡ r.marks
+  pub tags : s.tags ≡ r.tags
   pub draft : s.draft ≡ Some (record { head = head; parents = ps; tree = t })
 
 abbrev pub DraftsSome : Replay → Bytes → ℕ → Letter → List Bytes → Replay → Type 0
@@ -93,7 +94,7 @@ DraftsSome r ref number l ps s = (t : Flat) × Drafting r ref number l ps t s
 begun_is : (r : Replay) (ref : Bytes) (number : ℕ) (l : Letter) (ms : List ℕ) (c : Command) (h : IsHead ref number l ms c) (first : Option Bytes) (ps : List Bytes) → DraftsSome r ref number l ps (begun empty_base r h.head first ps)
 begun_is r ref number l ms c h first ps = (
   tree_upon empty_base r first,
-  record { head = h.head; refname = h.refname; mark = h.mark; letter = λ i. record { author = h.author i; committer = h.committer i; message = h.message i }; commits = refl; branches = refl; marks = refl; draft = refl },
+  record { head = h.head; refname = h.refname; mark = h.mark; letter = λ i. record { author = h.author i; committer = h.committer i; message = h.message i }; commits = refl; branches = refl; marks = refl; tags = refl; draft = refl },
 )
 
 abbrev head_from : Replay → CommitHead → Result (Option Bytes) StreamFault → Result Replay StreamFault
@@ -138,7 +139,7 @@ change_is r ref number l ps t s c x d e = ap (command_step empty_base s c.at) e 
 
 drafting_on : (r : Replay) (ref : Bytes) (number : ℕ) (l : Letter) (ps : List Bytes) (t u : Flat) (s : Replay) (bs : List Bytes) (d : Drafting r ref number l ps t s) →
     Drafting r ref number l ps u (record s { blobs = bs; draft = Some (record { head = d.head; parents = ps; tree = u }) })
-drafting_on r ref number l ps t u s bs d = record { head = d.head; refname = d.refname; mark = d.mark; letter = d.letter; commits = d.commits; branches = d.branches; marks = d.marks; draft = refl }
+drafting_on r ref number l ps t u s bs d = record { head = d.head; refname = d.refname; mark = d.mark; letter = d.letter; commits = d.commits; branches = d.branches; marks = d.marks; tags = d.tags; draft = refl }
 
 pub all_step : (r : Replay) (ref : Bytes) (number : ℕ) (l : Letter) (ps : List Bytes) (t : Flat) (s : Replay) (c : Placed) → Drafting r ref number l ps t s → is_change changes.DeleteAll c.command → Steps (step empty_base s c) (Drafting r ref number l ps [])
 all_step r ref number l ps t s c d e = Stepped (record s { blobs = s.blobs ++ []; draft = Some (record { head = d.head; parents = ps; tree = [] }) }) (change_is r ref number l ps t s c changes.DeleteAll d e) (drafting_on r ref number l ps t [] s (s.blobs ++ []) d)
@@ -189,6 +190,7 @@ pub record Committed (r : Replay) (ref : Bytes) (number : ℕ) (c : Snapshot) (s
   pub commits : s.commits ≡ r.commits ++ c ∷ []
   pub branches : s.branches ≡ put_entry bytes_cmp ref (Some (snapshot_name c)) r.branches
   pub marks : s.marks ≡ (number, CommitMark (snapshot_name c)) ∷ r.marks
+  pub tags : s.tags ≡ r.tags
 
 pub end_step : (r : Replay) (ref : Bytes) (number : ℕ) (c : Snapshot) (s : Replay) (p : Placed) → Drafting r ref number c.letter c.parents c.tree s → p.command ≡ commands.CommitEnd →
     Steps (step empty_base s p) (Committed r ref number c)
@@ -200,6 +202,7 @@ end_step r ref number c s p d e =
       commits = λ i. d.commits i ++ same i ∷ [];
       branches = λ i. put_entry bytes_cmp (d.refname i) (Some (snapshot_name (same i))) (d.branches i);
       marks = λ i. (number, CommitMark (snapshot_name (same i))) ∷ d.marks i;
+      tags = d.tags;
     })
   where
     built : Snapshot

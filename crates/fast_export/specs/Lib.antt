@@ -1,4 +1,5 @@
 pub mod Laws
+pub mod TagLaws
 pub mod Examples
 pub mod ExportTexts
 pub mod Histories

@@ -17,4 +17,4 @@ mod sending;
 
 pub use error::ExportError;
 pub use export::write_history;
-pub use laws::{reading_again_law, stored_history_law};
+pub use laws::{reading_again_law, stored_history_law, tagged_again_law};

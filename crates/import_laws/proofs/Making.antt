@@ -14,7 +14,8 @@ use Rattle.object_store.specs.Objects.{Object, IsStore}
 use Rattle.object_store.specs.StoredSnapshots.{snapshot_object}
 use Rattle.object_store.specs.TreeObjects.{leaf_objects, tree_objects}
 use Rattle.fast_import.specs.Made.{IsMadeAt, IsMadeBy, IsMadeOf, IsMadeOn, blob_object, tree_object}
-use Rattle.fast_import.specs.Replays.{Base, BlobMark, CommitMark, Draft, Marked, Replay, begun, commit_of, committed, command_step, edited, first_parent, gone_on, inline_blob, nothing_yet, ran_by, said, step, with_branch, with_mark, with_merges}
+use Rattle.tag_objects.specs.TagLists.{put_tag}
+use Rattle.fast_import.specs.Replays.{Base, BlobMark, CommitMark, Draft, Marked, Replay, begun, commit_of, committed, command_step, edited, first_parent, gone_on, inline_blob, nothing_yet, ran_by, said, step, with_branch, with_mark, with_merges, TagMark, known, tag_of, tagged}
 use Rattle.stream_reader.specs.declared.command.Command.{Command}
 use Rattle.stream_reader.specs.declared.command.Command.TheVariants as commands
 use Rattle.stream_reader.specs.declared.command.CommitHead.{CommitHead}
@@ -88,6 +89,9 @@ module _ (base : Base) (P : Object → Type 0) where
   step-holds r q at (commands.Reset refname from) i f e =
       let n = value-of (said base r from) (λ n. Ok (with_branch refname n r)) q e in
       subst Holds (ok-same (with_branch refname n.value r) q n.rest) (record { blobs = i.blobs; commits = i.commits })
+  step-holds r q at (commands.Tag g) i f e =
+      let n = value-of (known base r g.from) (λ n. Ok (tagged g n r)) q e in
+      subst Holds (ok-same (tagged g n.value r) q n.rest) (mark-holds g.mark TagMark (record r { tags = put_tag (tag_of g n.value) r.tags }) (record { blobs = i.blobs; commits = i.commits }))
   step-holds r q at commands.Done i f e = subst Holds (ok-same r q e) i
 
   ran-holds : (ps : List Placed) (end : Option StreamFault) (r : Replay) → Holds r → ((o : Object) → IsMadeBy base r ps o → P o) → Holds (ran_by (step base) end r ps).state

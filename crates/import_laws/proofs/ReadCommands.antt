@@ -23,6 +23,7 @@ use Rattle.git_objects.proofs.CommitReading.{digits-name}
 use Rattle.git_objects.proofs.Pointwise.{from-T}
 use Rattle.path_names.specs.PathTexts.{parts, path_of}
 use Rattle.path_names.specs.RefNames.{is_ref_name}
+use Rattle.tag_objects.specs.TagNames.{is_tag_name}
 use Rattle.path_names.specs.declared.path.PathFault.{PathFault}
 use Rattle.path_names.specs.declared.path.PathFault.TheVariants as paths
 use Rattle.path_names.proofs.Readings.{path_text_law}
@@ -32,13 +33,13 @@ use Rattle.stream_lex.specs.declared.stop.Stop.{Stop}
 use Rattle.stream_lex.specs.declared.stop.Stop.TheVariants as stops
 use Rattle.stream_lex.specs.declared.stop.LimitFault.TheVariants.{LongLine, StreamTooLong}
 use Rattle.stream_reader.specs.Reading.{Judged, Read, Reader, fault, lifted, line_behind, line_text, must, need_line, option_line, or_fault}
-use Rattle.stream_reader.specs.Names.{ident, refname, some_name}
+use Rattle.stream_reader.specs.Names.{ident, refname, some_name, tag_name}
 use Rattle.stream_reader.specs.Words.{first_word, mark}
-use Rattle.stream_reader.specs.Blocks.{blob_data, block_in, count, data_behind, message_behind, message_data, sized_block, whole_block}
+use Rattle.stream_reader.specs.Blocks.{blob_data, block_in, count, data_behind, message_behind, message_data, sized_block, tag_data, whole_block}
 use Rattle.stream_reader.specs.PathWords.{behind_quote, first_path, is_quoted, last_path, path_at, path_by, two_paths, unquoted_at}
 use Rattle.stream_reader.specs.Changes.{ChangeLine, ModifyIs, DeleteIs, RenameIs, CopyIs, DeleteAllIs, NotesAre, EmptyIs, NoChange, blob_ref, change, change_line, data_part, dataref, fitting, mode, modify, modify_line}
-use Rattle.stream_reader.specs.Heads.{author_in, author_or, blob, committer_by, committer_of, head, head_of, if_some, mark_in, mark_lines, merges, merges_max, more_merges, parents, people, ref_in, ref_line, reset, said}
-use Rattle.stream_reader.specs.Commands.{CommandLine, EmptyLine, BlobLine, CommitLine, ResetLine, IdleLine, WantsDone, DoneLine, RefusedLine, OtherLine, Told, Turn, between, between_at, by_event, changed, command_line, command_within, gives, in_commit_at, read_command, turn, turn_in, turn_on}
+use Rattle.stream_reader.specs.Heads.{author_in, author_or, behind_word, blob, committer_by, committer_of, head, head_of, if_some, mark_in, mark_lines, merges, merges_max, more_merges, parents, people, must_say, ref_in, ref_line, reset, said, tag, tagger_in}
+use Rattle.stream_reader.specs.Commands.{CommandLine, EmptyLine, BlobLine, CommitLine, ResetLine, TagLine, IdleLine, WantsDone, DoneLine, RefusedLine, OtherLine, Told, Turn, ends_at, tag_turn, between, between_at, by_event, changed, command_line, command_within, gives, in_commit_at, read_command, turn, turn_in, turn_on}
 use Rattle.stream_reader.specs.Verdicts.{from_start, go_on, verdict, verdict_from, verdict_within}
 use Rattle.stream_reader.specs.declared.command.BlobRef.{BlobRef}
 use Rattle.stream_reader.specs.declared.command.BlobRef.TheVariants as blobs
@@ -56,6 +57,7 @@ use Rattle.stream_reader.specs.declared.modify.DataRef.TheVariants as datas
 use Rattle.stream_reader.specs.declared.modify.ModifyLine.{ModifyLine}
 use Rattle.stream_reader.specs.declared.progress.Event.{Event}
 use Rattle.stream_reader.specs.declared.progress.Event.TheVariants.{Gives, Skips, Ends}
+use Rattle.stream_reader.specs.declared.progress.Manner.{Manner}
 use Rattle.stream_reader.specs.declared.progress.Phase.{Phase}
 use Rattle.stream_reader.specs.declared.progress.Phase.TheVariants.{Between, InCommit, Finished}
 use Rattle.stream_reader.specs.declared.progress.Progress.{Progress}
@@ -542,6 +544,51 @@ reset-command at t ended i f =
     (judged_read (λ r. is_ref_name r ≡ true) (refname at t) ended i (ref-name at t) f)
     (λ r j a g. read_bind (λ _. Unit {0}) IsReadCommand (ref_line (codes "from ")) (λ f ended i. Ok (commands.Reset r f, i)) ended j (ref-line-read (codes "from ") ended j g) (λ n k _ h. (record { sound = a; small = tt }, h)))
 
+-- ---- tags
+
+tag-name : (at : ℕ) (o : Option Bytes) → OnValue (λ n. is_tag_name n ≡ true) (tag_name at o)
+tag-name at None = tt
+tag-name at (Some t) = value_if (λ n. is_tag_name n ≡ true) (is_tag_name t) (Ok t) (fault (Syntax at)) (λ e. e) (λ _. tt)
+
+behind-value : {A : Type 0} (P : A → Type 0) (says : Line → Judged A) (at : ℕ) (o : Option Bytes) → ((l : Line) → IsLine l → OnValue P (says l)) → IfBytes o → OnValue P ((or_fault (Syntax at) o >>= λ t. Ok (record { place = at; bytes = t })) >>= says)
+behind-value P says at None g h = tt
+behind-value P says at (Some t) g h = g (record { place = at; bytes = t }) h
+
+said-must : {A : Type 0} (P : A → Type 0) (word : Bytes) (says : Line → Judged A) (ended : Bool) (i : Input) → ((l : Line) → IsLine l → OnValue P (says l)) → Fine i → OnRead P (must_say word says ended i)
+said-must P word says ended i g f =
+    read_bind IsLine P need_line (λ l. judged (behind_word word l >>= says)) ended i (need-read ended i f)
+    (λ l j h k. judged_read P (behind_word word l >>= says) ended j (behind-value P says l.place (strip word l.bytes) g (strip-bytes word l.bytes h)) k)
+
+tag-message : (ended : Bool) (i : Input) → Fine i → OnRead (IsShort MESSAGE_BYTES) (tag_data ended i)
+unfolding tag_data
+tag-message ended i f =
+    read_bind IsLine (IsShort MESSAGE_BYTES) need_line (data_behind limits.Message MESSAGE_BYTES) ended i (need-read ended i f) (λ l j h k. data-read limits.Message MESSAGE_BYTES l ended j k)
+
+tag-command : (at : ℕ) (t : Option Bytes) (ended : Bool) (i : Input) → Fine i → OnRead IsReadCommand (tag at t ended i)
+unfolding tag
+tag-command at t ended i f =
+    read_bind (λ n. is_tag_name n ≡ true) IsReadCommand (judged (tag_name at t)) (λ n. said (codes "mark ") mark_in then λ m. must_say (codes "from ") ref_in then λ f. other n m f) ended i
+    (judged_read (λ n. is_tag_name n ≡ true) (tag_name at t) ended i (tag-name at t) f)
+    (λ n j a g. read_bind (IfSaid (λ _. Unit {0})) IsReadCommand (said (codes "mark ") mark_in) (λ m. must_say (codes "from ") ref_in then λ f. other n m f) ended j
+    (said-read (λ _. Unit {0}) (codes "mark ") mark_in ended j (λ l h. any_value (mark_in l)) g)
+    (λ m k _ h. read_bind (λ _. Unit {0}) IsReadCommand (must_say (codes "from ") ref_in) (λ f. other n m f) ended k (said-must (λ _. Unit {0}) (codes "from ") ref_in ended k (λ l w. any_value (ref_in l)) h)
+    (λ r l _ u. read_bind IfLine IsReadCommand (option_line (codes "original-oid ")) (λ o. from_tagger n m r) ended l (option-read (codes "original-oid ") ended l u)
+    (λ o q _ v. read_bind IsPerson IsReadCommand (must_say (codes "tagger ") tagger_in) (λ p. from_data n m r p) ended q (said-must IsPerson (codes "tagger ") tagger_in ended q (λ l w. ident-read l.place l.bytes w) v)
+    (λ p s b w. read_bind (IsShort MESSAGE_BYTES) IsReadCommand tag_data (λ d ended i. Ok (made n m r p d, i)) ended s (tag-message ended s w)
+    (λ d z c y. (record { sound = record { tag_name = a; tagger = b.0; tagger_bytes = b.1; message = c.0 }; small = c.1 }, y)))))))
+  where
+    made : Bytes → Option ℕ → CommitRef → Bytes → Bytes → Command
+    made n m r p d = commands.Tag (record { name = n; from = r; mark = m; tagger = p; message = d })
+
+    from_data : Bytes → Option ℕ → CommitRef → Bytes → Reader Command
+    from_data n m r p = tag_data then λ d ended i. Ok (made n m r p d, i)
+
+    from_tagger : Bytes → Option ℕ → CommitRef → Reader Command
+    from_tagger n m r = must_say (codes "tagger ") tagger_in then λ p. from_data n m r p
+
+    other : Bytes → Option ℕ → CommitRef → Reader Command
+    other n m r = option_line (codes "original-oid ") then λ o. from_tagger n m r
+
 -- ---- turns
 
 abbrev IsReadEvent : Event → Type 0
@@ -552,21 +599,26 @@ IsReadEvent Ends = Unit {0}
 abbrev IsReadTurn : Turn → Type 0
 IsReadTurn t = IsReadEvent t.event
 
-between-read : (l : CommandLine) (at : ℕ) (d : Bool) (ended : Bool) (i : Input) → Fine i → OnRead IsReadTurn (between l at d ended i)
+tag-read : (at : ℕ) (t : Option Bytes) (d : Manner) (b : Bool) (ended : Bool) (i : Input) → Fine i → OnRead IsReadTurn (tag_turn at t d b ended i)
+tag-read at t d true ended i f = read_bind IsReadCommand IsReadTurn (tag at t) (gives at Between d) ended i (tag-command at t ended i f) (λ c j h g. (h, g))
+tag-read at t d false ended i f = tt
+
+between-read : (l : CommandLine) (at : ℕ) (d : Manner) (ended : Bool) (i : Input) → Fine i → OnRead IsReadTurn (between l at d ended i)
 between-read EmptyLine at d ended i f = (tt, f)
 between-read BlobLine at d ended i f = read_bind IsReadCommand IsReadTurn blob (gives at Between d) ended i (blob-command ended i f) (λ c j h g. (h, g))
 between-read (CommitLine t) at d ended i f = read_bind IsReadCommand IsReadTurn (head at t) (gives at InCommit d) ended i (head-command at t ended i f) (λ c j h g. (h, g))
 between-read (ResetLine t) at d ended i f = read_bind IsReadCommand IsReadTurn (reset at t) (gives at Between d) ended i (reset-command at t ended i f) (λ c j h g. (h, g))
+between-read (TagLine t) at d ended i f = tag-read at t d d.takes_tags ended i f
 between-read IdleLine at d ended i f = (tt, f)
 between-read WantsDone at d ended i f = (tt, f)
 between-read DoneLine at d ended i f = (record { sound = tt; small = tt }, f)
 between-read (RefusedLine e) at d ended i f = tt
 between-read OtherLine at d ended i f = tt
 
-in-change : (k : ChangeLine) (at : ℕ) (d ended : Bool) (i : Input) → Fine i → OnRead IsReadTurn ((change at k then λ c. gives at InCommit d (commands.Change c)) ended i)
+in-change : (k : ChangeLine) (at : ℕ) (d : Manner) (ended : Bool) (i : Input) → Fine i → OnRead IsReadTurn ((change at k then λ c. gives at InCommit d (commands.Change c)) ended i)
 in-change k at d ended i f = read_bind IsReadChange IsReadTurn (change at k) (λ c. gives at InCommit d (commands.Change c)) ended i (change-read at k ended i f) (λ c j h g. (record { sound = h.0; small = h.1 }, g))
 
-changed-read : (k : ChangeLine) (at : ℕ) (d ended : Bool) (before i : Input) → Fine before → Fine i → OnRead IsReadTurn (changed k at d ended before i)
+changed-read : (k : ChangeLine) (at : ℕ) (d : Manner) (ended : Bool) (before i : Input) → Fine before → Fine i → OnRead IsReadTurn (changed k at d ended before i)
 changed-read EmptyIs at d ended before i b f = (record { sound = tt; small = tt }, f)
 changed-read NoChange at d ended before i b f = (record { sound = tt; small = tt }, b)
 changed-read (ModifyIs t) at d ended before i b f = in-change (ModifyIs t) at d ended i f
@@ -576,20 +628,19 @@ changed-read (CopyIs t) at d ended before i b f = in-change (CopyIs t) at d ende
 changed-read DeleteAllIs at d ended before i b f = in-change DeleteAllIs at d ended i f
 changed-read NotesAre at d ended before i b f = in-change NotesAre at d ended i f
 
-between-here : (d ended : Bool) (x : Option Line) (i : Input) → IfLine x → Fine i → OnRead IsReadTurn (between_at d ended (x, i))
-between-here true ended None i h f = by ended
+between-here : (d : Manner) (ended : Bool) (x : Option Line) (i : Input) → IfLine x → Fine i → OnRead IsReadTurn (between_at d ended (x, i))
+between-here d ended None i h f = by d.wants_done
   where
-    by : (ended : Bool) → OnRead IsReadTurn (between_at true ended (None, i))
+    by : (e : Bool) → OnRead IsReadTurn (ends_at i.at d e ended i)
     by true = tt
-    by false = tt
-between-here false ended None i h f = (tt, f)
+    by false = (tt, f)
 between-here d ended (Some l) i h f = between-read (command_line l.bytes) l.place d ended i f
 
-in-commit-here : (d ended : Bool) (before : Input) (x : Option Line) (i : Input) → Fine before → Fine i → OnRead IsReadTurn (in_commit_at d ended before (x, i))
+in-commit-here : (d : Manner) (ended : Bool) (before : Input) (x : Option Line) (i : Input) → Fine before → Fine i → OnRead IsReadTurn (in_commit_at d ended before (x, i))
 in-commit-here d ended before None i b f = (record { sound = tt; small = tt }, f)
 in-commit-here d ended before (Some l) i b f = changed-read (change_line l.bytes) l.place d ended before i b f
 
-phase-read : (p : Phase) (d ended : Bool) (i : Input) → Fine i → OnRead IsReadTurn (turn_in p d ended i)
+phase-read : (p : Phase) (d : Manner) (ended : Bool) (i : Input) → Fine i → OnRead IsReadTurn (turn_in p d ended i)
 phase-read Between d ended i f =
     value_bind (λ x. IfLine x.0 × Fine x.1) (λ x. IsReadTurn x.0 × Fine x.1) (lifted (line_at ended i)) (between_at d ended) (line-read ended i f) (λ x h. between-here d ended x.0 x.1 h.0 h.1)
 phase-read InCommit d ended i f =
@@ -598,7 +649,7 @@ phase-read Finished d ended i f = (tt, f)
 
 turn-read : (p : Progress) (ended : Bool) (i : Input) → Fine i → OnRead IsReadTurn (turn p ended i)
 unfolding turn
-turn-read p ended i f = phase-read p.phase p.wants_done ended i f
+turn-read p ended i f = phase-read p.phase p.manner ended i f
 
 -- ---- the next command
 

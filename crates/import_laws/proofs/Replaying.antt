@@ -39,7 +39,8 @@ use Rattle.git_objects.specs.Results.{◌>>=◌, or_refuse, must}
 use Rattle.state_items.specs.Items.{Held}
 use Rattle.state_items.specs.Repos.{repo}
 use Rattle.import_laws.specs.Bases.{base_of}
-use Rattle.fast_import.specs.Replays.{Base, BlobMark, CommitMark, Draft, Marked, Replay, begun, branch, commit_of, committed, command_step, edited, first_parent, gone_on, inline_blob, known, named_tree, nothing_yet, one_more, ran_by, said, step, target_name, tree_of, value_at, with_branch, with_mark, with_merges}
+use Rattle.tag_objects.specs.TagLists.{put_tag}
+use Rattle.fast_import.specs.Replays.{Base, BlobMark, CommitMark, Draft, Marked, Replay, begun, branch, commit_of, committed, command_step, edited, first_parent, gone_on, inline_blob, known, named_tree, nothing_yet, one_more, ran_by, said, step, target_name, tree_of, value_at, with_branch, with_mark, with_merges, TagMark, tag_of, tagged}
 use Rattle.state_items.specs.Imported.{AreWhole, IsWhole, has_leaves, is_among, with_commits}
 use Rattle.import_laws.specs.Replayed.{IsReplayed, ReplayedLaw}
 use Rattle.import_laws.specs.SoundCommands.{IsSound, IsSoundHead}
@@ -312,6 +313,9 @@ module _ (h : Held) (s : IsStore h.objects) where
   step-inv r q at (commands.Reset refname from) v g i e =
       let n = value-of (said base r from) (λ n. Ok (with_branch refname n r)) q e in
       subst Inv (ok-same (with_branch refname n.value r) q n.rest) (branch-sound r refname n.value i v (said-made r from n.value n.was))
+  step-inv r q at (commands.Tag h) v g i e =
+      let n = value-of (known base r h.from) (λ n. Ok (tagged h n r)) q e in
+      subst Inv (ok-same (tagged h n.value r) q n.rest) (mark-sound (record r { tags = put_tag (tag_of h n.value) r.tags }) h.mark TagMark (record { commits = i.commits; heads = i.heads; drafted = i.drafted }))
   step-inv r q at commands.Done v g i e = subst Inv (ok-same r q e) i
 
   abbrev Sound : Replay → Type 0

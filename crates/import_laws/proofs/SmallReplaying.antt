@@ -13,7 +13,8 @@ use Rattle.git_objects.specs.Trees.{Flat, LeafNode, put, remove, standing}
 use Rattle.git_objects.specs.declared.limits.TheConstants.{BLOB_BYTES, MESSAGE_BYTES}
 use Rattle.git_objects.proofs.Basics.{and_both}
 use Rattle.object_store.specs.Fits.{tree_fits}
-use Rattle.fast_import.specs.Replays.{Base, BlobMark, CommitMark, Draft, Marked, Replay, begun, commit_of, committed, command_step, edited, few_files, first_parent, given_bytes, gone_on, inline_blob, leaf_of, named_tree, nothing_yet, ran_by, said, step, tree_of, tree_upon, with_branch, with_mark, with_merges, within_paths}
+use Rattle.tag_objects.specs.TagLists.{put_tag}
+use Rattle.fast_import.specs.Replays.{Base, BlobMark, CommitMark, Draft, Marked, Replay, begun, commit_of, committed, command_step, edited, few_files, first_parent, given_bytes, gone_on, inline_blob, leaf_of, named_tree, nothing_yet, ran_by, said, step, tree_of, tree_upon, with_branch, with_mark, with_merges, within_paths, TagMark, known, tag_of, tagged}
 use Rattle.stream_reader.specs.declared.command.BlobRef.TheVariants as blobs
 use Rattle.stream_reader.specs.declared.command.Change.{Change}
 use Rattle.stream_reader.specs.declared.command.Change.TheVariants as changes
@@ -141,6 +142,9 @@ module _ (h : Held) (base_fits : list_all (λ c. tree_fits c.tree) (repo h).comm
   step-small r q at (commands.Reset refname from) v i e =
       let n = value-of (said base r from) (λ n. Ok (with_branch refname n r)) q e in
       subst Small (ok-same (with_branch refname n.value r) q n.rest) (record { blobs_short = i.blobs_short; commits_small = i.commits_small; draft_small = i.draft_small })
+  step-small r q at (commands.Tag g) v i e =
+      let n = value-of (known base r g.from) (λ n. Ok (tagged g n r)) q e in
+      subst Small (ok-same (tagged g n.value r) q n.rest) (mark-small g.mark TagMark (record r { tags = put_tag (tag_of g n.value) r.tags }) (record { blobs_short = i.blobs_short; commits_small = i.commits_small; draft_small = i.draft_small }))
   step-small r q at commands.Done v i e = subst Small (ok-same r q e) i
 
   ran-small : (ps : List Placed) (end : Option StreamFault) (r : Replay) → Small r → All (λ p. IsSmall p.command) ps → Small (ran_by (step base) end r ps).state

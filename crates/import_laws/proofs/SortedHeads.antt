@@ -9,7 +9,8 @@ use Rattle.git_objects.specs.Refs.{bytes_cmp}
 use Rattle.git_objects.specs.Results.{◌>>=◌, or_refuse}
 use Rattle.git_objects.specs.Snapshots.{snapshot_name}
 use Rattle.git_objects.proofs.Basics.{both, first, second}
-use Rattle.fast_import.specs.Replays.{Base, BlobMark, CommitMark, Marked, Replay, begun, commit_of, committed, command_step, edited, first_parent, gone_on, heads_of, inline_blob, nothing_yet, ran_by, said, step, with_branch, with_mark, with_merges}
+use Rattle.tag_objects.specs.TagLists.{put_tag}
+use Rattle.fast_import.specs.Replays.{Base, BlobMark, CommitMark, Marked, Replay, begun, commit_of, committed, command_step, edited, first_parent, gone_on, heads_of, inline_blob, nothing_yet, ran_by, said, step, with_branch, with_mark, with_merges, TagMark, known, tag_of, tagged}
 use Rattle.fast_import.proofs.Heading.{Branches, below-heads, heads}
 use Rattle.stream_reader.specs.declared.command.Command.{Command}
 use Rattle.stream_reader.specs.declared.command.Command.TheVariants as commands
@@ -55,6 +56,9 @@ module _ (base : Base) where
   step-sorted r q at (commands.Reset refname from) i e =
       let n = value-of (said base r from) (λ n. Ok (with_branch refname n r)) q e in
       subst IsSorted (ok-same (with_branch refname n.value r) q n.rest) (branch-sorted refname n.value r i)
+  step-sorted r q at (commands.Tag g) i e =
+      let n = value-of (known base r g.from) (λ n. Ok (tagged g n r)) q e in
+      subst IsSorted (ok-same (tagged g n.value r) q n.rest) (mark-sorted g.mark TagMark (record r { tags = put_tag (tag_of g n.value) r.tags }) i)
   step-sorted r q at commands.Done i e = subst IsSorted (ok-same r q e) i
 
   ran-sorted : (ps : List Placed) (end : Option StreamFault) (r : Replay) → IsSorted r → IsSorted (ran_by (step base) end r ps).state

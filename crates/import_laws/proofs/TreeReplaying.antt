@@ -29,7 +29,8 @@ use Rattle.stream_reader.specs.declared.fault.StreamFault.TheVariants.{Syntax, U
 use Rattle.git_objects.specs.declared.quantity.Quantity.TheVariants.{Files}
 use Rattle.git_objects.specs.Snapshots.{Snapshot, snapshot_name}
 use Rattle.git_objects.specs.Results.{◌>>=◌, or_refuse}
-use Rattle.fast_import.specs.Replays.{Base, BlobMark, CommitMark, Draft, Marked, Replay, begun, blob_named, commit_of, committed, command_step, edited, few_files, first_parent, given_bytes, inline_blob, leaf_of, marked, marked_blob, named_tree, nothing_yet, said, tree_of, tree_upon, value_at, with_branch, with_mark, with_merges, within_paths}
+use Rattle.tag_objects.specs.TagLists.{put_tag}
+use Rattle.fast_import.specs.Replays.{Base, BlobMark, CommitMark, Draft, Marked, Replay, begun, blob_named, commit_of, committed, command_step, edited, few_files, first_parent, given_bytes, inline_blob, leaf_of, marked, marked_blob, named_tree, nothing_yet, said, tree_of, tree_upon, value_at, with_branch, with_mark, with_merges, within_paths, TagMark, known, tag_of, tagged}
 use Rattle.state_items.specs.Imported.{has_leaves}
 use Rattle.import_laws.specs.SoundCommands.{IsSound, IsSoundBlob, IsSoundChange, IsSoundFile}
 use Rattle.git_objects.specs.declared.name.Name.{Name}
@@ -60,6 +61,7 @@ each-named P (c ∷ cs) h = (h.0, each-named P cs h.1)
 abbrev pub IsMark : List Bytes → Marked → Type 0
 IsMark pool (BlobMark b) = is_in pool b ≡ true
 IsMark pool (CommitMark n) = Unit
+IsMark pool TagMark = Unit
 
 pub refuse-value : {A E : Type 0} (e : E) (o : Option A) (x : A) → or_refuse e o ≡ Ok x → o ≡ Some x
 refuse-value e None x h = let no-value : Err e ≡ Ok x = h in cc
@@ -76,6 +78,7 @@ mark-in pool n (m ∷ ms) b h e =
     of : (x : Marked) → IsMark pool x → marked_blob x ≡ Some b → is_in pool b ≡ true
     of (BlobMark c) g k = ap (is_in pool) (sym (some-same c b k)) ∙ g
     of (CommitMark c) g k = let no-blob : None ≡ Some b = k in cc
+    of TagMark g k = let no-blob : None ≡ Some b = k in cc
 
 found-in : (p : Bytes → Bool) (xs : List Bytes) (b : Bytes) → find p xs ≡ Some b → is_in xs b ≡ true
 found-in p [] b e = let no-blob : None ≡ Some b = e in cc
@@ -147,6 +150,7 @@ each-mark : (p q : List Bytes) → IsWithin p q → (ms : List (ℕ × Marked)) 
 each-mark p q f [] g = tt
 each-mark p q f ((n, BlobMark b) ∷ ms) g = (f b g.0, each-mark p q f ms g.1)
 each-mark p q f ((n, CommitMark c) ∷ ms) g = (tt, each-mark p q f ms g.1)
+each-mark p q f ((n, TagMark) ∷ ms) g = (tt, each-mark p q f ms g.1)
 
 abbrev pub IfGood : List Bytes → Option Draft → Type 0
 IfGood p None = Unit
@@ -336,4 +340,7 @@ module _ (base : Base) (known_bytes : list_all is_bytes base.blobs ≡ true) (kn
   step-good r q at (commands.Reset refname from) v i e =
       let n = value-of (said base r from) (λ n. Ok (with_branch refname n r)) q e in
       subst (AreGood base) (ok-same (with_branch refname n.value r) q n.rest) (record { bytes = i.bytes; trees = i.trees; marks = i.marks; drafted = i.drafted })
+  step-good r q at (commands.Tag g) v i e =
+      let n = value-of (known base r g.from) (λ n. Ok (tagged g n r)) q e in
+      subst (AreGood base) (ok-same (tagged g n.value r) q n.rest) (mark-good (record r { tags = put_tag (tag_of g n.value) r.tags }) g.mark TagMark (record { bytes = i.bytes; trees = i.trees; marks = i.marks; drafted = i.drafted }) tt)
   step-good r q at commands.Done v i e = subst (AreGood base) (ok-same r q e) i

@@ -38,6 +38,7 @@ IsSmall (commands.Commit h) = nat_le (length h.message) MESSAGE_BYTES ≡ true
 IsSmall (commands.Change c) = IsSmallChange c
 IsSmall commands.CommitEnd = ⊤
 IsSmall (commands.Reset refname from) = ⊤
+IsSmall (commands.Tag h) = nat_le (length h.message) MESSAGE_BYTES ≡ true
 IsSmall commands.Done = ⊤
 
 -- what a reader gives

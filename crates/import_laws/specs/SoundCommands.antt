@@ -9,6 +9,8 @@ use Rattle.path_names.specs.RefNames.{is_ref_name}
 use Rattle.stream_reader.specs.declared.command.Command.{Command}
 use Rattle.stream_reader.specs.declared.command.Command.TheVariants as commands
 use Rattle.stream_reader.specs.declared.command.CommitHead.{CommitHead}
+use Rattle.stream_reader.specs.declared.command.TagHead.{TagHead}
+use Rattle.tag_objects.specs.TagNames.{is_tag_name}
 use Rattle.stream_reader.specs.declared.command.Change.{Change}
 use Rattle.stream_reader.specs.declared.command.Change.TheVariants as changes
 use Rattle.stream_reader.specs.declared.command.BlobRef.{BlobRef}
@@ -47,10 +49,17 @@ pub record IsSoundHead (h : CommitHead) : Type 0 where
   pub committer_bytes : is_bytes h.committer ≡ true
   pub message : is_bytes h.message ≡ true
 
+pub record IsSoundTag (h : TagHead) : Type 0 where
+  pub tag_name : is_tag_name h.name ≡ true
+  pub tagger : is_ident h.tagger ≡ true
+  pub tagger_bytes : is_bytes h.tagger ≡ true
+  pub message : is_bytes h.message ≡ true
+
 abbrev pub IsSound : Command → Type 0
 IsSound (commands.Blob m b) = is_bytes b ≡ true
 IsSound (commands.Commit h) = IsSoundHead h
 IsSound (commands.Change c) = IsSoundChange c
 IsSound commands.CommitEnd = ⊤
 IsSound (commands.Reset refname from) = is_ref_name refname ≡ true
+IsSound (commands.Tag h) = IsSoundTag h
 IsSound commands.Done = ⊤

@@ -1,7 +1,7 @@
 // How the commands of a stream are printed.
 use crate::names::add_bracketed;
 use case_lines::{add_digits, add_path, add_printed};
-use fast_import::{BlobRef, Change, Command, CommitHead, CommitRef, Placed, Target};
+use fast_import::{BlobRef, Change, Command, CommitHead, CommitRef, Placed, TagHead, Target};
 use git_objects::Mode;
 use path_names::Path;
 use std::alloc::AllocError;
@@ -20,6 +20,7 @@ fn add_command(out: &mut String, command: &Command) -> Result<(), AllocError> {
         Command::Change(change) => add_change(out, change),
         Command::CommitEnd => out.push_str("commit end"),
         Command::Reset { refname, from } => add_reset(out, refname.text(), from),
+        Command::Tag(head) => add_tag(out, head),
         Command::Done => out.push_str("done"),
     }
 }
@@ -94,6 +95,24 @@ fn add_parents(out: &mut String, head: &CommitHead) -> Result<(), AllocError> {
         add_ref(out, merge)?;
     }
     Ok(())
+}
+
+// Name, mark, tagger and message, and then the commit.
+fn add_tag(out: &mut String, head: &TagHead) -> Result<(), AllocError> {
+    out.push_str("tag ")?;
+    add_printed(out, head.name.text())?;
+    out.push(' ')?;
+    add_mark(out, head.mark)?;
+    add_tag_texts(out, head)?;
+    out.push(' ')?;
+    add_ref(out, &head.from)
+}
+
+fn add_tag_texts(out: &mut String, head: &TagHead) -> Result<(), AllocError> {
+    out.push(' ')?;
+    add_bracketed(out, head.tagger.bytes())?;
+    out.push(' ')?;
+    add_bracketed(out, head.message.bytes())
 }
 
 fn mode_text(mode: Mode) -> &'static str {

@@ -85,19 +85,40 @@ fn last_line(lines: &String) -> Result<String, AllocError> {
     format!(in alloc; "{last}\n")
 }
 
+/// Whether a reader refuses the command `tag` or reads it.
+#[derive(Clone, Copy)]
+pub enum Tags {
+    Refused,
+    Read,
+}
+
+fn new_reader(alloc: Global, tags: Tags) -> Reader
+    ensures { result.ended ≡ false }
+{
+    match tags {
+        Tags::Refused => Reader::new(alloc),
+        Tags::Read => Reader::tagged(alloc),
+    }
+}
+
 // What is told of a text in pieces of at most so many bytes.
-fn told_in_pieces(alloc: Global, text: &[u8], most: usize) -> Result<String, AllocError>
+fn told_in_pieces(alloc: Global, text: &[u8], most: usize, tags: Tags) -> Result<String, AllocError>
     requires { 0 < most }
 {
     let mut lines = String::new(alloc);
-    add_told_in_pieces(&mut lines, text, most)?;
+    add_told_in_pieces(&mut lines, text, most, tags)?;
     Ok(lines)
 }
 
-fn add_told_in_pieces(lines: &mut String, text: &[u8], most: usize) -> Result<(), AllocError>
+fn add_told_in_pieces(
+    lines: &mut String,
+    text: &[u8],
+    most: usize,
+    tags: Tags,
+) -> Result<(), AllocError>
     requires { 0 < most }
 {
-    let mut reader = Reader::new(*lines.allocator());
+    let mut reader = new_reader(*lines.allocator(), tags);
     if !has_ended(&mut reader, lines, text, most)? {
         reader.end();
         drained(&mut reader, lines)?;
@@ -126,27 +147,39 @@ fn has_ended(
 
 /// Adds what is told of a text that is fed whole, by 7 bytes, and byte by byte: once where it is the same. A text of
 /// more than 10,000 bytes is fed by 1,000 bytes in place of byte by byte.
-pub fn add_told(out: &mut String, text: &[u8]) -> Result<(), Fault> {
-    let whole = told_in_pieces(*out.allocator(), text, usize::MAX)?;
-    add_with_pieces(out, text, whole.as_str()).map_err(Fault::from)
+pub fn add_told(out: &mut String, text: &[u8], tags: Tags) -> Result<(), Fault> {
+    let whole = told_in_pieces(*out.allocator(), text, usize::MAX, tags)?;
+    add_with_pieces(out, text, tags, whole.as_str()).map_err(Fault::from)
 }
 
-fn add_with_pieces(out: &mut String, text: &[u8], whole: &str) -> Result<(), AllocError> {
+fn add_with_pieces(
+    out: &mut String,
+    text: &[u8],
+    tags: Tags,
+    whole: &str,
+) -> Result<(), AllocError> {
     out.push_str(whole)?;
-    add_told_by(out, text, 7, whole)?;
+    add_told_by(out, text, 7, tags, whole)?;
     add_told_by(
         out,
         text,
         if text.len() <= 10_000 { 1 } else { 1000 },
+        tags,
         whole,
     )
 }
 
 // Adds what is told of a text in pieces of at most so many bytes, where it is another than what is told of the whole.
-fn add_told_by(out: &mut String, text: &[u8], most: usize, whole: &str) -> Result<(), AllocError>
+fn add_told_by(
+    out: &mut String,
+    text: &[u8],
+    most: usize,
+    tags: Tags,
+    whole: &str,
+) -> Result<(), AllocError>
     requires { 0 < most }
 {
-    let pieces = told_in_pieces(*out.allocator(), text, most)?;
+    let pieces = told_in_pieces(*out.allocator(), text, most, tags)?;
     add_other(out, "in pieces:\n", pieces.as_str(), whole)
 }
 

@@ -1,4 +1,5 @@
 // What lines of cases ask.
+use crate::reading::Tags;
 use crate::{lexing, names, reading, replays};
 use case_lines::{Answers, Fault, Texts, Word};
 use std::alloc::Global;
@@ -34,7 +35,8 @@ fn add_answer(out: &mut String, texts: &Texts, form: &str, words: &[Word]) -> Re
 // Adds the answer to a line of which only the text matters that its words spell.
 fn add_read(out: &mut String, form: &str, text: &[u8]) -> Result<(), Fault> {
     match form {
-        "stream" => reading::add_told(out, text),
+        "stream" => reading::add_told(out, text, Tags::Refused),
+        "tagged" => reading::add_told(out, text, Tags::Read),
         "more" => reading::add_told_before_the_end(out, text),
         "replay" => replays::add_replayed(out, text),
         form => names::add_read(out, form, text),
