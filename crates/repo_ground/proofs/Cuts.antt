@@ -7,8 +7,9 @@ use Rattle.git_objects.specs.Paths.{Bytes}
 use Rattle.object_store.specs.Objects.{Object}
 use Rattle.git_objects.specs.Refs.{Refs}
 use Rattle.proj_io.specs.Stops.{IsBeforeOrAfter}
-use Rattle.state_items.specs.Changes.{NoPlan, Plan, passed, plan_items, plan_of}
-use Rattle.state_items.specs.Items.{Held}
+use Rattle.state_items.specs.Changes.{NoPlan, Plan, passed, plan_items}
+use Rattle.state_items.specs.Items.{Held, tagged_change_text, text_with}
+use Rattle.tag_objects.specs.declared.tag.Tag.{Tag}
 use Rattle.proj_io.specs.declared.keeper.KeepError.{KeepError}
 use Rattle.proj_io.specs.declared.keeper.KeepError.TheVariants.{Failed, OutOfMemory as NoMemory}
 use Rattle.repo_ground.specs.Changes.{Appends, GetsItems, IsAppended, IsCommitted, IsRefusal, IsRefused, IsStopOf, KeepsItems, keep_error, keep_error_result}
@@ -67,6 +68,8 @@ draft-committed h p s after d m w = record {
       entries = w.spells.entries;
       few = w.spells.few;
       rule = w.spells.rule;
+      tags = w.spells.tags;
+      rising = w.spells.rising;
     };
     number = ap (λ (x : Contents). x.number + 1) m.same ∙ ap (λ (k : ℕ). s.number + k) (sym w.one);
     size = ap (λ (x : Contents). x.size + d.size) m.same ∙ ap (λ (k : ℕ). s.size + k) w.size;
@@ -175,13 +178,11 @@ pub refusal-memory : (e : KeepError) → IsRefusal (Err (keep_error e)) → e �
 refusal-memory Failed q = absurd q
 refusal-memory NoMemory q = refl
 
-first : List Bytes → Bytes
-first [] = []
-first (x ∷ xs) = x
+pub tagged-some : (os : List Object) (rs : Refs) (ts : List Tag) → 0 < length (tagged_change_text os rs ts)
+unfolding tagged_change_text
+tagged-some os rs ts = omega arith
 
 -- the item of a change has bytes
-pub change-some : (os : List Object) (rs : Refs) (t : Bytes) → plan_items (plan_of os rs) ≡ t ∷ [] → 0 < length t
-unfolding first
-change-some [] [] t e = cc
-change-some [] (r ∷ rs) t e = subst (λ (x : Bytes). 0 < length x) (ap first e) (item-some [] (r ∷ rs))
-change-some (o ∷ os) rs t e = subst (λ (x : Bytes). 0 < length x) (ap first e) (item-some (o ∷ os) rs)
+pub text-some : (os : List Object) (rs : Refs) (ts : List Tag) → 0 < length (text_with os rs ts)
+text-some os rs [] = item-some os rs
+text-some os rs (t ∷ ts) = tagged-some os rs (t ∷ ts)

@@ -47,6 +47,8 @@ spells-grown h s g newer added w t above e graph rule =
       entries = λ text rule n r. ap (λ (kept : Entries). kept_at n (entries_by s text rule kept)) same ∙ w.entries text rule n r;
       few = omega (arith, long, few);
       rule = ap rule_number rule ∙ w.rule;
+      tags = w.tags;
+      rising = w.rising;
     }
 
 -- ---- the ground

@@ -97,6 +97,8 @@ holds-piece h v w e g = subst (λ (x : Gathered). Holds h x) (sym e) (record {
   heads = g.heads;
   kept = g.kept;
   rule = g.rule;
+  tags = g.tags;
+  rising = g.rising;
 })
 
 -- the piece was read as an item

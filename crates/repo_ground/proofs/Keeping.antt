@@ -21,13 +21,14 @@ use Rattle.git_objects.specs.Paths.{Bytes, same_bytes}
 use Rattle.git_objects.proofs.Basics.{same_bytes-back}
 use Rattle.commit_graph.specs.Graphs.{Row, place_of}
 use Rattle.commit_map.specs.Shown.{Entries, Shown, entry_value, entry_values, kept_at}
-use Rattle.state_items.specs.Changes.{ChangePlan, KeepPlan, NoPlan, Plan, RulePlan, held_after, passed, plan_items}
+use Rattle.state_items.specs.Changes.{ChangePlan, KeepPlan, NoPlan, Plan, RulePlan, TagPlan, held_after, passed, plan_items}
 use Rattle.state_items.specs.Items.{Held, entry_text, is_canonical, is_rule, kept_text, result_text, rule_text}
 use Rattle.state_items.specs.KeptMaps.{entries_at, entries_for}
 use Rattle.state_items.proofs.Canonicals.{canonical-law}
 use Rattle.state_items.proofs.KeptHeld.{entries-behind}
 use Rattle.state_items.proofs.RowsHeld.{rows-number, some-place}
 use Rattle.repo_ground.specs.Changes.{IsCommitted}
+use Rattle.repo_ground.proofs.Cuts.{tagged-some}
 use Rattle.repo_ground.specs.Contents.{Contents, Spells, entries_in, is_selected, room_in}
 use Rattle.repo_ground.specs.Keeping.{AreNamed, AreOfGraph, keep_plan, may_keep, new_entries, new_entry, news, unheld}
 
@@ -128,6 +129,8 @@ module _ (h : Held) (s : Contents) (text : Bytes) (n : ℕ) (w : Spells h s) (g 
     entries = entries-kept;
     few = omega arith;
     rule = w.rule;
+    tags = w.tags;
+    rising = w.rising;
   }
 
 -- ---- entries behind those that are kept
@@ -230,6 +233,7 @@ plan-some NoPlan t e = cc
 plan-some (ChangePlan os rs) t e = subst (λ (x : Bytes). 0 < length x) (ap first e) (item-some os rs)
 plan-some (RulePlan k) t e = subst (λ (x : Bytes). 0 < length x) (ap first e) (let q : 0 < length (rule_text k) = omega arith in q)
 plan-some (KeepPlan k text es) t e = subst (λ (x : Bytes). 0 < length x) (ap first e) (kept-some k text es)
+plan-some (TagPlan os rs ts) t e = subst (λ (x : Bytes). 0 < length x) (ap first e) (tagged-some os rs ts)
 
 some-entries : (es : Entries) → length es ≤ length (flat_map entry_text es)
 some-entries [] = omega arith

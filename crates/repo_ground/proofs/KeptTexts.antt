@@ -11,7 +11,7 @@ use Rattle.git_objects.specs.declared.kind.Kind.TheVariants.{Commit}
 use Rattle.git_objects.proofs.Basics.{and_both}
 use Rattle.object_store.specs.Objects.{Object, has}
 use Rattle.state_items.specs.Fields.{Spot, BrokenAt, ended, field, number, start}
-use Rattle.state_items.specs.Items.{ChangeItem, Held, ItemKind, Kept, KeptItem, OldKeptItem, RuleItem, change_part, ended_with, entries_field, entry_field, is_canonical, is_of, item_fits, item_kind_field, kept_part, nothing, objects_field, part, read_from, read_item, read_items, read_one, refs_field, result_field, rule_field, text_field}
+use Rattle.state_items.specs.Items.{ChangeItem, Held, ItemKind, Kept, KeptItem, OldKeptItem, RuleItem, TagItem, change_part, ended_with, entries_field, entry_field, is_canonical, is_of, item_fits, item_kind_field, kept_part, nothing, objects_field, part, read_from, read_item, read_items, read_one, refs_field, result_field, rule_field, tag_part, tags_field, text_field}
 use Rattle.state_items.specs.KeptMaps.{entries_for, is_for}
 use Rattle.state_items.proofs.ReadObjects.{front-same, must-hold, ok-same, value-of}
 use Rattle.std.specs.declared.option.Option.TheVariants.{None}
@@ -64,6 +64,18 @@ change-kept h g s a e =
     let last : Held = record h { objects = o.value.0; refs = r.value.0 } in
     ended-kept last g r.value.1 a r.rest
 
+tag-kept : (h g : Held) (s : Spot) → AreCanonical h.kept → tag_part h s ≡ Ok g → AreCanonical g.kept
+tag-kept h g s a e =
+    let n = value-of (number 4 s)
+    (λ n. objects_field n.0 h.objects n.1 >>= λ o. number 4 o.1 >>= λ m. refs_field m.0 o.0 None h.refs m.1 >>= λ r. number 4 r.1 >>= λ k. tags_field k.0 o.0 None h.tags k.1 >>= λ x. ended_with (record h { objects = o.0; refs = r.0; tags = x.0 }) x.1) g e in
+    let o = value-of (objects_field n.value.0 h.objects n.value.1) (λ o. number 4 o.1 >>= λ m. refs_field m.0 o.0 None h.refs m.1 >>= λ r. number 4 r.1 >>= λ k. tags_field k.0 o.0 None h.tags k.1 >>= λ x. ended_with (record h { objects = o.0; refs = r.0; tags = x.0 }) x.1) g n.rest in
+    let m = value-of (number 4 o.value.1) (λ m. refs_field m.0 o.value.0 None h.refs m.1 >>= λ r. number 4 r.1 >>= λ k. tags_field k.0 o.value.0 None h.tags k.1 >>= λ x. ended_with (record h { objects = o.value.0; refs = r.0; tags = x.0 }) x.1) g o.rest in
+    let r = value-of (refs_field m.value.0 o.value.0 None h.refs m.value.1) (λ r. number 4 r.1 >>= λ k. tags_field k.0 o.value.0 None h.tags k.1 >>= λ x. ended_with (record h { objects = o.value.0; refs = r.0; tags = x.0 }) x.1) g m.rest in
+    let k = value-of (number 4 r.value.1) (λ k. tags_field k.0 o.value.0 None h.tags k.1 >>= λ x. ended_with (record h { objects = o.value.0; refs = r.value.0; tags = x.0 }) x.1) g r.rest in
+    let x = value-of (tags_field k.value.0 o.value.0 None h.tags k.value.1) (λ x. ended_with (record h { objects = o.value.0; refs = r.value.0; tags = x.0 }) x.1) g k.rest in
+    let last : Held = record h { objects = o.value.0; refs = r.value.0; tags = x.value.0 } in
+    ended-kept last g x.value.1 a x.rest
+
 kept-kept : (h g : Held) (rule : ℕ) (s : Spot) → AreCanonical h.kept → kept_part h rule s ≡ Ok g → AreCanonical g.kept
 kept-kept h g rule s a e =
     let t = value-of (text_field s) (λ t. number 4 t.1 >>= λ n. entries_field n.0 h.objects t.0 rule h.kept n.1 >>= λ kept. ended_with (record h { kept = kept.0 }) kept.1) g e in
@@ -78,6 +90,7 @@ part-kept h g OldKeptItem s a e = kept-kept h g 1 s a e
 part-kept h g KeptItem s a e = let k = value-of (rule_field s) (λ k. kept_part h k.0 k.1) g e in kept-kept h g k.value.0 k.value.1 a k.rest
 part-kept h g RuleItem s a e =
     let k = value-of (rule_field s) (λ k. ended_with (record h { rule = k.0 }) k.1) g e in ended-kept (record h { rule = k.value.0 }) g k.value.1 a k.rest
+part-kept h g TagItem s a e = tag-kept h g s a e
 
 item-kept : (h g : Held) (item : Bytes) → AreCanonical h.kept → read_item h item ≡ Ok g → AreCanonical g.kept
 unfolding read_item

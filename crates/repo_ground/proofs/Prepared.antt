@@ -26,16 +26,19 @@ use Rattle.projection_ground.specs.Grounds.{IsGround}
 use Rattle.projection_ground.specs.TrueMaps.{AreTrueMaps}
 use Rattle.projection_ground.proofs.TrueEntries.{rows-newer}
 use Rattle.state_items.specs.Arrivals.{AreHeld, AreNamed}
-use Rattle.state_items.specs.Appending.{IsAddition}
-use Rattle.state_items.specs.Changes.{ChangePlan, NoPlan, Plan, fresh, held_after, moved, objects_of, or_else, passed, passed_by_item, passed_by_objects, plan_items, with_refs}
-use Rattle.state_items.specs.Items.{Held, change_text, has_room}
+use Rattle.tag_objects.specs.TagLists.{changed, with_tags}
+use Rattle.tag_objects.specs.declared.tag.Tag.{Tag}
+use Rattle.tag_objects.proofs.TagLists.{with_rises}
+use Rattle.state_items.specs.Changes.{NoPlan, fresh, held_after, moved, objects_of, or_else, passed, passed_by_item, passed_by_items, passed_by_objects, plan_items, plan_with, with_refs}
+use Rattle.state_items.specs.Items.{Held, has_room, text_with}
 use Rattle.state_items.specs.Writings.{found}
 use Rattle.state_items.proofs.Limits.{change-law}
 use Rattle.state_items.proofs.Naming.{names-number}
+use Rattle.state_items.proofs.TagPlans.{plan-parts}
 use Rattle.state_items.proofs.TreeParts.{all-each}
-use Rattle.repo_ground.specs.Changes.{AreNamedIn, IsBatchOf, batch_plan, settings_of}
+use Rattle.repo_ground.specs.Changes.{AreNamedIn, IsBatchOf, settings_of, tagged_batch_plan}
 use Rattle.repo_ground.specs.Contents.{Contents, Spells, room_in}
-use Rattle.repo_ground.specs.Drafting.{HasMore, IsDraft, IsNoDraft, IsSizeOf, passed_with}
+use Rattle.repo_ground.specs.Drafting.{HasMore, IsDraft, IsNoDraft, IsSizeOf, passed_with, tags_in}
 use Rattle.repo_ground.specs.Entering.{IsFront, with_all}
 use Rattle.state_items.specs.Growing.{grown}
 use Rattle.state_items.proofs.Growing.{grown-fresh}
@@ -52,7 +55,7 @@ use Rattle.repo_ground.proofs.MovedRefs.{moves-same, heads-after, heads-distinct
 use Rattle.repo_ground.proofs.RowsBehind.{rows-behind}
 use Rattle.repo_ground.proofs.RowsGround.{rows_ground}
 use Rattle.repo_ground.proofs.Rules.{MayAppend, commits-number, may-append}
-use Rattle.repo_ground.proofs.Cuts.{change-some}
+use Rattle.repo_ground.proofs.Cuts.{text-some}
 
 -- ---- numbers
 
@@ -114,6 +117,30 @@ nil-none (x ∷ xs) e = absurd (true≢false (sym e))
 pub append-none : {A : Type 0} (xs : List A) → xs ++ [] ≡ xs
 append-none [] = refl
 append-none (x ∷ xs) = ap (λ (t : List _). x ∷ t) (append-none xs)
+
+-- ---- plans
+
+plan-none : (f : List Object) (m : Refs) (c : List Tag) → (is_nil f && is_nil m && is_nil c) ≡ true → plan_with f m c ≡ NoPlan
+plan-none [] [] [] e = refl
+plan-none [] [] (x ∷ c) e = absurd (true≢false (sym e))
+plan-none [] (y ∷ m) c e = absurd (true≢false (sym e))
+plan-none (o ∷ f) m c e = absurd (true≢false (sym e))
+
+plan-item : (f : List Object) (m : Refs) (c : List Tag) → (is_nil f && is_nil m && is_nil c) ≡ false → plan_items (plan_with f m c) ≡ text_with f m c ∷ []
+plan-item [] [] [] e = absurd (true≢false e)
+plan-item [] [] (x ∷ c) e = refl
+plan-item [] (y ∷ m) [] e = refl
+plan-item [] (y ∷ m) (x ∷ c) e = refl
+plan-item (o ∷ f) m [] e = refl
+plan-item (o ∷ f) m (x ∷ c) e = refl
+
+plan-held : (h : Held) (f : List Object) (m : Refs) (c : List Tag) → held_after h (plan_with f m c) ≡ record h { objects = reverse f ++ h.objects; refs = with_refs h.refs m; tags = with_tags h.tags c }
+plan-held h [] [] [] = refl
+plan-held h [] [] (x ∷ c) = refl
+plan-held h [] (y ∷ m) [] = refl
+plan-held h [] (y ∷ m) (x ∷ c) = refl
+plan-held h (o ∷ f) m [] = refl
+plan-held h (o ∷ f) m (x ∷ c) = refl
 
 -- ---- what is held in addition
 
@@ -190,17 +217,17 @@ module _ (h : Held) (s : Contents) (b : Batch) (blobs : List Bytes) (cs : List S
 
   -- ---- the plan
 
-  pub some-plan : (is_nil fs && is_nil ms) ≡ false → batch_plan h b blobs cs ≡ ChangePlan fs ms
-  some-plan e = ap (λ t. cond t NoPlan (ChangePlan fs ms)) e
+  abbrev news : List Tag → List Tag
+  news ts = changed h.tags ts
 
-  pub no-plan : (is_nil fs && is_nil ms) ≡ true → batch_plan h b blobs cs ≡ NoPlan
-  no-plan e = ap (λ t. cond t NoPlan (ChangePlan fs ms)) e
+  abbrev after : List Tag → Held
+  after ts = record h { objects = reverse fs ++ H; refs = with_refs h.refs ms; tags = with_tags h.tags (news ts) }
 
   -- the state that has what the plan says
-  pub spells-after : (names new known : List Name) (graph : List Row) → batch_plan h b blobs cs ≡ ChangePlan fs ms → AreNews h s fs names new → AreHeld (reverse fs ++ H) new graph known
-      → Spells (held_after h (ChangePlan fs ms)) (record s { basis = record s.basis { graph = graph }; refs = with_heads s.refs ms; blobs = map name_bytes known; names = map name_bytes new })
-  spells-after names new known graph e n a =
-      let add : IsAddition h (ChangePlan fs ms) = subst (IsAddition h) e (change-law h blobs cs (settings_of b) w.brought w.small w.refs) in
+  pub spells-after : (ts : List Tag) (names new known : List Name) (graph : List Row) → AreNews h s fs names new → AreHeld (reverse fs ++ H) new graph known
+      → Spells (after ts) (record s { basis = record s.basis { graph = graph }; refs = with_heads s.refs ms; blobs = map name_bytes known; names = map name_bytes new; tags = with_tags s.tags (news ts) })
+  spells-after ts names new known graph n a =
+      let refs = (plan-parts h fs ms (change-law h blobs cs (settings_of b) w.brought w.small w.refs)).1 in
       let u = w.spells in
       record {
         store = a.whole;
@@ -211,10 +238,12 @@ module _ (h : Held) (s : Contents) (b : Batch) (blobs : List Bytes) (cs : List S
         known = a.known;
         distinct = heads-distinct s.refs ms u.distinct;
         refs = heads-sorted s.refs ms u.distinct ∙ ap (λ (m : Refs). with_refs m ms) u.refs;
-        heads = heads-after H (reverse fs) ms h.refs add.1 u.heads;
+        heads = heads-after H (reverse fs) ms h.refs refs u.heads;
         entries = u.entries;
         few = u.few;
         rule = u.rule;
+        tags = ap (λ (us : List Tag). with_tags us (news ts)) u.tags;
+        rising = with_rises (news ts) h.tags u.rising;
       }
 
   pub ground-after : (names new known : List Name) (graph : List Row) → IsGround s.basis → AreNews h s fs names new → AreHeld (reverse fs ++ H) new graph known → IsGround (record s.basis { graph = graph })
@@ -231,79 +260,82 @@ module _ (h : Held) (s : Contents) (b : Batch) (blobs : List Bytes) (cs : List S
             (rows-newer S s.basis.graph behind.0 s.basis.true_maps (subst (IsGraphIn S) rows in_store) g.maps);
       }
 
-  module _ (names new : List Name) (n : AreNews h s fs names new) (rs : Refs) (re : rs ≡ filter (moves_in s.refs) (settings_of b)) where
+  module _ (ts : List Tag) (names new : List Name) (n : AreNews h s fs names new) (rs : Refs) (re : rs ≡ filter (moves_in s.refs) (settings_of b)) (ns : List Tag) (ne : ns ≡ changed s.tags ts) where
     pub refs-are : rs ≡ ms
     refs-are = re ∙ moves-same s.refs h.refs (settings_of b) w.spells.distinct w.spells.refs w.sorted
 
-    says : (is_nil names && is_nil rs) ≡ (is_nil fs && is_nil ms)
-    says = λ i. nils names fs n.fresh.number i && is_nil (refs-are i)
+    pub tags-are : ns ≡ news ts
+    tags-are = ne ∙ ap (λ (us : List Tag). changed us ts) w.spells.tags
 
-    pub something-new : (is_nil names && is_nil rs) ≡ false → batch_plan h b blobs cs ≡ ChangePlan fs ms
-    something-new e = some-plan (sym says ∙ e)
+    abbrev text : Bytes
+    text = text_with (found S names) rs ns
 
-    pub nothing-new : (old : List Name) → new ≡ old ++ names → (is_nil names && is_nil rs) ≡ true → (batch_plan h b blobs cs ≡ NoPlan) × (new ≡ old)
-    nothing-new old f e = (no-plan (sym says ∙ e), f ∙ ap (λ (t : List Name). old ++ t) (nil-none names (first_so (is_nil names) _ e)) ∙ append-none old)
+    text-is : text ≡ text_with fs ms (news ts)
+    text-is = λ i. text_with (n.fresh.found i) (refs-are i) (tags-are i)
 
-    -- the item, as it was worked out
-    pub item-is : batch_plan h b blobs cs ≡ ChangePlan fs ms → plan_items (batch_plan h b blobs cs) ≡ change_text (found S names) rs ∷ []
-    item-is e = ap plan_items e ∙ ap (λ (t : Bytes). t ∷ []) (sym (λ i. change_text (n.fresh.found i) (refs-are i)))
+    says : (is_nil names && is_nil rs && is_nil ns) ≡ (is_nil fs && is_nil ms && is_nil (news ts))
+    says = λ i. nils names fs n.fresh.number i && is_nil (refs-are i) && is_nil (tags-are i)
 
-    -- the limits, as they were worked out
-    pub passed-is : (text : Bytes) → batch_plan h b blobs cs ≡ ChangePlan fs ms → text ≡ change_text (found S names) rs
-        → passed h (room_in s) (batch_plan h b blobs cs) ≡ passed_with (reverse fs ++ H) s.number s.size text
-    passed-is text e f =
-        ap (passed h (room_in s)) e
-        ∙ ap (λ (x : Bytes). passed_with (reverse fs ++ H) s.number s.size x) (sym (f ∙ (λ i. change_text (n.fresh.found i) (refs-are i))))
+    pub nothing-new : (old : List Name) → new ≡ old ++ names → (is_nil names && is_nil rs && is_nil ns) ≡ true → (tagged_batch_plan h b blobs cs ts ≡ NoPlan) × (new ≡ old)
+    nothing-new old f e =
+        (plan-none fs ms (news ts) (sym says ∙ e), f ∙ ap (λ (t : List Name). old ++ t) (nil-none names (first_so (is_nil names) _ (first_so (is_nil names && is_nil rs) _ e))) ∙ append-none old)
 
-    pub no-draft-is : (q : Quantity) → batch_plan h b blobs cs ≡ ChangePlan fs ms → IsSizeOf (passed_with (reverse fs ++ H) s.number s.size (change_text (found S names) rs)) (change_text (found S names) rs) (Err q)
-        → IsNoDraft h (batch_plan h b blobs cs) s (Limit q)
-    no-draft-is q e made = passed-is (change_text (found S names) rs) e refl ∙ made
+    module _ (some : (is_nil names && is_nil rs && is_nil ns) ≡ false) where
+      -- the item, as it was worked out
+      pub item-is : plan_items (tagged_batch_plan h b blobs cs ts) ≡ text ∷ []
+      item-is = plan-item fs ms (news ts) (sym says ∙ some) ∙ ap (λ (t : Bytes). t ∷ []) (sym text-is)
 
-    pub draft-is : (known : List Name) (graph : List Row) (d : Draft) → IsGround s.basis → AreHeld (reverse fs ++ H) new graph known → batch_plan h b blobs cs ≡ ChangePlan fs ms
-        → passed_with (reverse fs ++ H) s.number s.size (change_text (found S names) rs) ≡ None → d.size ≡ length (change_text (found S names) rs) → d.refs ≡ with_heads s.refs rs
-        → IsDraft h (batch_plan h b blobs cs) s (record s { basis = record s.basis { graph = graph }; blobs = map name_bytes known; names = map name_bytes new }) d
-    draft-is known graph d g a e fits size refs = record {
-      fits = passed-is (change_text (found S names) rs) e refl ∙ fits;
-      one = ap length (item-is e);
-      room =
-          let may = may-append (reverse fs ++ H) (room_in s) (change_text (found S names) rs) fits in
-          (may.items, subst (λ (k : ℕ). s.size + k ≤ STORE_BYTES) (sym size) may.store);
-      size =
-          size
-          ∙ (let q : length (change_text (found S names) rs) ≡ sum_by length (change_text (found S names) rs ∷ []) = omega arith in q)
-          ∙ ap (sum_by length) (sym (item-is e));
-      spells =
-          subst (λ (p : Plan). Spells (held_after h p) (record s { basis = record s.basis { graph = graph }; refs = d.refs; blobs = map name_bytes known; names = map name_bytes new })) (sym e)
-          (subst (λ (r : Refs). Spells (held_after h (ChangePlan fs ms)) (record s { basis = record s.basis { graph = graph }; refs = r; blobs = map name_bytes known; names = map name_bytes new }))
-          (sym (refs ∙ ap (with_heads s.refs) refs-are)) (spells-after names new known graph e n a));
-      ground = ground-after names new known graph g n a;
-    }
+      -- the limits, as they were worked out
+      pub passed-is : passed h (room_in s) (tagged_batch_plan h b blobs cs ts) ≡ passed_with (reverse fs ++ H) s.number s.size text
+      passed-is = (λ i. passed_by_items (room_in s) (plan-held h fs ms (news ts) i).objects (item-is i))
+
+      pub no-draft-is : (q : Quantity) → IsSizeOf (passed_with (reverse fs ++ H) s.number s.size text) text (Err q) → IsNoDraft h (tagged_batch_plan h b blobs cs ts) s (Limit q)
+      no-draft-is q made = passed-is ∙ made
+
+      pub draft-is : (known : List Name) (graph : List Row) (d : Draft) → IsGround s.basis → AreHeld (reverse fs ++ H) new graph known
+          → passed_with (reverse fs ++ H) s.number s.size text ≡ None → d.size ≡ length text → d.refs ≡ with_heads s.refs rs → tags_in s.tags d.tags ≡ with_tags s.tags ns
+          → IsDraft h (tagged_batch_plan h b blobs cs ts) s (record s { basis = record s.basis { graph = graph }; blobs = map name_bytes known; names = map name_bytes new }) d
+      draft-is known graph d g a fits size refs tags = record {
+        fits = passed-is ∙ fits;
+        one = ap length item-is;
+        room =
+            let may = may-append (reverse fs ++ H) (room_in s) text fits in
+            (may.items, subst (λ (k : ℕ). s.size + k ≤ STORE_BYTES) (sym size) may.store);
+        size =
+            size
+            ∙ (let q : length text ≡ sum_by length (text ∷ []) = omega arith in q)
+            ∙ ap (sum_by length) (sym item-is);
+        spells =
+            subst (λ (k : Held). Spells k (record s { basis = record s.basis { graph = graph }; refs = d.refs; blobs = map name_bytes known; names = map name_bytes new; tags = tags_in s.tags d.tags })) (sym (plan-held h fs ms (news ts)))
+            (subst (λ (r : Refs × List Tag). Spells (after ts) (record s { basis = record s.basis { graph = graph }; refs = r.0; blobs = map name_bytes known; names = map name_bytes new; tags = r.1 }))
+            (λ i. (sym (refs ∙ ap (with_heads s.refs) refs-are) i, sym (tags ∙ ap (with_tags s.tags) tags-are) i)) (spells-after ts names new known graph n a));
+        ground = ground-after names new known graph g n a;
+      }
 
 -- ---- what is appended
 
 -- a batch's item, which passes no limit
-pub record IsItem (h : Held) (s : Contents) (b : Batch) (blobs : List Bytes) (cs : List Snapshot) (text : Bytes) : Type 0 where
-  pub fits : passed h (room_in s) (batch_plan h b blobs cs) ≡ None
-  pub item : plan_items (batch_plan h b blobs cs) ≡ text ∷ []
+pub record IsItem (h : Held) (s : Contents) (b : Batch) (blobs : List Bytes) (cs : List Snapshot) (ts : List Tag) (text : Bytes) : Type 0 where
+  pub fits : passed h (room_in s) (tagged_batch_plan h b blobs cs ts) ≡ None
+  pub item : plan_items (tagged_batch_plan h b blobs cs ts) ≡ text ∷ []
   pub some : 0 < length text
   pub may : MayAppend (room_in s) text
 
-module _ (h : Held) (s : Contents) (b : Batch) (blobs : List Bytes) (cs : List Snapshot) (w : IsBatchOf h s b blobs cs) (t : IsStore s.basis.store) (old new names : List Name) where
+module _ (h : Held) (s : Contents) (b : Batch) (blobs : List Bytes) (cs : List Snapshot) (w : IsBatchOf h s b blobs cs) (t : IsStore s.basis.store) (old new names : List Name) (ts : List Tag) where
   abbrev T : List Object
   T = reverse (fresh h.objects (objects_of blobs cs)) ++ h.objects
 
   pub item-of : s.names ≡ map name_bytes old → (IsReady s.basis.store old (objects_of blobs cs) → IsStep s.basis.store old new (objects_of blobs cs) []) → Extends old new → names ≡ drop (length old) new
-      → (read : List Object) (rs : Refs) (size : ℕ) → read ≡ found s.basis.store names → rs ≡ filter (moves_in s.refs) (settings_of b) → (is_nil names && is_nil rs) ≡ false
-      → ((all : List Object) → length s.basis.graph + length (filter is_commit read) ≡ length (filter is_commit all) → length new ≡ length all → IsSizeOf (passed_with all s.number s.size (change_text read rs)) (change_text read rs) (Ok size))
-      → IsItem h s b blobs cs (change_text read rs)
-  item-of own step ext en read rs size re me some sized =
+      → (read : List Object) (rs : Refs) (ns : List Tag) (size : ℕ) → read ≡ found s.basis.store names → rs ≡ filter (moves_in s.refs) (settings_of b) → ns ≡ changed s.tags ts → (is_nil names && is_nil rs && is_nil ns) ≡ false
+      → ((all : List Object) → length s.basis.graph + length (filter is_commit read) ≡ length (filter is_commit all) → length new ≡ length all → IsSizeOf (passed_with all s.number s.size (text_with read rs ns)) (text_with read rs ns) (Ok size))
+      → IsItem h s b blobs cs ts (text_with read rs ns)
+  item-of own step ext en read rs ns size re me ne some sized =
       let n = news-of h s b blobs cs w t old new names own step ext en in
-      let plan = something-new h s b blobs cs w t names new n rs me some in
       let made = sized T (ap (λ (xs : List Object). length s.basis.graph + length (filter is_commit xs)) re ∙ n.commits) n.objects in
-      let item : plan_items (batch_plan h b blobs cs) ≡ change_text read rs ∷ [] = item-is h s b blobs cs w t names new n rs me plan ∙ ap (λ (xs : List Object). change_text xs rs ∷ []) (sym re) in
+      let same : text_with (found s.basis.store names) rs ns ≡ text_with read rs ns = ap (λ (xs : List Object). text_with xs rs ns) (sym re) in
       record {
-        fits = passed-is h s b blobs cs w t names new n rs me (change_text read rs) plan (ap (λ (xs : List Object). change_text xs rs) re) ∙ made.0;
-        item = item;
-        some = change-some (fresh h.objects (objects_of blobs cs)) (moved h.refs (settings_of b)) (change_text read rs) item;
-        may = may-append T (room_in s) (change_text read rs) made.0;
+        fits = passed-is h s b blobs cs w t ts names new n rs me ns ne some ∙ ap (λ (x : Bytes). passed_with T s.number s.size x) same ∙ made.0;
+        item = item-is h s b blobs cs w t ts names new n rs me ns ne some ∙ ap (λ (x : Bytes). x ∷ []) same;
+        some = text-some read rs ns;
+        may = may-append T (room_in s) (text_with read rs ns) made.0;
       }

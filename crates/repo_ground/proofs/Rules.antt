@@ -76,6 +76,8 @@ spells-rule h s r w = record {
   entries = w.entries;
   few = w.few;
   rule = refl;
+  tags = w.tags;
+  rising = w.rising;
 }
 
 -- another rule is set, and the map that was selected is put away

@@ -1,20 +1,16 @@
 -- Filters that are selected, and maps that are put back.
-use Rattle.std.proofs.Common.{◌≡◌, ◌&&◌, ℕ, Bool, true, false, cond, [], length, take, Option, Some, None, is_some, refl, sym, ap, subst₂, ◌∙◌, arith, true≢false, inl, inr}
+use Rattle.std.proofs.Common.{◌≡◌, ◌&&◌, ℕ, Bool, true, false, cond, [], take, Option, Some, None, is_some, refl, sym, ap, subst₂, ◌∙◌, true≢false}
 use Rattle.std.specs.Prelude.{◌==◌}
 use Rattle.std.specs.Option.{unwrap_or}
-use Rattle.std.proofs.lemmas.Bool.{eqb-true, eq-eqb}
-use Rattle.std.proofs.lemmas.List.{take_all}
+use Rattle.std.proofs.lemmas.Bool.{eqb-true}
 use Rattle.std.specs.Cmp.Lexicographic.{bytes_decides}
 use Rattle.git_objects.specs.Paths.{Bytes, same_bytes}
-use Rattle.git_objects.proofs.Basics.{same_bytes-self}
 use Rattle.commit_map.specs.Rules.{rule_number}
 use Rattle.commit_map.specs.Shown.{Entries, kept_at}
-use Rattle.state_items.specs.Items.{Held, is_rule}
-use Rattle.state_items.specs.KeptMaps.{RuleMaps, entries_at, entries_for, map_of, maps_by, with_map_by}
+use Rattle.state_items.specs.Items.{is_rule}
+use Rattle.state_items.specs.KeptMaps.{RuleMaps, entries_at, map_of, maps_by, with_map_by}
 use Rattle.state_items.proofs.MapsKept.{entries-set, map-stays, map-there}
 use Rattle.repo_ground.specs.Choices.{HasMap, HasPlace, Selection, entries_beside, maps_in, rested, selected_in, with_place}
-use Rattle.repo_ground.specs.Contents.{Contents, Spells, is_selected}
-use Rattle.repo_ground.specs.Selecting.{IsPutAway, IsSelected}
 use Rattle.repo_ground.proofs.MapFronts.{rule-known}
 use Rattle.repo_ground.specs.declared.filter_maps.Choice.{Choice}
 use Rattle.repo_ground.specs.declared.filter_maps.Choice.TheVariants.{Free, Chosen, Resting}

@@ -61,6 +61,7 @@ pub record IsReadInto (v : Gathered) (s : Contents) : Type 0 where
   pub refs : s.refs ≡ v.refs
   pub maps : s.maps ≡ v.maps
   pub rule : rule_number s.basis.rule ≡ v.rule
+  pub tags : s.tags ≡ v.tags
   pub none : s.selected ≡ None
   pub kept : s.kept ≡ 0
 
@@ -84,6 +85,8 @@ spells-read h v s r g =
           ∙ g.kept text rule k);
       few = omega (arith, r.kept);
       rule = r.rule ∙ g.rule;
+      tags = r.tags ∙ g.tags;
+      rising = g.rising;
     }
 
 true-nothing : (S : List Object) (memo : Memo) → memo.entries ≡ [] → AreTrueFor S [] memo

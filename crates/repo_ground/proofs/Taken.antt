@@ -48,6 +48,8 @@ module _ (h : Held) (s : Contents) (b : Batch) (blobs : List Bytes) (cs : List S
           entries = u.entries;
           few = u.few;
           rule = u.rule;
+          tags = u.tags;
+          rising = u.rising;
         };
         ground = ground-after h s b blobs cs w t names new known graph g n a;
         same = refl;

@@ -1,6 +1,6 @@
 -- What comes of a plan that is to be appended.
 use Rattle.std.specs.FinMap.{is_sorted}
-use Rattle.std.specs.Prelude.{◌≡◌, ◌≢◌, ◌⊎◌, ◌+◌, ⊤, T, List, [], ◌∷◌, ◌++◌, length, map, sum_by, Option, None, Some, Result, Ok, Err}
+use Rattle.std.specs.Prelude.{◌≡◌, ◌≢◌, ◌⊎◌, ◌+◌, ⊤, T, true, List, [], ◌∷◌, ◌++◌, length, map, sum_by, Option, None, Some, Result, Ok, Err}
 use Rattle.git_objects.specs.Paths.{Bytes}
 use Rattle.git_objects.specs.Refs.{Refs, bytes_cmp}
 use Rattle.git_objects.specs.Snapshots.{Snapshot}
@@ -16,7 +16,9 @@ use Rattle.proj_io.specs.declared.keeper.KeepError.TheVariants.{Failed, OutOfMem
 use Rattle.projection_laws.specs.StoredGraphs.{snapshot_named}
 use Rattle.state_items.specs.Items.{Held}
 use Rattle.state_items.specs.Repos.{repo}
-use Rattle.state_items.specs.Changes.{Plan, change_plan, held_after, objects_of, passed, plan_items}
+use Rattle.tag_objects.specs.declared.tag.Tag.{Tag}
+use Rattle.state_items.specs.Appending.{are_tags}
+use Rattle.state_items.specs.Changes.{Plan, change_plan, held_after, objects_of, passed, plan_items, tagged_plan}
 use Rattle.state_items.specs.Imported.{AreRefsTo, AreSmall, IsBrought, with_commits}
 use Rattle.repo_ground.specs.Contents.{Contents, Spells, room_in}
 use Rattle.repo_ground.specs.declared.commit.Batch.{Batch}
@@ -49,6 +51,15 @@ pub record IsBatchOf (h : Held) (s : Contents) (b : Batch) (blobs : List Bytes) 
 -- what a batch adds
 abbrev pub batch_plan : Held → Batch → List Bytes → List Snapshot → Plan
 batch_plan h b blobs cs = change_plan h (objects_of blobs cs) (settings_of b)
+
+-- what a batch with tags adds
+abbrev pub tagged_batch_plan : Held → Batch → List Bytes → List Snapshot → List Tag → Plan
+tagged_batch_plan h b blobs cs ts = tagged_plan h (objects_of blobs cs) (settings_of b) ts
+
+-- Tags that may stand beside a batch: in byte order, of commits that are there or brought.
+abbrev pub AreTagsOf : Contents → Batch → List Tag → Type 0
+AreTagsOf s b ts = (h : Held) (blobs : List Bytes) (cs : List Snapshot) → IsBatchOf h s b blobs cs
+    → are_tags (objects_of blobs cs ++ h.objects) None ts ≡ true
 
 -- ---- what comes of a plan
 

@@ -7,19 +7,22 @@ use Rattle.ref_store.specs.Refs.{AreDistinct}
 use Rattle.commit_map.specs.Rules.{rule_number}
 use Rattle.commit_map.specs.Shown.{Entries, kept_at}
 use Rattle.projection_ground.specs.declared.ground.Ground.{Ground}
+use Rattle.tag_objects.specs.TagLists.{rise}
+use Rattle.tag_objects.specs.declared.tag.Tag.{Tag}
 use Rattle.state_items.specs.Arrivals.{blobs_of, rows_of}
 use Rattle.state_items.specs.Changes.{Room, with_refs}
 use Rattle.state_items.specs.Items.{Held, has_room, is_rule, read_items}
 use Rattle.state_items.specs.KeptMaps.{RuleMaps, entries_at, entries_for}
 use Rattle.state_items.specs.Steps.{are_heads}
 
--- What a state is seen as. Names stand in order of arrival. The ground's map is that of the filter with the selected text under the
+-- What a state is seen as. Names stand in order of arrival, and tags in the byte order of their names. The ground's map is that of the filter with the selected text under the
 -- rule of the selected number; its first entries, so many as are kept, are held by items.
 pub record Contents : Type 0 where
   pub basis : Ground
   pub refs : Refs
   pub blobs : List Bytes
   pub names : List Bytes
+  pub tags : List Tag
   pub maps : RuleMaps
   pub selected : Option (Bytes × ℕ)
   pub kept : ℕ
@@ -51,6 +54,8 @@ pub record Spells (h : Held) (s : Contents) : Type 0 where
       → kept_at n (entries_in s text rule) ≡ kept_at n (entries_for text rule h.kept)
   pub few : s.kept ≤ length s.basis.map
   pub rule : rule_number s.basis.rule ≡ h.rule
+  pub tags : s.tags ≡ h.tags
+  pub rising : rise None h.tags ≡ true
 
 abbrev pub SpellsSomething : Contents → Type 0
 SpellsSomething s = (h : Held) × Spells h s

@@ -1,5 +1,6 @@
 -- What is worked out for an item, and what is said of appending it.
 use Rattle.std.specs.Prelude.{◌≡◌, ◌≢◌, ◌⊎◌, ◌+◌, ◌<◌, ◌≤◌, ⊤, List, [], ◌∷◌, ℕ, length, sum_by, take, Option, None, Some, Result, Ok, Err}
+use Rattle.std.specs.Global.{Vec}
 use Rattle.git_objects.specs.Paths.{Bytes}
 use Rattle.git_objects.specs.declared.limits.TheConstants.{ITEMS, STORE_BYTES}
 use Rattle.git_objects.specs.declared.quantity.Quantity.{Quantity}
@@ -11,6 +12,7 @@ use Rattle.state_items.specs.Changes.{passed_by_item, passed_by_objects}
 use Rattle.projection_ground.specs.Grounds.{IsGround}
 use Rattle.state_items.specs.Changes.{NoPlan, Plan, held_after, passed, plan_items}
 use Rattle.state_items.specs.Items.{Held}
+use Rattle.tag_objects.specs.declared.tag.Tag.{Tag}
 use Rattle.repo_ground.specs.Changes.{GetsItems, KeepsItems}
 use Rattle.repo_ground.specs.Contents.{Contents, Spells, room_in}
 use Rattle.repo_ground.specs.Entering.{IsFront}
@@ -52,18 +54,23 @@ cut_to names blobs commits s = record s {
   names = take names s.names;
 }
 
--- the length of a plan's one item, which passes no limit, and the refs of the state that has what the plan says
+-- the tags behind a change, where there are others than before
+abbrev pub tags_in : List Tag → Option (Vec Tag) → List Tag
+tags_in tags None = tags
+tags_in tags (Some after) = after.items
+
+-- the length of a plan's one item, which passes no limit, and the refs and tags of the state that has what the plan says
 pub record IsDraft (h : Held) (p : Plan) (before after : Contents) (d : Draft) : Type 0 where
   pub fits : passed h (room_in before) p ≡ None
   pub one : length (plan_items p) ≡ 1
   pub size : d.size ≡ sum_by length (plan_items p)
   pub room : (after.number < ITEMS) × (after.size + d.size ≤ STORE_BYTES)
-  pub spells : Spells (held_after h p) (record after { refs = d.refs })
+  pub spells : Spells (held_after h p) (record after { refs = d.refs; tags = tags_in after.tags d.tags })
   pub ground : IsGround after.basis
 
--- the state with the refs of a draft and one item more
+-- the state with the refs and tags of a draft and one item more
 abbrev pub with_draft : Contents → Draft → Contents
-with_draft s d = record s { refs = d.refs; number = s.number + 1; size = s.size + d.size }
+with_draft s d = record s { refs = d.refs; tags = tags_in s.tags d.tags; number = s.number + 1; size = s.size + d.size }
 
 -- the same, or nothing where the plan has no item
 abbrev pub IsDraftOrNot : Held → Plan → Contents → Contents → Option Draft → Type 0

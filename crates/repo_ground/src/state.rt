@@ -27,6 +27,7 @@ use ref_store::Refs;
 use state_items::{Loaded, Reading};
 use std::alloc::{AllocError, Global};
 use std::marker::Model;
+use tag_objects::Tag;
 
 // How many pairs the memo of a new state may hold.
 const MEMO_PAIRS: usize = 65_536;
@@ -54,6 +55,8 @@ pub struct State {
     pub blobs: IndexSet<Name>,
     // The names of the objects that items hold, in order of arrival.
     pub(crate) held: IndexSet<Name>,
+    // One of each name, in the byte order of their names.
+    pub(crate) tags: Vec<Tag>,
     // The map of the filter that is selected is the ground's.
     pub(crate) maps: FilterMaps,
     // How many of the first entries of the ground's map items hold.
@@ -80,6 +83,7 @@ impl Model for State {
       refs = s.refs;
       blobs = map name_bytes s.blobs.keys;
       names = map name_bytes s.held.keys;
+      tags = s.tags.items;
       maps = s.maps.maps;
       selected = s.maps.selected;
       kept = s.kept;
@@ -116,6 +120,7 @@ impl State {
             refs,
             kept,
             rule,
+            tags,
         } = reading.finish();
         let ground = Ground {
             store,
@@ -131,6 +136,7 @@ impl State {
             refs,
             blobs,
             held: names,
+            tags,
             maps: FilterMaps::of(kept),
             kept: 0,
             number,
@@ -164,6 +170,13 @@ impl State {
             Err(_) => Err(LoadError::OutOfMemory),
             Ok(memo) => Ok(State::of(alloc, reading, memo, count, size)),
         }
+    }
+
+    /// The tags, one of each name, in the byte order of their names. Needs no memory.
+    pub fn tags(&self) -> &[Tag]
+        ensures { result.now ≡ self.now.tags }
+    {
+        &self.tags
     }
 
     /// The commit that a ref names.

@@ -12,18 +12,19 @@ use Rattle.git_objects.specs.declared.quantity.Quantity.{Quantity}
 use Rattle.git_objects.specs.declared.quantity.Quantity.TheVariants.{Commits, Objects, Item as ItemLimit, Items as ItemsLimit, Store}
 use Rattle.object_store.specs.Objects.{Object}
 use Rattle.state_items.specs.Fields.{BrokenAt}
-use Rattle.state_items.specs.Items.{has_room, item_fits, change_text, Held, entry_text, kept_text, nothing, read_from, read_item, read_items, read_one, result_text, rule_text}
+use Rattle.state_items.specs.Items.{has_room, item_fits, change_text, Held, entry_text, kept_text, nothing, read_from, read_item, read_items, read_one, result_text, rule_text, tagged_change_text}
 use Rattle.object_store.specs.Fits.{is_commit}
 use Rattle.state_items.proofs.Lengths.{item-long, objects-long}
 use Rattle.git_objects.specs.Results.{must, refused_by}
 use Rattle.commit_map.specs.Shown.{Shown}
-use Rattle.state_items.specs.Changes.{ChangePlan, KeepPlan, NoPlan, Plan, RulePlan, held_after, or_else, passed, passed_by_item, passed_by_objects, plan_items, room_of}
+use Rattle.state_items.specs.Changes.{ChangePlan, KeepPlan, NoPlan, Plan, RulePlan, TagPlan, held_after, or_else, passed, passed_by_item, passed_by_objects, plan_items, room_of}
 use Rattle.state_items.specs.Appending.{AppendLaw, IsAddition}
 use Rattle.state_items.specs.Repos.{IsKept}
 use Rattle.state_items.proofs.Additions.{are-set, are-taken}
 use Rattle.state_items.proofs.ItemReads.{change-read, kept-read, rule-read}
 use Rattle.state_items.proofs.ReadFields.{then-ok}
 use Rattle.state_items.proofs.ReadObjects.{value-of}
+use Rattle.state_items.proofs.TagFields.{tagged_long, tagged_read, tags_set}
 
 -- ---- one item more
 
@@ -127,6 +128,16 @@ appended items h (KeepPlan k text es) e a f =
     let some = kept-long k text es in
     item-behind items h (held_after h (KeepPlan k text es)) (kept_text k text es) e q.fits
     (kept-read h k text es a.0 a.1 a.2 (omega (arith, small, some)) a.3)
+appended items h (TagPlan os rs ts) e a f =
+    let q = passes-all items (reverse os ++ h.objects) (tagged_change_text os rs ts) f in
+    let small = q.small in
+    let long = tagged_long os rs ts in
+    let some = long.all in
+    let many = long.objects in
+    let more = long.tags in
+    item-behind items h (held_after h (TagPlan os rs ts)) (tagged_change_text os rs ts) e q.fits
+    (tagged_read h os rs ts (are-taken os h.objects a.0 q.room (omega (arith, small, many))) (are-set (reverse os ++ h.objects) None rs a.1)
+    (tags_set (reverse os ++ h.objects) None ts a.2 (omega (arith, small, more))) (omega (arith, small, some)) (omega (arith, small, some)) (omega (arith, small, some)))
 
 pub nothing-kept : (project : ℕ → Bytes → List Snapshot → Bytes → Option Shown) → IsKept project [] nothing
 unfolding read_items

@@ -19,7 +19,7 @@ use Rattle.state_items.specs.Appending.{are_entries, is_result}
 use Rattle.state_items.proofs.ReadFields.{AreSet, AreTaken, byte-front, field-front, number-front_2, number-front_4, objects-read, refs-read, spot, then-ok}
 use Rattle.state_items.proofs.RefsMoved.{held-long, name-long}
 
-append-nothing : (xs : Bytes) → xs ++ [] ≡ xs
+pub append-nothing : (xs : Bytes) → xs ++ [] ≡ xs
 append-nothing [] = refl
 append-nothing (x ∷ xs) = ap (λ (t : Bytes). x ∷ t) (append-nothing xs)
 
@@ -33,7 +33,7 @@ kind-read f k kind b u e =
     ∙ then-ok (number 1 (spot 1 (k ∷ b))) (λ k. or_refuse (BrokenAt 1) (item_kind f k.0) >>= λ kind. Ok (kind, k.1)) (k, spot 2 b) (byte-front 1 k b)
     ∙ ap (λ o. or_refuse (BrokenAt 1) o >>= λ kind. Ok (kind, spot 2 b)) e
 
-item-by : (h : Held) (f k : ℕ) (kind : ItemKind) (b : Bytes) → (f == 1 || f == 2) ≡ true → item_kind f k ≡ Some kind → read_item h (f ∷ k ∷ b) ≡ part h kind (spot 2 b)
+pub item-by : (h : Held) (f k : ℕ) (kind : ItemKind) (b : Bytes) → (f == 1 || f == 2) ≡ true → item_kind f k ≡ Some kind → read_item h (f ∷ k ∷ b) ≡ part h kind (spot 2 b)
 unfolding read_item
 item-by h f k kind b u e = then-ok (item_kind_field (spot 0 (f ∷ k ∷ b))) (λ k. part h k.0 k.1) (kind, spot 2 b) (kind-read f k kind b u e)
 

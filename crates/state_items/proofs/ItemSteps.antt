@@ -5,10 +5,11 @@ use Rattle.git_objects.specs.Refs.{Refs}
 use Rattle.git_objects.specs.Results.{◌>>=◌, must}
 use Rattle.object_store.specs.Objects.{Object}
 use Rattle.commit_map.specs.Shown.{Entries}
+use Rattle.tag_objects.specs.declared.tag.Tag.{Tag}
 use Rattle.state_items.specs.Fields.{Spot, Fault, BrokenAt, Clash, Read, ended, number, start}
-use Rattle.state_items.specs.Items.{Held, Kept, ItemKind, ChangeItem, OldKeptItem, KeptItem, RuleItem, change_part, ended_with, entries_field, is_rule, item_kind_field, kept_part, objects_field, part, read_item, refs_field, rule_field, text_field}
+use Rattle.state_items.specs.Items.{Held, Kept, ItemKind, ChangeItem, OldKeptItem, KeptItem, RuleItem, TagItem, change_part, ended_with, entries_field, is_rule, item_kind_field, kept_part, objects_field, part, read_item, refs_field, rule_field, tag_part, tags_field, text_field}
 use Rattle.state_items.specs.KeptMaps.{RuleMaps, AreKept, entries_at, with_map_by}
-use Rattle.state_items.specs.Steps.{Parts, entries_step, item_step, kept_by_rule, kept_maps, objects_step, part_step, refs_step, rule_end}
+use Rattle.state_items.specs.Steps.{Parts, entries_step, item_step, kept_by_rule, kept_maps, objects_step, part_step, refs_step, rule_end, tagged_step, tags_step}
 use Rattle.state_items.specs.Stops.{IsStop}
 use Rattle.state_items.specs.declared.fault.ItemFault.{ItemFault}
 use Rattle.state_items.specs.declared.fault.ItemFault.TheVariants.{Broken, Collision, OutOfMemory}
@@ -20,6 +21,7 @@ pub record AreParts (p : Parts) (h : Held) : Type 0 where
   pub refs : p.refs ≡ h.refs
   pub maps : AreKept p.maps h.kept
   pub rule : p.rule ≡ h.rule
+  pub tags : p.tags ≡ h.tags
 
 -- one step first on both sides
 then-same : {A C D : Type 0} (Q : C → D → Type 0) (r : Result A Fault) (f : A → Result C Fault) (g : A → Result D Fault) → ((x : A) → Matches Q (f x) (g x)) → Matches Q (r >>= f) (r >>= g)
@@ -66,7 +68,7 @@ module _ (h : Held) (p : Parts) (t : AreParts p h) where
   refs-match : (o : List Object × Spot) (r : Refs × Spot) → Matches AreParts ((end_refs r >>= pair o) >>= changed) (held_end o r)
   refs-match o r =
       match-nest3 AreParts (ended r.1) (λ _. Ok r.0) (pair o) changed (λ _. Ok (record h { objects = o.0; refs = r.0 }))
-      (λ _. record { objects = refl; refs = refl; maps = t.maps; rule = t.rule })
+      (λ _. record { objects = refl; refs = refl; maps = t.maps; rule = t.rule; tags = t.tags })
 
   objects-match : (o : List Object × Spot) → Matches AreParts (objects_then o >>= changed) (held_objects o)
   objects-match o =
@@ -77,6 +79,70 @@ module _ (h : Held) (p : Parts) (t : AreParts p h) where
   change-match s =
       nest-same AreParts (number 4 s) count_then changed held_count
       (λ n. nest-same AreParts (objects_field n.0 h.objects n.1) objects_then changed held_objects (λ o. objects-match o))
+
+  -- ---- a change with tags
+
+  abbrev tagged : List Object × Refs × List Tag → Result Parts Fault
+  tagged c = Ok (record p { objects = c.0; refs = c.1; tags = c.2 })
+
+  abbrev triple : List Object × Spot → Refs × List Tag → Result (List Object × Refs × List Tag) Fault
+  triple o c = Ok (o.0, c.0, c.1)
+
+  abbrev end_tags : Refs × Spot → List Tag × Spot → Result (Refs × List Tag) Fault
+  end_tags r x = ended x.1 >>= λ _. Ok (r.0, x.0)
+
+  abbrev tags_then : List Object × Spot → Refs × Spot → ℕ × Spot → Result (Refs × List Tag) Fault
+  tags_then o r k = tags_field k.0 o.0 None h.tags k.1 >>= end_tags r
+
+  abbrev number_then : List Object × Spot → Refs × Spot → Result (Refs × List Tag) Fault
+  number_then o r = number 4 r.1 >>= tags_then o r
+
+  abbrev both_then : List Object × Spot → ℕ × Spot → Result (Refs × List Tag) Fault
+  both_then o m = refs_field m.0 o.0 None h.refs m.1 >>= number_then o
+
+  abbrev all_then : List Object × Spot → Result (List Object × Refs × List Tag) Fault
+  all_then o = tags_step o.0 h.refs h.tags o.1 >>= triple o
+
+  abbrev all_count : ℕ × Spot → Result (List Object × Refs × List Tag) Fault
+  all_count n = objects_field n.0 h.objects n.1 >>= all_then
+
+  abbrev tagged_end : List Object × Spot → Refs × Spot → List Tag × Spot → Result Held Fault
+  tagged_end o r x = ended_with (record h { objects = o.0; refs = r.0; tags = x.0 }) x.1
+
+  abbrev held_tags : List Object × Spot → Refs × Spot → ℕ × Spot → Result Held Fault
+  held_tags o r k = tags_field k.0 o.0 None h.tags k.1 >>= tagged_end o r
+
+  abbrev held_number : List Object × Spot → Refs × Spot → Result Held Fault
+  held_number o r = number 4 r.1 >>= held_tags o r
+
+  abbrev held_both : List Object × Spot → ℕ × Spot → Result Held Fault
+  held_both o m = refs_field m.0 o.0 None h.refs m.1 >>= held_number o
+
+  abbrev held_all : List Object × Spot → Result Held Fault
+  held_all o = number 4 o.1 >>= held_both o
+
+  abbrev held_all_count : ℕ × Spot → Result Held Fault
+  held_all_count n = objects_field n.0 h.objects n.1 >>= held_all
+
+  end-match : (o : List Object × Spot) (r : Refs × Spot) (x : List Tag × Spot) → Matches AreParts ((end_tags r x >>= triple o) >>= tagged) (tagged_end o r x)
+  end-match o r x =
+      match-nest3 AreParts (ended x.1) (λ _. Ok (r.0, x.0)) (triple o) tagged (λ _. Ok (record h { objects = o.0; refs = r.0; tags = x.0 }))
+      (λ _. record { objects = refl; refs = refl; maps = t.maps; rule = t.rule; tags = refl })
+
+  tags-match : (o : List Object × Spot) (r : Refs × Spot) → Matches AreParts ((number_then o r >>= triple o) >>= tagged) (held_number o r)
+  tags-match o r =
+      match-nest3 AreParts (number 4 r.1) (tags_then o r) (triple o) tagged (held_tags o r)
+      (λ k. match-nest3 AreParts (tags_field k.0 o.0 None h.tags k.1) (end_tags r) (triple o) tagged (tagged_end o r) (λ x. end-match o r x))
+
+  all-match : (o : List Object × Spot) → Matches AreParts (all_then o >>= tagged) (held_all o)
+  all-match o =
+      match-nest3 AreParts (number 4 o.1) (both_then o) (triple o) tagged (held_both o)
+      (λ m. match-nest3 AreParts (refs_field m.0 o.0 None h.refs m.1) (number_then o) (triple o) tagged (held_number o) (λ r. tags-match o r))
+
+  tagged-match : (s : Spot) → Matches AreParts (tagged_step h.objects h.refs h.tags s >>= tagged) (tag_part h s)
+  tagged-match s =
+      nest-same AreParts (number 4 s) all_count tagged held_all_count
+      (λ n. nest-same AreParts (objects_field n.0 h.objects n.1) all_then tagged held_all (λ o. all-match o))
 
   -- ---- kept projections
 
@@ -108,7 +174,7 @@ module _ (h : Held) (p : Parts) (t : AreParts p h) where
         subst (λ (d : Entries × List Kept). AreKept (with_map_by rule p.maps text.0 d.0) d.1) (λ i. (sym more.mapped i, sym more.held i)) (kept-more text.0 rule p.maps h.kept more.more is t.maps) in
         subst (λ (s : Spot). Matches AreParts (end_maps text x >>= mapped) (ended_with (record h { kept = y.0 }) s)) more.behind
         (nest-same AreParts (ended x.1) (λ _. Ok (with_map_by rule p.maps text.0 x.0)) mapped (λ _. Ok (record h { kept = y.0 }))
-        (λ _. record { objects = t.objects; refs = t.refs; maps = maps; rule = t.rule }))
+        (λ _. record { objects = t.objects; refs = t.refs; maps = maps; rule = t.rule; tags = t.tags }))
 
     maps-match : (text : Bytes × Spot) (n : ℕ × Spot) → Matches AreParts (maps_then text n >>= mapped) (kept_then text n)
     maps-match text n =
@@ -147,7 +213,7 @@ module _ (h : Held) (p : Parts) (t : AreParts p h) where
   new_rule-match : (s : Spot) → Matches AreParts (rule_end s >>= ruled) (rule_field s >>= λ k. ended_with (record h { rule = k.0 }) k.1)
   new_rule-match s =
       nest-same AreParts (rule_field s) (λ k. ended k.1 >>= λ _. Ok k.0) ruled (λ k. ended_with (record h { rule = k.0 }) k.1)
-      (λ k. nest-same AreParts (ended k.1) (λ _. Ok k.0) ruled (λ _. Ok (record h { rule = k.0 })) (λ _. record { objects = t.objects; refs = t.refs; maps = t.maps; rule = refl }))
+      (λ k. nest-same AreParts (ended k.1) (λ _. Ok k.0) ruled (λ _. Ok (record h { rule = k.0 })) (λ _. record { objects = t.objects; refs = t.refs; maps = t.maps; rule = refl; tags = t.tags }))
 
   -- ---- an item
 
@@ -156,6 +222,8 @@ module _ (h : Held) (p : Parts) (t : AreParts p h) where
   part-match OldKeptItem s = subst (λ (S : List Object). Matches AreParts (kept_maps S 1 p.maps s >>= mapped) (kept_part h 1 s)) (sym t.objects) (kept-match 1 refl s)
   part-match KeptItem s = subst (λ (S : List Object). Matches AreParts (kept_by_rule S p.maps s >>= mapped) (rule_field s >>= λ k. kept_part h k.0 k.1)) (sym t.objects) (by_rule-match s)
   part-match RuleItem s = new_rule-match s
+  part-match TagItem s =
+      subst (λ (d : List Object × Refs × List Tag). Matches AreParts (tagged_step d.0 d.1 d.2 s >>= tagged) (tag_part h s)) (λ i. (sym t.objects i, sym t.refs i, sym t.tags i)) (tagged-match s)
 
   pub item-match : (bytes : Bytes) → Matches AreParts (item_step p bytes) (read_item h bytes)
   unfolding item_step read_item

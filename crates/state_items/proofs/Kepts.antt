@@ -16,9 +16,10 @@ use Rattle.object_store.specs.StoredSnapshots.{snapshots_in}
 use Rattle.object_store.proofs.StoredCommits.{commit-held}
 use Rattle.state_items.specs.Items.{Held, Kept}
 use Rattle.commit_map.specs.Shown.{Shown}
-use Rattle.state_items.specs.Repos.{repo, IsKept}
-use Rattle.state_items.specs.Changes.{KeepPlan, NoPlan, RulePlan, change_plan, entry_of, held_after, passed, room_of, objects_of}
-use Rattle.state_items.specs.Appending.{IsAddition}
+use Rattle.tag_objects.specs.declared.tag.Tag.{Tag}
+use Rattle.state_items.specs.Repos.{IsKept, are_used, repo}
+use Rattle.state_items.specs.Changes.{KeepPlan, NoPlan, RulePlan, change_plan, entry_of, held_after, passed, room_of, objects_of, tagged_plan}
+use Rattle.state_items.specs.Appending.{IsAddition, are_tags}
 use Rattle.state_items.specs.Imported.{AreRefsTo, AreSmall, IsBrought, is_among, with_commits}
 use Rattle.state_items.specs.KeptLaws.{AreClosed, IsKeptAfter, KeptLaw, Projecting, StayLaw}
 use Rattle.state_items.proofs.Appended.{appended}
@@ -26,6 +27,7 @@ use Rattle.state_items.proofs.Bringing.{commit-in, commit-one}
 use Rattle.state_items.proofs.Imports as imports
 use Rattle.state_items.proofs.Limits.{change-law}
 use Rattle.state_items.proofs.ReadEntries.{read-sound}
+use Rattle.state_items.proofs.TagPlans.{tagged-after, tagged-change-law}
 use Rattle.state_items.proofs.TreeParts.{all-each}
 
 all-both : {A : Type 0} (P Q R : A → Type 0) → ((x : A) → P x → Q x → R x) → (xs : List A) → All P xs → All Q xs → All R xs
@@ -90,11 +92,10 @@ module _ (project : Projecting) where
     entries = All-append (IsTrue (repo h).commits) h.kept (map (entry_of k text) es) w.entries (All-map (IsTrue (repo h).commits) (entry_of k text) es t);
   }
 
-  change-kept : (items : List Bytes) (h : Held) (bs : List Bytes) (cs : List Snapshot) (es : Refs) → StayLaw project → IsKept project items h → IsBrought h bs cs → AreSmall bs cs → AreRefsTo (with_commits (repo h).commits cs) es →
-      passed h (room_of items) (change_plan h (objects_of bs cs) es) ≡ None → IsKeptAfter project items h (change_plan h (objects_of bs cs) es)
-  change-kept items h bs cs es stay w b small refs f =
-      let p = change_plan h (objects_of bs cs) es in
-      let g = held_after h p in
+  -- the entries stay true where the commits are those before with the new ones
+  entries-kept : (items : List Bytes) (h : Held) (bs : List Bytes) (cs : List Snapshot) (es : Refs) → StayLaw project → IsKept project items h → IsBrought h bs cs → All (IsTrue (repo (held_after h (change_plan h (objects_of bs cs) es))).commits) (held_after h (change_plan h (objects_of bs cs) es)).kept
+  entries-kept items h bs cs es stay w b =
+      let g = held_after h (change_plan h (objects_of bs cs) es) in
       let i = imports.imported h bs cs es b in
       let hand = imports.hand h bs cs es b in
       let apart = imports.apart h bs cs es b in
@@ -104,11 +105,25 @@ module _ (project : Projecting) where
       let stays : All (IsTrue (with_commits cs0 cs)) h.kept =
       all-both (IsTrue cs0) (λ e. is_among cs0 e.original ≡ true) (IsTrue (with_commits cs0 cs))
       (λ e t m. t ∙ sym (stay e.filter e.rule cs0 cs e.original (closed hand apart h.objects b.store) b.commits m)) h.kept w.entries originals in
+      subst (λ (kept : List Kept). All (IsTrue (repo g).commits) kept) (sym i.kept) (subst (λ (k : List Snapshot). All (IsTrue k) h.kept) (sym i.commits) stays)
+
+  change-kept : (items : List Bytes) (h : Held) (bs : List Bytes) (cs : List Snapshot) (es : Refs) → StayLaw project → IsKept project items h → IsBrought h bs cs → AreSmall bs cs → AreRefsTo (with_commits (repo h).commits cs) es →
+      passed h (room_of items) (change_plan h (objects_of bs cs) es) ≡ None → IsKeptAfter project items h (change_plan h (objects_of bs cs) es)
+  change-kept items h bs cs es stay w b small refs f = record {
+    spelled = appended items h (change_plan h (objects_of bs cs) es) w.spelled (change-law h bs cs es b small refs) f;
+    objects = (imports.imported h bs cs es b).nothing_more w.objects;
+    entries = entries-kept items h bs cs es stay w b;
+  }
+
+  tags-kept : (items : List Bytes) (h : Held) (bs : List Bytes) (cs : List Snapshot) (es : Refs) (ts : List Tag) → StayLaw project → IsKept project items h → IsBrought h bs cs → AreSmall bs cs → AreRefsTo (with_commits (repo h).commits cs) es →
+      are_tags (objects_of bs cs ++ h.objects) None ts ≡ true → passed h (room_of items) (tagged_plan h (objects_of bs cs) es ts) ≡ None → IsKeptAfter project items h (tagged_plan h (objects_of bs cs) es ts)
+  tags-kept items h bs cs es ts stay w b small refs right f =
+      let after = sym (tagged-after h (objects_of bs cs) es ts) in
       record {
-        spelled = appended items h p w.spelled (change-law h bs cs es b small refs) f;
-        objects = i.nothing_more w.objects;
-        entries = subst (λ (kept : List Kept). All (IsTrue (repo g).commits) kept) (sym i.kept) (subst (λ (k : List Snapshot). All (IsTrue k) h.kept) (sym i.commits) stays);
+        spelled = appended items h (tagged_plan h (objects_of bs cs) es ts) w.spelled (tagged-change-law h bs cs es ts b small refs right) f;
+        objects = subst (λ (g : Held). are_used g.objects ≡ true) after ((imports.imported h bs cs es b).nothing_more w.objects);
+        entries = subst (λ (g : Held). All (IsTrue (repo g).commits) g.kept) after (entries-kept items h bs cs es stay w b);
       }
 
   pub kept-law : KeptLaw project
-  kept-law = record { none = none-kept; rule = rule-kept; keep = keep-kept; change = change-kept }
+  kept-law = record { none = none-kept; rule = rule-kept; keep = keep-kept; change = change-kept; tags = tags-kept }

@@ -11,10 +11,16 @@ pub mod Bringing
 pub mod RefsSet
 pub mod Imports
 pub mod Limits
+pub mod HeldTags
 pub mod ReadEntries
+pub mod ItemTags
 pub mod ItemReads
+pub mod TagFields
 pub mod Appended
+pub mod TagPlans
 pub mod Kepts
+pub mod TagRuns
+pub mod TagWalks
 pub mod TreeParts
 pub mod Twices
 pub mod InHand

@@ -24,9 +24,11 @@ use Rattle.object_store.specs.StoredSnapshots.{snapshot_in, snapshot_of, snapsho
 use Rattle.object_store.specs.Unfolding.{flat}
 use Rattle.object_store.proofs.Held.{has-above, named_kind}
 use Rattle.state_items.specs.Fields.{Spot, BrokenAt, ended, field, number, start}
-use Rattle.state_items.specs.Items.{item_fits, item_kind, objects_field, refs_field, is_rule, ChangeItem, Held, ItemKind, Kept, KeptItem, OldKeptItem, RuleItem, change_part, ended_with, entries_field, entry_field, is_of, kept_part, item_kind_field, nothing, part, read_from, read_item, read_items, read_one, result_field, rule_field, text_field}
+use Rattle.state_items.specs.Items.{item_fits, item_kind, objects_field, refs_field, is_rule, ChangeItem, Held, ItemKind, Kept, KeptItem, OldKeptItem, RuleItem, TagItem, change_part, ended_with, entries_field, entry_field, is_of, kept_part, item_kind_field, nothing, part, read_from, read_item, read_items, read_one, result_field, rule_field, tag_part, tags_field, text_field}
+use Rattle.state_items.specs.Appending.{are_tags}
 use Rattle.state_items.specs.ReadHeld.{IsSoundHeld, ReadLaw}
 use Rattle.state_items.proofs.ByteLists.{AreBytes}
+use Rattle.state_items.proofs.HeldTags.{tags-read, tags-upon}
 use Rattle.state_items.proofs.ReadObjects.{Taken, Upon, back-same, front-same, must-hold, number-bytes, objects-keep, objects-upon, ok-same, refs-keep, value-of}
 use Rattle.state_items.proofs.RefsMoved.{keys-put, values-put}
 
@@ -65,7 +67,7 @@ all-more f S T (x ∷ xs) u h =
     and_both (ap (λ (R : List Object). has Commit R (f x)) u.1 ∙ has-above u.0 S Commit (f x) (first_so _ _ h)) (all-more f S T xs u (second_so (has Commit S (f x)) _ h))
 
 -- what is held is what is read last
-ended-value : (h g : Held) (s : Spot) → ended_with h s ≡ Ok g → h ≡ g
+pub ended-value : (h g : Held) (s : Spot) → ended_with h s ≡ Ok g → h ≡ g
 ended-value h g s e = let d = value-of (ended s) (λ _. Ok h) g e in ok-same h g d.rest
 
 record AreSound (h : Held) : Type 0 where
@@ -75,6 +77,7 @@ record AreSound (h : Held) : Type 0 where
   originals : AreOriginals h.objects h.kept
   rule : is_rule h.rule ≡ true
   fitting : AreFitting h.objects
+  tags : are_tags h.objects None h.tags ≡ true
 
 rule-sound : (s t : Spot) (k : ℕ) → rule_field s ≡ Ok (k, t) → is_rule k ≡ true
 rule-sound s t k e =
@@ -104,7 +107,32 @@ change-sound h g s a e =
       originals = all-more (λ (e : Kept). e.original) h.objects S h.kept upon a.originals;
       rule = a.rule;
       fitting = objects-keep (λ R _. AreFitting R) (λ R Q s t p w. subst AreFitting (sym w.same) (w.taken.fits, p)) n.value.0 h.objects S n.value.1 o.value.1 a.fitting o.was;
+      tags = tags-upon h.objects S h.tags upon a.tags;
     }) r.rest
+
+tag-sound : (h g : Held) (s : Spot) → AreSound h → tag_part h s ≡ Ok g → AreSound g
+tag-sound h g s a e =
+    let n = value-of (number 4 s)
+    (λ n. objects_field n.0 h.objects n.1 >>= λ o. number 4 o.1 >>= λ m. refs_field m.0 o.0 None h.refs m.1 >>= λ r. number 4 r.1 >>= λ k. tags_field k.0 o.0 None h.tags k.1 >>= λ x. ended_with (record h { objects = o.0; refs = r.0; tags = x.0 }) x.1) g e in
+    let o = value-of (objects_field n.value.0 h.objects n.value.1) (λ o. number 4 o.1 >>= λ m. refs_field m.0 o.0 None h.refs m.1 >>= λ r. number 4 r.1 >>= λ k. tags_field k.0 o.0 None h.tags k.1 >>= λ x. ended_with (record h { objects = o.0; refs = r.0; tags = x.0 }) x.1) g n.rest in
+    let m = value-of (number 4 o.value.1) (λ m. refs_field m.0 o.value.0 None h.refs m.1 >>= λ r. number 4 r.1 >>= λ k. tags_field k.0 o.value.0 None h.tags k.1 >>= λ x. ended_with (record h { objects = o.value.0; refs = r.0; tags = x.0 }) x.1) g o.rest in
+    let r = value-of (refs_field m.value.0 o.value.0 None h.refs m.value.1) (λ r. number 4 r.1 >>= λ k. tags_field k.0 o.value.0 None h.tags k.1 >>= λ x. ended_with (record h { objects = o.value.0; refs = r.0; tags = x.0 }) x.1) g m.rest in
+    let k = value-of (number 4 r.value.1) (λ k. tags_field k.0 o.value.0 None h.tags k.1 >>= λ x. ended_with (record h { objects = o.value.0; refs = r.value.0; tags = x.0 }) x.1) g r.rest in
+    let x = value-of (tags_field k.value.0 o.value.0 None h.tags k.value.1) (λ x. ended_with (record h { objects = o.value.0; refs = r.value.0; tags = x.0 }) x.1) g k.rest in
+    let upon = objects-upon n.value.0 h.objects o.value.0 n.value.1 o.value.1 o.was in
+    let S = o.value.0 in
+    let keep : (P : Refs → Type 0) → ((m : Refs) (r n : Bytes) → P m → is_ref_name r ≡ true → has Commit S n ≡ true → P (put_entry bytes_cmp r n m)) → P h.refs → P r.value.0 =
+    λ P f p. refs-keep S P f m.value.0 None h.refs r.value.0 m.value.1 r.value.1 p r.was in
+    let last : Held = record h { objects = S; refs = r.value.0; tags = x.value.0 } in
+    ended-sound last g x.value.1 (record {
+      sorted = keep (λ m. T (is_sorted bytes_cmp m)) (λ m r n p v w. is_sorted-put bytes_cmp nat_list_cmp_total r n m p) a.sorted;
+      names = keep (λ m. list_all (λ e. is_ref_name e.0) m ≡ true) (λ m r n p v w. keys-put is_ref_name m r n p v) a.names;
+      heads = keep (λ m. list_all (λ e. has Commit S e.1) m ≡ true) (λ m r n p v w. values-put (has Commit S) m r n p w) (all-more (λ (e : Bytes × Bytes). e.1) h.objects S h.refs upon a.heads);
+      originals = all-more (λ (e : Kept). e.original) h.objects S h.kept upon a.originals;
+      rule = a.rule;
+      fitting = objects-keep (λ R _. AreFitting R) (λ R Q s t p w. subst AreFitting (sym w.same) (w.taken.fits, p)) n.value.0 h.objects S n.value.1 o.value.1 a.fitting o.was;
+      tags = tags-read k.value.0 S None h.tags x.value.0 k.value.1 x.value.1 (tags-upon h.objects S h.tags upon a.tags) x.was;
+    }) x.rest
 
 entry-sound : (S : List Object) (text : Bytes) (rule : ℕ) (kept : List Kept) (s t : Spot) (e : Kept) → entry_field S text rule kept s ≡ Ok (e, t) → has Commit S e.original ≡ true
 entry-sound S text rule kept s t e q =
@@ -140,6 +168,7 @@ kept-sound h g rule s a e =
       originals = entries-sound n.value.0 h.objects t.value.0 rule h.kept k.value.0 n.value.1 k.value.1 a.originals k.was;
       rule = a.rule;
       fitting = a.fitting;
+      tags = a.tags;
     }) k.rest
 
 part-sound : (h g : Held) (kind : ItemKind) (s : Spot) → AreSound h → part h kind s ≡ Ok g → AreSound g
@@ -148,13 +177,14 @@ part-sound h g OldKeptItem s a e = kept-sound h g 1 s a e
 part-sound h g KeptItem s a e = let k = value-of (rule_field s) (λ k. kept_part h k.0 k.1) g e in kept-sound h g k.value.0 k.value.1 a k.rest
 part-sound h g RuleItem s a e =
     let k = value-of (rule_field s) (λ k. ended_with (record h { rule = k.0 }) k.1) g e in
-    ended-sound (record h { rule = k.value.0 }) g k.value.1 (record { sorted = a.sorted; names = a.names; heads = a.heads; originals = a.originals; rule = rule-sound s k.value.1 k.value.0 k.was; fitting = a.fitting }) k.rest
+    ended-sound (record h { rule = k.value.0 }) g k.value.1 (record { sorted = a.sorted; names = a.names; heads = a.heads; originals = a.originals; rule = rule-sound s k.value.1 k.value.0 k.was; fitting = a.fitting; tags = a.tags }) k.rest
+part-sound h g TagItem s a e = tag-sound h g s a e
 
 item-sound : (h g : Held) (item : Bytes) → AreSound h → read_item h item ≡ Ok g → AreSound g
 unfolding read_item
 item-sound h g item a e = let k = value-of (item_kind_field (start item)) (λ k. part h k.0 k.1) g e in part-sound h g k.value.0 k.value.1 a k.rest
 
-refused-value : {A E F : Type 0} (say : E → F) (r : Result A E) (x : A) → refused_by say r ≡ Ok x → r ≡ Ok x
+pub refused-value : {A E F : Type 0} (say : E → F) (r : Result A E) (x : A) → refused_by say r ≡ Ok x → r ≡ Ok x
 refused-value say (Ok y) x e = cc
 refused-value say (Err d) x e = cc
 
@@ -172,8 +202,8 @@ from-sound (item ∷ items) number size h g a e =
 pub read-sound : (items : List Bytes) (h : Held) → read_items items ≡ Ok h → IsSoundHeld h
 unfolding read_items
 read-sound items h e =
-    let s = from-sound items 0 0 nothing h (record { sorted = tt; names = refl; heads = refl; originals = refl; rule = refl; fitting = tt }) e in
-    record { sorted = s.sorted; names = s.names; heads = s.heads; originals = s.originals; rule = s.rule; trees = fitting-commits h.objects s.fitting }
+    let s = from-sound items 0 0 nothing h (record { sorted = tt; names = refl; heads = refl; originals = refl; rule = refl; fitting = tt; tags = refl }) e in
+    record { sorted = s.sorted; names = s.names; heads = s.heads; originals = s.originals; rule = s.rule; trees = fitting-commits h.objects s.fitting; tags = s.tags }
 
 -- ---- a store
 
@@ -218,6 +248,18 @@ change-store h g s p e =
     let stored = objects-keep IsStored store-taken n.value.0 h.objects o.value.0 n.value.1 o.value.1 (p.0, number-bytes 4 s n.value.1 n.value.0 n.was p.1) o.was in
     subst (λ (k : Held). IsStore k.objects) (ended-value (record h { objects = o.value.0; refs = r.value.0 }) g r.value.1 r.rest) stored.0
 
+tag-store : (h g : Held) (s : Spot) → IsStored h.objects s → tag_part h s ≡ Ok g → IsStore g.objects
+tag-store h g s p e =
+    let n = value-of (number 4 s)
+    (λ n. objects_field n.0 h.objects n.1 >>= λ o. number 4 o.1 >>= λ m. refs_field m.0 o.0 None h.refs m.1 >>= λ r. number 4 r.1 >>= λ k. tags_field k.0 o.0 None h.tags k.1 >>= λ x. ended_with (record h { objects = o.0; refs = r.0; tags = x.0 }) x.1) g e in
+    let o = value-of (objects_field n.value.0 h.objects n.value.1) (λ o. number 4 o.1 >>= λ m. refs_field m.0 o.0 None h.refs m.1 >>= λ r. number 4 r.1 >>= λ k. tags_field k.0 o.0 None h.tags k.1 >>= λ x. ended_with (record h { objects = o.0; refs = r.0; tags = x.0 }) x.1) g n.rest in
+    let m = value-of (number 4 o.value.1) (λ m. refs_field m.0 o.value.0 None h.refs m.1 >>= λ r. number 4 r.1 >>= λ k. tags_field k.0 o.value.0 None h.tags k.1 >>= λ x. ended_with (record h { objects = o.value.0; refs = r.0; tags = x.0 }) x.1) g o.rest in
+    let r = value-of (refs_field m.value.0 o.value.0 None h.refs m.value.1) (λ r. number 4 r.1 >>= λ k. tags_field k.0 o.value.0 None h.tags k.1 >>= λ x. ended_with (record h { objects = o.value.0; refs = r.0; tags = x.0 }) x.1) g m.rest in
+    let k = value-of (number 4 r.value.1) (λ k. tags_field k.0 o.value.0 None h.tags k.1 >>= λ x. ended_with (record h { objects = o.value.0; refs = r.value.0; tags = x.0 }) x.1) g r.rest in
+    let x = value-of (tags_field k.value.0 o.value.0 None h.tags k.value.1) (λ x. ended_with (record h { objects = o.value.0; refs = r.value.0; tags = x.0 }) x.1) g k.rest in
+    let stored = objects-keep IsStored store-taken n.value.0 h.objects o.value.0 n.value.1 o.value.1 (p.0, number-bytes 4 s n.value.1 n.value.0 n.was p.1) o.was in
+    subst (λ (k : Held). IsStore k.objects) (ended-value (record h { objects = o.value.0; refs = r.value.0; tags = x.value.0 }) g x.value.1 x.rest) stored.0
+
 kept-store : (h g : Held) (rule : ℕ) (s : Spot) → IsStore h.objects → kept_part h rule s ≡ Ok g → IsStore g.objects
 kept-store h g rule s p e =
     let t = value-of (text_field s) (λ t. number 4 t.1 >>= λ n. entries_field n.0 h.objects t.0 rule h.kept n.1 >>= λ kept. ended_with (record h { kept = kept.0 }) kept.1) g e in
@@ -232,6 +274,7 @@ part-store h g KeptItem s p e = let k = value-of (rule_field s) (λ k. kept_part
 part-store h g RuleItem s p e =
     let k = value-of (rule_field s) (λ k. ended_with (record h { rule = k.0 }) k.1) g e in
     subst (λ (x : Held). IsStore x.objects) (ended-value (record h { rule = k.value.0 }) g k.value.1 k.rest) p.0
+part-store h g TagItem s p e = tag-store h g s p e
 
 -- the two bytes in front
 front-bytes : (s t : Spot) (k : ItemKind) → item_kind_field s ≡ Ok (k, t) → AreBytes s.rest → AreBytes t.rest

@@ -15,7 +15,9 @@ use Rattle.object_store.specs.Fits.{is_commit}
 use Rattle.object_store.specs.StoredSnapshots.{snapshot_object}
 use Rattle.object_store.specs.TreeObjects.{tree_objects}
 use Rattle.commit_map.specs.Shown.{Shown}
-use Rattle.state_items.specs.Items.{Held, Kept, change_text, kept_text, rule_text}
+use Rattle.tag_objects.specs.TagLists.{changed, with_tags}
+use Rattle.tag_objects.specs.declared.tag.Tag.{Tag}
+use Rattle.state_items.specs.Items.{Held, Kept, change_text, kept_text, rule_text, tagged_change_text}
 
 -- ---- objects
 
@@ -51,12 +53,14 @@ moved refs es = filter (is_moved refs) (with_refs [] es)
 
 -- ---- plans
 
--- what a command adds to a state: nothing; objects and refs; a rule; or projections that it keeps, for a filter's text and a rule
+-- what a command adds to a state: nothing; objects and refs; a rule; projections that it keeps, for a filter's text and a rule; or
+-- objects, refs, and tags that change, one at least
 pub data Plan : Type 0 where
   NoPlan : Plan
   ChangePlan : List Object → Refs → Plan
   RulePlan : ℕ → Plan
   KeepPlan : ℕ → Bytes → List (Bytes × Option Shown) → Plan
+  TagPlan : List Object → Refs → List Tag → Plan
 
 -- these objects and refs, if there are any
 abbrev pub plan_of : List Object → Refs → Plan
@@ -65,6 +69,15 @@ plan_of objects refs = if is_nil objects && is_nil refs then NoPlan else ChangeP
 -- the objects that aren't held and the refs that move
 abbrev pub change_plan : Held → List Object → Refs → Plan
 change_plan h objects refs = plan_of (fresh h.objects objects) (moved h.refs refs)
+
+-- without tags that change it is a change
+abbrev pub plan_with : List Object → Refs → List Tag → Plan
+plan_with objects refs [] = plan_of objects refs
+plan_with objects refs (t ∷ ts) = TagPlan objects refs (t ∷ ts)
+
+-- the objects that aren't held, the refs that move, and the tags that change
+abbrev pub tagged_plan : Held → List Object → Refs → List Tag → Plan
+tagged_plan h objects refs tags = plan_with (fresh h.objects objects) (moved h.refs refs) (changed h.tags tags)
 
 -- a rule that isn't the state's
 abbrev pub rule_plan : Held → ℕ → Plan
@@ -76,6 +89,7 @@ plan_items NoPlan = []
 plan_items (ChangePlan objects refs) = change_text objects refs ∷ []
 plan_items (RulePlan k) = rule_text k ∷ []
 plan_items (KeepPlan k text es) = kept_text k text es ∷ []
+plan_items (TagPlan objects refs tags) = tagged_change_text objects refs tags ∷ []
 
 abbrev pub entry_of : ℕ → Bytes → Bytes × Option Shown → Kept
 entry_of k text e = record { filter = text; rule = k; original = e.0; result = e.1 }
@@ -86,6 +100,8 @@ held_after h NoPlan = h
 held_after h (ChangePlan objects refs) = record h { objects = reverse objects ++ h.objects; refs = with_refs h.refs refs }
 held_after h (RulePlan k) = record h { rule = k }
 held_after h (KeepPlan k text es) = record h { kept = h.kept ++ map (entry_of k text) es }
+held_after h (TagPlan objects refs tags) =
+    record h { objects = reverse objects ++ h.objects; refs = with_refs h.refs refs; tags = with_tags h.tags tags }
 
 -- ---- limits
 

@@ -25,12 +25,13 @@ use Rattle.filter_text.specs.Texts.{name_at, kept_name_at, target_at}
 use Rattle.commit_map.specs.Shown.{Shown}
 use Rattle.hex.specs.Hex.{encode_with, decode_pairs}
 use Rattle.sha1.specs.Sha1.{sha1, first_words, schedule, rounds, compress, hash_after, digest_bytes}
+use Rattle.tag_objects.specs.declared.tag.Tag.{Tag}
 use Rattle.state_items.specs.Fields.{BrokenAt}
-use Rattle.state_items.specs.Items.{Held, change_text, is_canonical, kept_text, nothing, read_item, read_items, rule_text}
+use Rattle.state_items.specs.Items.{Held, change_text, is_canonical, kept_text, nothing, read_item, read_items, rule_text, tag_item_text, tagged_change_text}
 use Rattle.state_items.specs.Repos.{are_used, repo}
 use Rattle.state_items.specs.Appending.{are_refs}
 use Rattle.state_items.specs.Imported.{with_blobs, with_commits}
-use Rattle.state_items.specs.Changes.{ChangePlan, KeepPlan, NoPlan, RulePlan, blob_object, change_plan, fresh, held_after, moved, objects_of, passed, plan_items, rule_plan}
+use Rattle.state_items.specs.Changes.{ChangePlan, KeepPlan, NoPlan, RulePlan, TagPlan, blob_object, change_plan, fresh, held_after, moved, objects_of, passed, plan_items, rule_plan, tagged_plan}
 
 abbrev ident : Bytes
 ident = codes "A <a@x> 1700000000 +0000"
@@ -59,7 +60,7 @@ objects = blob_object hello ∷ tree_of inner ∷ tree_of files ∷ snapshot_obj
 
 -- what is held with it, under one ref
 abbrev held : Held
-held = record { objects = reverse objects; refs = (main, snapshot_name first) ∷ []; kept = []; rule = 1 }
+held = record { objects = reverse objects; refs = (main, snapshot_name first) ∷ []; kept = []; rule = 1; tags = [] }
 
 -- ---- the first bytes
 
@@ -95,7 +96,7 @@ the_second_item = refl
 pub a_rule_is_written : rule_text 2 ≡ 2 ∷ 3 ∷ 2 ∷ []
 a_rule_is_written = refl
 
-pub a_rule_is_set : read_items ((2 ∷ 3 ∷ 2 ∷ []) ∷ []) ≡ Ok (record { objects = []; refs = []; kept = []; rule = 2 })
+pub a_rule_is_set : read_items ((2 ∷ 3 ∷ 2 ∷ []) ∷ []) ≡ Ok (record { objects = []; refs = []; kept = []; rule = 2; tags = [] })
 unfolding read_items read_item
 a_rule_is_set = refl
 
@@ -314,3 +315,107 @@ pub kept_for_another_rule : read_item with_kept (kept_text 1 text ((original, No
     ≡ Ok (held_after with_kept (KeepPlan 1 text ((original, None) ∷ [])))
 unfolding read_item kept_text is_canonical read pieces_at list_at target_at name_at kept_name_at word_at path_of unquote has commit_body commit_name encode_with body line name digits first_words schedule rounds compress hash_after digest_bytes sha1
 kept_for_another_rule = refl
+
+-- ---- tags
+
+-- a tag of the commit
+abbrev v1 : Bytes → Tag
+v1 message = record { name = codes "v1"; target = record { 0 = snapshot_name first }; tagger = ident; message = message }
+
+abbrev tagged : Held
+tagged = record held { tags = v1 (codes "v1\n") ∷ [] }
+
+-- the item that importing the commit with the tag into an empty store appends
+abbrev tagged_item : Bytes
+tagged_item = tagged_change_text objects held.refs tagged.tags
+
+pub tagged_item_long : length tagged_item ≡ 312
+unfolding tagged_change_text commit_body commit_name encode_with body line name digits first_words schedule rounds compress hash_after digest_bytes sha1
+tagged_item_long = refl
+
+pub what_is_new_with_a_tag : tagged_plan nothing (objects_of (hello ∷ []) (first ∷ [])) held.refs tagged.tags ≡ TagPlan objects held.refs tagged.tags
+unfolding fresh tree_objects has_name commit_body commit_name encode_with body line name digits first_words schedule rounds compress hash_after digest_bytes sha1
+what_is_new_with_a_tag = refl
+
+-- without tags it is a change
+pub without_tags : tagged_plan nothing (objects_of (hello ∷ []) (first ∷ [])) held.refs [] ≡ ChangePlan objects held.refs
+unfolding fresh tree_objects has_name commit_body commit_name encode_with body line name digits first_words schedule rounds compress hash_after digest_bytes sha1
+without_tags = refl
+
+-- the whole item is read back
+pub tagged_item_read : read_items (tagged_item ∷ []) ≡ Ok tagged
+unfolding read_items read_item is_ref_name tree_entries commit_from decode_pairs is_ident find_named has has_name body_of flat tagged_change_text commit_body commit_name encode_with body line name digits first_words schedule rounds compress hash_after digest_bytes sha1
+tagged_item_read = refl
+
+-- setting a tag to what it is changes nothing
+pub the_same_tag_again : tagged_plan tagged (objects_of (hello ∷ []) (first ∷ [])) held.refs tagged.tags ≡ NoPlan
+unfolding fresh tree_objects has_name commit_body commit_name encode_with body line name digits first_words schedule rounds compress hash_after digest_bytes sha1
+the_same_tag_again = refl
+
+-- an item of a tag alone: the bytes 2 and 4, no object, no ref, and one tag
+abbrev tag_alone : Bytes
+tag_alone = 2 ∷ 4 ∷ 0 ∷ 0 ∷ 0 ∷ 0 ∷ 0 ∷ 0 ∷ 0 ∷ 0 ∷ 0 ∷ 0 ∷ 0 ∷ 1 ∷ tag_item_text (v1 (codes "v2\n"))
+
+pub another_message : plan_items (tagged_plan tagged [] [] (v1 (codes "v2\n") ∷ [])) ≡ tag_alone ∷ []
+unfolding fresh tagged_change_text commit_body commit_name encode_with body line name digits first_words schedule rounds compress hash_after digest_bytes sha1
+another_message = refl
+
+-- a tag has the value that was set last
+pub the_last_message : read_items (tagged_item ∷ tag_alone ∷ []) ≡ Ok (record held { tags = v1 (codes "v2\n") ∷ [] })
+unfolding read_items read_item is_ref_name tree_entries commit_from decode_pairs is_ident find_named has has_name body_of flat tagged_change_text commit_body commit_name encode_with body line name digits first_words schedule rounds compress hash_after digest_bytes sha1
+the_last_message = refl
+
+-- ---- places of breaks, behind the fields of objects and refs
+
+abbrev no_change : Bytes
+no_change = 2 ∷ 4 ∷ 0 ∷ 0 ∷ 0 ∷ 0 ∷ 0 ∷ 0 ∷ 0 ∷ 0 ∷ []
+
+-- tags have the second format alone
+pub tags_of_the_other_format : read_items ((1 ∷ 4 ∷ []) ∷ []) ≡ Err (0, BrokenAt 1)
+unfolding read_items read_item
+tags_of_the_other_format = refl
+
+pub no_number_of_tags : read_items ((no_change ++ 0 ∷ 0 ∷ []) ∷ []) ≡ Err (0, BrokenAt 10)
+unfolding read_items read_item
+no_number_of_tags = refl
+
+pub no_tags : read_items ((no_change ++ 0 ∷ 0 ∷ 0 ∷ 0 ∷ []) ∷ []) ≡ Ok nothing
+unfolding read_items read_item
+no_tags = refl
+
+pub more_behind_tags : read_items ((no_change ++ 0 ∷ 0 ∷ 0 ∷ 0 ∷ 7 ∷ []) ∷ []) ≡ Err (0, BrokenAt 14)
+unfolding read_items read_item
+more_behind_tags = refl
+
+-- a text that names no tag is told at its first byte
+pub no_tag_name : read_items ((no_change ++ 0 ∷ 0 ∷ 0 ∷ 1 ∷ 0 ∷ 1 ∷ 32 ∷ []) ∷ []) ≡ Err (0, BrokenAt 16)
+unfolding read_items read_item is_ref_name
+no_tag_name = refl
+
+-- and a name that doesn't rise at its own
+pub a_tag_twice : read_item held (tagged_change_text [] [] (v1 (codes "v1\n") ∷ v1 (codes "v2\n") ∷ [])) ≡ Err (BrokenAt 75)
+unfolding read_items read_item is_ref_name tree_entries commit_from decode_pairs is_ident find_named has has_name body_of flat tagged_change_text commit_body commit_name encode_with body line name digits first_words schedule rounds compress hash_after digest_bytes sha1
+a_tag_twice = refl
+
+-- a commit that isn't held is told at its name
+pub a_tag_of_nothing : read_items (tag_alone ∷ []) ≡ Err (0, BrokenAt 18)
+unfolding read_items read_item is_ref_name tree_entries commit_from decode_pairs is_ident find_named has has_name body_of flat tagged_change_text commit_body commit_name encode_with body line name digits first_words schedule rounds compress hash_after digest_bytes sha1
+a_tag_of_nothing = refl
+
+-- a text that is no ident at its first byte
+pub no_tagger : read_item held (tagged_change_text [] [] (record (v1 (codes "v1\n")) { tagger = codes "A" } ∷ [])) ≡ Err (BrokenAt 42)
+unfolding read_items read_item is_ref_name tree_entries commit_from decode_pairs is_ident find_named has has_name body_of flat tagged_change_text commit_body commit_name encode_with body line name digits first_words schedule rounds compress hash_after digest_bytes sha1
+no_tagger = refl
+
+-- of the item that was appended, cut: in the length of the tagger, in the tagger, and in the message
+pub cut_before_the_tagger : read_items (take 280 tagged_item ∷ []) ≡ Err (0, BrokenAt 277)
+unfolding read_items read_item is_ref_name tree_entries commit_from decode_pairs is_ident find_named has has_name body_of flat tagged_change_text commit_body commit_name encode_with body line name digits first_words schedule rounds compress hash_after digest_bytes sha1
+cut_before_the_tagger = refl
+
+pub cut_in_the_tagger : read_items (take 290 tagged_item ∷ []) ≡ Err (0, BrokenAt 281)
+unfolding read_items read_item is_ref_name tree_entries commit_from decode_pairs is_ident find_named has has_name body_of flat tagged_change_text commit_body commit_name encode_with body line name digits first_words schedule rounds compress hash_after digest_bytes sha1
+cut_in_the_tagger = refl
+
+pub cut_in_the_message : read_items (take 311 tagged_item ∷ []) ≡ Err (0, BrokenAt 309)
+unfolding read_items read_item is_ref_name tree_entries commit_from decode_pairs is_ident find_named has has_name body_of flat tagged_change_text commit_body commit_name encode_with body line name digits first_words schedule rounds compress hash_after digest_bytes sha1
+cut_in_the_message = refl

@@ -1,10 +1,11 @@
--- The items of a store, each a change, kept projections or a rule: what a list of them holds, or its first break.
+-- The items of a store, each a change, with tags or without, kept projections or a rule: what a list of them holds, or its first break.
 use Rattle.std.specs.Prelude.{ℕ, zero, suc, ◌+◌, Bool, true, false, not, ◌&&◌, ◌||◌, ◌==◌, nat_le, nat_lt, if◌then◌else◌, List, [], ◌∷◌, ◌++◌, length, filter, Option, Some, None, Result, Ok, Err}
 use Rattle.std.specs.List.{flat_map, list_any}
 use Rattle.std.specs.Int.{w16, w32, to_be_bytes}
 use Rattle.std.specs.Ordering.{is_lt}
 use Rattle.std.specs.FinMap.{put as put_entry}
-use Rattle.git_objects.specs.declared.limits.TheConstants.{COMMITS, OBJECTS, ITEM_BYTES, ITEMS, STORE_BYTES}
+use Rattle.git_objects.specs.declared.limits.TheConstants.{COMMITS, OBJECTS, ITEM_BYTES, ITEMS, MESSAGE_BYTES, STORE_BYTES}
+use Rattle.git_objects.specs.Idents.{is_ident}
 use Rattle.git_objects.specs.Paths.{Bytes, same_bytes}
 use Rattle.git_objects.specs.Refs.{Refs, bytes_cmp}
 use Rattle.git_objects.specs.Results.{◌>>=◌, must, or_refuse, refused_by}
@@ -21,6 +22,9 @@ use Rattle.filter_text.specs.Printing.{printed}
 use Rattle.filter_text.specs.declared.filter.FilterFault.{FilterFault}
 use Rattle.filter_routes.specs.SoundTests.{is_sound}
 use Rattle.commit_map.specs.Shown.{Shown}
+use Rattle.tag_objects.specs.TagLists.{put_tag}
+use Rattle.tag_objects.specs.TagNames.{is_tag_name}
+use Rattle.tag_objects.specs.declared.tag.Tag.{Tag}
 use Rattle.state_items.specs.Fields.{Spot, Fault, BrokenAt, Clash, Read, start, field, number, ended}
 
 -- A kept projection: the canonical text of a filter, the number of a rule, the name of an original commit, and its projection by
@@ -31,16 +35,17 @@ pub record Kept : Type 0 where
   pub original : Bytes
   pub result : Option Shown
 
--- What the items read so far hold: the objects from the newest to the oldest, the refs, the kept projections, and the number of the
--- rule that was set last.
+-- What the items read so far hold: the objects from the newest to the oldest, the refs, the kept projections, the number of the
+-- rule that was set last, and the tags, one of each name, in the byte order of their names.
 pub record Held : Type 0 where
   pub objects : List Object
   pub refs : Refs
   pub kept : List Kept
   pub rule : ℕ
+  pub tags : List Tag
 
 abbrev pub nothing : Held
-nothing = record { objects = []; refs = []; kept = []; rule = 1 }
+nothing = record { objects = []; refs = []; kept = []; rule = 1; tags = [] }
 
 -- ---- kinds of items
 
@@ -52,6 +57,8 @@ pub data ItemKind : Type 0 where
   KeptItem : ItemKind
   -- a rule
   RuleItem : ItemKind
+  -- objects, refs and tags
+  TagItem : ItemKind
 
 -- by the bytes for the format and for the kind
 abbrev pub item_kind : ℕ → ℕ → Option ItemKind
@@ -59,7 +66,8 @@ item_kind format kind =
     if format == 1 && kind == 1 then Some ChangeItem else
     (if format == 1 && kind == 2 then Some OldKeptItem else
     (if format == 2 && kind == 2 then Some KeptItem else
-    (if format == 2 && kind == 3 then Some RuleItem else None)))
+    (if format == 2 && kind == 3 then Some RuleItem else
+    (if format == 2 && kind == 4 then Some TagItem else None))))
 
 -- a format that is none is broken at its byte, and a kind that isn't one of the format at the next
 abbrev pub item_kind_field : Spot → Read ItemKind
@@ -139,6 +147,46 @@ refs_field zero S before refs s = Ok (refs, s)
 refs_field (suc n) S before refs s =
     ref_field before s >>= λ r. head_field S r.1 >>= λ h. refs_field n S (Some r.0) (put_entry bytes_cmp r.0 h.0 refs) h.1
 
+-- ---- tags
+
+-- the length and the name of a tag, above the one before
+abbrev pub name_field : Option Bytes → Spot → Read Bytes
+name_field before s = do
+  n ← number 2 s
+  t ← field n.0 n.1
+  _ ← must (BrokenAt n.1.at) (is_tag_name t.0 && rises before t.0)
+  Ok t
+
+-- the length and an ident
+abbrev pub tagger_field : Spot → Read Bytes
+tagger_field s = do
+  n ← number 4 s
+  t ← field n.0 n.1
+  _ ← must (BrokenAt n.1.at) (is_ident t.0)
+  Ok t
+
+-- the length and a message within its limit
+abbrev pub message_field : Spot → Read Bytes
+message_field s = do
+  n ← number 4 s
+  t ← field n.0 n.1
+  _ ← must (BrokenAt n.1.at) (nat_le (length t.0) MESSAGE_BYTES)
+  Ok t
+
+-- a tag of a commit that is held
+abbrev pub tag_field : List Object → Option Bytes → Spot → Read Tag
+tag_field S before s = do
+  n ← name_field before s
+  c ← head_field S n.1
+  p ← tagger_field c.1
+  m ← message_field p.1
+  Ok (record { name = n.0; target = record { 0 = c.0 }; tagger = p.0; message = m.0 }, m.1)
+
+-- so many tags, each in the place of the one of its name
+abbrev pub tags_field : ℕ → List Object → Option Bytes → List Tag → Spot → Read (List Tag)
+tags_field zero S before tags s = Ok (tags, s)
+tags_field (suc n) S before tags s = tag_field S before s >>= λ t. tags_field n S (Some t.0.name) (put_tag t.0 tags) t.1
+
 -- ---- rules and kept projections
 
 -- a rule's number is 1 or 2
@@ -211,6 +259,17 @@ change_part h s = do
   refs ← refs_field m.0 objects.0 None h.refs m.1
   ended_with (record h { objects = objects.0; refs = refs.0 }) refs.1
 
+-- the fields of a change, and the tags behind them
+abbrev pub tag_part : Held → Spot → Result Held Fault
+tag_part h s = do
+  n ← number 4 s
+  objects ← objects_field n.0 h.objects n.1
+  m ← number 4 objects.1
+  refs ← refs_field m.0 objects.0 None h.refs m.1
+  k ← number 4 refs.1
+  tags ← tags_field k.0 objects.0 None h.tags k.1
+  ended_with (record h { objects = objects.0; refs = refs.0; tags = tags.0 }) tags.1
+
 abbrev pub kept_part : Held → ℕ → Spot → Result Held Fault
 kept_part h rule s = do
   t ← text_field s
@@ -223,6 +282,7 @@ part h ChangeItem s = change_part h s
 part h OldKeptItem s = kept_part h 1 s
 part h KeptItem s = rule_field s >>= λ k. kept_part h k.0 k.1
 part h RuleItem s = rule_field s >>= λ k. ended_with (record h { rule = k.0 }) k.1
+part h TagItem s = tag_part h s
 
 -- what is held after an item
 unfoldable pub read_item : Held → Bytes → Result Held Fault
@@ -269,6 +329,23 @@ ref_text r = to_be_bytes w16 (length r.0) ++ r.0 ++ r.1
 unfoldable pub change_text : List Object → Refs → Bytes
 change_text objects refs =
     1 ∷ 1 ∷ (to_be_bytes w32 (length objects) ++ flat_map object_text objects ++ to_be_bytes w32 (length refs) ++ flat_map ref_text refs)
+
+-- the length and the name, the commit's name, the length and the tagger, the length and the message
+abbrev pub tag_item_text : Tag → Bytes
+tag_item_text t =
+    to_be_bytes w16 (length t.name) ++ t.name ++ t.target.0 ++ to_be_bytes w32 (length t.tagger) ++ t.tagger
+    ++ to_be_bytes w32 (length t.message) ++ t.message
+
+-- an item of these objects, in order, of these refs, and of these tags
+unfoldable pub tagged_change_text : List Object → Refs → List Tag → Bytes
+tagged_change_text objects refs tags =
+    2 ∷ 4 ∷ (to_be_bytes w32 (length objects) ++ flat_map object_text objects ++ to_be_bytes w32 (length refs) ++ flat_map ref_text refs
+    ++ to_be_bytes w32 (length tags) ++ flat_map tag_item_text tags)
+
+-- an item of these objects and refs, and of these tags where there are any
+abbrev pub text_with : List Object → Refs → List Tag → Bytes
+text_with objects refs [] = change_text objects refs
+text_with objects refs (t ∷ ts) = tagged_change_text objects refs (t ∷ ts)
 
 abbrev pub result_text : Option Shown → Bytes
 result_text None = 0 ∷ []

@@ -9,6 +9,8 @@ pub mod KeptLaws
 pub mod Hands
 pub mod Stored
 pub mod Canonical
+pub mod TaggedLaws
+pub mod ChangedTags
 pub mod Examples
 pub mod Stops
 pub mod Arrivals

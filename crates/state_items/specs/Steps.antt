@@ -11,8 +11,10 @@ use Rattle.object_store.specs.Objects.{Object, has}
 use Rattle.object_store.specs.declared.store.PutError.{PutError}
 use Rattle.object_store.specs.declared.store.PutError.TheVariants.{NotCanonical, MissingChild, Collision as Collides, OutOfMemory as NoMemory}
 use Rattle.commit_map.specs.Shown.{Entries, Shown, kept_at}
+use Rattle.tag_objects.specs.TagLists.{put_tag}
+use Rattle.tag_objects.specs.declared.tag.Tag.{Tag}
 use Rattle.state_items.specs.Fields.{Spot, Fault, BrokenAt, Read, ended, field, number, start}
-use Rattle.state_items.specs.Items.{ItemKind, ChangeItem, OldKeptItem, KeptItem, RuleItem, head_field, item_kind_field, kind_field, objects_field, ref_field, refs_field, result_field, rule_field, text_field}
+use Rattle.state_items.specs.Items.{ItemKind, ChangeItem, OldKeptItem, KeptItem, RuleItem, TagItem, head_field, item_kind_field, kind_field, objects_field, ref_field, refs_field, result_field, rule_field, tag_field, tags_field, text_field}
 use Rattle.state_items.specs.KeptMaps.{RuleMaps, entries_at, with_map_by}
 use Rattle.state_items.specs.declared.fault.ItemFault.{ItemFault}
 use Rattle.state_items.specs.declared.fault.ItemFault.TheVariants.{Broken, Collision, OutOfMemory}
@@ -40,6 +42,10 @@ put_fault NoMemory at = OutOfMemory
 -- one ref: its name, and the refs with it
 abbrev pub one_ref : List Object → Option Bytes → Refs → Spot → Read (Bytes × Refs)
 one_ref S before refs s = ref_field before s >>= λ r. head_field S r.1 >>= λ h. Ok ((r.0, put_entry bytes_cmp r.0 h.0 refs), h.1)
+
+-- one tag: its name, and the tags with it
+abbrev pub one_tag : List Object → Option Bytes → List Tag → Spot → Read (Bytes × List Tag)
+one_tag S before tags s = tag_field S before s >>= λ t. Ok ((t.0.name, put_tag t.0 tags), t.1)
 
 -- whether each ref names a commit that is held
 abbrev pub are_heads : List Object → Refs → Bool
@@ -75,12 +81,13 @@ entries_step (suc n) S es s = entry_step S es s >>= λ e. entries_step n S e.0 e
 
 -- ---- an item, into what the code holds
 
--- what the code holds: the objects from the newest to the oldest, the refs in byte order, the maps, and the rule
+-- what the code holds: the objects from the newest to the oldest, the refs in byte order, the maps, the rule, and the tags
 pub record Parts : Type 0 where
   pub objects : List Object
   pub refs : Refs
   pub maps : RuleMaps
   pub rule : ℕ
+  pub tags : List Tag
 
 -- the refs, and the end
 abbrev pub refs_step : List Object → Refs → Spot → Result Refs Fault
@@ -100,6 +107,27 @@ objects_step S refs s = do
 
 abbrev pub change_step : Parts → Spot → Result Parts Fault
 change_step p s = objects_step p.objects p.refs s >>= λ c. Ok (record p { objects = c.0; refs = c.1 })
+
+-- the refs, the tags, and the end
+abbrev pub tags_step : List Object → Refs → List Tag → Spot → Result (Refs × List Tag) Fault
+tags_step S refs tags s = do
+  n ← number 4 s
+  r ← refs_field n.0 S None refs n.1
+  k ← number 4 r.1
+  t ← tags_field k.0 S None tags k.1
+  _ ← ended t.1
+  Ok (r.0, t.0)
+
+-- the objects, the refs and the tags
+abbrev pub tagged_step : List Object → Refs → List Tag → Spot → Result (List Object × Refs × List Tag) Fault
+tagged_step S refs tags s = do
+  n ← number 4 s
+  o ← objects_field n.0 S n.1
+  t ← tags_step o.0 refs tags o.1
+  Ok (o.0, t.0, t.1)
+
+abbrev pub tag_step : Parts → Spot → Result Parts Fault
+tag_step p s = tagged_step p.objects p.refs p.tags s >>= λ c. Ok (record p { objects = c.0; refs = c.1; tags = c.2 })
 
 abbrev pub kept_maps : List Object → ℕ → RuleMaps → Spot → Result RuleMaps Fault
 kept_maps S rule maps s = do
@@ -130,6 +158,7 @@ part_step p ChangeItem s = change_step p s
 part_step p OldKeptItem s = kept_step p 1 s
 part_step p KeptItem s = kept_by_rule p.objects p.maps s >>= λ maps. Ok (record p { maps = maps })
 part_step p RuleItem s = rule_step p s
+part_step p TagItem s = tag_step p s
 
 unfoldable pub item_step : Parts → Bytes → Result Parts Fault
 item_step p bytes = item_kind_field (start bytes) >>= λ k. part_step p k.0 k.1

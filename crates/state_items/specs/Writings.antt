@@ -12,7 +12,8 @@ use Rattle.git_objects.specs.declared.quantity.Quantity.{Quantity}
 use Rattle.git_objects.specs.declared.quantity.Quantity.TheVariants as limits
 use Rattle.object_store.specs.Objects.{Object, find_named}
 use Rattle.state_items.specs.Changes.{or_else}
-use Rattle.state_items.specs.Items.{kind_byte, ref_text}
+use Rattle.tag_objects.specs.declared.tag.Tag.{Tag}
+use Rattle.state_items.specs.Items.{kind_byte, ref_text, tag_item_text}
 
 -- the objects of these names
 abbrev pub objects_named : List Object → List Bytes → List Object
@@ -43,3 +44,14 @@ object_head o = kind_byte o.kind ∷ to_be_bytes w32 (length o.body)
 unfoldable pub heads_text : List Object → Refs → Bytes
 heads_text objects refs =
     1 ∷ 1 ∷ (to_be_bytes w32 (length objects) ++ flat_map object_head objects ++ to_be_bytes w32 (length refs) ++ flat_map ref_text refs)
+
+-- the bytes of an item with tags but for the bodies of its objects
+unfoldable pub tagged_heads_text : List Object → Refs → List Tag → Bytes
+tagged_heads_text objects refs tags =
+    2 ∷ 4 ∷ (to_be_bytes w32 (length objects) ++ flat_map object_head objects ++ to_be_bytes w32 (length refs) ++ flat_map ref_text refs
+    ++ to_be_bytes w32 (length tags) ++ flat_map tag_item_text tags)
+
+-- the bytes of an item of objects and refs, and of these tags where there are any, but for the bodies of its objects
+abbrev pub heads_with : List Object → Refs → List Tag → Bytes
+heads_with objects refs [] = heads_text objects refs
+heads_with objects refs (t ∷ ts) = tagged_heads_text objects refs (t ∷ ts)

@@ -6,6 +6,7 @@ ghost use Rattle.state_items.specs.Imported.{ChangeLaw, ImportedLaw};
 ghost use Rattle.state_items.specs.KeptLaws.{KeptLaw, Projecting};
 ghost use Rattle.state_items.specs.ReadHeld.{ReadLaw};
 ghost use Rattle.state_items.specs.Stored.{StoredLaw};
+ghost use Rattle.state_items.specs.TaggedLaws.{OldItemsLaw, TaggedChangeLaw, TaggedLaw};
 
 /// An addition that passes no limit is read back behind the items, and no items are Kept.
 pub fn append_law()
@@ -45,4 +46,20 @@ pub fn stored_law()
 /// A canonical text is that of a sound filter, and a sound filter is printed as its canonical text.
 pub fn canonical_law()
     ensures { CanonicalLaw }
+{}
+
+/// Items without tags hold none.
+pub fn old_items_law()
+    ensures { OldItemsLaw }
+{}
+
+/// For all but the tags a change with tags means what it means without them; and each tag that it brings is the one of
+/// its name then, and the others stay.
+pub fn tagged_law()
+    ensures { TaggedLaw }
+{}
+
+/// A change that brings whole commits and tags of commits that are there may be added.
+pub fn tagged_change_law()
+    ensures { TaggedChangeLaw }
 {}

@@ -13,13 +13,14 @@ ghost use Rattle.state_items.specs.Items.{Held, item_kind, item_kind_field, noth
 ghost use Rattle.state_items.specs.Lending.{LendsPiece};
 ghost use Rattle.state_items.specs.Readings.{Gathered, Holds, HoldsSomething, kind_value, parts_of, with_piece};
 ghost use Rattle.state_items.specs.Steps.{are_heads, item_step, kept_by_rule, kept_maps};
-ghost use Rattle.state_items.specs.Steps.{objects_step, part_step, refs_step, rule_end};
+ghost use Rattle.state_items.specs.Steps.{objects_step, part_step, refs_step, rule_end, tagged_step, tags_step};
 ghost use Rattle.state_items.specs.Stops.{IsStop, spot_at};
 
 use crate::cursor::Cursor;
 use crate::kept_fields::{read_kept, rule_field};
 use crate::objects::Objects;
 use crate::ref_fields::set_refs;
+use crate::tag_fields::set_tags;
 use crate::{ItemFault, KeptMaps};
 use commit_graph::Graph;
 use commit_map::Rule;
@@ -29,6 +30,7 @@ use object_store::{Incoming, Store};
 use ref_store::Refs;
 use std::alloc::{AllocError, Global};
 use std::marker::Model;
+use tag_objects::Tag;
 
 // What an item brings.
 #[derive(Clone, Copy)]
@@ -40,6 +42,8 @@ enum ItemKind {
     // Kept projections of the rule that the item names.
     Kept,
     NewRule,
+    // Objects, refs and tags.
+    Tagged,
 }
 
 // The kind of an item, and the place behind it.
@@ -61,6 +65,8 @@ pub struct Loaded {
     pub refs: Refs,
     pub kept: KeptMaps,
     pub rule: Rule,
+    /// One of each name, in the byte order of their names.
+    pub tags: Vec<Tag>,
 }
 
 /// Items that are read one after another. Each is written into the piece and then read there: bodies of objects stay
@@ -71,6 +77,7 @@ pub struct Reading {
     refs: Refs,
     kept: KeptMaps,
     rule: Rule,
+    tags: Vec<Tag>,
     alloc: Global,
 }
 
@@ -90,6 +97,7 @@ impl Model for Reading {
       refs = r.refs;
       maps = r.kept;
       rule = rule_number r.rule;
+      tags = r.tags.items;
       piece = r.objects.incoming.piece;
     } };
 
@@ -104,6 +112,7 @@ fn item_kind(format: u8, kind: u8) -> Option<ItemKind>
         (1, 2) => Some(ItemKind::OldKept),
         (2, 2) => Some(ItemKind::Kept),
         (2, 3) => Some(ItemKind::NewRule),
+        (2, 4) => Some(ItemKind::Tagged),
         _ => None,
     }
 }
@@ -200,6 +209,61 @@ fn read_change(
     read_refs(alloc, &objects.incoming, end, refs)
 }
 
+// Reads refs and tags from a place on, and the end.
+fn read_tags(
+    alloc: Global,
+    held: &Incoming,
+    at: usize,
+    refs: &mut Refs,
+    tags: &mut Vec<Tag>,
+) -> Result<(), ItemFault>
+    requires within { at ≤ length held.now.piece }
+    requires heads { are_heads held.now.objects (with_refs [] refs.old) ≡ true }
+    requires distinct { AreDistinct refs.old }
+    ensures tags { MatchResult result
+        (λ _. tags_step held.now.objects (with_refs [] refs.old) tags.old.items (spot_at at held.now.piece)
+        ≡ Ok (with_refs [] refs.new, tags.new.items))
+        (λ stop. IsStop stop (tags_step held.now.objects (with_refs [] refs.old) tags.old.items
+        (spot_at at held.now.piece))) }
+    ensures heads { OnOk result (are_heads held.now.objects (with_refs [] refs.new) ≡ true) }
+    ensures distinct { OnOk result (AreDistinct refs.new) }
+{
+    let mut cursor = Cursor::new(held.piece(), at);
+    let count = cursor.four_bytes()?;
+    set_refs(alloc, &mut cursor, held, count, refs)?;
+    let count = cursor.four_bytes()?;
+    set_tags(alloc, &mut cursor, held, count, tags)?;
+    cursor.ended()
+}
+
+// Reads objects, refs and tags from a place on, and the end.
+fn read_tagged(
+    alloc: Global,
+    objects: &mut Objects,
+    refs: &mut Refs,
+    tags: &mut Vec<Tag>,
+    at: usize,
+) -> Result<(), ItemFault>
+    requires within { at ≤ length objects.old.incoming.piece }
+    requires held { HoldsObjects objects.old }
+    requires heads { are_heads objects.old.incoming.objects (with_refs [] refs.old) ≡ true }
+    requires distinct { AreDistinct refs.old }
+    ensures change { MatchResult result
+        (λ _. tagged_step objects.old.incoming.objects (with_refs [] refs.old) tags.old.items
+        (spot_at at objects.old.incoming.piece)
+        ≡ Ok (objects.new.incoming.objects, with_refs [] refs.new, tags.new.items))
+        (λ stop. IsStop stop (tagged_step objects.old.incoming.objects (with_refs [] refs.old) tags.old.items
+        (spot_at at objects.old.incoming.piece))) }
+    ensures held { OnOk result (HoldsObjects objects.new) }
+    ensures heads { OnOk result (are_heads objects.new.incoming.objects (with_refs [] refs.new) ≡ true) }
+    ensures distinct { OnOk result (AreDistinct refs.new) }
+{
+    let (count, begin) = count_at(objects.incoming.piece(), at)?;
+    objects.reserve(begin, count)?;
+    let end = objects.read(alloc, begin, count)?;
+    read_tags(alloc, &objects.incoming, end, refs, tags)
+}
+
 // Reads kept projections of a rule from a place on, and the end.
 fn read_kept_at(
     alloc: Global,
@@ -256,15 +320,17 @@ fn read_part(
     refs: &mut Refs,
     kept: &mut KeptMaps,
     rule: &mut Rule,
+    tags: &mut Vec<Tag>,
 ) -> Result<(), ItemFault>
     requires within { from.at ≤ length objects.old.incoming.piece }
     requires held { HoldsObjects objects.old }
     requires heads { are_heads objects.old.incoming.objects (with_refs [] refs.old) ≡ true }
     requires distinct { AreDistinct refs.old }
-    ensures part { let p = parts_of objects.old.incoming.objects refs.old kept.old (rule_number rule.old) in
+    ensures part { let p = parts_of objects.old.incoming.objects refs.old kept.old (rule_number rule.old)
+        tags.old.items in
         MatchResult result
         (λ _. part_step p (kind_value from.kind) (spot_at from.at objects.old.incoming.piece)
-        ≡ Ok (parts_of objects.new.incoming.objects refs.new kept.new (rule_number rule.new)))
+        ≡ Ok (parts_of objects.new.incoming.objects refs.new kept.new (rule_number rule.new) tags.new.items))
         (λ stop. IsStop stop (part_step p (kind_value from.kind) (spot_at from.at objects.old.incoming.piece))) }
     ensures held { OnOk result (HoldsObjects objects.new) }
     ensures heads { OnOk result (are_heads objects.new.incoming.objects (with_refs [] refs.new) ≡ true) }
@@ -279,6 +345,7 @@ fn read_part(
             *rule = read_rule(objects.incoming.piece(), at)?;
             Ok(())
         }
+        ItemKind::Tagged => read_tagged(alloc, objects, refs, tags, at),
     }
 }
 
@@ -290,21 +357,23 @@ fn read_parts(
     refs: &mut Refs,
     kept: &mut KeptMaps,
     rule: &mut Rule,
+    tags: &mut Vec<Tag>,
 ) -> Result<(), ItemFault>
     requires held { HoldsObjects objects.old }
     requires heads { are_heads objects.old.incoming.objects (with_refs [] refs.old) ≡ true }
     requires distinct { AreDistinct refs.old }
-    ensures parts { let p = parts_of objects.old.incoming.objects refs.old kept.old (rule_number rule.old) in
+    ensures parts { let p = parts_of objects.old.incoming.objects refs.old kept.old (rule_number rule.old)
+        tags.old.items in
         MatchResult result
         (λ _. item_step p objects.old.incoming.piece
-        ≡ Ok (parts_of objects.new.incoming.objects refs.new kept.new (rule_number rule.new)))
+        ≡ Ok (parts_of objects.new.incoming.objects refs.new kept.new (rule_number rule.new) tags.new.items))
         (λ stop. IsStop stop (item_step p objects.old.incoming.piece)) }
     ensures held { OnOk result (HoldsObjects objects.new) }
     ensures heads { OnOk result (are_heads objects.new.incoming.objects (with_refs [] refs.new) ≡ true) }
     ensures distinct { OnOk result (AreDistinct refs.new) }
 {
     let from = start_of_item(objects.incoming.piece())?;
-    read_part(alloc, from, objects, refs, kept, rule)
+    read_part(alloc, from, objects, refs, kept, rule, tags)
 }
 
 impl Reading {
@@ -318,6 +387,7 @@ impl Reading {
             refs: Refs::new(alloc),
             kept: KeptMaps::new(alloc),
             rule: Rule::One,
+            tags: Vec::new(alloc),
             alloc,
         }
     }
@@ -367,6 +437,7 @@ impl Reading {
             &mut self.refs,
             &mut self.kept,
             &mut self.rule,
+            &mut self.tags,
         );
         self.objects.incoming.close();
         read
@@ -381,12 +452,14 @@ impl Reading {
         ensures refs { result.refs ≡ self.refs }
         ensures kept { result.kept ≡ self.maps }
         ensures rule { rule_number result.rule ≡ self.rule }
+        ensures tags { result.tags.items ≡ self.tags }
     {
         let Reading {
             objects,
             refs,
             kept,
             rule,
+            tags,
             ..
         } = self;
         let Objects {
@@ -403,6 +476,7 @@ impl Reading {
             refs,
             kept,
             rule,
+            tags,
         }
     }
 }

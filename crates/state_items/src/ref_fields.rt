@@ -28,8 +28,8 @@ fn is_below<'x>(a: &'x [u8], b: &'x [u8]) -> bool
     a.cmp(&b).is_lt()
 }
 
-// Whether a ref name follows the one before.
-fn rises(before: Option<&[u8]>, name: &[u8]) -> bool
+/// Whether a name follows the one before.
+pub(crate) fn rises(before: Option<&[u8]>, name: &[u8]) -> bool
     ensures { result ≡ rises (option_copied before.entry) name.now }
 {
     match before {
@@ -77,8 +77,8 @@ pub(crate) fn name_in(bytes: &[u8]) -> Option<Name>
     }
 }
 
-// The field of a commit's name, which has to be held.
-fn head_field(cursor: &mut Cursor<'_>, held: &Incoming) -> Result<Name, ItemFault>
+/// The field of a commit's name, which has to be held.
+pub(crate) fn head_field(cursor: &mut Cursor<'_>, held: &Incoming) -> Result<Name, ItemFault>
     ensures field { MatchResult result
         (λ name. head_field held.now.objects cursor.old ≡ Ok (name.0, cursor.new))
         (λ stop. IsStop stop (head_field held.now.objects cursor.old)) }

@@ -12,9 +12,11 @@ ghost use Rattle.ref_store.specs.Pairs.{pair, pairs};
 ghost use Rattle.commit_map.specs.Rules.{rule_number};
 ghost use Rattle.commit_map.specs.Shown.{entry_value, entry_values};
 ghost use Rattle.state_items.specs.Changes.{or_else, passed_by_item, passed_by_objects};
-ghost use Rattle.state_items.specs.Items.{change_text, entry_text, kept_text, kind_byte};
-ghost use Rattle.state_items.specs.Items.{object_text, ref_text, rule_text};
-ghost use Rattle.state_items.specs.Writings.{first_passed, found, heads_text, object_head, sized};
+ghost use Rattle.state_items.specs.Items.{change_text, entry_text, kept_text, kind_byte, object_text, ref_text};
+ghost use Rattle.state_items.specs.Items.{rule_text, tag_item_text, tagged_change_text, text_with};
+ghost use Rattle.state_items.specs.Writings.{first_passed, found, heads_text, heads_with, object_head, sized};
+ghost use Rattle.state_items.specs.Writings.{tagged_heads_text};
+ghost use Rattle.tag_objects.specs.declared.tag.Tag.{Tag as TagValue};
 
 use commit_map::{Rule, Shown};
 use git_objects::limits::{COMMITS, ITEM_BYTES, ITEMS, OBJECTS, STORE_BYTES};
@@ -22,6 +24,7 @@ use git_objects::{Kind, Name, Quantity};
 use object_store::{ObjectRef, Store};
 use path_names::RefName;
 use std::alloc::{AllocError, Global};
+use tag_objects::Tag;
 
 /// `size + more`, in bytes, or None above the limit of an item.
 pub fn add_size(size: usize, more: usize) -> Option<usize>
@@ -107,9 +110,61 @@ fn add_refs(refs: &[(RefName, Name)], size: usize) -> Option<usize>
     Some(size)
 }
 
-/// The length in bytes of the item of these objects and refs, or None above the limit of an item.
+// `size` and the bytes that an item takes for a tag, or None above the limit of an item.
+fn add_tag(tag: &Tag, size: usize) -> Option<usize>
+    requires { size ≤ 2 ^ 29 }
+    ensures { result ≡ sized (size + length (tag_item_text tag.now)) }
+{
+    let size = add_size(size, 10 + tag.target.bytes().len())?;
+    let size = add_size(size, tag.name.text().len())?;
+    let size = add_size(size, tag.tagger.bytes().len())?;
+    add_size(size, tag.message.bytes().len())
+}
+
+// `size` and the bytes that an item takes for these tags, or None above the limit of an item.
+fn add_tags(tags: &[Tag], size: usize) -> Option<usize>
+    requires { size ≤ 2 ^ 29 }
+    ensures { result ≡ sized (size + length (flat_map tag_item_text tags.now)) }
+{
+    let mut size = size;
+    for tag in tags {
+        match add_tag(tag, size) {
+            None => return None,
+            Some(more) => size = more,
+        }
+    }
+    Some(size)
+}
+
+/// The length in bytes of the item of these objects and refs, and of these tags where there are any, or None above the
+/// limit of an item.
+pub fn change_size(
+    objects: &[ObjectRef<'_>],
+    refs: &[(RefName, Name)],
+    tags: &[Tag],
+) -> Option<usize>
+    ensures { result ≡ sized (length (text_with (map object_value objects.now) (pairs refs.now) tags.now)) }
+{
+    match tags {
+        [] => plain_size(objects, refs),
+        [_, ..] => tagged_size(objects, refs, tags),
+    }
+}
+
+// The length in bytes of an item with these tags, or None above the limit of an item.
+#[tactic(auto, unfolding(crate::specs::Items::tagged_change_text))]
+fn tagged_size(objects: &[ObjectRef<'_>], refs: &[(RefName, Name)], tags: &[Tag]) -> Option<usize>
+    ensures { result
+        ≡ sized (length (tagged_change_text (map object_value objects.now) (pairs refs.now) tags.now)) }
+{
+    let size = add_objects(objects, 14)?;
+    let size = add_refs(refs, size)?;
+    add_tags(tags, size)
+}
+
+// The length in bytes of an item without tags, or None above the limit of an item.
 #[tactic(auto, unfolding(crate::specs::Items::change_text))]
-pub fn change_size(objects: &[ObjectRef<'_>], refs: &[(RefName, Name)]) -> Option<usize>
+fn plain_size(objects: &[ObjectRef<'_>], refs: &[(RefName, Name)]) -> Option<usize>
     ensures { result ≡ sized (length (change_text (map object_value objects.now) (pairs refs.now))) }
 {
     match add_objects(objects, 10) {
@@ -254,9 +309,85 @@ fn write_heads(text: &mut Vec<u8>, objects: &[ObjectRef<'_>]) -> Result<(), Allo
     Ok(())
 }
 
-/// The item of these objects and refs but for the objects' bodies: six bytes, five for each object, and then the refs.
-#[tactic(auto, unfolding(crate::specs::Items::change_text, crate::specs::Writings::heads_text))]
+// Writes bytes behind their length.
+fn write_field(text: &mut Vec<u8>, field: &[u8]) -> Result<(), AllocError>
+    requires { length field.now < 2 ^ 32 }
+    ensures { OnOk result (text.new.items ≡ text.old.items ++ to_be_bytes w32 (length field.now) ++ field.now) }
+{
+    write_number(text, field.len())?;
+    text.extend_from_slice(field)
+}
+
+// Writes a tag: its length, its name, its commit's name, the tagger and the message.
+fn write_tag(text: &mut Vec<u8>, tag: &Tag) -> Result<(), AllocError>
+    requires { length (tag_item_text tag.now) ≤ 2 ^ 29 }
+    ensures { OnOk result (text.new.items ≡ text.old.items ++ tag_item_text tag.now) }
+{
+    let name = tag.name.text();
+    text.extend_from_slice(&(name.len() as u16).to_be_bytes())?;
+    text.extend_from_slice(name)?;
+    text.extend_from_slice(tag.target.bytes())?;
+    write_field(text, tag.tagger.bytes())?;
+    write_field(text, tag.message.bytes())
+}
+
+// Writes these tags.
+fn write_tags(text: &mut Vec<u8>, tags: &[Tag]) -> Result<(), AllocError>
+    requires { length (flat_map tag_item_text tags.now) ≤ 2 ^ 29 }
+    ensures { OnOk result (text.new.items ≡ text.old.items ++ flat_map tag_item_text tags.now) }
+{
+    for tag in tags {
+        write_tag(text, tag)?;
+    }
+    Ok(())
+}
+
+/// The item of these objects and refs, and of these tags where there are any, but for the objects' bodies: six bytes,
+/// five for each object, and then the refs and the tags.
 pub fn change_heads(
+    alloc: Global,
+    objects: &[ObjectRef<'_>],
+    refs: &[(RefName, Name)],
+    tags: &[Tag],
+) -> Result<Vec<u8>, AllocError>
+    requires size { length (text_with (map object_value objects.now) (pairs refs.now) tags.now) ≤ 2 ^ 29 }
+    ensures heads { IfOk result (λ heads.
+        heads.items ≡ heads_with (map object_value objects.now) (pairs refs.now) tags.now) }
+    ensures room { IfOk result (λ heads. 6 + 5 * length objects.now ≤ length heads.items) }
+{
+    match tags {
+        [] => plain_heads(alloc, objects, refs),
+        [_, ..] => tagged_heads(alloc, objects, refs, tags),
+    }
+}
+
+// An item with these tags but for the objects' bodies.
+#[tactic(auto, unfolding(crate::specs::Items::tagged_change_text, crate::specs::Writings::tagged_heads_text))]
+fn tagged_heads(
+    alloc: Global,
+    objects: &[ObjectRef<'_>],
+    refs: &[(RefName, Name)],
+    tags: &[Tag],
+) -> Result<Vec<u8>, AllocError>
+    requires size { length (tagged_change_text (map object_value objects.now) (pairs refs.now) tags.now) ≤ 2 ^ 29 }
+    ensures heads { IfOk result (λ heads.
+        heads.items ≡ tagged_heads_text (map object_value objects.now) (pairs refs.now) tags.now) }
+    ensures room { IfOk result (λ heads. 6 + 5 * length objects.now ≤ length heads.items) }
+{
+    let mut text = Vec::new(alloc);
+    text.extend_from_slice(&[2, 4])?;
+    write_number(&mut text, objects.len())?;
+    write_heads(&mut text, objects)?;
+    write_number(&mut text, refs.len())?;
+    write_refs(&mut text, refs)?;
+    write_number(&mut text, tags.len())?;
+    write_tags(&mut text, tags)?;
+    Ok(text)
+}
+
+// An item without tags but for the objects' bodies.
+#[tactic(auto, unfolding(crate::specs::Items::change_text, crate::specs::Writings::heads_text))]
+fn plain_heads(
     alloc: Global,
     objects: &[ObjectRef<'_>],
     refs: &[(RefName, Name)],
@@ -282,8 +413,9 @@ pub fn change_parts<'a, 'b>(
     objects: &'a [ObjectRef<'b>],
 ) -> Result<Vec<&'a [u8]>, AllocError>
     requires room { 6 + 5 * length objects.now ≤ length heads.now }
-    ensures { (refs : Refs) → heads.now ≡ heads_text (map object_value objects.now) refs → IfOk result
-        (λ parts. flat_map (λ part. part.now) parts.items ≡ change_text (map object_value objects.now) refs) }
+    ensures { (refs : Refs) (tags : List TagValue) →
+        heads.now ≡ heads_with (map object_value objects.now) refs tags → IfOk result
+        (λ parts. flat_map (λ part. part.now) parts.items ≡ text_with (map object_value objects.now) refs tags) }
 {
     let mut parts = Vec::with_capacity(alloc, 2 * objects.len() + 2)?;
     parts.push(&heads[..6])?;

@@ -13,7 +13,7 @@ abbrev joined : List (Bor (List ℕ)) → Bytes
 joined parts = flat_map (λ part. part.now) parts
 
 pub returns : goal.returns
-returns c = λ refs is.
+returns c = λ refs tags is.
     let objects = c.args.objects.now in
     let parts = c.loop-object.parts.items in
     let rest = c.loop-object.rest in
@@ -23,4 +23,4 @@ returns c = λ refs is.
     ∙ ap (λ (t : Bytes). joined parts ++ t) (append-nil rest.now)
     ∙ sym (ap (λ (os : List ObjectRef). joined parts ++ woven (map object_value os) rest.now) behind)
     ∙ c.loop-object.invariant.whole
-    ∙ woven-item (map object_value objects) refs c.args.heads.now is
+    ∙ woven-item (map object_value objects) refs tags c.args.heads.now is

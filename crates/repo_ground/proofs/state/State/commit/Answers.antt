@@ -1,40 +1,35 @@
 -- Proves what src/commit.rt needs of `commit`.
-use Rattle.std.proofs.Common.{◌≤◌, ◌+◌, sym, subst, ◌∙◌}
+use Rattle.std.proofs.Common.{List, ◌++◌, None, ap, subst}
+use Rattle.std.specs.Prelude.{MatchResult}
 use Rattle.projection_ground.specs.Grounds.{IsGround}
-use Rattle.repo_ground.specs.Changes.{IsCommitted, batch_plan}
-use Rattle.repo_ground.specs.Contents.{Contents}
-use Rattle.repo_ground.specs.Drafting.{IsDraft, IsDraftOrNot, with_draft}
-use Rattle.repo_ground.specs.declared.draft.Draft.{Draft}
-use Rattle.git_objects.specs.declared.limits.TheConstants.{STORE_BYTES}
-use Rattle.repo_ground.proofs.Cuts.{cut-same, draft-committed, refused-is}
+use Rattle.proj_io.specs.Stops.{OnlyAdds}
+use Rattle.proj_io.specs.Views.{keeper_view}
+use Rattle.state_items.specs.Appending.{are_tags}
+use Rattle.state_items.specs.Changes.{objects_of}
+use Rattle.tag_objects.specs.declared.tag.Tag.{Tag}
+use Rattle.repo_ground.specs.Changes.{Appends, IsCommitted, IsRefused, IsStopOf, tagged_batch_plan}
 use Rattle.repo_ground.proofs.state.State.commit.Goals as goal
 
-pub returns-in-Err-clause-state : goal.returns-in-Err-clause-state
-returns-in-Err-clause-state g c = λ h blobs cs w.
-    let s = c.args.self.now in
-    let m = c.mark-mark.ensures in
-    let same = c.cut_back.ensures ∙ cut-same c.mark-mark.result.names c.mark-mark.result.blobs c.mark-mark.result.commits s c.append_batch.new.self m.names m.blobs m.commits c.in-Err.ensures.more in
-    refused-is h (batch_plan h c.args.batch blobs cs) s c.cut_back.new.self c.in-Err.error (c.in-Err.ensures.prepared h blobs cs w) same
-
-pub settle-requires-clause-number : goal.settle-requires-clause-number
-settle-requires-clause-number g c =
-    let q = c.requires.batch in
-    let p = batch_plan q.0 c.args.batch q.1 q.2 in
-    let made : IsDraft q.0 p c.args.self.now c.append_batch.new.self c.in-Ok-Some.draft = subst (λ o. IsDraftOrNot q.0 p c.args.self.now c.append_batch.new.self o) c.in-Ok-Some.field-0-is (c.in-Ok-Some.ensures.prepared q.0 q.1 q.2 q.3) in
-    made.room.0
-
-pub settle-requires-clause-size : goal.settle-requires-clause-size
-settle-requires-clause-size g c =
-    let q = c.requires.batch in
-    let p = batch_plan q.0 c.args.batch q.1 q.2 in
-    let made : IsDraft q.0 p c.args.self.now c.append_batch.new.self c.in-Ok-Some.draft = subst (λ o. IsDraftOrNot q.0 p c.args.self.now c.append_batch.new.self o) c.in-Ok-Some.field-0-is (c.in-Ok-Some.ensures.prepared q.0 q.1 q.2 q.3) in
-    subst (λ (d : Draft). c.append_batch.new.self.size + d.size ≤ STORE_BYTES) (sym c.in-Ok-Some.draft-is) made.room.1
+pub commit_tagged-requires-clause-tags : goal.commit_tagged-requires-clause-tags
+commit_tagged-requires-clause-tags g c = λ h blobs cs w. ap (λ (ts : List Tag). are_tags (objects_of blobs cs ++ h.objects) None ts) c.new-tags.ensures.items
 
 pub returns-clause-state : goal.returns-clause-state
 returns-clause-state g c = λ h blobs cs w.
-    let s = c.args.self.now in
-    let p = batch_plan h c.args.batch blobs cs in
-    let d = c.in-Ok-Some.draft in
-    let made : IsDraft h p s c.append_batch.new.self d = subst (λ o. IsDraftOrNot h p s c.append_batch.new.self o) c.in-Ok-Some.field-0-is (c.in-Ok-Some.ensures.prepared h blobs cs w) in
-    subst (λ (x : Contents). IsCommitted h p s x × IsGround x.basis) (sym c.settle.ensures)
-    (subst (λ (x : Draft). IsCommitted h p s (with_draft c.append_batch.new.self x)) (sym c.in-Ok-Some.draft-is) (draft-committed h p s c.append_batch.new.self d c.in-Ok-Some.ensures.more made), made.ground)
+    subst (λ (ts : List Tag). MatchResult c.commit_tagged.result
+    (λ _. IsCommitted h (tagged_batch_plan h c.args.batch blobs cs ts) c.args.self.now c.commit_tagged.new.self × IsGround c.commit_tagged.new.self.basis)
+    (λ e. IsRefused h (tagged_batch_plan h c.args.batch blobs cs ts) c.args.self.now c.commit_tagged.new.self e))
+    c.new-tags.ensures.items (c.commit_tagged.ensures.state h blobs cs w)
+
+pub returns-clause-items : goal.returns-clause-items
+returns-clause-items g c = λ h blobs cs w.
+    let seen = keeper_view g.K.Keeper.items g.K.Keeper.number g.K.Keeper.faults in
+    subst (λ (ts : List Tag). Appends (tagged_batch_plan h c.args.batch blobs cs ts) (seen c.args.keeper.now) (seen c.commit_tagged.new.keeper) c.commit_tagged.result) c.new-tags.ensures.items (c.commit_tagged.ensures.items h blobs cs w)
+
+pub returns-clause-stops : goal.returns-clause-stops
+returns-clause-stops g c = (
+  (λ h blobs cs w.
+      subst (λ (ts : List Tag). OnlyAdds (g.K.Keeper.moment c.args.keeper.now) (g.K.Keeper.moment c.commit_tagged.new.keeper) (g.K.Keeper.left_since c.args.keeper.now) (g.K.Keeper.left_since c.commit_tagged.new.keeper)
+      (IsStopOf h c.args.self.now (tagged_batch_plan h c.args.batch blobs cs ts) (g.K.Keeper.items c.args.keeper.now)))
+      c.new-tags.ensures.items (c.commit_tagged.ensures.stops.0 h blobs cs w)),
+  c.commit_tagged.ensures.stops.1,
+)

@@ -12,11 +12,11 @@ use Rattle.state_items.proofs.reading.Reading.read_item.Goals as goal
 
 pub read_parts-read-requires-clause-held : goal.read_parts-read-requires-clause-held
 read_parts-read-requires-clause-held c =
-    held-from c.requires.0 _ _ _ _ _ _ _ _ (subst (λ (v : Gathered). Holds c.requires.0 v) (sym c.self.view_is) c.requires.1)
+    held-from c.requires.0 _ _ _ _ _ _ _ _ _ (subst (λ (v : Gathered). Holds c.requires.0 v) (sym c.self.view_is) c.requires.1)
 
 pub read_parts-read-requires-clause-heads : goal.read_parts-read-requires-clause-heads
 read_parts-read-requires-clause-heads c =
-    heads-from c.requires.0 _ _ _ _ _ _ _ _ (subst (λ (v : Gathered). Holds c.requires.0 v) (sym c.self.view_is) c.requires.1)
+    heads-from c.requires.0 _ _ _ _ _ _ _ _ _ (subst (λ (v : Gathered). Holds c.requires.0 v) (sym c.self.view_is) c.requires.1)
 
 pub read_parts-read-requires-clause-distinct : goal.read_parts-read-requires-clause-distinct
 read_parts-read-requires-clause-distinct c = subst (λ (v : Gathered). AreDistinct v.refs) (sym c.self.view_is) c.requires.1.distinct
@@ -28,12 +28,12 @@ returns-clause-item c = λ h holds.
     let after = c.read_parts-read.new in
     let read = c.read_parts-read.ensures in
     let was = subst (λ (v : Gathered). Holds h v) (sym c.self.view_is) holds in
-    let parts = parts-from h objects.incoming.objects objects.names.keys objects.graph objects.blobs.keys inside.refs inside.kept (rule_number inside.rule) objects.incoming.piece was in
+    let parts = parts-from h objects.incoming.objects objects.names.keys objects.graph objects.blobs.keys inside.refs inside.kept (rule_number inside.rule) inside.tags.items objects.incoming.piece was in
     let done = λ (s : Intake).
-    shown s.objects after.objects.names.keys after.objects.graph after.objects.blobs.keys after.refs after.kept (rule_number after.rule) s.piece in
+    shown s.objects after.objects.names.keys after.objects.graph after.objects.blobs.keys after.refs after.kept (rule_number after.rule) after.tags.items s.piece in
     subst (λ (item : Bytes). MatchResult c.read_parts-read.result (λ _. (g : Held) × (read_item h item ≡ Ok g) × Holds g (done c.close.new.self)) (λ stop. IsStop stop (read_item h item)))
     (ap (λ (v : Gathered). v.piece) c.self.view_is)
     (subst (λ (s : Intake). MatchResult c.read_parts-read.result (λ _. (g : Held) × (read_item h objects.incoming.piece ≡ Ok g) × Holds g (done s)) (λ stop. IsStop stop (read_item h objects.incoming.piece)))
     (sym c.close.ensures)
-    (read-on h (parts_of objects.incoming.objects inside.refs inside.kept (rule_number inside.rule)) objects.incoming.piece after.objects.incoming.objects after.objects.names.keys after.objects.graph after.objects.blobs.keys
-    after.refs after.kept (rule_number after.rule) [] c.read_parts-read.result parts read.held read.heads read.distinct read.parts))
+    (read-on h (parts_of objects.incoming.objects inside.refs inside.kept (rule_number inside.rule) inside.tags.items) objects.incoming.piece after.objects.incoming.objects after.objects.names.keys after.objects.graph after.objects.blobs.keys
+    after.refs after.kept (rule_number after.rule) after.tags.items [] c.read_parts-read.result parts was.rising read.held read.heads read.distinct read.parts))

@@ -4,7 +4,7 @@ use Rattle.object_store.specs.Errors.{object_value}
 use Rattle.ref_store.specs.Pairs.{pair, pairs}
 use Rattle.state_items.proofs.Lengths.{item-long}
 use Rattle.state_items.proofs.Weaving.{five-heads, item-five}
-use Rattle.state_items.proofs.writing.change_heads.Goals as goal
+use Rattle.state_items.proofs.writing.plain_heads.Goals as goal
 
 pub write_number-requires : goal.write_number-requires
 write_number-requires c =

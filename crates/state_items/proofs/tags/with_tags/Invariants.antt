@@ -1,0 +1,6 @@
+use Rattle.std.proofs.Common.{◌≡◌, drop}
+use Rattle.tag_objects.specs.TagLists.{with_tags}
+use Rattle.state_items.proofs.tags.with_tags.Given as goal
+
+abbrev pub invariant-loop-tag : goal.invariant-loop-tag
+invariant-loop-tag l = with_tags l.tags l.news ≡ with_tags l.after.items (drop l.tag-index l.news)
