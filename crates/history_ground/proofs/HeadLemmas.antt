@@ -1,30 +1,16 @@
 -- What is shown of a head.
-use Rattle.std.proofs.Common.{◌≡◌, inl, inr, ℕ, Bool, true, false, cond, List, [], ◌∷◌, length, slice_get, Contains, Option, Some, None, IfSome, IfOk, IfErr, Result, Ok, Err, IsSome, refl, sym, ap, subst, ◌∙◌, arith, not, true≢false}
-use Rattle.std.specs.Prelude.{codes}
+use Rattle.std.proofs.Common.{◌≡◌, inl, inr, ℕ, true, List, [], ◌∷◌, length, slice_get, Contains, Option, Some, None, IfSome, IfOk, IfErr, Result, Ok, Err, IsSome, refl, sym, ap, subst, ◌∙◌, arith}
 use Rattle.std.specs.Option.{option_map, option_map_or}
-use Rattle.std.specs.Cmp.{second_so}
-use Rattle.std.specs.Cmp.Lexicographic.{bytes_decides}
-use Rattle.std.proofs.lemmas.Bool.{false_from_ne_true, or_left}
-use Rattle.std.proofs.lemmas.Option.{same_Some}
-use Rattle.git_objects.specs.Bodies.{is_name}
-use Rattle.git_objects.specs.CommitBodies.{IsCommitBody, name_field}
-use Rattle.git_objects.specs.Commits.{Commit, commit_body, commit_name, letter_text, parent_lines}
-use Rattle.git_objects.specs.Names.{body, tree_name}
-use Rattle.git_objects.specs.Paths.{Bytes, same_bytes}
-use Rattle.git_objects.specs.Snapshots.{Snapshot, Graph, commit_at, snapshot_commit, snapshot_name, tree_at}
+use Rattle.git_objects.specs.Names.{tree_name}
+use Rattle.git_objects.specs.Paths.{Bytes}
+use Rattle.git_objects.specs.Snapshots.{Snapshot, Graph, commit_at, tree_at}
 use Rattle.git_objects.specs.Trees.{Flat}
 use Rattle.git_objects.specs.declared.kind.Kind.TheVariants.{Tree, Commit as CommitKind}
 use Rattle.git_objects.specs.declared.name.Name.{Name}
-use Rattle.git_objects.proofs.Basics.{same_bytes-self}
-use Rattle.git_objects.proofs.CommitReading.{name_field-read}
-use Rattle.git_objects.proofs.Digests.{name-is_name}
-use Rattle.object_store.specs.Growth.{IsClash}
-use Rattle.object_store.specs.Objects.{Object, IsStore, body_of, find_named, has, same_kind}
-use Rattle.object_store.specs.Puts.{Collides, collision, same_object}
-use Rattle.object_store.specs.StoredSnapshots.{IsTreeOf, snapshot_object}
+use Rattle.object_store.specs.Objects.{Object, IsStore, has}
+use Rattle.object_store.specs.StoredSnapshots.{IsTreeOf}
 use Rattle.object_store.specs.Unfolding.{StandsFor, flat}
 use Rattle.object_store.proofs.Growth.{flat-grown, has-grown}
-use Rattle.object_store.proofs.StoredCommits.{commit-told}
 use Rattle.object_store.proofs.Unfolding.{unfolding_law}
 use Rattle.commit_graph.specs.Graphs.{Row, place_of}
 use Rattle.commit_map.specs.Shown.{Entries, Shown, shown_value}
@@ -37,7 +23,6 @@ use Rattle.workspace.specs.Workspaces.{resolve, shown}
 use Rattle.projection_laws.specs.ProjectionLaws.{IsOf}
 use Rattle.projection_laws.specs.Projections.{history_graph, own_commits, projection}
 use Rattle.projection_laws.proofs.GraphLemmas.{found}
-use Rattle.projection_laws.proofs.HeldCommits.{held, never-none}
 use Rattle.projection_laws.proofs.ProjectionLemmas.{projection-of}
 use Rattle.projection_laws.proofs.Reached.{commit-older}
 use Rattle.projection_laws.proofs.StoredGraphs.{at-row, name-is, older-all, row-at}
@@ -48,7 +33,6 @@ use Rattle.projection_ground.specs.TrueMaps.{IsTrueMap}
 use Rattle.projection_ground.specs.declared.ground.Ground.{Ground}
 use Rattle.projection_ground.proofs.Asking.{shown-behind, shown-is}
 use Rattle.projection_ground.proofs.Growing.{commits-same, extends-as, extends-then, true-map-grown}
-use Rattle.history_ground.proofs.OwnProjections.{IsAmong, own-has}
 use Rattle.history_ground.proofs.ProjectLemmas.{head-there, place-named, place-within}
 use Rattle.history_ground.proofs.TakenTurns.{fault-as}
 use Rattle.projection_ground.proofs.TurnLemmas.{seen-fault, seen-same, tree-held}
@@ -165,55 +149,11 @@ module _ (f : Filter) (g : Ground) (n : Bytes) (w : IsGround g) where
 
 -- ---- the commit that it is projected to
 
-differ : (x y : Bytes) → true ≡ not (same_bytes x y) → x ≡ y → ⊥
-differ x y e q = true≢false (e ∙ ap not ((bytes_decides x y).1 q))
-
-agree : (x y : Bytes) → false ≡ not (same_bytes x y) → x ≡ y
-agree x y e = (bytes_decides x y).0 (by (same_bytes x y) e)
-  where
-    by : (b : Bool) → false ≡ not b → b ≡ true
-    by true q = refl
-    by false q = absurd (true≢false (sym q))
-
-first-same : (p q : Bytes × Bytes) → Some p ≡ Some q → p.0 ≡ q.0
-first-same p q e = ap (λ (r : Bytes × Bytes). r.0) (same_Some p q e)
-
--- bodies of commits with one spelling have one tree
-same-tree : (c d : Commit) → is_name c.tree ≡ true → is_name d.tree ≡ true → commit_body c ≡ commit_body d → c.tree ≡ d.tree
-unfolding commit_body
-same-tree c d h k e =
-    first-same (c.tree, parent_lines c.parents (letter_text c.letter)) (d.tree, parent_lines d.parents (letter_text d.letter))
-    (sym (name_field-read (codes "tree") c.tree (parent_lines c.parents (letter_text c.letter)) h)
-    ∙ ap (name_field (codes "tree")) e
-    ∙ name_field-read (codes "tree") d.tree (parent_lines d.parents (letter_text d.letter)) k)
-
--- another commit than c has its name
-other-collides : (S : List Object) (c : Snapshot) (d : Commit) → IsStore S → has CommitKind S (snapshot_name c) ≡ true → IsCommitBody d (body_of CommitKind S (snapshot_name c)) → (d.tree ≡ tree_name c.tree → ⊥)
-    → collision CommitKind (commit_body (snapshot_commit c)) (find_named S (snapshot_name c)) ≡ Some (Collides (snapshot_name c))
-unfolding commit_name
-other-collides S c d s h b apart = by (find_named S (snapshot_name c)) refl
-  where
-    differs : (o : Object) → Some o ≡ find_named S (snapshot_name c) → same_object CommitKind (commit_body (snapshot_commit c)) o ≡ true → ⊥
-    differs o e t =
-        apart (same-tree d (snapshot_commit c) b.tree (name-is_name Tree (body c.tree))
-        (b.spelled ∙ commit-told S (snapshot_name c) o s h e ∙ sym ((bytes_decides (commit_body (snapshot_commit c)) o.body).0 (second_so (same_kind CommitKind o.kind) (same_bytes (commit_body (snapshot_commit c)) o.body) t))))
-
-    by : (x : Option Object) → find_named S (snapshot_name c) ≡ x → collision CommitKind (commit_body (snapshot_commit c)) x ≡ Some (Collides (snapshot_name c))
-    by None e = absurd (never-none S (snapshot_name c) s h (sym e))
-    by (Some o) e = ap (λ t. cond t None (Some (Collides (snapshot_name c)))) (false_from_ne_true (same_object CommitKind (commit_body (snapshot_commit c)) o) (differs o (sym e)))
-
 module _ (f : Filter) (g : Ground) (n : Bytes) (w : IsGround g) (there : IsSome (place_of n g.graph)) where
   pub seen-none : (S : List Object) (tree : Name) → None ≡ projection g.rule (shown f) (commits_of g) n → StandsFor S tree.0 (shown f (tree_at (commits_of g) n)) → IsSeen f g n S (record { from = None; tree = tree })
   seen-none S tree p s = record { projected = ap (option_map (λ (x : Shown). x.commit)) p; stands = s; there = tt }
 
   module _ (S : List Object) (x : code.Shown) (p : Some (shown_value x) ≡ projection g.rule (shown f) (commits_of g) n) where
-    pub seen-some : (tree : Name) → StandsFor S tree.0 (shown f (tree_at (commits_of g) n)) → (other : Name) → IsTreeOf S x.commit.0 other.0 → false ≡ not (same_bytes other.0 tree.0) → IsSeen f g n S (record { from = Some x.commit; tree = tree })
-    seen-some tree s other t e = record {
-      projected = ap (option_map (λ (y : Shown). y.commit)) p;
-      stands = s;
-      there = subst (IsTreeOf S x.commit.0) (agree other.0 tree.0 e) t;
-    }
-
     -- its tree is what is shown of the head
     tree-named : x.tree.0 ≡ tree_name (shown f (tree_at (commits_of g) n))
     tree-named =
@@ -222,20 +162,9 @@ module _ (f : Filter) (g : Ground) (n : Bytes) (w : IsGround g) (there : IsSome 
         let of : x.tree.0 ≡ tree_name (shown f c.0.tree) = subst (IsOf (shown f c.0.tree)) (sym p) (projection-of g.rule (shown f) (commits_of g) n c.0 c.1) in
         of ∙ ap (λ (t : Flat). tree_name (shown f t)) (sym at)
 
-    own : IsAmong (own_commits g.rule (shown f) (commits_of g) (n ∷ [])) (shown_value x)
-    own = own-has g.rule (shown f) (commits_of g) (n ∷ []) n (shown_value x) (or_left (same_bytes n n) false (same_bytes-self n)) (sym p)
-
-    clash-at : (c : Snapshot) → Contains (own_commits g.rule (shown f) (commits_of g) (n ∷ [])) c → (d : Commit) → IsStore S → has CommitKind S (snapshot_name c) ≡ true → IsCommitBody d (body_of CommitKind S (snapshot_name c)) → (d.tree ≡ tree_name c.tree → ⊥)
-        → IsClash (IsSeenObject f g n) S (snapshot_name c)
-    clash-at c i d s h b apart = record { object = snapshot_object c; is_made = inr (c, i, refl); held = other-collides S c d s h b apart }
-
-    -- another commit of the store has its name, with another tree
-    pub seen-clash : (tree other : Name) → IsStore S → StandsFor S tree.0 (shown f (tree_at (commits_of g) n)) → has CommitKind S x.commit.0 ≡ true → IsTreeOf S x.commit.0 other.0 → true ≡ not (same_bytes other.0 tree.0) → IsClash (IsSeenObject f g n) S x.commit.0
-    seen-clash tree other s stands h t apart =
-        let named : snapshot_name own.0 ≡ x.commit.0 = ap (λ (y : Shown). y.commit) own.2 in
-        let own-tree : tree_name own.0.tree ≡ tree.0 =
-        ap (λ (y : Shown). y.tree) own.2 ∙ tree-named ∙ ap tree_name (sym stands.map) ∙ (unfolding_law S tree.0 s stands.held).named in
-        let b : IsCommitBody t.commit (body_of CommitKind S x.commit.0) = (held S x.commit.0 t.commit s h t.named).spelled in
-        subst (λ (m : Bytes). IsClash (IsSeenObject f g n) S m) named
-        (clash-at own.0 own.1 t.commit s (ap (has CommitKind S) named ∙ h) (subst (λ (m : Bytes). IsCommitBody t.commit (body_of CommitKind S m)) (sym named) b)
-        (λ e. differ other.0 tree.0 apart (t.tree ∙ e ∙ own-tree)))
+    pub seen-some : (tree : Name) → IsStore S → StandsFor S tree.0 (shown f (tree_at (commits_of g) n)) → IsTreeOf S x.commit.0 x.tree.0 → IsSeen f g n S (record { from = Some x.commit; tree = tree })
+    seen-some tree store s t = record {
+      projected = ap (option_map (λ (y : Shown). y.commit)) p;
+      stands = s;
+      there = subst (IsTreeOf S x.commit.0) (tree-named ∙ ap tree_name (sym s.map) ∙ (unfolding_law S tree.0 store s.held).named) t;
+    }

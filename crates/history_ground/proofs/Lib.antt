@@ -6,7 +6,8 @@ mod MadeHistories
 pub mod TakenTurns
 mod TakingLemmas
 mod HistoryEnds
-mod OwnProjections
 mod TrueWalking
 pub mod HeadLemmas
 mod TrueHeads
+mod FirstLookups
+mod AllProjections

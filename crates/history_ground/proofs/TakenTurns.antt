@@ -9,10 +9,11 @@ use Rattle.git_objects.specs.Paths.{Bytes, same_bytes}
 use Rattle.git_objects.specs.Lists.{Each}
 use Rattle.git_objects.specs.Names.{name, tree_name}
 use Rattle.git_objects.specs.Commits.{commit_name}
-use Rattle.git_objects.specs.Snapshots.{Snapshot, Graph, snapshot_commit, snapshot_name, add_all}
+use Rattle.git_objects.specs.Snapshots.{Snapshot, snapshot_commit, snapshot_name, add_all}
 use Rattle.git_objects.specs.declared.kind.Kind.TheVariants.{Tree, Commit as CommitKind}
 use Rattle.object_store.specs.Objects.{Object, has}
 use Rattle.object_store.specs.Growth.{IsGrownBy}
+use Rattle.object_store.specs.StoredSnapshots.{IsTreeOf}
 use Rattle.object_store.specs.Unfolding.{flat}
 use Rattle.object_store.proofs.Growth.{clash_as, has-grown, stands-grown}
 use Rattle.commit_map.specs.Shown.{Shown, Entries, kept_at, shown_value}
@@ -26,16 +27,17 @@ use Rattle.projection_laws.specs.Projections.{Member, New, known_at, leads, memb
 use Rattle.projection_laws.specs.StoredGraphs.{name_at, snapshot_named}
 use Rattle.projection_laws.specs.Histories.{AreMade, is_among}
 use Rattle.projection_laws.proofs.HistoryLemmas.{each-distinct, member-of, new-parents}
-use Rattle.projection_ground.specs.Choosing.{Agree, commits_before, IsBelow}
+use Rattle.projection_ground.specs.Choosing.{commits_before, IsBelow}
 use Rattle.projection_ground.specs.Grounds.{IsGround, Extends, IsShownOf, commits_of}
 use Rattle.projection_ground.specs.Asked.{IsNone}
-use Rattle.history_ground.specs.Making.{with_name, IsAdded, IsFit, IsTakenIn, IsBecome, IsTurnObject, IsEntered, IsReady, IsTaken}
+use Rattle.history_ground.specs.Making.{with_name, AreThere, IsAdded, IsFit, IsTakenIn, IsBecome, IsTurnObject, IsEntered, IsReady, IsTaken}
 use Rattle.projection_ground.specs.TrueMaps.{AreHeld}
 use Rattle.projection_ground.specs.Turns.{Becomes, IsNew, kept_choice}
 use Rattle.projection_ground.specs.declared.ground.Ground.{Ground}
 use Rattle.projection_ground.specs.declared.turning.Turn.TheVariants as turns
 use Rattle.projection_ground.proofs.Filling.{kept-append, kept-front}
-use Rattle.projection_ground.proofs.Growing.{extends-as, extends-map, extends-then, front-self, graph-grown, held-grown, maps-grown, memo-grown}
+use Rattle.projection_ground.proofs.OwnChoices.{agrees-itself}
+use Rattle.projection_ground.proofs.Growing.{commit-there, extends-as, extends-map, extends-then, front-self, graph-grown, held-grown, maps-grown, memo-grown}
 use Rattle.history_ground.proofs.MadeHistories.{IsIn, found-in, made-grown, made-more}
 use Rattle.object_store.proofs.PutObjects.{commit_fits}
 use Rattle.history_ground.proofs.Steps.{Turns, kept-projected}
@@ -74,30 +76,39 @@ fault-either made more S f (Err e) h = fault-as made more S f e h
 
 -- ---- what is kept is in the store
 
-pub held-more : (T : List Object) (es : Entries) (n : Bytes) (v : Option Shown) → AreHeld T es → IfSome v (λ m. has CommitKind T m.commit ≡ true) → AreHeld T (es ++ (n, v) ∷ [])
-held-more T es n v h k = λ q m e. by q m e (kept_at q es) refl
+-- so is each of these projections that is kept
+abbrev pub Keeps : (Shown → Type 0) → Entries → Type 0
+Keeps P es = (n : Bytes) (m : Shown) → kept_at n es ≡ Some (Some m) → P m
+
+keeps-more : (P : Shown → Type 0) (es : Entries) (n : Bytes) (v : Option Shown) → Keeps P es → IfSome v P → Keeps P (es ++ (n, v) ∷ [])
+keeps-more P es n v h k = λ q m e. by q m e (kept_at q es) refl
   where
-    here : (q : Bytes) (m : Shown) (b : Bool) → cond b (Some v) None ≡ Some (Some m) → has CommitKind T m.commit ≡ true
-    here q m true e = subst (λ o. IfSome o (λ m. has CommitKind T m.commit ≡ true)) (same_Some v (Some m) e) k
+    here : (q : Bytes) (m : Shown) (b : Bool) → cond b (Some v) None ≡ Some (Some m) → P m
+    here q m true e = subst (λ o. IfSome o P) (same_Some v (Some m) e) k
     here q m false e = absurd (none-some (Some m) e)
 
-    by : (q : Bytes) (m : Shown) → kept_at q (es ++ (n, v) ∷ []) ≡ Some (Some m) → (o : Option (Option Shown)) → kept_at q es ≡ o → has CommitKind T m.commit ≡ true
+    by : (q : Bytes) (m : Shown) → kept_at q (es ++ (n, v) ∷ []) ≡ Some (Some m) → (o : Option (Option Shown)) → kept_at q es ≡ o → P m
     by q m e None i = here q m (same_bytes q n) (sym (kept-append q es ((n, v) ∷ []) i) ∙ e)
     by q m e (Some o) i = h q m (i ∙ sym (kept-front q es ((n, v) ∷ []) o i) ∙ e)
 
-module _ (S : List Object) (es : Entries) (h : AreHeld S es) where
-  known-held : (ns : List Bytes) → Each (λ (m : Shown). has CommitKind S m.commit ≡ true) (filter_map (known_at es) ns)
-  known-held [] = tt
-  known-held (n ∷ ns) = by (kept_at n es) refl (known-held ns)
+there-grown : {made : Object → Type 0} (S T : List Object) (es : Entries) → IsGrownBy made S T → AreThere S es → AreThere T es
+there-grown S T es g h = λ n m e. has-grown S T CommitKind m.commit g (h n m e)
+
+pub held-there : (S : List Object) (es : Entries) → AreHeld S es → AreThere S es
+held-there S es h = λ n m e. let w = h n m e in commit-there S m.commit w.commit w.named
+
+module _ (P : Shown → Type 0) (es : Entries) (h : Keeps P es) where
+  known-keep : (ns : List Bytes) → Each P (filter_map (known_at es) ns)
+  known-keep [] = tt
+  known-keep (n ∷ ns) = by (kept_at n es) refl (known-keep ns)
     where
-      by : (o : Option (Option Shown)) → kept_at n es ≡ o → Each (λ (m : Shown). has CommitKind S m.commit ≡ true) (filter_map (known_at es) ns)
-          → Each (λ (m : Shown). has CommitKind S m.commit ≡ true) (cons_option (unwrap_or o None) (filter_map (known_at es) ns))
+      by : (o : Option (Option Shown)) → kept_at n es ≡ o → Each P (filter_map (known_at es) ns) → Each P (cons_option (unwrap_or o None) (filter_map (known_at es) ns))
       by None e k = k
       by (Some None) e k = k
       by (Some (Some m)) e k = (h n m e, k)
 
-  members-held : (ns : List Bytes) → Each (λ (m : Shown). has CommitKind S m.commit ≡ true) (members es ns)
-  members-held ns = each-distinct (λ (m : Shown). has CommitKind S m.commit ≡ true) [] (filter_map (known_at es) ns) tt (known-held ns)
+  members-keep : (ns : List Bytes) → Each P (members es ns)
+  members-keep ns = each-distinct P [] (filter_map (known_at es) ns) tt (known-keep ns)
 
 commits-held : (S : List Object) (ms : List Shown) → Each (λ (m : Shown). has CommitKind S m.commit ≡ true) ms → Each (λ n. has CommitKind S n ≡ true) (map (λ (m : Shown). m.commit) ms)
 commits-held S [] h = tt
@@ -111,25 +122,21 @@ one-held S (m ∷ ns) n h e = let w = and_parts (has CommitKind S m) (list_all (
     by true q e x k = ap (has CommitKind S) ((bytes_decides n m).0 q) ∙ x
     by false q e x k = k e
 
--- what is kept agrees with itself
-agree-self : (es : Entries) (older : Graph) → Agree es es older
-agree-self es older = λ n o h e. sym (ap (λ x. unwrap_or x None) e)
-
 -- ---- a turn
 
-module _ (f : Filter) (g h : Ground) (place : ℕ) (w : IsGround g) (a : Extends (IsShownOf f (commits_of g)) g h) (m : h.map ≡ g.map) (there : place < length g.graph) (held : AreHeld g.store g.map) where
-  member-held : (x : Shown) → IsBecome f g place (Member x) → has CommitKind g.store x.commit ≡ true
-  member-held x is =
+module _ (f : Filter) (g h : Ground) (place : ℕ) (w : IsGround g) (a : Extends (IsShownOf f (commits_of g)) g h) (m : h.map ≡ g.map) (there : place < length g.graph) (held : AreThere g.store g.map) where
+  member-keeps : (P : Shown → Type 0) → Keeps P g.map → (x : Shown) → IsBecome f g place (Member x) → P x
+  member-keeps P keeps x is =
       let c = some-placed g place w there in
-      member-of g.rule (λ (y : Shown). has CommitKind g.store y.commit ≡ true) (leads (commits_before g place) g.map c.0.parents) (shown f c.0.tree) c.0.letter (members g.map c.0.parents) x
-      (members-held g.store g.map held c.0.parents) (is c.0 c.1 g.map (agree-self g.map (commits_before g place)))
+      member-of g.rule P (leads (commits_before g place) g.map c.0.parents) (shown f c.0.tree) c.0.letter (members g.map c.0.parents) x
+      (members-keep P g.map keeps c.0.parents) (is c.0 c.1 g.map (agrees-itself g.map (commits_before g place)))
 
   parents-held : (d : Snapshot) → IsBecome f g place (New d) → Each (λ n. has CommitKind g.store n ≡ true) d.parents
   parents-held d is =
       let c = some-placed g place w there in
       subst (Each (λ n. has CommitKind g.store n ≡ true))
-      (sym (new-parents g.rule (leads (commits_before g place) g.map c.0.parents) (shown f c.0.tree) c.0.letter (members g.map c.0.parents) d (is c.0 c.1 g.map (agree-self g.map (commits_before g place)))))
-      (commits-held g.store (members g.map c.0.parents) (members-held g.store g.map held c.0.parents))
+      (sym (new-parents g.rule (leads (commits_before g place) g.map c.0.parents) (shown f c.0.tree) c.0.letter (members g.map c.0.parents) d (is c.0 c.1 g.map (agrees-itself g.map (commits_before g place)))))
+      (commits-held g.store (members g.map c.0.parents) (members-keep (λ (y : Shown). has CommitKind g.store y.commit ≡ true) g.map held c.0.parents))
 
   grown-parents : (ps : List Bytes) → Each (λ n. has CommitKind g.store n ≡ true) ps → Each (λ n. has CommitKind h.store n ≡ true) ps
   grown-parents [] x = tt
@@ -141,28 +148,33 @@ module _ (f : Filter) (g h : Ground) (place : ℕ) (w : IsGround g) (a : Extends
   -- ---- it becomes nothing, or what a parent is projected to
 
   module _ (k : Ground) (o : Option code.Shown) (t : Turns f g h place (turns.Kept o)) (e : k ≡ record h { map = h.map ++ (name_at h.graph place, option_map shown_value o) ∷ [] }) where
-    kept-held : IfSome (option_map shown_value o) (λ (x : Shown). has CommitKind g.store x.commit ≡ true)
-    kept-held = by o t
+    kept-keeps : (P : Shown → Type 0) → Keeps P g.map → IfSome (option_map shown_value o) P
+    kept-keeps P keeps = by o t
       where
-        by : (o : Option code.Shown) → Turns f g h place (turns.Kept o) → IfSome (option_map shown_value o) (λ (x : Shown). has CommitKind g.store x.commit ≡ true)
+        by : (o : Option code.Shown) → Turns f g h place (turns.Kept o) → IfSome (option_map shown_value o) P
         by None t = tt
-        by (Some x) t = member-held (shown_value x) t
+        by (Some x) t = member-keeps P keeps (shown_value x) t
 
-    held-now : (o : Option Shown) → IfSome o (λ (x : Shown). has CommitKind g.store x.commit ≡ true) → IfSome o (λ (x : Shown). has CommitKind h.store x.commit ≡ true)
-    held-now None x = tt
-    held-now (Some y) x = has-grown g.store h.store CommitKind y.commit a.store x
+    map-now : k.map ≡ h.map ++ (name_at h.graph place, option_map shown_value o) ∷ []
+    map-now = ap (λ (x : Ground). x.map) e
+
+    store-now : k.store ≡ h.store
+    store-now = ap (λ (x : Ground). x.store) e
+
+    kept-more : (P : Shown → Type 0) → Keeps P g.map → Keeps P k.map
+    kept-more P keeps =
+        subst (Keeps P) (sym map-now) (keeps-more P h.map (name_at h.graph place) (option_map shown_value o) (subst (Keeps P) (sym m) keeps) (kept-keeps P keeps))
 
     pub entered-kept : IsEntered f place g k
-    entered-kept =
-        let map : k.map ≡ h.map ++ (name_at h.graph place, option_map shown_value o) ∷ [] = ap (λ (x : Ground). x.map) e in
-        let store : k.store ≡ h.store = ap (λ (x : Ground). x.store) e in
-        record {
-          choice = kept_choice o;
-          is = t;
-          map = map-is k (projected (kept_choice o)) (option_map shown_value o) (sym (kept-projected o)) map;
-          held = subst (λ (es : Entries). AreHeld k.store es) (sym map) (subst (λ (T : List Object). AreHeld T (h.map ++ (name_at h.graph place, option_map shown_value o) ∷ [])) (sym store)
-              (held-more h.store h.map (name_at h.graph place) (option_map shown_value o) (subst (AreHeld h.store) (sym m) (held-grown g.store h.store g.map a.store held)) (held-now (option_map shown_value o) kept-held)));
-        }
+    entered-kept = record {
+      choice = kept_choice o;
+      is = t;
+      map = map-is k (projected (kept_choice o)) (option_map shown_value o) (sym (kept-projected o)) map-now;
+      held = kept-more (λ (x : Shown). has CommitKind k.store x.commit ≡ true) (subst (λ (T : List Object). AreThere T g.map) (sym store-now) (there-grown g.store h.store g.map a.store held));
+    }
+
+    pub held-kept : AreHeld g.store g.map → AreHeld k.store k.map
+    held-kept trees = kept-more (λ (x : Shown). IsTreeOf k.store x.commit x.tree) (subst (λ (T : List Object). AreHeld T g.map) (sym store-now) (held-grown g.store h.store g.map a.store trees))
 
   -- ---- it becomes a commit of its own
 
@@ -186,14 +198,22 @@ module _ (f : Filter) (g h : Ground) (place : ℕ) (w : IsGround g) (a : Extends
       named = ap (λ (x : Shown). x.commit) new-one.names ∙ sym body-name;
     }
 
+    new-more : (P : Shown → Type 0) → Keeps P g.map → (k : Ground) → k.map ≡ h.map ++ (name_at h.graph place, Some (shown_value s)) ∷ [] → P (shown_of new-one.commit) → Keeps P k.map
+    new-more P keeps k q x =
+        subst (Keeps P) (sym (map-is k (Some (shown_of new-one.commit)) (Some (shown_value s)) (ap Some new-one.names) q))
+        (keeps-more P g.map (name_at g.graph place) (Some (shown_of new-one.commit)) keeps x)
+
     pub entered-new : (k : Ground) → k.map ≡ h.map ++ (name_at h.graph place, Some (shown_value s)) ∷ [] → {made : Object → Type 0} → IsGrownBy made g.store k.store → has CommitKind k.store (snapshot_name new-one.commit) ≡ true → IsEntered f place g k
     entered-new k q grown there-now = record {
       choice = New new-one.commit;
       is = become;
       map = map-is k (Some (shown_of new-one.commit)) (Some (shown_value s)) (ap Some new-one.names) q;
-      held = subst (λ (es : Entries). AreHeld k.store es) (sym (map-is k (Some (shown_of new-one.commit)) (Some (shown_value s)) (ap Some new-one.names) q))
-          (held-more k.store g.map (name_at g.graph place) (Some (shown_of new-one.commit)) (held-grown g.store k.store g.map grown held) there-now);
+      held = new-more (λ (x : Shown). has CommitKind k.store x.commit ≡ true) (there-grown g.store k.store g.map grown held) k q there-now;
     }
+
+    pub held-new : (k : Ground) → k.map ≡ h.map ++ (name_at h.graph place, Some (shown_value s)) ∷ [] → {made : Object → Type 0} → IsGrownBy made g.store k.store
+        → IsTreeOf k.store (snapshot_name new-one.commit) (tree_name new-one.commit.tree) → AreHeld g.store g.map → AreHeld k.store k.map
+    held-new k q grown there-now trees = new-more (λ (x : Shown). IsTreeOf k.store x.commit x.tree) (held-grown g.store k.store g.map grown trees) k q there-now
 
 -- ---- a turn of a history, whose commits so far have these names
 

@@ -29,8 +29,7 @@ use Rattle.projection_ground.specs.Choosing.{Agree, commits_before}
 use Rattle.projection_ground.specs.Grounds.{IsGround, Extends, IsShownOf, commits_of}
 use Rattle.projection_ground.specs.Asked.{IsAskedFor}
 use Rattle.history_ground.specs.Histories.{IsOfHistory}
-use Rattle.history_ground.specs.Making.{IsBecome, IsTurnObject, IsReady, IsTaken}
-use Rattle.projection_ground.specs.TrueMaps.{AreHeld}
+use Rattle.history_ground.specs.Making.{AreThere, IsBecome, IsTurnObject, IsReady, IsTaken}
 use Rattle.projection_ground.specs.declared.ground.Ground.{Ground}
 use Rattle.projection_ground.specs.declared.seeing.Asked.{Asked}
 use Rattle.projection_ground.proofs.Filling.{kept-each, newer-known, projection-at}
@@ -66,7 +65,7 @@ pub record IsTaking (f : Filter) (head : ℕ) (g h : Ground) (asked : Asked) (ps
   pub same : Extends (IsOfHistory f g (name_at g.graph head)) g h
   pub asked_for : IsAskedFor f h asked
   pub map : h.map ≡ map (entry_at f g) ps
-  pub held : AreHeld h.store h.map
+  pub held : AreThere h.store h.map
   pub made : AreMade h.store (add_all [] (filter_map (own_of f g) ps)) ns
 
 pub taking-start : (f : Filter) (head : ℕ) (g : Ground) (asked : Asked) → IsGround g → g.map ≡ [] → IsAskedFor f g asked → IsTaking f head g g asked [] []

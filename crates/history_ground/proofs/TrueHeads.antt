@@ -3,9 +3,8 @@ use Rattle.std.proofs.Common.{◌≡◌, ℕ, true, List, Option, Some, None, If
 use Rattle.std.specs.Option.{option_map}
 use Rattle.git_objects.specs.Paths.{Bytes}
 use Rattle.git_objects.specs.Snapshots.{Graph, has}
-use Rattle.git_objects.specs.declared.kind.Kind.TheVariants.{Commit as CommitKind}
-use Rattle.object_store.specs.Objects as objects
 use Rattle.object_store.specs.Objects.{Object}
+use Rattle.object_store.specs.StoredSnapshots.{IsTreeOf}
 use Rattle.commit_map.specs.Shown.{Entries, kept_at, shown_value}
 use Rattle.commit_map.specs.declared.commit_map.Shown as code
 use Rattle.commit_map.specs.declared.rule.Rule.{Rule}
@@ -32,13 +31,13 @@ pub made-kept : (S : List Object) (g : Graph) (k : Rule) (f : Filter) (es : Entr
     → Some (option_map shown_value o) ≡ kept_at n es → IsMade S (projection k (shown f) g n) o
 made-kept S g k f es t n there o e = record { is = t.values n (option_map shown_value o) (sym e) there; held = by o e }
   where
-    by : (o : Option code.Shown) → Some (option_map shown_value o) ≡ kept_at n es → IfSome o (λ s. objects.has CommitKind S s.commit.0 ≡ true)
+    by : (o : Option code.Shown) → Some (option_map shown_value o) ≡ kept_at n es → IfSome o (λ s. IsTreeOf S s.commit.0 s.tree.0)
     by None q = tt
     by (Some s) q = t.held n (shown_value s) (sym q)
 
 -- the commit of a projection that was made
-pub made-held : (S : List Object) (p : _) (o : Option code.Shown) (s : code.Shown) → IsMade S p o → o ≡ Some s → (objects.has CommitKind S s.commit.0 ≡ true) × (Some (shown_value s) ≡ p)
-made-held S p o s w e = (subst (λ x. IfSome x (λ s. objects.has CommitKind S s.commit.0 ≡ true)) e w.held, sym (ap (option_map shown_value) e) ∙ w.is)
+pub made-held : (S : List Object) (p : _) (o : Option code.Shown) (s : code.Shown) → IsMade S p o → o ≡ Some s → IsTreeOf S s.commit.0 s.tree.0 × (Some (shown_value s) ≡ p)
+made-held S p o s w e = (subst (λ x. IfSome x (λ s. IsTreeOf S s.commit.0 s.tree.0)) e w.held, sym (ap (option_map shown_value) e) ∙ w.is)
 
 -- the projection of the same commits
 pub projection-same : (f : Filter) (n : Bytes) (g h : Ground) → IsGround g → Extends (IsSeenObject f g n) g h → projection h.rule (shown f) (commits_of h) n ≡ projection g.rule (shown f) (commits_of g) n
@@ -79,7 +78,7 @@ module _ (f : Filter) (n : Bytes) (g h : Ground) (place : ℕ) (w : IsGround g) 
 
 -- ---- with the map of the filter in the place of the kept one
 
-module _ (f : Filter) (n : Bytes) (g : Ground) (left : List TrueMap) (es : Entries) (w : IsGround g) (out : IsTakenOut f g.rule g.true_maps left es) where
+module _ (f : Filter) (g : Ground) (left : List TrueMap) (es : Entries) (w : IsGround g) (out : IsTakenOut f g.rule g.true_maps left es) where
   abbrev inner : Ground
   inner = record g { map = es; true_maps = left }
 
@@ -90,16 +89,17 @@ module _ (f : Filter) (n : Bytes) (g : Ground) (left : List TrueMap) (es : Entri
   inner-map = (true-out g.store (commits_of g) f g.rule g.true_maps left es out w.maps).1
 
   -- and put back
-  pub inner-put : (k : Ground) (kept : Entries) (ms : List TrueMap) → IsTrueWalk f n inner k → IsPutBehind f g.rule k.map k.true_maps ms → Extends (IsSeenObject f g n) g (record k { map = kept; true_maps = ms })
-  inner-put k kept ms x put = record {
-    graph = x.same.graph;
-    rule = x.same.rule;
-    tables = x.same.tables;
-    store = x.same.store;
+  pub inner-put : (made : Object → Type 0) (k : Ground) (kept : Entries) (ms : List TrueMap) → Extends made inner k → IsTrueMap k.store (commits_of g) g.rule f k.map → IsPutBehind f g.rule k.map k.true_maps ms
+      → Extends made g (record k { map = kept; true_maps = ms })
+  inner-put made k kept ms x t put = record {
+    graph = x.graph;
+    rule = x.rule;
+    tables = x.tables;
+    store = x.store;
     ground = record {
-      graph = x.same.ground.graph;
-      memo = x.same.ground.memo;
-      maps = true-behind k.store (commits_of k) f g.rule k.map k.true_maps ms put x.same.ground.maps
-          (subst (λ (y : Graph). IsTrueMap k.store y g.rule f k.map) (sym (commits-same (IsSeenObject f g n) inner k inner-ground x.same)) x.map);
+      graph = x.ground.graph;
+      memo = x.ground.memo;
+      maps = true-behind k.store (commits_of k) f g.rule k.map k.true_maps ms put x.ground.maps
+          (subst (λ (y : Graph). IsTrueMap k.store y g.rule f k.map) (sym (commits-same made inner k inner-ground x)) t);
     };
   }

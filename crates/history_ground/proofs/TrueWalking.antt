@@ -1,11 +1,14 @@
 -- A walk that projects commits from scratch, and puts what they become into the store.
 use Rattle.std.proofs.Common.{◌≡◌, inl, inr, ℕ, ◌<◌, true, append_assoc, arith, List, [], ◌∷◌, ◌++◌, length, Option, Some, None, OnOk, Ok, Err, Result, Contains, refl, sym, ap, subst, ◌∙◌, reverse}
-use Rattle.git_objects.specs.Names.{name}
+use Rattle.git_objects.specs.CommitBodies.{commit_from}
+use Rattle.git_objects.specs.Names.{name, tree_name}
 use Rattle.git_objects.specs.Paths.{Bytes}
-use Rattle.git_objects.specs.Snapshots.{Snapshot, Graph, snapshot_name, has, is_graph, ancestors}
-use Rattle.git_objects.specs.declared.kind.Kind.TheVariants.{Commit as CommitKind}
+use Rattle.git_objects.specs.Snapshots.{Snapshot, Graph, snapshot_commit, snapshot_name, has, is_graph, ancestors}
+use Rattle.git_objects.specs.declared.kind.Kind.TheVariants.{Tree, Commit as CommitKind}
 use Rattle.object_store.specs.Growth.{IsOnly}
-use Rattle.object_store.specs.Objects.{Object, find_named}
+use Rattle.object_store.specs.Objects.{Object, body_of, find_named}
+use Rattle.object_store.specs.StoredSnapshots.{IsTreeOf, commit_named}
+use Rattle.object_store.proofs.Growth.{has-grown}
 use Rattle.object_store.proofs.Parts.{found-has}
 use Rattle.object_store.specs.Objects as objects
 use Rattle.commit_graph.specs.Graphs.{Row}
@@ -22,7 +25,7 @@ use Rattle.projection_ground.specs.Asked.{IsAskedFor}
 use Rattle.projection_ground.specs.Choosing.{Agree, commits_before, IsBelow}
 use Rattle.projection_ground.specs.Grounds.{IsGround, Extends, IsShownOf, commits_of}
 use Rattle.history_ground.specs.Heads.{IsSeenObject}
-use Rattle.history_ground.specs.Making.{IsBecome, IsEntered, IsTurnObject}
+use Rattle.history_ground.specs.Making.{AreThere, IsBecome, IsEntered, IsTurnObject}
 use Rattle.projection_ground.specs.TrueMaps.{AreHeld, IsTrueMap}
 use Rattle.history_ground.specs.TrueWalks.{IsTrueStep, IsTrueWalk}
 use Rattle.projection_ground.specs.Turns.{IsNew}
@@ -31,7 +34,7 @@ use Rattle.projection_ground.specs.declared.seeing.Asked.{Asked}
 use Rattle.projection_ground.proofs.Filling.{newer-known, projection-at}
 use Rattle.projection_ground.proofs.Growing.{commits-same, extends-as, extends-self, extends-then, true-map-grown}
 use Rattle.projection_ground.proofs.OwnPlaces.{has-behind, own-in}
-use Rattle.history_ground.proofs.TakenTurns.{become, entered-new, fault-as, new-one}
+use Rattle.history_ground.proofs.TakenTurns.{become, body-name, entered-new, fault-as, held-new, held-there, new-one, tree-name}
 use Rattle.projection_ground.proofs.TrueEntries.{entry-more}
 use Rattle.projection_ground.proofs.TurnLemmas.{IsPlaced, before-same, placed, some-placed}
 use Rattle.history_ground.proofs.Waiting.{IsStack, IsWaiting, has-named, latest, left_in, less-below, less-more, waiting-below, waiting-more, waiting-start}
@@ -97,8 +100,8 @@ module _ (f : Filter) (made : Object → Type 0) (g h : Ground) (w : IsGround g)
   turn-seen n x o (inr d) = inr (d.0, own-is n d.0 x d.1, d.3)
 
   -- the map has one projection from scratch more
-  pub map-more : (k : Ground) → IsEntered f p h k → IsTrueMap k.store (commits_of g) g.rule f k.map
-  map-more k e =
+  pub map-more : (k : Ground) → IsEntered f p h k → AreHeld k.store k.map → IsTrueMap k.store (commits_of g) g.rule f k.map
+  map-more k e held =
       let v : Option Shown = projected e.choice in
       let is : k.map ≡ h.map ++ (name_at g.graph p, v) ∷ [] = e.map ∙ ap (λ (rows : List Row). h.map ++ (name_at rows p, v) ∷ []) a.graph in
       let there : has (commits_of g) (name_at g.graph p) ≡ true = has-named g w p l in
@@ -107,18 +110,21 @@ module _ (f : Filter) (made : Object → Type 0) (g h : Ground) (w : IsGround g)
             (entry-more (λ n o. has (commits_of g) n ≡ true) h.map (name_at g.graph p) v t.of there);
         values = subst (λ (es : Entries). (n : Bytes) (o : Option Shown) → kept_at n es ≡ Some o → has (commits_of g) n ≡ true → o ≡ projection g.rule (shown f) (commits_of g) n) (sym is)
             (entry-more (λ n o. has (commits_of g) n ≡ true → o ≡ projection g.rule (shown f) (commits_of g) n) h.map (name_at g.graph p) v t.values (λ x. value-is e.choice e.is));
-        held = e.held;
+        held = held;
       }
 
 -- ---- a step
 
 module _ (f : Filter) (g h : Ground) (place : ℕ) (w : IsGround g) (a : Extends (IsShownOf f (commits_of g)) g h) (m : h.map ≡ g.map) (there : place < length g.graph) (held : AreHeld g.store g.map)
     (s : code.Shown) (b : Bytes) (t : (c : Snapshot) → snapshot_named g.store (name_at g.graph place) ≡ Some c → IsNew f g h place c s b) where
+  there-held : AreThere g.store g.map
+  there-held = held-there g.store g.map held
+
   abbrev n : IsNew f g h place (some-placed g place w there).0 s b
-  n = new-one f g h place w a m there held s b t
+  n = new-one f g h place w a m there there-held s b t
 
   pub put-object : (o : Object) → IsOnly CommitKind b o → IsTurnObject f g place [] o
-  put-object o x = inr (n.commit, become f g h place w a m there held s b t, refl, ap (λ q. record { kind = CommitKind; body = q }) (sym n.body) ∙ sym x)
+  put-object o x = inr (n.commit, become f g h place w a m there there-held s b t, refl, ap (λ q. record { kind = CommitKind; body = q }) (sym n.body) ∙ sym x)
 
   module _ (k : Ground) (u : Extends (IsOnly CommitKind b) h k) where
     pub put-same : Extends (IsTurnObject f g place []) g k
@@ -126,16 +132,32 @@ module _ (f : Filter) (g h : Ground) (place : ℕ) (w : IsGround g) (a : Extends
         extends-then (IsTurnObject f g place []) g h k (extends-as (IsShownOf f (commits_of g)) (IsTurnObject f g place []) g h (λ o x. inl x) a)
         (extends-as (IsOnly CommitKind b) (IsTurnObject f g place []) h k put-object u)
 
-    pub put-entered : k.map ≡ h.map ++ (name_at h.graph place, Some (shown_value s)) ∷ [] → objects.has CommitKind k.store s.commit.0 ≡ true → IsEntered f place g k
-    put-entered q x = entered-new f g h place w a m there held s b t k q put-same.store (ap (objects.has CommitKind k.store) (sym (ap (λ (y : Shown). y.commit) n.names)) ∙ x)
+    module _ (q : k.map ≡ h.map ++ (name_at h.graph place, Some (shown_value s)) ∷ []) (found : find_named k.store (name CommitKind b) ≡ Some (record { kind = CommitKind; body = b })) where
+      abbrev is : name CommitKind b ≡ snapshot_name n.commit
+      is = body-name f g h place w a m there there-held s b t
+
+      there-now : (objects.has CommitKind k.store (name CommitKind b) ≡ true) × (body_of CommitKind k.store (name CommitKind b) ≡ b)
+      there-now = found-has k.store CommitKind (name CommitKind b) (record { kind = CommitKind; body = b }) found refl
+
+      tree-now : IsTreeOf k.store (snapshot_name n.commit) (tree_name n.commit.tree)
+      tree-now = record {
+        commit = snapshot_commit n.commit;
+        named = ap (commit_named k.store) (sym is) ∙ ap commit_from there-now.1 ∙ n.read;
+        tree = refl;
+        held = has-grown h.store k.store Tree (tree_name n.commit.tree) u.store (ap (objects.has Tree h.store) (sym (tree-name f g h place w a m there there-held s b t)) ∙ n.tree.held);
+      }
+
+      pub put-entered : IsEntered f place g k × AreHeld k.store k.map
+      put-entered = (
+        entered-new f g h place w a m there there-held s b t k q put-same.store (ap (objects.has CommitKind k.store) (sym is) ∙ there-now.0),
+        held-new f g h place w a m there there-held s b t k q put-same.store tree-now held,
+      )
 
 -- the commit that was put is there
-pub put-there : {T : Type 0} (h k : Ground) (es : Entries) (n b : Bytes) → find_named h.store (name CommitKind b) ≡ Some (record { kind = CommitKind; body = b }) → n ≡ name CommitKind b
-    → (r : Result T ApplyError) → OnOk r (k ≡ record h { map = es }) → OnOk r (objects.has CommitKind k.store n ≡ true)
-put-there h k es n b found e (Err x) q = tt
-put-there h k es n b found e (Ok x) q =
-    ap (λ (y : Ground). objects.has CommitKind y.store n) q ∙ ap (objects.has CommitKind h.store) e
-    ∙ (found-has h.store CommitKind (name CommitKind b) (record { kind = CommitKind; body = b }) found refl).0
+pub put-there : {T : Type 0} (h k : Ground) (es : Entries) (b : Bytes) → find_named h.store (name CommitKind b) ≡ Some (record { kind = CommitKind; body = b })
+    → (r : Result T ApplyError) → OnOk r (k ≡ record h { map = es }) → OnOk r (find_named k.store (name CommitKind b) ≡ Some (record { kind = CommitKind; body = b }))
+put-there h k es b found (Err x) q = tt
+put-there h k es b found (Ok x) q = ap (λ (y : Ground). find_named y.store (name CommitKind b)) q ∙ found
 
 -- ---- the loop
 
@@ -181,8 +203,8 @@ module _ (f : Filter) (head : ℕ) (g h k : Ground) (w : IsGround g) (asked now 
       map = subst (IsTrueMap k.store (commits_of g) g.rule f) (sym m) (true-map-grown h.store k.store (commits_of g) g.rule f h.map a.store v.walked.map);
     }
 
-    pub walked-more : IsEntered f p h k → IsTrueWalk f (name_at g.graph head) g k
-    walked-more n = record { same = same-now; map = map-more f made g h w v.walked.same v.walked.map p stack.0 k n }
+    pub walked-more : IsEntered f p h k → AreHeld k.store k.map → IsTrueWalk f (name_at g.graph head) g k
+    walked-more n held = record { same = same-now; map = map-more f made g h w v.walked.same v.walked.map p stack.0 k n held }
 
     pub making-below : (q : ℕ) (zs : List ℕ) → zs ≡ ys ++ (p ∷ q ∷ []) → IsBelow h p q → k.map ≡ h.map → IsAskedFor f k now → IsMaking f head g k now zs
     making-below q zs z below m b = record {
@@ -194,11 +216,11 @@ module _ (f : Filter) (head : ℕ) (g h k : Ground) (w : IsGround g) (asked now 
     map-is : (n : IsEntered f p h k) → k.map ≡ h.map ++ (name_at g.graph p, projected n.choice) ∷ []
     map-is n = n.map ∙ ap (λ (rows : List Row). h.map ++ (name_at rows p, projected n.choice) ∷ []) v.walked.same.graph
 
-    pub making-more : IsEntered f p h k → IsAskedFor f k now → IsMaking f head g k now ys
+    pub making-more : IsEntered f p h k × AreHeld k.store k.map → IsAskedFor f k now → IsMaking f head g k now ys
     making-more n b = record {
-      walked = walked-more n;
+      walked = walked-more n.0 n.1;
       asked_for = b;
-      waits = subst (λ (es : Entries). IsWaiting g head es ys) (sym (map-is n)) (waiting-more g w head h.map xs ys p e v.waits (projected n.choice));
+      waits = subst (λ (es : Entries). IsWaiting g head es ys) (sym (map-is n.0)) (waiting-more g w head h.map xs ys p e v.waits (projected n.0.choice));
     }
 
     pub smaller-more : IsEntered f p h k → left_in g head (length g.graph) k.map ys < left_in g head (length g.graph) h.map xs
@@ -213,7 +235,7 @@ module _ (f : Filter) (head : ℕ) (g h k : Ground) (w : IsGround g) (asked now 
 pub true-below : (f : Filter) (p q : ℕ) (g h : Ground) (o : Option ℕ) → IsTrueStep {E = ApplyError} f p g h (Ok o) → o ≡ Some q → IsBelow g p q × (h.map ≡ g.map)
 true-below f p q g h o x e = subst (λ y. IsTrueStep {E = ApplyError} f p g h (Ok y)) e x
 
-pub true-entered : (f : Filter) (p : ℕ) (g h : Ground) (o : Option ℕ) → IsTrueStep {E = ApplyError} f p g h (Ok o) → o ≡ None → IsEntered f p g h
+pub true-entered : (f : Filter) (p : ℕ) (g h : Ground) (o : Option ℕ) → IsTrueStep {E = ApplyError} f p g h (Ok o) → o ≡ None → IsEntered f p g h × AreHeld h.store h.map
 true-entered f p g h o x e = subst (λ y. IsTrueStep {E = ApplyError} f p g h (Ok y)) e x
 
 -- where branches join

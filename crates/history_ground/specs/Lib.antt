@@ -3,3 +3,4 @@ pub mod Histories
 pub mod Making
 pub mod Heads
 pub mod TrueWalks
+pub mod Origins

@@ -11,13 +11,12 @@ use Rattle.object_store.specs.Growth.{IsOnly}
 use Rattle.object_store.specs.Puts.{of_body}
 use Rattle.object_store.specs.StoredSnapshots.{snapshot_object}
 use Rattle.commit_graph.specs.Graphs.{Reaches}
-use Rattle.commit_map.specs.Shown.{kept_at}
+use Rattle.commit_map.specs.Shown.{Shown, Entries, kept_at}
 use Rattle.filter_text.specs.Filters.{Filter}
 use Rattle.projection_laws.specs.Projections.{Choice, New, own_commit, projected}
 use Rattle.projection_laws.specs.StoredGraphs.{name_at, snapshot_named}
 use Rattle.projection_laws.specs.Histories.{AreMade, is_among}
 use Rattle.projection_ground.specs.Grounds.{IsShownOf, commits_of}
-use Rattle.projection_ground.specs.TrueMaps.{AreHeld}
 use Rattle.projection_ground.specs.Turns.{Becomes}
 use Rattle.projection_ground.specs.declared.ground.Ground.{Ground}
 
@@ -39,6 +38,10 @@ pub record IsTakenIn (S : List Object) (ns ns' : List Bytes) (b : Bytes) : Type 
   pub names : ns' ≡ with_name ns (name Commit b)
   pub found : is_among (name Commit b) ns ≡ false → find_named S (name Commit b) ≡ Some (record { kind = Commit; body = b })
 
+-- the commits that are kept as projections are in the store
+abbrev pub AreThere : List Object → Entries → Type 0
+AreThere S es = (n : Bytes) (m : Shown) → kept_at n es ≡ Some (Some m) → has Commit S m.commit ≡ true
+
 -- what the commit at the place becomes
 abbrev pub IsBecome : Filter → Ground → ℕ → Choice → Type 0
 IsBecome f g place x = (c : Snapshot) → snapshot_named g.store (name_at g.graph place) ≡ Some c → Becomes f g place c x
@@ -53,7 +56,7 @@ pub record IsReady (g : Ground) (place : ℕ) (ns : List Bytes) : Type 0 where
   pub there : place < length g.graph
   pub lacked : kept_at (name_at g.graph place) g.map ≡ None
   pub kept : (q : ℕ) → Reaches g.graph place q → q < place → IsSome (kept_at (name_at g.graph q) g.map)
-  pub held : AreHeld g.store g.map
+  pub held : AreThere g.store g.map
   pub named : list_all (has Commit g.store) ns ≡ true
 
 -- The commit at the place is projected, which is kept; and what is kept is in the store.
@@ -61,7 +64,7 @@ pub record IsEntered (f : Filter) (place : ℕ) (g g' : Ground) : Type 0 where
   pub choice : Choice
   pub is : IsBecome f g place choice
   pub map : g'.map ≡ g.map ++ (name_at g.graph place, projected choice) ∷ []
-  pub held : AreHeld g'.store g'.map
+  pub held : AreThere g'.store g'.map
 
 -- the commit at the place is projected, and what it becomes is put behind the commits that have these names
 pub record IsTaken (f : Filter) (place : ℕ) (g g' : Ground) (ns ns' : List Bytes) : Type 0 where

@@ -16,7 +16,6 @@ use crate::making::made_to;
 use filter_apply::ApplyError;
 use filter_text::Filter;
 use git_objects::Name;
-use object_store::tree_of;
 use projection_ground::{Asked, Ground, seen};
 use std::alloc::Global;
 use std::mem;
@@ -76,10 +75,6 @@ fn shown_upon(
     let Some(shown) = made_to(alloc, ground, filter, head)? else {
         return Ok(Seen { from: None, tree });
     };
-    // Another commit of the history may have the name, and another tree.
-    if tree_of(&ground.store, &shown.commit) != tree {
-        return Err(ApplyError::Collision { name: shown.commit });
-    }
     Ok(Seen {
         from: Some(shown.commit),
         tree,

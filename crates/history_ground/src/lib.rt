@@ -4,8 +4,10 @@
 mod heads;
 mod histories;
 mod making;
+mod origins;
 mod walking;
 
 pub use heads::{Seen, seen_head};
 pub use histories::{history, put_commit};
+pub use origins::{First, Origins};
 pub use walking::project_to;

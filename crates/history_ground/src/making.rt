@@ -1,14 +1,15 @@
 // Projections from scratch, with the commits that they are.
-ghost use Rattle.std.specs.Prelude.{◌≡◌, ◌<◌, ◌++◌, ◌∷◌, [], true, length};
+ghost use Rattle.std.specs.Prelude.{◌≡◌, ◌<◌, ◌++◌, ◌∷◌, [], length};
 ghost use Rattle.std.specs.Prelude.{None, Some, IfErr, IfOk, IfSome, IsSome, OnOk};
 ghost use Rattle.std.specs.Option.{option_map};
+ghost use Rattle.git_objects.specs.Names.{name};
 ghost use Rattle.git_objects.specs.declared.kind.Kind.TheVariants.{Commit};
 ghost use Rattle.commit_graph.specs.Graphs.{place_of};
 ghost use Rattle.commit_map.specs.Shown.{kept_at, shown_value};
 ghost use Rattle.filter_apply.specs.Faults.{IsApplyFault};
 ghost use Rattle.filter_text.specs.Shapes.{shape};
 ghost use Rattle.object_store.specs.Growth.{IsOnly};
-ghost use Rattle.object_store.specs.Objects.{has};
+ghost use Rattle.object_store.specs.Objects.{find_named};
 ghost use Rattle.workspace.specs.Laws.{IsUsable};
 ghost use Rattle.workspace.specs.Workspaces.{shown};
 ghost use Rattle.projection_laws.specs.Projections.{projection};
@@ -37,7 +38,8 @@ fn keep_put(ground: &mut Ground, place: u32, shown: Shown, body: Vec<u8>) -> Res
     requires fit { IsFit ground.old.store shown.commit.0 body.items }
     ensures ok { OnOk result (ground.new.map
         ≡ ground.old.map ++ (name_at ground.old.graph place, Some (shown_value shown)) ∷ []) }
-    ensures there { OnOk result (has Commit ground.new.store shown.commit.0 ≡ true) }
+    ensures there { OnOk result (find_named ground.new.store (name Commit body.items)
+        ≡ Some (record { kind = Commit; body = body.items })) }
     ensures same { Extends (IsOnly Commit body.items) ground.old ground.new }
     ensures err { IfErr result (λ e.
         IsApplyFault (IsOnly Commit body.items) ground.new.store e × (ground.new.map ≡ ground.old.map)) }

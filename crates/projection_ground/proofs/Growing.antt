@@ -1,18 +1,19 @@
 -- What stays when a store and the tables grow.
-use Rattle.std.proofs.Common.{◌≡◌, ℕ, zero, suc, ◌<◌, ◌≤◌, ◌==◌, ◌+◌, ◌⊎◌, inl, inr, Bool, true, false, List, [], ◌∷◌, ◌++◌, length, slice_get, Some, refl, sym, ap, subst, ◌∙◌, arith, append-nil, append_assoc, take}
+use Rattle.std.proofs.Common.{◌≡◌, ℕ, zero, suc, ◌<◌, ◌≤◌, ◌==◌, ◌+◌, ◌⊎◌, inl, inr, Bool, true, false, List, [], ◌∷◌, ◌++◌, length, slice_get, Some, None, cond, ◌||◌, true≢false, refl, sym, ap, subst, ◌∙◌, arith, append-nil, append_assoc, take}
 use Rattle.std.specs.Option.{option_map}
 use Rattle.std.proofs.lemmas.Bool.{eqb-true, eqb-false}
 use Rattle.std.proofs.lemmas.List.{length-append}
 use Rattle.std.proofs.lemmas.Option.{none-some, same_Some, slice_get_within}
+use Rattle.git_objects.specs.Commits.{Commit}
 use Rattle.git_objects.specs.Paths.{Bytes}
 use Rattle.git_objects.specs.CommitBodies.{commit_from}
 use Rattle.git_objects.specs.declared.kind.Kind.TheVariants.{Tree, Commit as CommitKind}
-use Rattle.object_store.specs.Objects.{Object, IsStore, has, body_of}
+use Rattle.object_store.specs.Objects.{Object, IsStore, has, body_of, is_named}
 use Rattle.git_objects.specs.Snapshots.{Graph}
 use Rattle.git_objects.specs.Trees.{Flat}
 use Rattle.object_store.specs.Unfolding.{flat, StandsFor}
 use Rattle.object_store.specs.Growth.{IsGrownBy}
-use Rattle.object_store.specs.StoredSnapshots.{commit_named, snapshot_of}
+use Rattle.object_store.specs.StoredSnapshots.{IsTreeOf, commit_named, snapshot_of}
 use Rattle.object_store.proofs.Growth.{grown_self, grown_then, grown_as, has-grown, flat-grown, stands-grown}
 use Rattle.path_trees.proofs.Grown.{body-above}
 use Rattle.commit_map.specs.Shown.{Entries}
@@ -81,8 +82,33 @@ module _ {made : Object → Type 0} (S T : List Object) (g : IsGrownBy made S T)
 
 -- ---- true maps
 
+no-body : (S : List Object) (n : Bytes) → has CommitKind S n ≡ false → commit_named S n ≡ None
+unfolding has body_of commit_from
+no-body [] n h = refl
+no-body (o ∷ S) n h =
+    elim (is_named CommitKind o n) as (λ b. (b || has CommitKind S n) ≡ false → commit_from (cond b o.body (body_of CommitKind S n)) ≡ None) [
+      | true ↦ λ e. absurd (true≢false e)
+      | false ↦ λ e. no-body S n e
+    ] h
+
+-- what reads as a commit is one
+pub commit-there : (S : List Object) (n : Bytes) (c : Commit) → commit_named S n ≡ Some c → has CommitKind S n ≡ true
+commit-there S n c e = by (has CommitKind S n) refl
+  where
+    by : (b : Bool) → has CommitKind S n ≡ b → b ≡ true
+    by true h = refl
+    by false h = absurd (none-some c (sym (no-body S n h) ∙ e))
+
+pub tree-of-grown : {made : Object → Type 0} (S T : List Object) (n t : Bytes) → IsGrownBy made S T → IsTreeOf S n t → IsTreeOf T n t
+tree-of-grown S T n t g w = record {
+  commit = w.commit;
+  named = commit-grown S T g n (commit-there S n w.commit w.named) ∙ w.named;
+  tree = w.tree;
+  held = has-grown S T Tree t g w.held;
+}
+
 pub held-grown : {made : Object → Type 0} (S T : List Object) (es : Entries) → IsGrownBy made S T → AreHeld S es → AreHeld T es
-held-grown S T es g h = λ n m e. has-grown S T CommitKind m.commit g (h n m e)
+held-grown S T es g h = λ n m e. tree-of-grown S T m.commit m.tree g (h n m e)
 
 pub true-map-grown : {made : Object → Type 0} (S T : List Object) (g : Graph) (k : Rule) (f : Filter) (es : Entries) → IsGrownBy made S T → IsTrueMap S g k f es → IsTrueMap T g k f es
 true-map-grown S T g k f es a w = record { of = w.of; values = w.values; held = held-grown S T es a w.held }

@@ -16,7 +16,7 @@ use Rattle.projection_laws.specs.Projections.{distinct, is_same, is_shown_as, is
 use Rattle.projection_laws.specs.StoredGraphs.{name_at}
 use Rattle.projection_laws.proofs.StoredGraphs.{row-at, name-is, older-has}
 use Rattle.projection_laws.proofs.Reached.{same-reached}
-use Rattle.projection_ground.specs.Choosing.{parents_at, names_at, commits_before, Agree, AreKept, IsBelow}
+use Rattle.projection_ground.specs.Choosing.{parents_at, names_at, commits_before, Agree, AreKept, IsBelow, IsLacked}
 use Rattle.projection_ground.specs.Grounds.{IsGround}
 use Rattle.projection_ground.specs.declared.ground.Ground.{Ground}
 use Rattle.projection_ground.proofs.Lacks.{find-some}
@@ -58,7 +58,7 @@ all-same f g xs h = ap (λ t. list_all t xs) (λ i x. h x i)
 
 -- ---- over a ground
 
-module _ (g : Ground) (place : ℕ) (w : IsGround g) (there : place < length g.graph) (ks : Entries) (a : Agree g.map ks (commits_before g place)) where
+module _ (g : Ground) (place : ℕ) (w : IsGround g) (there : place ≤ length g.graph) (ks : Entries) (a : Agree g.map ks (commits_before g place)) where
   older-in : (p : ℕ) → p < place → has (commits_before g place) (name_at g.graph p) ≡ true
   older-in p b =
       let r = row-at g.store g.graph w.graph p (omega (arith, b, there)) in
@@ -101,19 +101,16 @@ reached-below g place first places w b exact i d l =
     let down : get_or places i d ≤ first = reaches-down g.graph w.graph.graph first (get_or places i d) ((exact (get_or places i d)).0 (Contains-get_or places i d l)) in
     omega (arith, down, b)
 
-pub reached-within : (g : Ground) (place first : ℕ) (places : List ℕ) → IsGround g → first < place → place < length g.graph → ((i : ℕ) → Contains places i ↔ Reaches g.graph first i) → All (λ p. p < length g.graph) places
-reached-within g place first places w b t exact i d l =
-    let x : get_or places i d < place = reached-below g place first places w b exact i d l in
-    omega (arith, x, t)
-
--- one of them of which nothing is kept
-pub lacks-below : (g : Ground) (place first q : ℕ) (places : List ℕ) → IsGround g → place < length g.graph → Contains (parents_at g.graph place) first → first < place → ((i : ℕ) → Contains places i ↔ Reaches g.graph first i)
-    → Contains places q → kept_at (name_at g.graph q) g.map ≡ None → IsBelow g place q
-lacks-below g place first q places w t c b exact m e = record {
-  before = (let down : q ≤ first = reaches-down g.graph w.graph.graph first q ((exact q).0 m) in omega (arith, down, b));
+-- What a parent reaches comes before a commit, which reaches it too.
+pub lacked-below : (g : Ground) (place q : ℕ) → IsGround g → place < length g.graph → All (λ p. p < place) (parents_at g.graph place) → IsLacked g (parents_at g.graph place) q → IsBelow g place q
+lacked-below g place q w t low x = record {
+  before =
+      let b : x.parent < place = All-contains (λ p. p < place) (parents_at g.graph place) x.parent low x.among in
+      let down : q ≤ x.parent = reaches-down g.graph w.graph.graph x.parent q x.reached in
+      omega (arith, down, b);
   reached =
       let d : Row = record { name = []; tree = []; parents = [] } in
       let r : slice_get g.graph place ≡ Some (get_or g.graph place d) = slice_get-get_or g.graph place d t in
-      Through place first q (get_or g.graph place d) r (subst (λ o. Contains (option_map_or (λ (r : Row). r.parents) o []) first) r c) ((exact q).0 m);
-  lacked = e;
+      Through place x.parent q (get_or g.graph place d) r (subst (λ o. Contains (option_map_or (λ (r : Row). r.parents) o []) x.parent) r x.among) x.reached;
+  lacked = x.lacked;
 }

@@ -7,4 +7,5 @@ pub mod Chosen
 pub mod TurnLemmas
 pub mod Filling
 pub mod OwnPlaces
+pub mod OwnChoices
 pub mod TrueEntries

@@ -31,7 +31,7 @@ use Rattle.projection_laws.specs.StoredGraphs.{name_at, graph_of, snapshot_named
 use Rattle.projection_laws.specs.Made.{own_commit_of}
 use Rattle.projection_laws.specs.Projections as projections
 use Rattle.projection_laws.proofs.StoredGraphs.{IsAt, at-row, name-is, older, row-at, split-at}
-use Rattle.projection_ground.specs.Choosing.{parents_at, names_at, commits_before, Agree, AreKept, IsBelow, IsChoice, leads_at}
+use Rattle.projection_ground.specs.Choosing.{parents_at, names_at, commits_before, Agree, AreKept, IsBelow, IsChoice, IsLacked, leads_at}
 use Rattle.projection_ground.specs.declared.choosing.Choice as choices
 use Rattle.projection_ground.specs.declared.choosing.Choice.TheVariants.{Below, Nothing, Member, New as CodeNew}
 use Rattle.projection_ground.specs.Grounds.{IsGround, commits_of, Extends, IsShownOf}
@@ -139,7 +139,7 @@ module _ (made : Object → Type 0) (f : Filter) (g h : Ground) (place : ℕ) (c
   same-choice : (ks : Entries) → Agree g.map ks (commits_before g place) → choice_of g.rule (shown f) (commits_before g place) ks c ≡ chosen h.rule (leads_at h place ks) (flat h.store tree) c.letter ms
   same-choice ks k =
       let names : names_at g.graph (parents_at g.graph place) ≡ c.parents = parents-named g place c p in
-      let all : members ks c.parents ≡ ms = ap (members ks) (sym names) ∙ sym (members-agree g place w l ks k (parents_at g.graph place) low kept) ∙ sym are in
+      let all : members ks c.parents ≡ ms = ap (members ks) (sym names) ∙ sym (members-agree g place w there ks k (parents_at g.graph place) low kept) ∙ sym are in
       (λ i. chosen g.rule (leads (commits_before g place) ks (sym names i)) (sym stands.map i) c.letter (all i))
       ∙ (λ i. chosen (sym a.rule i) (λ x. leads (sym (before-same made g h place w there a) i) ks (names_at (sym a.graph i) (parents_at (sym a.graph i) place)) x) (flat h.store tree) c.letter ms)
 
@@ -168,17 +168,17 @@ module _ (made : Object → Type 0) (f : Filter) (g h : Ground) (place : ℕ) (c
 
 -- ---- choices
 
-pub choice-below : (g : Ground) (place : ℕ) (d : Snapshot) (v : Entries → Choice) (x : choices.Choice) (q : ℕ) → IsChoice g place d v x → x ≡ Below q → IsBelow g place q
-choice-below g place d v x q h e = subst (IsChoice g place d v) e h
+pub choice-below : (g : Ground) (place : ℕ) (ps : List ℕ) (d : Snapshot) (v : Entries → Choice) (x : choices.Choice) (q : ℕ) → IsChoice g place ps d v x → x ≡ Below q → IsLacked g ps q
+choice-below g place ps d v x q h e = subst (IsChoice g place ps d v) e h
 
-pub choice-nothing : (g : Ground) (place : ℕ) (d : Snapshot) (v : Entries → Choice) (x : choices.Choice) → IsChoice g place d v x → x ≡ Nothing → (ks : Entries) → Agree g.map ks (commits_before g place) → v ks ≡ projections.Nothing
-choice-nothing g place d v x h e = subst (IsChoice g place d v) e h
+pub choice-nothing : (g : Ground) (place : ℕ) (ps : List ℕ) (d : Snapshot) (v : Entries → Choice) (x : choices.Choice) → IsChoice g place ps d v x → x ≡ Nothing → (ks : Entries) → Agree g.map ks (commits_before g place) → v ks ≡ projections.Nothing
+choice-nothing g place ps d v x h e = subst (IsChoice g place ps d v) e h
 
-pub choice-member : (g : Ground) (place : ℕ) (d : Snapshot) (v : Entries → Choice) (x : choices.Choice) (m : code.Shown) → IsChoice g place d v x → x ≡ Member m → (ks : Entries) → Agree g.map ks (commits_before g place) → v ks ≡ projections.Member (shown_value m)
-choice-member g place d v x m h e = subst (IsChoice g place d v) e h
+pub choice-member : (g : Ground) (place : ℕ) (ps : List ℕ) (d : Snapshot) (v : Entries → Choice) (x : choices.Choice) (m : code.Shown) → IsChoice g place ps d v x → x ≡ Member m → (ks : Entries) → Agree g.map ks (commits_before g place) → v ks ≡ projections.Member (shown_value m)
+choice-member g place ps d v x m h e = subst (IsChoice g place ps d v) e h
 
-pub choice-new : (g : Ground) (place : ℕ) (d : Snapshot) (v : Entries → Choice) (x : choices.Choice) → IsChoice g place d v x → x ≡ CodeNew → (ks : Entries) → Agree g.map ks (commits_before g place) → v ks ≡ New d
-choice-new g place d v x h e = subst (IsChoice g place d v) e h
+pub choice-new : (g : Ground) (place : ℕ) (ps : List ℕ) (d : Snapshot) (v : Entries → Choice) (x : choices.Choice) → IsChoice g place ps d v x → x ≡ CodeNew → (ks : Entries) → Agree g.map ks (commits_before g place) → v ks ≡ New d
+choice-new g place ps d v x h e = subst (IsChoice g place ps d v) e h
 
 own-upon : (g : Ground) (place : ℕ) (tree : Bytes) (letter : Letter) (ms : List Shown) →
     ((ks : Entries) → Agree g.map ks (commits_before g place) → chosen g.rule (leads_at g place ks) (flat g.store tree) letter ms ≡ New (own (flat g.store tree) letter ms)) →

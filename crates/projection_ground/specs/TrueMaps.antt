@@ -1,10 +1,10 @@
 -- Projections that are what they are from scratch, and whose commits are in a store.
-use Rattle.std.specs.Prelude.{◌≡◌, ◌⊎◌, ℕ, true, List, [], ◌∷◌, ◌++◌, drop, Some}
+use Rattle.std.specs.Prelude.{◌≡◌, ◌⊎◌, ℕ, List, [], ◌∷◌, ◌++◌, drop, Some}
 use Rattle.git_objects.specs.Lists.{Each}
 use Rattle.git_objects.specs.Snapshots.{Graph}
 use Rattle.git_objects.specs.Paths.{Bytes}
-use Rattle.git_objects.specs.declared.kind.Kind.TheVariants.{Commit}
-use Rattle.object_store.specs.Objects.{Object, has}
+use Rattle.object_store.specs.Objects.{Object}
+use Rattle.object_store.specs.StoredSnapshots.{IsTreeOf}
 use Rattle.commit_map.specs.Shown.{Shown, Entries, kept_at}
 use Rattle.commit_map.specs.declared.rule.Rule.{Rule}
 use Rattle.filter_text.specs.Filters.{Filter}
@@ -13,11 +13,11 @@ use Rattle.workspace.specs.Workspaces.{shown}
 use Rattle.projection_laws.specs.ProjectionLaws.{AreOf, AreTrue}
 use Rattle.projection_ground.specs.declared.true_maps.TrueMap.{TrueMap}
 
--- the commits that are kept as projections are in the store
+-- the commits that are kept as projections are in the store, each with its tree
 abbrev pub AreHeld : List Object → Entries → Type 0
-AreHeld S es = (n : Bytes) (m : Shown) → kept_at n es ≡ Some (Some m) → has Commit S m.commit ≡ true
+AreHeld S es = (n : Bytes) (m : Shown) → kept_at n es ≡ Some (Some m) → IsTreeOf S m.commit m.tree
 
--- Each entry is of a commit of the graph, is its projection from scratch, and its commit is in the store.
+-- Each entry is of a commit of the graph, is its projection from scratch, and its commit is in the store with its tree.
 pub record IsTrueMap (S : List Object) (g : Graph) (k : Rule) (f : Filter) (es : Entries) : Type 0 where
   pub of : AreOf g es
   pub values : AreTrue k (shown f) g es

@@ -13,8 +13,8 @@ ghost use Rattle.commit_map.specs.Shown.{kept_at, shown_value};
 ghost use Rattle.projection_laws.specs.Projections.{chosen, is_shown_as, known_at, member_or, members, own};
 ghost use Rattle.projection_laws.specs.StoredGraphs.{name_at};
 ghost use Rattle.projection_ground.specs.Grounds.{IsGround};
-ghost use Rattle.projection_ground.specs.Choosing.{AreKept, IsBelow, IsChoice, IsTest, leads_at};
-ghost use Rattle.projection_ground.specs.Choosing.{names_at, parents_at, with_known};
+ghost use Rattle.projection_ground.specs.Choosing.{AreKept, IsBehind, IsBelow, IsChoice, IsTest, KeepsAll};
+ghost use Rattle.projection_ground.specs.Choosing.{is_own_by, leads_upon, names_at, parents_at, with_known};
 
 use crate::Ground;
 use commit_map::{Rule, Shown};
@@ -167,17 +167,21 @@ fn last_lacking(ground: &Ground, places: &[u32]) -> Option<u32>
     None
 }
 
-// Whether m leads the other projections of the parents of the commit at a place, from the first parent that is
-// projected to it.
-fn leads(ground: &Ground, place: u32, projected: &[Shown], m: &Shown) -> Result<Test, AllocError>
+// Whether m leads the other projections of the commits at these places, from the first that is projected to it.
+fn leads(
+    ground: &Ground,
+    parents: &[u32],
+    projected: &[Shown],
+    m: &Shown,
+) -> Result<Test, AllocError>
     requires ground { IsGround ground.now }
-    requires place { place < length ground.now.graph }
-    requires kept { AreKept ground.now (parents_at ground.now.graph place) }
-    requires members { map shown_value projected.now
-        ≡ members ground.now.map (names_at ground.now.graph (parents_at ground.now.graph place)) }
-    ensures { IfOk result (IsTest ground.now place (λ ks. leads_at ground.now place ks (shown_value m.now))) }
+    requires parents { All (λ p. p < length ground.now.graph) parents.now }
+    requires kept { AreKept ground.now parents.now }
+    requires members { map shown_value projected.now ≡ members ground.now.map (names_at ground.now.graph parents.now) }
+    ensures { (place : ℕ) → IsBehind ground.now parents.now place → IfOk result (IsTest ground.now place parents.now
+        (λ ks. leads_upon ground.now place parents.now ks (shown_value m.now))) }
 {
-    let Some(first) = first_shown_as(ground, ground.graph.parents(place), m) else {
+    let Some(first) = first_shown_as(ground, parents, m) else {
         return Ok(Test::Is(false));
     };
     let places = ground.graph.ancestors(first)?;
@@ -187,47 +191,45 @@ fn leads(ground: &Ground, place: u32, projected: &[Shown], m: &Shown) -> Result<
     }
 }
 
-// Whether a projection of a parent of the commit at a place has the tree and leads the others.
+// Whether a projection of the commits at these places has the tree and leads the others.
 fn has_and_leads(
     ground: &Ground,
-    place: u32,
+    parents: &[u32],
     projected: &[Shown],
     tree: &Name,
     m: &Shown,
 ) -> Result<Test, AllocError>
     requires ground { IsGround ground.now }
-    requires place { place < length ground.now.graph }
-    requires kept { AreKept ground.now (parents_at ground.now.graph place) }
-    requires members { map shown_value projected.now
-        ≡ members ground.now.map (names_at ground.now.graph (parents_at ground.now.graph place)) }
-    ensures { IfOk result (IsTest ground.now place (λ ks. same_bytes m.now.tree.0 tree.now.0
-        && leads_at ground.now place ks (shown_value m.now))) }
+    requires parents { All (λ p. p < length ground.now.graph) parents.now }
+    requires kept { AreKept ground.now parents.now }
+    requires members { map shown_value projected.now ≡ members ground.now.map (names_at ground.now.graph parents.now) }
+    ensures { (place : ℕ) → IsBehind ground.now parents.now place → IfOk result (IsTest ground.now place parents.now
+        (λ ks. same_bytes m.now.tree.0 tree.now.0 && leads_upon ground.now place parents.now ks (shown_value m.now))) }
 {
     if m.tree != *tree {
         return Ok(Test::Is(false));
     }
-    leads(ground, place, projected, m)
+    leads(ground, parents, projected, m)
 }
 
-// The first of the parents' projections that has the tree and leads the others, for the commit at a place; or a
-// commit of its own.
+// The first projection of the commits at these places that has the tree and leads the others; or a commit of its own.
 fn first_leading(
     ground: &Ground,
-    place: u32,
+    parents: &[u32],
     projected: &[Shown],
     tree: &Name,
 ) -> Result<Choice, AllocError>
     requires ground { IsGround ground.now }
-    requires place { place < length ground.now.graph }
-    requires kept { AreKept ground.now (parents_at ground.now.graph place) }
-    requires members { map shown_value projected.now
-        ≡ members ground.now.map (names_at ground.now.graph (parents_at ground.now.graph place)) }
-    ensures { (d : Snapshot) → IfOk result (IsChoice ground.now place d
-        (λ ks. member_or (find (λ m. same_bytes m.tree tree.now.0 && leads_at ground.now place ks m)
+    requires parents { All (λ p. p < length ground.now.graph) parents.now }
+    requires kept { AreKept ground.now parents.now }
+    requires members { map shown_value projected.now ≡ members ground.now.map (names_at ground.now.graph parents.now) }
+    ensures { (place : ℕ) (d : Snapshot) → IsBehind ground.now parents.now place →
+        IfOk result (IsChoice ground.now place parents.now d
+        (λ ks. member_or (find (λ m. same_bytes m.tree tree.now.0 && leads_upon ground.now place parents.now ks m)
         (map shown_value projected.now)) d)) }
 {
     for m in projected {
-        match has_and_leads(ground, place, projected, tree, m)? {
+        match has_and_leads(ground, parents, projected, tree, m)? {
             Test::Lacks(below) => return Ok(Choice::Below(below)),
             Test::Is(true) => return Ok(Choice::Member(*m)),
             Test::Is(false) => {}
@@ -247,22 +249,22 @@ fn is_empty(store: &Store, tree: &Name) -> bool
     }
 }
 
-// What becomes of the commit at a place, of which this tree is shown, upon the projections of its parents.
+// What becomes of a commit upon those at these places, of which this tree is shown, upon their projections.
 pub(crate) fn chosen(
     ground: &Ground,
-    place: u32,
+    parents: &[u32],
     projected: &[Shown],
     tree: &Name,
 ) -> Result<Choice, AllocError>
     requires ground { IsGround ground.now }
-    requires place { place < length ground.now.graph }
-    requires kept { AreKept ground.now (parents_at ground.now.graph place) }
-    requires members { map shown_value projected.now
-        ≡ members ground.now.map (names_at ground.now.graph (parents_at ground.now.graph place)) }
+    requires parents { All (λ p. p < length ground.now.graph) parents.now }
+    requires kept { AreKept ground.now parents.now }
+    requires members { map shown_value projected.now ≡ members ground.now.map (names_at ground.now.graph parents.now) }
     requires tree { has Tree ground.now.store tree.now.0 ≡ true }
-    ensures { (letter : Letter) → IfOk result (IsChoice ground.now place
+    ensures { (place : ℕ) (letter : Letter) → IsBehind ground.now parents.now place →
+        IfOk result (IsChoice ground.now place parents.now
         (own (flat ground.now.store tree.now.0) letter (map shown_value projected.now))
-        (λ ks. chosen ground.now.rule (leads_at ground.now place ks)
+        (λ ks. chosen ground.now.rule (leads_upon ground.now place parents.now ks)
         (flat ground.now.store tree.now.0) letter (map shown_value projected.now))) }
 {
     match projected {
@@ -282,7 +284,31 @@ pub(crate) fn chosen(
         }
         _ => match ground.rule {
             Rule::One => Ok(Choice::New),
-            Rule::Two => first_leading(ground, place, projected, tree),
+            Rule::Two => first_leading(ground, parents, projected, tree),
         },
+    }
+}
+
+/// Whether a commit upon those at these places, of which this tree is shown, is projected to a commit of its own. The
+/// ground's map has the projection of each of its commits.
+pub fn is_own_upon(
+    alloc: Global,
+    ground: &Ground,
+    parents: &[u32],
+    tree: &Name,
+) -> Result<bool, AllocError>
+    requires ground { IsGround ground.now }
+    requires kept { KeepsAll ground.now }
+    requires parents { All (λ p. p < length ground.now.graph) parents.now }
+    requires tree { has Tree ground.now.store tree.now.0 ≡ true }
+    ensures { (letter : Letter) → IfOk result
+        (λ b. b ≡ is_own_by ground.now parents.now (flat ground.now.store tree.now.0) letter) }
+{
+    let projected = members(alloc, ground, parents)?;
+    match chosen(ground, parents, &projected, tree)? {
+        Choice::Below(_) => unreachable!(),
+        Choice::Nothing => Ok(false),
+        Choice::Member(_) => Ok(false),
+        Choice::New => Ok(true),
     }
 }

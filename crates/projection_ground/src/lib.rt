@@ -7,6 +7,7 @@ mod seeing;
 mod true_maps;
 mod turning;
 
+pub use choosing::is_own_upon;
 pub use ground::Ground;
 pub use seeing::{Asked, seen};
 pub use true_maps::{TrueMap, TrueMaps};

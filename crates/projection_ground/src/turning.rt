@@ -78,7 +78,7 @@ fn turn_upon(
     ensures { (c : CommitValue) → commit_named ground.now.store (name_at ground.now.graph place) ≡ Some c →
         IfOk result (IsTurnUpon ground.now place tree.0 c.letter (map shown_value projected.now)) }
 {
-    match chosen(ground, place, projected, &tree)? {
+    match chosen(ground, ground.graph.parents(place), projected, &tree)? {
         Choice::Below(below) => Ok(Turn::Below(below)),
         Choice::Nothing => Ok(Turn::Kept(None)),
         Choice::Member(m) => Ok(Turn::Kept(Some(m))),

@@ -139,15 +139,16 @@ grows-store made g k w e a =
 
 -- ---- the tests before laying
 
-module _ (f : Filter) (t seen n : Flat) (change : same_bytes (tree_name n) (tree_name seen) ≡ false) where
-  abbrev by_change : Bool → Result Flat Refusal
-  by_change b = cond b (Err verdicts.NoChange) (tree_upon f t n)
-
+module _ (f : Filter) (t n : Flat) where
   abbrev by_file : Bool → Result Flat Refusal
   by_file b = cond b (Err verdicts.BadWorkspace) (laying (resolve f t) (next f t n) t n)
 
-  pub tree-bad : is_bad_workspace f t n ≡ true → original_tree f t seen n ≡ Err verdicts.BadWorkspace
-  tree-bad e = ap by_change change ∙ ap by_file e
+  pub upon-bad : is_bad_workspace f t n ≡ true → tree_upon f t n ≡ Err verdicts.BadWorkspace
+  upon-bad e = ap by_file e
 
-  pub tree-laid : is_bad_workspace f t n ≡ false → original_tree f t seen n ≡ laying (resolve f t) (next f t n) t n
-  tree-laid e = ap by_change change ∙ ap by_file e
+  pub upon-laid : is_bad_workspace f t n ≡ false → tree_upon f t n ≡ laying (resolve f t) (next f t n) t n
+  upon-laid e = ap by_file e
+
+-- where the tree is another than the one before
+pub tree-changed : (f : Filter) (t seen n : Flat) → same_bytes (tree_name n) (tree_name seen) ≡ false → original_tree f t seen n ≡ tree_upon f t n
+tree-changed f t seen n e = ap (λ b. cond b (Err verdicts.NoChange) (tree_upon f t n)) e

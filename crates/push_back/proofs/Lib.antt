@@ -1,12 +1,12 @@
 mod TreeSizes
-mod LaidTrees
+pub mod LaidTrees
 mod Letters
 mod NextFilters
-mod OneOriginal
+pub mod OneOriginal
 mod Runs
 pub mod Grounding
 pub mod Judging
 pub mod Running
 pub mod RunEnds
 pub mod PushedSoFar
-mod Planned
+pub mod Planned

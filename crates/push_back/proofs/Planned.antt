@@ -76,8 +76,8 @@ module _ (fault : Option StreamRefusal) (later : Option PushRefusal) where
   stream-fault made more S g (errors.OtherRef at) (inr t) = absurd t
   stream-fault made more S g (errors.NotAtHead m n) (inl t) = tells (errors.NotAtHead m n) (replays.NotAtHead (option_map name_bytes m) (option_map name_bytes n)) t refl
   stream-fault made more S g (errors.NotAtHead m n) (inr t) = absurd t
-  stream-fault made more S g (errors.MergePushed n) (inl t) = tells (errors.MergePushed n) (replays.MergePushed n) t refl
-  stream-fault made more S g (errors.MergePushed n) (inr t) = absurd t
+  stream-fault made more S g (errors.FurtherParents n) (inl t) = tells (errors.FurtherParents n) (replays.FurtherParents n) t refl
+  stream-fault made more S g (errors.FurtherParents n) (inr t) = absurd t
   stream-fault made more S g (errors.Stream f) (inl t) = inl (tells (errors.Stream f) (replays.Faulty f) t refl)
   stream-fault made more S g (errors.Stream f) (inr t) = inr (fault_as made more S f g t)
 
@@ -104,7 +104,7 @@ pub stream-reads : (e : PushError) → of_stream e ≡ faults.ReadFault → e �
 stream-reads errors.ReadFault q = refl
 stream-reads (errors.OtherRef at) q = cc
 stream-reads (errors.NotAtHead m n) q = cc
-stream-reads (errors.MergePushed n) q = cc
+stream-reads (errors.FurtherParents n) q = cc
 stream-reads (errors.Stream f) q = cc
 
 pub original-reads : (n : ℕ) (y : TreeRefusal) → of_original n y ≡ faults.ReadFault → ⊥

@@ -1,10 +1,8 @@
 -- A pushed stream so far, and how it ends.
-use Rattle.std.proofs.Common.{◌≡◌, ◌⊎◌, ◌+◌, ◌≤◌, true, false, length, List, [], Option, Some, None, Result, Ok, Err, IfSome, refl, sym, subst, ◌∙◌}
-use Rattle.std.specs.Prelude.{ℕ, IsOkAnd, OnOk}
-use Rattle.std.specs.Io.KnownBytes.{Consumes}
+use Rattle.std.proofs.Common.{◌≡◌, ◌⊎◌, ◌≤◌, true, false, List, [], Option, Some, None, Result, Ok, Err, IfSome}
+use Rattle.std.specs.Prelude.{ℕ, IsOkAnd}
 use Rattle.std.specs.Result.{result_err}
 use Rattle.git_objects.specs.Paths.{Bytes, is_bytes}
-use Rattle.git_objects.specs.Trees.{Flat}
 use Rattle.object_store.specs.Growth.{IsGrownBy}
 use Rattle.object_store.specs.Objects.{Object, IsStore}
 use Rattle.stream_reader.specs.Readers.{IsBefore, MayFollow, Reading, came, next_command, verdict_with}
@@ -15,66 +13,23 @@ use Rattle.stream_reader.specs.declared.fault.StreamFault.{StreamFault}
 use Rattle.stream_reader.specs.declared.fault.StreamFault.TheVariants.{OutOfMemory}
 use Rattle.fast_import.specs.Made.{IsMadeAt}
 use Rattle.fast_import.specs.Replaying.{Replaying}
-use Rattle.fast_import.specs.Replays.{Base, Ran, Replay, branch, given_by, nothing_yet}
+use Rattle.fast_import.specs.Replays.{Base, Replay, branch, given_by, nothing_yet}
 use Rattle.fast_import.specs.Standing.{IsReplayOf, IsReplayedOf}
 use Rattle.fast_import.specs.Whole.{IsFed, IsGiven}
 use Rattle.fast_import.specs.declared.replayed.Replayed.{Replayed as ReplayedNames}
 use Rattle.fast_import.proofs.Running.{with_all}
-use Rattle.push_laws.specs.PushReplays.{StreamRefusal, end_refusal, push_base, push_replay, push_step}
-use Rattle.push_back.specs.Replaying.{IsPushFault, IsPushedWhole, Tells}
-use Rattle.push_back.specs.Waited.{IsTakenTo, push_waited, waited_by}
+use Rattle.push_laws.specs.PushReplays.{StreamRefusal, end_refusal}
+use Rattle.push_back.specs.Replaying.{Goes, IsPushFault, IsRanWhole, Tells, ran_whole}
+use Rattle.push_back.specs.Waited.{IsTakenTo, PushStep, waited_by}
 use Rattle.push_back.specs.declared.error.PushError.{PushError}
 use Rattle.push_back.specs.declared.error.PushError.TheVariants as errors
-use Rattle.push_laws.proofs.PushSteps.{goes-on}
-use Rattle.push_back.proofs.Running.{Goes, IsRunSoFar, all, all_bytes, all_told, fed_run, may_rest, nothing_run, one_run, rest, run_taken, run_taken_feeding, run_taken_whole}
-use Rattle.push_back.proofs.RunEnds.{IsRunWhole, closed, ran_at, run_closed, run_given, run_refused, run_unfed, run_unread}
+use Rattle.push_back.proofs.Running.{IsRunSoFar, all, all_bytes, all_told, fed_run, may_rest, nothing_run, one_run, rest, run_taken, run_taken_feeding, run_taken_whole}
+use Rattle.push_back.proofs.RunEnds.{closed, ran_at, run_closed, run_given, run_refused, run_unfed, run_unread}
 
--- what a push makes of one command
-pub push_one : Bytes → Option Bytes → Flat → Replay → Placed → Result Replay StreamRefusal
-push_one refname from shown r p = push_step (push_base refname from shown) refname from r p
-
-push_one-is : (refname : Bytes) (from : Option Bytes) (shown : Flat) (r : Replay) (p : Placed) → push_step (push_base refname from shown) refname from r p ≡ push_one refname from shown r p
-unfolding push_one
-push_one-is refname from shown r p = refl
-
--- what it refuses at the end
-pub push_last : Bytes → Option Bytes → Replay → Option StreamRefusal
-push_last refname from r = end_refusal from r (branch r refname)
-
-push_last-is : (refname : Bytes) (from : Option Bytes) (r : Replay) → end_refusal from r (branch r refname) ≡ push_last refname from r
-unfolding push_last
-push_last-is refname from r = refl
-
--- its whole run
-push_whole : (refname : Bytes) (from : Option Bytes) (shown : Flat) (input : Bytes) → closed (push_last refname from) (ran_at (push_one refname from shown) nothing_yet (verdict start input)) ≡ push_replay refname from shown input
-unfolding push_one push_last
-push_whole refname from shown input = refl
-
-module _ (refname : Bytes) (from : Option Bytes) (shown : Flat) where
-  abbrev base : Base
-  base = push_base refname from shown
-
-  abbrev one : Replay → Placed → Result Replay StreamRefusal
-  one = push_one refname from shown
-
+module _ (base : Base) (one : PushStep) (goes : Goes base one) (refname : Bytes) (from : Option Bytes) where
+  -- what it refuses at the end
   abbrev last : Replay → Option StreamRefusal
-  last = push_last refname from
-
-  goes : Goes base one
-  goes r s p e = goes-on refname from shown r s p (push_one-is refname from shown r p ∙ e)
-
-  -- the place up to which is read
-  abbrev waited : Bytes → ℕ
-  waited = push_waited refname from shown
-
-  waited-is-so : (input : Bytes) → waited_by one input ≡ waited input
-  unfolding push_one
-  waited-is-so input = refl
-
-  taken-as : (result : Result ReplayedNames PushError) (o p : Option Bytes) → IsTakenTo (waited_by one) o p result → IsTakenTo waited o p result
-  taken-as result None p k = tt
-  taken-as result (Some all) p k =
-      subst (λ (n : ℕ). (given : Bytes) × Consumes (Some all) p given × (length given ≤ n + 33554432) × OnOk result (n ≤ length given)) (waited-is-so all) k
+  last r = end_refusal from r (branch r refname)
 
   -- S and before are the store and what the source had at first; T, now, rd and v are the store, the source, the reader and the
   -- replay as they are.
@@ -84,23 +39,16 @@ module _ (refname : Bytes) (from : Option Bytes) (shown : Flat) where
   pub nothing_so_far : (S : List Object) (before : Option Bytes) (v : Replaying) → IsStore S → IsReplayOf S v nothing_yet → IsPushSoFar S S before before (record { progress = start; input = record { at = 0; rest = [] }; ended = false }) v
   nothing_so_far S before v s h = nothing_run base one S before v s h
 
-  -- in the words of the definition
-  pushed_as : (S T : List Object) (input : Bytes) (result : Result ReplayedNames PushError) → IsRunWhole base (push_replay refname from shown input) S T result → IsPushedWhole refname from shown S T input result
-  pushed_as S T input result h = record { taken = h.taken; given = h.given; refused = h.refused; grown = h.grown }
-
-  pushed : (S T : List Object) (input : Bytes) (result : Result ReplayedNames PushError) → IsRunWhole base (closed last (ran_at one nothing_yet (verdict start input))) S T result → IsPushedWhole refname from shown S T input result
-  pushed S T input result h = pushed_as S T input result (subst (λ (x : Ran StreamRefusal). IsRunWhole base x S T result) (push_whole refname from shown input) h)
-
   -- all that the source had, and what became of it
   abbrev pub IsPushedFrom : Option Bytes → List Object → List Object → Result ReplayedNames PushError → Type 0
-  IsPushedFrom before S R result = (input : Bytes) × (is_bytes input ≡ true) × IfSome before (λ bytes. bytes ≡ input) × IsPushedWhole refname from shown S R input result
+  IsPushedFrom before S R result = (input : Bytes) × (is_bytes input ≡ true) × IfSome before (λ bytes. bytes ≡ input) × IsRanWhole base (ran_whole one refname from input) S R result
 
   module _ (S T : List Object) (before now : Option Bytes) (rd : Reading) (v : Replaying) (h : IsPushSoFar S T before now rd v) where
     -- a command was carried out
     pub one_more : (p : Placed) (new : Reading) → next_command rd ≡ Ok (record { command = Some p; progress = new.progress }, new.input) → new.ended ≡ rd.ended → came new ≡ came rd → ((more : Bytes) → MayFollow rd more true → verdict_with more rd ≡ with_command p (verdict_with more new)) →
-        (R : List Object) (w : Replaying) → IsOkAnd (push_step (push_base refname from shown) refname from h.state p) (IsReplayOf R w) → IsGrownBy (IsMadeAt h.state p.command) T R → IsPushSoFar S R before now new w
+        (R : List Object) (w : Replaying) → IsOkAnd (one h.state p) (IsReplayOf R w) → IsGrownBy (IsMadeAt h.state p.command) T R → IsPushSoFar S R before now new w
     one_more p new told ended came_same follows R w d g =
-        one_run base one S T before now rd v h goes p new told ended came_same follows R w (subst (λ (x : Result Replay StreamRefusal). IsOkAnd x (IsReplayOf R w)) (push_one-is refname from shown h.state p) d) g
+        one_run base one S T before now rd v h goes p new told ended came_same follows R w d g
 
     -- more was waited for, and then fed
     pub fed_waiting : (later : Option Bytes) (fed new : Reading) (most : ℕ) → most ≤ 65536 → IsBefore rd fed → IsNear rd → ((more : Bytes) → MayFollow rd more true → verdict_with more rd ≡ verdict_with more fed) → fed.ended ≡ false → IsFed now later fed new most
@@ -109,14 +57,14 @@ module _ (refname : Bytes) (from : Option Bytes) (shown : Flat) where
 
     -- ---- how much was given
 
-    pub taken_refused : (e : PushError) → IsTakenTo {A = ReplayedNames} waited before now (Err e)
-    taken_refused e = taken-as (Err e) before now (run_taken base one S T before now rd v h e)
+    pub taken_refused : (e : PushError) → IsTakenTo {A = ReplayedNames} (waited_by one) before now (Err e)
+    taken_refused e = run_taken base one S T before now rd v h e
 
-    pub taken_given : (new : Reading) → next_command rd ≡ Ok (record { command = None; progress = new.progress }, new.input) → came new ≡ came rd → (x : ReplayedNames) → IsTakenTo {E = PushError} waited before now (Ok x)
-    taken_given new told c x = taken-as (Ok x) before now (run_taken_whole base one S T before now rd v h new told c x)
+    pub taken_given : (new : Reading) → next_command rd ≡ Ok (record { command = None; progress = new.progress }, new.input) → came new ≡ came rd → (x : ReplayedNames) → IsTakenTo {E = PushError} (waited_by one) before now (Ok x)
+    taken_given new told c x = run_taken_whole base one S T before now rd v h new told c x
 
-    pub taken_feeding : IsNear rd → rd.ended ≡ false → (after : Option Bytes) → IsGiven now after 65536 → (e : PushError) → IsTakenTo {A = ReplayedNames} waited before after (Err e)
-    taken_feeding n un after g e = taken-as (Err e) before after (run_taken_feeding base one S T before now rd v h n un after g e)
+    pub taken_feeding : IsNear rd → rd.ended ≡ false → (after : Option Bytes) → IsGiven now after 65536 → (e : PushError) → IsTakenTo {A = ReplayedNames} (waited_by one) before after (Err e)
+    taken_feeding n un after g e = run_taken_feeding base one S T before now rd v h n un after g e
 
     -- ---- how it ends
 
@@ -136,16 +84,16 @@ module _ (refname : Bytes) (from : Option Bytes) (shown : Flat) where
       same : verdict start input ≡ with_all h.commands later
       same = h.read.same left may_left
 
-      whole : (R : List Object) (result : Result ReplayedNames PushError) → IsRunWhole base (closed last (ran_at one nothing_yet (verdict start input))) S R result → IsPushedFrom before S R result
-      whole R result k = (input, all_bytes before now rd h.commands h.read bytes, all_told before now rd h.commands h.read, pushed S R input result k)
+      whole : (R : List Object) (result : Result ReplayedNames PushError) → IsRanWhole base (closed last (ran_at one nothing_yet (verdict start input))) S R result → IsPushedFrom before S R result
+      whole R result k = (input, all_bytes before now rd h.commands h.read bytes, all_told before now rd h.commands h.read, k)
 
       pub all_given : ((more : Bytes) → MayFollow rd more true → verdict_with more rd ≡ stopped None) → end_refusal from h.state (branch h.state refname) ≡ None → (g : ReplayedNames) → IsReplayedOf T g (given_by h.state)
           → IsPushedFrom before S T (Ok g)
-      all_given e l g k = whole T (Ok g) (run_given base one last h.commands h.state h.run (verdict start input) later same S T h.grown (e left may_left) (sym (push_last-is refname from h.state) ∙ l) g k)
+      all_given e l g k = whole T (Ok g) (run_given base one last h.commands h.state h.run (verdict start input) later same S T h.grown (e left may_left) l g k)
 
       pub end_refused : ((more : Bytes) → MayFollow rd more true → verdict_with more rd ≡ stopped None) → (e : PushError) → Tells (end_refusal from h.state (branch h.state refname)) e → IsPushedFrom before S T (Err e)
       end_refused s e t =
-          whole T (Err e) (run_closed base one last h.commands h.state h.run (verdict start input) later same S T h.grown (s left may_left) e (subst (λ (o : Option StreamRefusal). Tells o e) (push_last-is refname from h.state) t))
+          whole T (Err e) (run_closed base one last h.commands h.state h.run (verdict start input) later same S T h.grown (s left may_left) e t)
 
       pub reading_refused : (f : StreamFault) → ((more : Bytes) → MayFollow rd more true → (f ≡ OutOfMemory) ⊎ (verdict_with more rd ≡ stopped (Some f))) → IsPushedFrom before S T (Err (errors.Stream f))
       reading_refused f e = whole T (Err (errors.Stream f)) (run_unread base one last h.commands h.state h.run (verdict start input) later same S T h.grown f (e left may_left))
@@ -155,7 +103,7 @@ module _ (refname : Bytes) (from : Option Bytes) (shown : Flat) where
       feeding_refused e k = whole T (Err e) (run_unfed base one last h.commands h.state h.run (verdict start input) later same S T h.grown e k)
 
       pub step_refused : (p : Placed) (new : Reading) → ((more : Bytes) → MayFollow rd more true → verdict_with more rd ≡ with_command p (verdict_with more new)) → (R : List Object) (e : PushError)
-          → IsPushFault (result_err (push_step (push_base refname from shown) refname from h.state p)) (IsMadeAt h.state p.command) R e → IsGrownBy (IsMadeAt h.state p.command) T R → IsPushedFrom before S R (Err e)
+          → IsPushFault (result_err (one h.state p)) (IsMadeAt h.state p.command) R e → IsGrownBy (IsMadeAt h.state p.command) T R → IsPushedFrom before S R (Err e)
       step_refused p new follows R e k g =
           whole R (Err e) (run_refused base one last h.commands h.state h.run (verdict start input) later same S T h.grown goes p (verdict_with left new) (follows left may_left) R e
-          (subst (λ (x : Result Replay StreamRefusal). IsPushFault (result_err x) (IsMadeAt h.state p.command) R e) (push_one-is refname from shown h.state p) k) g)
+          k g)

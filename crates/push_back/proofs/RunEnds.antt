@@ -1,6 +1,5 @@
 -- How the run of a stream ends, by whatever one command does and whatever is refused at the end.
 use Rattle.std.proofs.Common.{◌≡◌, ◌⊎◌, inl, inr, List, [], ◌∷◌, ◌++◌, Option, Some, None, Result, Ok, Err, refl, sym, ap, subst, ◌∙◌}
-use Rattle.std.specs.Prelude.{IfErr, IfOk, OnOk}
 use Rattle.std.specs.Option.{option_map, option_or}
 use Rattle.std.specs.Result.{result_err}
 use Rattle.object_store.specs.Growth.{IsGrownBy}
@@ -17,10 +16,10 @@ use Rattle.fast_import.specs.declared.replayed.Replayed.{Replayed as ReplayedNam
 use Rattle.fast_import.proofs.Putting.{fault_as}
 use Rattle.fast_import.proofs.Running.{IsRunTo, Step, after_by, made-behind, made-front, run-on, with_all}
 use Rattle.push_laws.specs.PushReplays.{StreamRefusal, Faulty}
-use Rattle.push_back.specs.Replaying.{IsFreeFault, IsPushError, IsPushFault, Tells}
+use Rattle.push_back.specs.Replaying.{Goes, IsFreeFault, IsPushError, IsPushFault, IsRanWhole, Tells}
 use Rattle.push_back.specs.declared.error.PushError.{PushError}
 use Rattle.push_back.specs.declared.error.PushError.TheVariants as errors
-use Rattle.push_back.proofs.Running.{Goes, goes-along}
+use Rattle.push_back.proofs.Running.{goes-along}
 
 -- what a verdict tells is run from a replay on
 abbrev pub ran_at : Step StreamRefusal → Replay → Verdict → Ran StreamRefusal
@@ -34,13 +33,6 @@ closed last x = record { tried = x.tried; state = x.state; fault = option_or x.f
 abbrev pub IsMadeIn : Base → Ran StreamRefusal → Object → Type 0
 IsMadeIn base x o = IsMadeBy base nothing_yet x.tried o
 
--- What became of a stream of this run: what it gives exactly where it has no refusal, or this refusal.
-pub record IsRunWhole (base : Base) (x : Ran StreamRefusal) (S S' : List Object) (result : Result ReplayedNames PushError) : Type 0 where
-  pub taken : OnOk result (x.fault ≡ None)
-  pub given : IfOk result (λ g. IsReplayedOf S' g (given_by x.state))
-  pub refused : IfErr result (IsPushError x.fault (IsMadeIn base x) S')
-  pub grown : IsGrownBy (IsMadeIn base x) S S'
-
 -- ---- errors
 
 -- an error that tells the refusal
@@ -48,7 +40,7 @@ telling : (refusal : Option StreamRefusal) (made : Object → Type 0) (R : List 
 telling refusal made R errors.ReadFault t = tt
 telling refusal made R (errors.OtherRef at) t = inl t
 telling refusal made R (errors.NotAtHead m n) t = inl t
-telling refusal made R (errors.MergePushed n) t = inl t
+telling refusal made R (errors.FurtherParents n) t = inl t
 telling refusal made R (errors.Stream f) t = inl t
 
 -- no more is made
@@ -56,7 +48,7 @@ free_as : (refusal : Option StreamRefusal) (made more : Object → Type 0) (R : 
 free_as refusal made more R errors.ReadFault g t = tt
 free_as refusal made more R (errors.OtherRef at) g t = absurd t
 free_as refusal made more R (errors.NotAtHead m n) g t = absurd t
-free_as refusal made more R (errors.MergePushed n) g t = absurd t
+free_as refusal made more R (errors.FurtherParents n) g t = absurd t
 free_as refusal made more R (errors.Stream f) g t = inr (fault_as made more R f g t)
 
 -- the refusal of a command is that of the stream
@@ -103,7 +95,7 @@ module _ (base : Base) (one : Step StreamRefusal) (last : Replay → Option Stre
   fault_at : (f : Option StreamFault) → later ≡ stopped f → ending.fault ≡ option_or (option_map Faulty f) (last s)
   fault_at f e = closed-fault last (ran_at one nothing_yet whole) s (option_map Faulty f) (state_at f e) (run_to.same_fault ∙ ap (λ (y : Verdict). (ran_at one s y).fault) e)
 
-  pub run_given : later ≡ stopped None → last s ≡ None → (g : ReplayedNames) → IsReplayedOf T g (given_by s) → IsRunWhole base ending S T (Ok g)
+  pub run_given : later ≡ stopped None → last s ≡ None → (g : ReplayedNames) → IsReplayedOf T g (given_by s) → IsRanWhole base ending S T (Ok g)
   run_given e l g k = record {
     taken = fault_at None e ∙ l;
     given = subst (λ (r : Replay). IsReplayedOf T g (given_by r)) (sym (state_at None e)) k;
@@ -111,7 +103,7 @@ module _ (base : Base) (one : Step StreamRefusal) (last : Replay → Option Stre
     grown = grown_so_far;
   }
 
-  pub run_closed : later ≡ stopped None → (e : PushError) → Tells (last s) e → IsRunWhole base ending S T (Err e)
+  pub run_closed : later ≡ stopped None → (e : PushError) → Tells (last s) e → IsRanWhole base ending S T (Err e)
   run_closed l e t = record {
     taken = tt;
     given = tt;
@@ -119,7 +111,7 @@ module _ (base : Base) (one : Step StreamRefusal) (last : Replay → Option Stre
     grown = grown_so_far;
   }
 
-  pub run_unread : (f : StreamFault) → (f ≡ OutOfMemory) ⊎ (later ≡ stopped (Some f)) → IsRunWhole base ending S T (Err (errors.Stream f))
+  pub run_unread : (f : StreamFault) → (f ≡ OutOfMemory) ⊎ (later ≡ stopped (Some f)) → IsRanWhole base ending S T (Err (errors.Stream f))
   run_unread f e = record { taken = tt; given = tt; refused = by e; grown = grown_so_far }
     where
       by : (f ≡ OutOfMemory) ⊎ (later ≡ stopped (Some f)) → IsPushFault ending.fault (IsMadeIn base ending) T (errors.Stream f)
@@ -128,7 +120,7 @@ module _ (base : Base) (one : Step StreamRefusal) (last : Replay → Option Stre
 
   -- ---- the source fails, or there is no memory
 
-  pub run_unfed : (e : PushError) → (e ≡ errors.ReadFault) ⊎ (e ≡ errors.Stream OutOfMemory) → IsRunWhole base ending S T (Err e)
+  pub run_unfed : (e : PushError) → (e ≡ errors.ReadFault) ⊎ (e ≡ errors.Stream OutOfMemory) → IsRanWhole base ending S T (Err e)
   run_unfed e k = record { taken = tt; given = tt; refused = by k; grown = grown_so_far }
     where
       by : (e ≡ errors.ReadFault) ⊎ (e ≡ errors.Stream OutOfMemory) → IsPushError ending.fault (IsMadeIn base ending) T e
@@ -153,7 +145,7 @@ module _ (base : Base) (one : Step StreamRefusal) (last : Replay → Option Stre
     refused_here : (f : StreamRefusal) → result_err (one s p) ≡ Some f → ending.fault ≡ Some f
     refused_here f e = ap (λ (o : Option StreamRefusal). option_or o (last (ran_at one nothing_yet whole).state)) (run_step.same_fault ∙ went-refused p s (λ t. ran_at one t behind) (one s p) f e)
 
-    pub run_refused : (R : List Object) (e : PushError) → IsPushFault (result_err (one s p)) (IsMadeAt s p.command) R e → IsGrownBy (IsMadeAt s p.command) T R → IsRunWhole base ending S R (Err e)
+    pub run_refused : (R : List Object) (e : PushError) → IsPushFault (result_err (one s p)) (IsMadeAt s p.command) R e → IsGrownBy (IsMadeAt s p.command) T R → IsRanWhole base ending S R (Err e)
     run_refused R e k g = record {
       taken = tt;
       given = tt;

@@ -29,6 +29,7 @@ use Rattle.fast_import.specs.declared.replayed.Replayed.{Replayed as ReplayedNam
 use Rattle.fast_import.proofs.Running.{Step, after-push, after_all, after_by, both_bytes, made-behind, made-front, with_all}
 use Rattle.fast_import.proofs.Taking.{next_near, waited-is}
 use Rattle.push_laws.specs.PushReplays.{StreamRefusal}
+use Rattle.push_back.specs.Replaying.{Goes}
 use Rattle.push_back.specs.declared.error.PushError.{PushError}
 use Rattle.push_back.specs.Waited.{IsTakenTo, PushStep, as_step, waited_by}
 
@@ -141,10 +142,6 @@ ok-same x y e = cc
 
 not-ok : {A E : Type 0} (f : E) (y : A) → ◌≡◌ {A = Result A E} (Err f) (Ok y) → ⊥
 not-ok f y e = cc
-
--- where a command goes on, it does what it does in any replay
-abbrev pub Goes : Base → Step StreamRefusal → Type 0
-Goes base one = (r s : Replay) (p : Placed) → one r p ≡ Ok s → step base r p ≡ Ok s
 
 module _ (base : Base) (one : Step StreamRefusal) (goes : Goes base one) where
   along_from : (r s : Replay) (p : Placed) (ps : List Placed) (x : Result Replay StreamRefusal) → ((t : Replay) → after_by one t ps ≡ Ok s → after_all base t ps ≡ Ok s) → one r p ≡ x → (x >>= λ t. after_by one t ps) ≡ Ok s

@@ -28,7 +28,7 @@ abbrev pub of_stream : PushError → PushFault
 of_stream errors.ReadFault = ReadFault
 of_stream (errors.OtherRef at) = OtherRef at
 of_stream (errors.NotAtHead m n) = NotAtHead m n
-of_stream (errors.MergePushed n) = MergePushed n
+of_stream (errors.FurtherParents n) = MergePushed n
 of_stream (errors.Stream f) = Stream f
 
 -- of the commit of that number
@@ -51,7 +51,7 @@ IsPushFault refusal made S ReadFault = ⊤
 IsPushFault refusal made S (Stream f) = (refusal ≡ Some (StreamRefused (Faulty f))) ⊎ IsPutFault made S f
 IsPushFault refusal made S (OtherRef at) = refusal ≡ Some (StreamRefused (replays.OtherRef at))
 IsPushFault refusal made S (NotAtHead m n) = refusal ≡ Some (StreamRefused (replays.NotAtHead (option_map name_bytes m) (option_map name_bytes n)))
-IsPushFault refusal made S (MergePushed n) = refusal ≡ Some (StreamRefused (replays.MergePushed n))
+IsPushFault refusal made S (MergePushed n) = refusal ≡ Some (StreamRefused (replays.FurtherParents n))
 IsPushFault refusal made S (NoChange n) = refusal ≡ Some (CommitRefused n verdicts.NoChange)
 IsPushFault refusal made S (BadWorkspace n) = refusal ≡ Some (CommitRefused n verdicts.BadWorkspace)
 IsPushFault refusal made S (Unseen n p) = refusal ≡ Some (CommitRefused n (verdicts.Unseen p))

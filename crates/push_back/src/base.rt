@@ -65,15 +65,15 @@ impl PushBase {
         })
     }
 
-    /// The ref that is pushed to.
-    pub fn refname(&self) -> &RefName
+    // The ref that is pushed to.
+    pub(crate) fn ref_name(&self) -> &RefName
         ensures { result.now ≡ self.now.refname }
     {
         &self.refname
     }
 
-    /// The projected commit, where there is one.
-    pub fn from(&self) -> Option<Name>
+    // The projected commit, where there is one.
+    pub(crate) fn projected(&self) -> Option<Name>
         ensures { result ≡ self.now.from }
     {
         self.from

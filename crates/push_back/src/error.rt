@@ -17,8 +17,8 @@ pub enum PushError {
         expected: Option<Name>,
         got: Option<Name>,
     },
-    /// The commit of this number, from 1, has a further parent.
-    MergePushed {
+    /// The further parents of the commit of this number, from 1, are refused.
+    FurtherParents {
         n: u32,
     },
     /// A fault of any stream.

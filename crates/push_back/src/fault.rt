@@ -94,7 +94,7 @@ impl From<PushError> for PushFault {
             PushError::ReadFault => PushFault::ReadFault,
             PushError::OtherRef { at } => PushFault::OtherRef { at },
             PushError::NotAtHead { expected, got } => PushFault::NotAtHead { expected, got },
-            PushError::MergePushed { n } => PushFault::MergePushed { n },
+            PushError::FurtherParents { n } => PushFault::MergePushed { n },
             PushError::Stream(fault) => PushFault::Stream(fault),
         }
     }

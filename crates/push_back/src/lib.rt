@@ -16,10 +16,11 @@ mod ways;
 
 pub use base::PushBase;
 pub use brought::{Pair, Plan};
+pub use commands::{OnRef, Pushed, chain_end, end_judged, head_judged};
 pub use commits::originals;
 pub use error::PushError;
 pub use fault::PushFault;
-pub use planning::plan;
+pub use planning::{pairs, plan};
 pub use refusal::{OriginalError, TreeRefusal};
-pub use replay::replay_push;
-pub use trees::original_tree;
+pub use replay::{replay_push, replay_upon};
+pub use trees::{original_tree, tree_upon};

@@ -57,8 +57,8 @@ pub fn plan<S: Source>(
     })
 }
 
-// Each pushed commit with its original.
-fn pairs(alloc: Global, pushed: &[Made], originals: &[Name]) -> Result<Vec<Pair>, AllocError>
+/// Each pushed commit with its original.
+pub fn pairs(alloc: Global, pushed: &[Made], originals: &[Name]) -> Result<Vec<Pair>, AllocError>
     requires { length originals.now ≡ length pushed.now }
     ensures pushed { IfOk result (λ pairs. map (λ c. c.pushed) pairs.items ≡ map (λ m. m.name) pushed.now) }
     ensures originals { IfOk result (λ pairs. map (λ c. c.original) pairs.items ≡ originals.now) }

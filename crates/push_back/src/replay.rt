@@ -7,11 +7,11 @@ ghost use Rattle.object_store.specs.Unfolding.{flat};
 ghost use Rattle.proj_io.specs.Counts.{Counts};
 ghost use Rattle.fast_import.specs.Whole.{IsFed, IsGiven};
 ghost use Rattle.push_back.specs.Grounds.{IsGroundIn, from_of};
-ghost use Rattle.push_back.specs.Replaying.{IsPushedWhole};
-ghost use Rattle.push_back.specs.Waited.{IsTakenTo, push_waited};
+ghost use Rattle.push_back.specs.Replaying.{Goes, IsPushedWhole, IsRanWhole, Lasts, ran_whole};
+ghost use Rattle.push_back.specs.Waited.{IsTakenTo, push_waited, waited_by};
 ghost use Rattle.stream_reader.specs.declared.fault.StreamFault.TheVariants.{OutOfMemory};
 
-use crate::commands::{end_judged, push_on};
+use crate::commands::{Pushed, end_judged};
 use crate::{PushBase, PushError};
 use fast_import::{Next, Reader, Replay, ReplayError, Replayed, feed_on};
 use git_objects::Name;
@@ -40,26 +40,49 @@ pub fn replay_push<S: Source>(
     ensures told { S.tells input.new ↔ S.tells input.old }
     ensures cause { Counts (S.faults input.old) (S.faults input.new) (IsErrOf result PushError.ReadFault) }
 {
+    replay_upon(alloc, input, base, store)
+}
+
+/// Replays a pushed stream upon whatever it stands upon, command by command. It is read in pieces, up to its end, its
+/// `done` line or its first refusal.
+pub fn replay_upon<S: Source, P: Pushed>(
+    alloc: Global,
+    input: &mut S,
+    base: &P,
+    store: &mut Store,
+) -> Result<Replayed, PushError>
+    requires base { P.stands store.old base.now }
+    requires lasts { Lasts P.stands P.one store.old base.now }
+    requires goes { Goes (P.upon store.old base.now) (P.one store.old base.now) }
+    ensures stream { (all : Bytes) × (is_bytes all ≡ true) × IfSome (S.left input.old) (λ bytes. bytes ≡ all) ×
+        IsRanWhole (P.upon store.old base.now)
+        (ran_whole (P.one store.old base.now) (P.refname base.now) (P.from base.now) all) store.old store.new result }
+    ensures taken { IsTakenTo (waited_by (P.one store.old base.now)) (S.left input.old) (S.left input.new) result }
+    ensures few { IfOk result (λ g. length g.commits.items ≤ STREAM_BYTES) }
+    ensures told { S.tells input.new ↔ S.tells input.old }
+    ensures cause { Counts (S.faults input.old) (S.faults input.new) (IsErrOf result PushError.ReadFault) }
+{
     let mut piece = [0u8; PIECE];
     replay_by(alloc, input, base, store, &mut piece)
 }
 
-// Replays a pushed stream, read in pieces of at most the buffer's length.
-fn replay_by<S: Source>(
+// Replays such a stream, read in pieces of at most the buffer's length.
+fn replay_by<S: Source, P: Pushed>(
     alloc: Global,
     input: &mut S,
-    base: &PushBase,
+    base: &P,
     store: &mut Store,
     piece: &mut [u8],
 ) -> Result<Replayed, PushError>
-    requires base { IsGroundIn store.old base.now }
+    requires base { P.stands store.old base.now }
+    requires lasts { Lasts P.stands P.one store.old base.now }
+    requires goes { Goes (P.upon store.old base.now) (P.one store.old base.now) }
     requires some { 0 < length piece.old }
     requires few { length piece.old ≤ 65536 }
     ensures stream { (all : Bytes) × (is_bytes all ≡ true) × IfSome (S.left input.old) (λ bytes. bytes ≡ all) ×
-        IsPushedWhole base.now.refname (from_of base.now) (flat store.old base.now.shown.0)
-        store.old store.new all result }
-    ensures taken { IsTakenTo (push_waited base.now.refname (from_of base.now) (flat store.old base.now.shown.0))
-        (S.left input.old) (S.left input.new) result }
+        IsRanWhole (P.upon store.old base.now)
+        (ran_whole (P.one store.old base.now) (P.refname base.now) (P.from base.now) all) store.old store.new result }
+    ensures taken { IsTakenTo (waited_by (P.one store.old base.now)) (S.left input.old) (S.left input.new) result }
     ensures few { IfOk result (λ g. length g.commits.items ≤ STREAM_BYTES) }
     ensures told { S.tells input.new ↔ S.tells input.old }
     ensures cause { Counts (S.faults input.old) (S.faults input.new) (IsErrOf result PushError.ReadFault) }
@@ -74,7 +97,7 @@ fn replay_by<S: Source>(
                 Err(error) => return Err(error),
                 Ok(()) => return Ok(replay.finish()),
             },
-            Ok(Next::Command(placed)) => match push_on(&mut replay, base, store, placed) {
+            Ok(Next::Command(placed)) => match base.push_on(&mut replay, store, placed) {
                 Err(error) => return Err(error),
                 Ok(()) => {}
             },

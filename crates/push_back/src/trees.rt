@@ -12,7 +12,7 @@ ghost use Rattle.filter_unapply.specs.Laying.{laid_through, unseen};
 ghost use Rattle.workspace.specs.Laws.{IsUsable};
 ghost use Rattle.workspace.specs.Workspaces.{next};
 ghost use Rattle.projection_ground.specs.Grounds.{IsGround};
-ghost use Rattle.push_laws.specs.PushVerdicts.{judged, original_tree};
+ghost use Rattle.push_laws.specs.PushVerdicts.{judged, original_tree, tree_upon};
 ghost use Rattle.push_back.specs.Originals.{Grows};
 ghost use Rattle.push_back.specs.Refusals.{IsTreeAnswer};
 
@@ -115,6 +115,32 @@ pub fn original_tree(
     if pushed == seen {
         return Err(TreeRefusal::NoChange);
     }
+    tree_upon(alloc, ground, filter, base, pushed)
+}
+
+/// The original tree of a pushed one upon the original tree before it, which isn't asked whether it shows another one.
+/// Nothing is made before the refusals `BadWorkspace` and `Unseen`.
+pub fn tree_upon(
+    alloc: Global,
+    ground: &mut Ground,
+    filter: &Filter,
+    base: Name,
+    pushed: Name,
+) -> Result<Name, TreeRefusal>
+    requires usable { IsUsable (shape filter.now) }
+    requires ground { IsGround ground.old }
+    requires base { has Tree ground.old.store base.0 ≡ true }
+    requires pushed { has Tree ground.old.store pushed.0 ≡ true }
+    ensures answer { IsTreeAnswer
+        (tree_upon (shape filter.now) (flat ground.old.store base.0) (flat ground.old.store pushed.0))
+        (IsLaidMade (next (shape filter.now) (flat ground.old.store base.0) (flat ground.old.store pushed.0))
+        (flat ground.old.store base.0) (flat ground.old.store pushed.0))
+        ground.old.store ground.new.store result }
+    ensures same { Grows
+        (IsLaidMade (next (shape filter.now) (flat ground.old.store base.0) (flat ground.old.store pushed.0))
+        (flat ground.old.store base.0) (flat ground.old.store pushed.0))
+        ground.old ground.new }
+{
     let way = way_for(
         alloc,
         &ground.store,

@@ -45,7 +45,7 @@ not-more : (m n : ℕ) → nat_lt m n ≡ false → nat_le n m ≡ true
 not-more m n h = grind (arith, nat_tests)
 
 -- a tree that passes no limit is within the limits of stored trees
-fits : (u : Flat) → passed u ≡ None → tree_fits u ≡ true
+pub fits : (u : Flat) → passed u ≡ None → tree_fits u ≡ true
 fits u e =
     let k : (nat_lt TREE_FILES (length u) ≡ false) × (list_any (λ d. nat_lt TREE_DEPTH (length d.0)) u ≡ false) × (list_any (λ d. nat_lt TREE_PATH_BYTES (length (text d.0))) u ≡ false) =
     no-limit (nat_lt TREE_FILES (length u)) (list_any (λ d. nat_lt TREE_DEPTH (length d.0)) u) (list_any (λ d. nat_lt TREE_PATH_BYTES (length (text d.0))) u) e in
@@ -55,7 +55,7 @@ fits u e =
 
 -- ---- one original
 
-among-has : (g : Graph) (n : Bytes) → is_among g n ≡ has g n
+pub among-has : (g : Graph) (n : Bytes) → is_among g n ≡ has g n
 among-has [] n = refl
 among-has (c ∷ g) n = λ i. same_bytes-back (snapshot_name c) n i || among-has g n i
 
@@ -106,7 +106,7 @@ module _ (f : Filter) (w : IsUsable f) (pool : List Bytes) where
       subst (λ x. AreBrought known pool (originals x)) m.same (more-brought pool known h c m.u (originals m.rest) s.tree leaves a.small k i.0 rest)
 
 -- commits of some blobs are commits of more
-given-more : (pool more : List Bytes) → ((t : Flat) → has_leaves pool t ≡ true → has_leaves more t ≡ true) → (cs : List Snapshot) → Each (IsGivenCommit pool) cs → Each (IsGivenCommit more) cs
+pub given-more : (pool more : List Bytes) → ((t : Flat) → has_leaves pool t ≡ true → has_leaves more t ≡ true) → (cs : List Snapshot) → Each (IsGivenCommit pool) cs → Each (IsGivenCommit more) cs
 given-more pool more up [] g = tt
 given-more pool more up (c ∷ cs) g = (
   record {

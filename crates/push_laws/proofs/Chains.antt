@@ -13,13 +13,15 @@ use Rattle.stream_reader.specs.declared.command.Command.{Command}
 use Rattle.stream_reader.specs.declared.command.Command.TheVariants as commands
 use Rattle.stream_reader.specs.declared.command.CommitHead.{CommitHead}
 use Rattle.stream_reader.specs.declared.command.Placed.{Placed}
+use Rattle.stream_reader.specs.declared.command.TagHead.{TagHead}
 use Rattle.stream_reader.specs.declared.fault.StreamFault.{StreamFault}
 use Rattle.stream_reader.specs.declared.fault.StreamFault.TheVariants.{Syntax}
 use Rattle.stream_reader.specs.Verdicts.{start, verdict}
-use Rattle.fast_import.specs.Replays.{Base, Draft, Marked, Replay, begun, command_step, commit_of, committed, edited, gone_on, inline_blob, nothing_yet, ran_by, said, step, with_branch, with_mark}
+use Rattle.fast_import.specs.Replays.{Base, Draft, Marked, Replay, TagMark, begun, command_step, commit_of, committed, edited, gone_on, inline_blob, known, nothing_yet, ran_by, said, step, tag_of, tagged, with_branch, with_mark}
+use Rattle.tag_objects.specs.TagLists.{put_tag}
 use Rattle.push_laws.specs.PushLaws.{ChainLaw, IsChain}
 use Rattle.push_laws.proofs.Refusing.{at_head, passed, same-names, unmerged}
-use Rattle.push_laws.specs.PushReplays.{StreamRefusal, Faulty, OtherRef, NotAtHead, MergePushed, chain_end, is_same_name, push_base, push_command, push_step, pushed_parent}
+use Rattle.push_laws.specs.PushReplays.{StreamRefusal, Faulty, OtherRef, NotAtHead, FurtherParents, chain_end, is_same_name, push_base, push_command, push_step, pushed_parent}
 
 -- ---- one commit more
 
@@ -88,6 +90,11 @@ module _ (base : Base) (refname : Bytes) (from : Option Bytes) where
   reset-good r s name (Ok n) g e = is-made (with_branch name n r) s (record { chain = g.chain; drafted = g.drafted }) e
   reset-good r s name (Err f) g e = cc
 
+  tag-good : (r s : Replay) (h : TagHead) (x : Result Bytes StreamFault) → IsGood from r → refused_by Faulty (x >>= λ n. Ok (tagged h n r)) ≡ Ok s → IsGood from s
+  tag-good r s h (Ok n) g e =
+      is-made (tagged h n r) s (marked-good h.mark TagMark (record r { tags = put_tag (tag_of h n) r.tags }) (record { chain = g.chain; drafted = g.drafted })) e
+  tag-good r s h (Err f) g e = cc
+
   begun-good : (r : Replay) (h : CommitHead) (first : Option Bytes) → IsGood from r → chain_end from r ≡ first → IsGood from (begun base r h first (option_to_list first))
   begun-good r h first g i = record {
     chain = g.chain;
@@ -97,7 +104,7 @@ module _ (base : Base) (refname : Bytes) (from : Option Bytes) where
   parent-good : (r s : Replay) (h : CommitHead) (x : Result (Option Bytes) StreamRefusal) → IsGood from r → (x >>= λ first. at_head base from r h first) ≡ Ok s → IsGood from s
   parent-good r s h (Ok first) g e =
       let a = passed (NotAtHead (chain_end from r) first) (is_same_name (chain_end from r) first) (unmerged base r h first) s e in
-      let b = passed (MergePushed (length r.commits + 1)) (is_nil h.merges) (went (begun base r h first (option_to_list first))) s a.1 in
+      let b = passed (FurtherParents (length r.commits + 1)) (is_nil h.merges) (went (begun base r h first (option_to_list first))) s a.1 in
       is-made (begun base r h first (option_to_list first)) s (begun-good r h first g (same-names (chain_end from r) first a.0)) b.1
   parent-good r s h (Err f) g e = cc
 
@@ -115,6 +122,7 @@ module _ (base : Base) (refname : Bytes) (from : Option Bytes) where
       is-made _ s (marked-good mark _ _ (record { chain = g.chain; drafted = g.drafted })) (as-is r s p (commands.Blob mark b) i e)
   command-good r s p (commands.Change c) g i e = change-good r s p.at c r.draft g refl (as-is r s p (commands.Change c) i e)
   command-good r s p commands.CommitEnd g i e = end-good r s p.at r.draft g refl (as-is r s p commands.CommitEnd i e)
+  command-good r s p (commands.Tag h) g i e = tag-good r s h (known base r h.from) g (as-is r s p (commands.Tag h) i e)
   command-good r s p commands.Done g i e = is-made r s g (as-is r s p commands.Done i e)
 
   -- ---- a whole stream

@@ -1,5 +1,5 @@
 -- What a pushed stream gives: blobs within the limits, and commits of these and of known blobs.
-use Rattle.std.specs.Prelude.{◌≡◌, refl, ℕ, nat_le, true, ◌||◌, List, [], ◌∷◌, ◌++◌, length, All, Option, Some, None, Result, Ok, Err}
+use Rattle.std.specs.Prelude.{◌≡◌, refl, ℕ, nat_le, true, ◌||◌, List, [], ◌∷◌, ◌++◌, length, map, All, Option, Some, None, Result, Ok, Err}
 use Rattle.std.specs.Option.{option_map, option_to_list}
 use Rattle.std.specs.List.{list_all, list_any}
 use Rattle.std.proofs.Common.{sym, subst}
@@ -20,7 +20,7 @@ use Rattle.stream_reader.specs.declared.command.CommitHead.{CommitHead}
 use Rattle.stream_reader.specs.declared.command.Placed.{Placed}
 use Rattle.stream_reader.specs.declared.fault.StreamFault.TheVariants.{Syntax}
 use Rattle.stream_reader.specs.Verdicts.{start, verdict}
-use Rattle.fast_import.specs.Replays.{Base, BlobMark, CommitMark, Draft, Marked, Replay, begun, command_step, commit_of, committed, edited, first_parent, gone_on, inline_blob, letter_of, nothing_yet, ran_by, said, with_branch, with_mark, with_merges}
+use Rattle.fast_import.specs.Replays.{Base, BlobMark, CommitMark, Draft, Marked, Replay, TagMark, begun, command_step, commit_of, committed, edited, first_parent, gone_on, inline_blob, known, letter_of, nothing_yet, ran_by, said, step, tag_of, tagged, with_branch, with_mark, with_merges}
 use Rattle.state_items.specs.Imported.{has_leaves}
 use Rattle.state_items.proofs.ReadObjects.{ok-same, value-of}
 use Rattle.state_items.proofs.TreesHeld.{each-both}
@@ -29,7 +29,8 @@ use Rattle.import_laws.proofs.EditLeaves.{IsGood, leaves-more}
 use Rattle.import_laws.proofs.ReadCommands.{reader-law}
 use Rattle.import_laws.proofs.SmallReplaying.{inline-short, is_short}
 use Rattle.import_laws.proofs.TreeReplaying.{AreGood, all-both, nothing-good, pool, refuse-value, step-good}
-use Rattle.push_laws.specs.Given.{GivenLaw, IsGivenCommit, blobs_in}
+use Rattle.push_laws.specs.Given.{GivenLaw, IsGiven, IsGivenCommit, blobs_in}
+use Rattle.tag_objects.specs.TagLists.{put_tag}
 use Rattle.push_laws.specs.PushReplays.{StreamRefusal, Faulty, push_base, push_step}
 use Rattle.push_laws.proofs.PushSteps.{goes-on}
 
@@ -95,6 +96,10 @@ module _ (base : Base) where
   step-letters r q at (commands.Reset refname from) v i e =
       let n = value-of (said base r from) (λ n. Ok (with_branch refname n r)) q e in
       subst AreLetters (ok-same (with_branch refname n.value r) q n.rest) (record { small = i.small; commits = i.commits; drafted = i.drafted })
+  step-letters r q at (commands.Tag h) v i e =
+      let n = value-of (known base r h.from) (λ n. Ok (tagged h n r)) q e in
+      subst AreLetters (ok-same (tagged h n.value r) q n.rest)
+      (marked-letters h.mark TagMark (record r { tags = put_tag (tag_of h n.value) r.tags }) (record { small = i.small; commits = i.commits; drafted = i.drafted }))
   step-letters r q at commands.Done v i e = subst AreLetters (ok-same r q e) i
 
 -- ---- what is shown has its own blobs
@@ -105,7 +110,7 @@ more-known b bs t h = leaves-more bs (b ∷ bs) (λ c k. or_right (same_bytes c 
 first-known : (b : Bytes) (bs : List Bytes) → list_any (same_bytes b) (b ∷ bs) ≡ true
 first-known b bs = subst (λ t. (t || list_any (same_bytes b) bs) ≡ true) (sym (same_bytes-self b)) refl
 
-own-leaves : (t : Flat) → has_leaves (blobs_in t) t ≡ true
+pub own-leaves : (t : Flat) → has_leaves (blobs_in t) t ≡ true
 own-leaves [] = refl
 own-leaves ((p, FileLeaf b) ∷ t) = and_both (and_both (first-known b (blobs_in t)) refl) (more-known b (blobs_in t) t (own-leaves t))
 own-leaves ((p, ExecLeaf b) ∷ t) = and_both (and_both (first-known b (blobs_in t)) refl) (more-known b (blobs_in t) t (own-leaves t))
@@ -114,24 +119,16 @@ own-leaves ((p, ModuleLeaf n) ∷ t) = own-leaves t
 
 -- ---- a whole stream
 
-module _ (refname : Bytes) (from : Option Bytes) (seen : Flat) (tree : IsTree seen) (known_bytes : list_all is_bytes (blobs_in seen) ≡ true) where
-  abbrev base : Base
-  base = push_base refname from seen
-
-  abbrev one : Replay → Placed → Result Replay StreamRefusal
-  one = push_step base refname from
-
-  shown-good : (o : Option Bytes) → Each (λ e. IsGood (blobs_in seen) e.1) (push_base refname o seen).commits
-  shown-good None = tt
-  shown-good (Some n) = ((tree, own-leaves seen), tt)
-
+-- Upon trees of known blobs, command by command, by whatever a command does that goes on as it does in any replay.
+module _ (base : Base) (known_bytes : list_all is_bytes base.blobs ≡ true) (trees : Each (λ e. IsGood base.blobs e.1) base.commits)
+    (one : Replay → Placed → Result Replay StreamRefusal) (goes : (r s : Replay) (p : Placed) → one r p ≡ Ok s → step base r p ≡ Ok s) where
   abbrev IsSoFar : Replay → Type 0
   IsSoFar r = AreGood base r × AreLetters r
 
   pushed-on : (r s : Replay) (p : Placed) → IsRead p.command → IsSoFar r → one r p ≡ Ok s → IsSoFar s
   pushed-on r s p v i e =
-      let k : command_step base r p.at p.command ≡ Ok s = goes-on refname from seen r s p e in
-      (step-good base known_bytes (shown-good from) r s p.at p.command v.sound i.0 k, step-letters base r s p.at p.command v i.1 k)
+      let k : command_step base r p.at p.command ≡ Ok s = goes r s p e in
+      (step-good base known_bytes trees r s p.at p.command v.sound i.0 k, step-letters base r s p.at p.command v i.1 k)
 
   ran-given : (end : Option StreamRefusal) (ps : List Placed) (r : Replay) → All (λ p. IsRead p.command) ps → IsSoFar r → IsSoFar (ran_by one end r ps).state
   ran-given end [] r v i = i
@@ -157,11 +154,21 @@ given-commits bs (c ∷ cs) g l = (
   given-commits bs cs g.1 l.1,
 )
 
+-- what the commands of a stream of bytes give, up to the first that is refused
+pub given-by : (base : Base) → list_all is_bytes base.blobs ≡ true → Each (λ e. IsGood base.blobs e.1) base.commits → (one : Replay → Placed → Result Replay StreamRefusal)
+    → ((r s : Replay) (p : Placed) → one r p ≡ Ok s → step base r p ≡ Ok s) → (end : Option StreamRefusal) (input : Bytes) → is_bytes input ≡ true
+    → IsGiven base.blobs (ran_by one end nothing_yet (verdict start input).commands).state
+given-by base known_bytes trees one goes end input bytes =
+    let ps = (verdict start input).commands in
+    let r : Replay = (ran_by one end nothing_yet ps).state in
+    let i = ran-given base known_bytes trees one goes end ps nothing_yet (reader-law start input bytes) (nothing-good base, record { small = refl; commits = tt; drafted = tt }) in
+    record { bytes = i.0.bytes; small = i.1.small; commits = given-commits (pool base r) r.commits i.0.trees i.1.commits }
+
+shown-good : (seen : Flat) → IsTree seen → (o : Option Bytes) → Each (λ (e : Bytes × Flat). IsGood (blobs_in seen) e.1) (map (λ n. (n, seen)) (option_to_list o))
+shown-good seen tree None = tt
+shown-good seen tree (Some n) = ((tree, own-leaves seen), tt)
+
 pub given-law : GivenLaw
 given-law refname from seen input tree known_bytes bytes =
-    let b : Base = push_base refname from seen in
-    let end = option_map Faulty (verdict start input).fault in
-    let ps = (verdict start input).commands in
-    let r : Replay = (ran_by (push_step b refname from) end nothing_yet ps).state in
-    let i = ran-given refname from seen tree known_bytes end ps nothing_yet (reader-law start input bytes) (nothing-good b, record { small = refl; commits = tt; drafted = tt }) in
-    record { bytes = i.0.bytes; small = i.1.small; commits = given-commits (pool b r) r.commits i.0.trees i.1.commits }
+    given-by (push_base refname from seen) known_bytes (shown-good seen tree from) (push_step (push_base refname from seen) refname from) (goes-on refname from seen)
+    (option_map Faulty (verdict start input).fault) input bytes

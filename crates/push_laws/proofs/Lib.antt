@@ -8,3 +8,4 @@ pub mod BroughtOriginals
 pub mod Refusing
 pub mod PushSteps
 pub mod Depths
+pub mod Alike

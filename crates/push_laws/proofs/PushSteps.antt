@@ -18,7 +18,7 @@ use Rattle.stream_reader.specs.declared.fault.StreamFault.{StreamFault}
 use Rattle.stream_reader.specs.declared.fault.StreamFault.TheVariants.{Unresolved}
 use Rattle.fast_import.specs.Replays.{Base, Replay, begun, branch, named_parent, named_tree, said, step, target_name, tree_of, value_at, with_merges}
 use Rattle.fast_import.proofs.Resolving.{value-append}
-use Rattle.push_laws.specs.PushReplays.{StreamRefusal, Faulty, OtherRef, NotAtHead, MergePushed, chain_end, is_same_name, push_base, push_step, pushed_parent}
+use Rattle.push_laws.specs.PushReplays.{StreamRefusal, Faulty, OtherRef, NotAtHead, FurtherParents, chain_end, is_same_name, push_base, push_step, pushed_parent}
 use Rattle.push_laws.proofs.Refusing.{at_head, passed, same-names, unmerged}
 
 -- ---- what isn't refused
@@ -116,8 +116,8 @@ module _ (refname : Bytes) (from : Option Bytes) (shown : Flat) where
           on-end : what ≡ unmerged base r h first
           on-end = on-parent ∙ ap (λ b. must (NotAtHead (chain_end from r) first) b >>= λ u. unmerged base r h first) at_end
 
-          pub merged : is_nil h.merges ≡ false → what ≡ Err (MergePushed (length r.commits + 1))
-          merged e = on-end ∙ ap (λ b. must (MergePushed (length r.commits + 1)) b >>= λ u. Ok (begun base r h first (option_to_list first))) e
+          pub merged : is_nil h.merges ≡ false → what ≡ Err (FurtherParents (length r.commits + 1))
+          merged e = on-end ∙ ap (λ b. must (FurtherParents (length r.commits + 1)) b >>= λ u. Ok (begun base r h first (option_to_list first))) e
 
           -- the first parent of any replay is the same
           said-first : (o : Option CommitRef) → pushed_parent base r h o ≡ Ok first → (said base r o >>= λ n. Ok (option_or n (branch r h.refname))) ≡ Ok first
@@ -135,7 +135,7 @@ module _ (refname : Bytes) (from : Option Bytes) (shown : Flat) where
           pub taken : is_nil h.merges ≡ true → what ≡ refused_by Faulty (step base r place)
           taken e =
               on-end
-              ∙ ap (λ b. must (MergePushed (length r.commits + 1)) b >>= λ u. Ok (begun base r h first (option_to_list first))) e
+              ∙ ap (λ b. must (FurtherParents (length r.commits + 1)) b >>= λ u. Ok (begun base r h first (option_to_list first))) e
               ∙ sym (ap (refused_by Faulty) (
               ap (λ (x : Result (Option Bytes) StreamFault). x >>= λ first. with_merges base r (option_to_list first) h.merges >>= λ parents. Ok (begun base r h first parents)) (said-first h.from (sym (named-pushed base r h) ∙ parent))
               ∙ ap (λ (ms : List CommitRef). with_merges base r (option_to_list first) ms >>= λ parents. Ok (begun base r h first parents)) (no-merges h.merges e)
@@ -163,7 +163,7 @@ module _ (refname : Bytes) (from : Option Bytes) (shown : Flat) where
       by here (Err f) i k = absurd cc
       by here (Ok first) i k =
           let b = passed (NotAtHead (chain_end from r) first) (is_same_name (chain_end from r) first) (unmerged base r h first) s k in
-          let d = passed (MergePushed (length r.commits + 1)) (is_nil h.merges) (Ok (begun base r h first (option_to_list first))) s b.1 in
+          let d = passed (FurtherParents (length r.commits + 1)) (is_nil h.merges) (Ok (begun base r h first (option_to_list first))) s b.1 in
           not-refused (step base r (record { at = at; command = commands.Commit h })) s (sym (taken r at h here first (named-pushed base r h ∙ i) b.0 d.0) ∙ e)
 
   pub goes-on : (r s : Replay) (p : Placed) → push_step base refname from r p ≡ Ok s → step base r p ≡ Ok s
@@ -175,4 +175,5 @@ module _ (refname : Bytes) (from : Option Bytes) (shown : Flat) where
       by (commands.Blob mark b) k = not-refused _ s k
       by (commands.Change c) k = not-refused _ s k
       by commands.CommitEnd k = not-refused _ s k
+      by (commands.Tag h) k = not-refused _ s k
       by commands.Done k = not-refused _ s k

@@ -7,7 +7,7 @@ use Rattle.git_objects.specs.Paths.{Bytes, is_nil}
 use Rattle.git_objects.specs.Results.{◌>>=◌, must}
 use Rattle.stream_reader.specs.declared.command.CommitHead.{CommitHead}
 use Rattle.fast_import.specs.Replays.{Base, Replay, begun}
-use Rattle.push_laws.specs.PushReplays.{StreamRefusal, NotAtHead, MergePushed, chain_end, is_same_name}
+use Rattle.push_laws.specs.PushReplays.{StreamRefusal, NotAtHead, FurtherParents, chain_end, is_same_name}
 
 -- ---- values that weren't refused
 
@@ -23,7 +23,7 @@ same-names (Some m) None e = absurd (true≢false (sym e))
 
 -- what comes behind a commit's parent
 abbrev pub unmerged : Base → Replay → CommitHead → Option Bytes → Result Replay StreamRefusal
-unmerged base r h first = must (MergePushed (length r.commits + 1)) (is_nil h.merges) >>= λ u. Ok (begun base r h first (option_to_list first))
+unmerged base r h first = must (FurtherParents (length r.commits + 1)) (is_nil h.merges) >>= λ u. Ok (begun base r h first (option_to_list first))
 
 abbrev pub at_head : Base → Option Bytes → Replay → CommitHead → Option Bytes → Result Replay StreamRefusal
 at_head base from r h first = must (NotAtHead (chain_end from r) first) (is_same_name (chain_end from r) first) >>= λ u. unmerged base r h first

@@ -304,3 +304,37 @@ another_filter = refl
 pub no_change : push_upon (sub (a ∷ [])) first.tree ((f ∷ [], hello) ∷ []) ≡ Err (1, NoChange)
 unfolding showing naming
 no_change = refl
+
+-- ---- two original trees of which one tree is shown
+
+-- `::a/` shows nothing of a file `a`, and nothing of a file `b`: a push upon the first one is refused by what isn't shown
+pub shown_alike : (let t : Flat = (a ∷ [], one) ∷ [] in let u : Flat = (b ∷ [], one) ∷ [] in shown (dir (a ∷ [])) t ≡ shown (dir (a ∷ [])) u)
+unfolding showing
+shown_alike = refl
+
+pub beside_another_file : push_upon (dir (a ∷ [])) ((b ∷ [], one) ∷ []) ((a ∷ x ∷ [], one) ∷ []) ≡ Ok (((a ∷ x ∷ [], one) ∷ (b ∷ [], one) ∷ []) ∷ [])
+unfolding showing naming
+beside_another_file = refl
+
+-- `:workspace=ws:exclude[::workspace.josh]` doesn't show the workspace's file: nothing is shown of a tree without it, nor of one with it,
+-- whose item `y` leaves no place for a file `y`
+abbrev hides_file : Filter
+hides_file = chain (two (workspace (ws ∷ [])) (exclude (file (josh ∷ []))))
+
+abbrev without_file : Flat
+without_file = (k ∷ [], one) ∷ []
+
+abbrev with_hidden_file : Flat
+with_hidden_file = (ws ∷ josh ∷ [], FileLeaf (text_line (codes "y = :/m"))) ∷ []
+
+pub hidden_alike : shown hides_file without_file ≡ shown hides_file with_hidden_file
+unfolding reading showing
+hidden_alike = refl
+
+pub pushed_without_file : push_upon hides_file without_file ((codes "y" ∷ [], one) ∷ []) ≡ Ok (((k ∷ [], one) ∷ (ws ∷ codes "y" ∷ [], one) ∷ []) ∷ [])
+unfolding reading showing naming
+pushed_without_file = refl
+
+pub pushed_with_hidden_file : push_upon hides_file with_hidden_file ((codes "y" ∷ [], one) ∷ []) ≡ Err (1, NotHeld (codes "y" ∷ []))
+unfolding reading showing naming
+pushed_with_hidden_file = refl

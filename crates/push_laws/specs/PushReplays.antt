@@ -23,8 +23,8 @@ pub data StreamRefusal : Type 0 where
   OtherRef : ℕ → StreamRefusal
   -- a commit or the end isn't at the first of these names, but at the second
   NotAtHead : Option Bytes → Option Bytes → StreamRefusal
-  -- the commit of this number, from 1, has a further parent
-  MergePushed : ℕ → StreamRefusal
+  -- the further parents of the commit of this number, from 1, are refused
+  FurtherParents : ℕ → StreamRefusal
   -- a fault of any stream
   Faulty : StreamFault → StreamRefusal
 
@@ -57,7 +57,7 @@ push_command base refname from r p (commands.Commit h) = do
   _ ← must (OtherRef p.at) (same_bytes h.refname refname)
   first ← refused_by Faulty (pushed_parent base r h h.from)
   _ ← must (NotAtHead (chain_end from r) first) (is_same_name (chain_end from r) first)
-  _ ← must (MergePushed (length r.commits + 1)) (is_nil h.merges)
+  _ ← must (FurtherParents (length r.commits + 1)) (is_nil h.merges)
   Ok (begun base r h first (option_to_list first))
 push_command base refname from r p (commands.Reset name target) = do
   _ ← must (OtherRef p.at) (same_bytes name refname)

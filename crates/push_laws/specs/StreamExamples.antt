@@ -24,7 +24,7 @@ use Rattle.stream_reader.specs.Verdicts.{verdict_from}
 use Rattle.filter_text.specs.Filters.{Filter, sub, onto}
 use Rattle.commit_map.specs.declared.rule.Rule.TheVariants.{One}
 use Rattle.push_laws.specs.PushVerdicts.{NoChange, NotHeld}
-use Rattle.push_laws.specs.PushReplays.{OtherRef, NotAtHead, MergePushed}
+use Rattle.push_laws.specs.PushReplays.{OtherRef, NotAtHead, FurtherParents}
 use Rattle.push_laws.specs.Pushes.{Pushing, PushRefusal, StreamRefused, CommitRefused, pushing}
 use Rattle.push_laws.specs.Examples.{a, b, f, g, k, hello, one, first, beside, reading, showing, naming}
 
@@ -117,7 +117,7 @@ unfolding replaying reading showing naming
 other_ref = refl
 
 pub a_merge : (push_one (sub (a ∷ [])) (first ∷ [])
-    (commit_lines main ++ upon_first ++ codes "merge 6a27ff6de5d45a65cc66723c6ae6227ea6004aa6\n")).refusal ≡ Some (StreamRefused (MergePushed 1))
+    (commit_lines main ++ upon_first ++ codes "merge 6a27ff6de5d45a65cc66723c6ae6227ea6004aa6\n")).refusal ≡ Some (StreamRefused (FurtherParents 1))
 unfolding replaying reading showing naming
 a_merge = refl
 

@@ -1,4 +1,5 @@
 // What accepted pushes keep to.
+ghost use Rattle.push_laws.specs.Alike.{AlikeLaw};
 ghost use Rattle.push_laws.specs.Given.{BroughtLaw, GivenLaw};
 ghost use Rattle.push_laws.specs.PushLaws.{AdmissibleLaw, BackLaw, ChainLaw, ElsewhereLaw, MadeLaw};
 ghost use Rattle.push_laws.specs.PushLaws.{NextLaw, ProjectedLaw, PushedLaw, StepLaw, StepsLaw};
@@ -70,4 +71,10 @@ pub fn given_law()
 /// parent, within the limits of objects, and of blobs that were given or known.
 pub fn brought_law()
     ensures { BroughtLaw }
+{}
+
+/// The same commits, pushed upon two original trees of which one tree is shown and which have one workspace file, have
+/// the same told of them, unless one is refused by what isn't shown.
+pub fn alike_law()
+    ensures { AlikeLaw }
 {}

@@ -2,6 +2,7 @@ use Rattle.std.proofs.Common.{sym, subst}
 use Rattle.commit_map.specs.Shown.{Entries}
 use Rattle.filter_text.specs.Shapes.{shape}
 use Rattle.projection_ground.specs.TrueMaps.{IsPutBehind, IsTakenOut}
+use Rattle.history_ground.specs.Heads.{IsSeenObject}
 use Rattle.history_ground.proofs.TrueHeads.{inner-ground, inner-map, inner-put}
 use Rattle.history_ground.proofs.heads.seen_head.Goals as goal
 
@@ -10,14 +11,14 @@ shown_upon-result-requires-clause-ground c =
     let f = shape c.args.filter.now in
     let g = c.args.ground.now in
     let out = subst (IsTakenOut f g.rule g.true_maps c.take-known.new.self) (sym c.replace-kept.ensures.after) c.take-known.ensures in
-    inner-ground f c.args.head.now.0 g c.take-known.new.self c.replace-kept.new.dest c.requires.ground out
+    inner-ground f g c.take-known.new.self c.replace-kept.new.dest c.requires.ground out
 
 pub shown_upon-result-requires-clause-map : goal.shown_upon-result-requires-clause-map
 shown_upon-result-requires-clause-map c =
     let f = shape c.args.filter.now in
     let g = c.args.ground.now in
     let out = subst (IsTakenOut f g.rule g.true_maps c.take-known.new.self) (sym c.replace-kept.ensures.after) c.take-known.ensures in
-    inner-map f c.args.head.now.0 g c.take-known.new.self c.replace-kept.new.dest c.requires.ground out
+    inner-map f g c.take-known.new.self c.replace-kept.new.dest c.requires.ground out
 
 pub returns-clause-same : goal.returns-clause-same
 returns-clause-same c =
@@ -26,4 +27,5 @@ returns-clause-same c =
     let k = c.shown_upon-result.new.ground in
     let out = subst (IsTakenOut f g.rule g.true_maps c.take-known.new.self) (sym c.replace-kept.ensures.after) c.take-known.ensures in
     let put = subst (λ (es : Entries). IsPutBehind f g.rule es k.true_maps c.put.new.self) c.replace-known.ensures.value c.put.ensures in
-    inner-put f c.args.head.now.0 g c.take-known.new.self c.replace-kept.new.dest c.requires.ground out k c.replace-known.new.dest c.put.new.self c.shown_upon-result.ensures.walked put
+    inner-put f g c.take-known.new.self c.replace-kept.new.dest c.requires.ground out (IsSeenObject f g c.args.head.now.0) k c.replace-known.new.dest c.put.new.self
+    c.shown_upon-result.ensures.walked.same c.shown_upon-result.ensures.walked.map put

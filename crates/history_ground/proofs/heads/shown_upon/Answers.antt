@@ -9,7 +9,7 @@ use Rattle.filter_apply.specs.Faults.{IsApplyFault}
 use Rattle.workspace.specs.Workspaces.{shown}
 use Rattle.projection_ground.specs.Grounds.{commits_of}
 use Rattle.history_ground.specs.Heads.{IsSeenObject}
-use Rattle.history_ground.proofs.HeadLemmas.{more-seen-fault, seen-clash, seen-none, seen-some, trees}
+use Rattle.history_ground.proofs.HeadLemmas.{more-seen-fault, seen-none, seen-some, trees}
 use Rattle.history_ground.proofs.TrueHeads.{made-held, projection-same, walk-map, walk-still, walk-then}
 use Rattle.projection_ground.proofs.TurnLemmas.{handed-on}
 use Rattle.history_ground.proofs.heads.shown_upon.Goals as goal
@@ -69,27 +69,6 @@ returns-in_default-clause-walked c =
     let h = c.head_tree.new.ground in
     walk-then f n g h c.requires.ground (trees f g n c.requires.ground h c.head_tree.ensures.same) c.head_tree.ensures.map c.requires.map c.made_to.new.ground c.made_to.ensures.walked
 
-pub returns-then-ne-clause-walked : goal.returns-then-ne-clause-walked
-returns-then-ne-clause-walked c =
-    let f = shape c.args.filter.now in
-    let g = c.args.ground.now in
-    let n = c.args.head.now.0 in
-    let h = c.head_tree.new.ground in
-    walk-then f n g h c.requires.ground (trees f g n c.requires.ground h c.head_tree.ensures.same) c.head_tree.ensures.map c.requires.map c.made_to.new.ground c.made_to.ensures.walked
-
-pub returns-then-ne-clause-err : goal.returns-then-ne-clause-err
-returns-then-ne-clause-err c =
-    let f = shape c.args.filter.now in
-    let g = c.args.ground.now in
-    let n = c.args.head.now.0 in
-    let h = c.head_tree.new.ground in
-    let k = c.made_to.new.ground in
-    let a = trees f g n c.requires.ground h c.head_tree.ensures.same in
-    let made = made-held k.store _ c.in_ok-shown.field-0 c.in-Some.shown c.in_ok-shown.ensures.ok c.in-Some.is in
-    seen-clash f g n c.requires.ground c.requires.head k.store c.in-Some.shown (made.1 ∙ projection-same f n g h c.requires.ground a) c.in_ok-tree.tree c.tree_of.result c.made_to.ensures.walked.same.ground.graph.store
-    (stands-grown h.store k.store c.in_ok-tree.tree.0 (shown f (tree_at (commits_of g) n)) c.made_to.ensures.walked.same.store c.in_ok-tree.ensures.ok)
-    made.0 c.tree_of.ensures c.if-ne.ensures
-
 pub returns-clause-ok : goal.returns-clause-ok
 returns-clause-ok c =
     let f = shape c.args.filter.now in
@@ -99,9 +78,8 @@ returns-clause-ok c =
     let k = c.made_to.new.ground in
     let a = trees f g n c.requires.ground h c.head_tree.ensures.same in
     let made = made-held k.store _ c.in_ok-shown.field-0 c.in-Some.shown c.in_ok-shown.ensures.ok c.in-Some.is in
-    seen-some f g n c.requires.ground c.requires.head k.store c.in-Some.shown (made.1 ∙ projection-same f n g h c.requires.ground a) c.in_ok-tree.tree
-    (stands-grown h.store k.store c.in_ok-tree.tree.0 (shown f (tree_at (commits_of g) n)) c.made_to.ensures.walked.same.store c.in_ok-tree.ensures.ok)
-    c.tree_of.result c.tree_of.ensures c.if-ne.ensures
+    seen-some f g n c.requires.ground c.requires.head k.store c.in-Some.shown (made.1 ∙ projection-same f n g h c.requires.ground a) c.in_ok-tree.tree c.made_to.ensures.walked.same.ground.graph.store
+    (stands-grown h.store k.store c.in_ok-tree.tree.0 (shown f (tree_at (commits_of g) n)) c.made_to.ensures.walked.same.store c.in_ok-tree.ensures.ok) made.0
 
 pub returns-clause-walked : goal.returns-clause-walked
 returns-clause-walked c =

@@ -8,7 +8,7 @@ pub returns-in_err-put_commit-clause-same : goal.returns-in_err-put_commit-claus
 returns-in_err-put_commit-clause-same c = extends-store (IsOnly Commit c.args.body.items) c.args.ground.now c.put_commit.new.store c.requires.ground c.put_commit.ensures.store
 
 pub returns-clause-there : goal.returns-clause-there
-returns-clause-there c = put-there (record c.args.ground.now { store = c.put_commit.new.store }) c.keep.new.ground _ c.args.shown.commit.0 c.args.body.items c.in_ok-put_commit.ensures.ok c.requires.fit.named c.keep.result c.keep.ensures.ok
+returns-clause-there c = put-there (record c.args.ground.now { store = c.put_commit.new.store }) c.keep.new.ground _ c.args.body.items c.in_ok-put_commit.ensures.ok c.keep.result c.keep.ensures.ok
 
 pub returns-clause-same : goal.returns-clause-same
 returns-clause-same c =

@@ -10,12 +10,14 @@ use Rattle.projection_ground.specs.Asked.{IsNone}
 use Rattle.projection_ground.specs.Grounds.{IsShownOf, commits_of}
 use Rattle.history_ground.specs.Making.{IsEntered, IsTurnObject}
 use Rattle.history_ground.specs.TrueWalks.{IsTrueStep}
+use Rattle.projection_ground.specs.TrueMaps.{AreHeld}
 use Rattle.projection_ground.specs.Turns.{IsTurn}
 use Rattle.projection_ground.specs.declared.ground.Ground.{Ground}
 use Rattle.projection_ground.proofs.Asking.{asked-grown}
 use Rattle.projection_ground.proofs.Growing.{extends-as, extends-self}
-use Rattle.history_ground.proofs.Steps.{turn-below}
-use Rattle.history_ground.proofs.TakenTurns.{entered-kept, fault-as, fits, kept-either}
+use Rattle.projection_ground.specs.declared.turning.Turn.TheVariants as turns
+use Rattle.history_ground.proofs.Steps.{Turns, turn-below}
+use Rattle.history_ground.proofs.TakenTurns.{entered-kept, fault-as, fits, held-kept, held-there, kept-either}
 use Rattle.history_ground.proofs.TrueWalking.{put-entered, put-object, put-same}
 use Rattle.history_ground.proofs.making.step.Goals as goal
 
@@ -33,7 +35,7 @@ err-so P (Ok x) f h = tt
 err-so P (Err e) f h = f e h
 
 -- a step behind which nothing waits
-and-step : {T : Type 0} (f : Filter) (place : ℕ) (g k : Ground) → (r : Result T ApplyError) → OnOk r (IsEntered f place g k) → OnErr r (k.map ≡ g.map) → IsTrueStep f place g k (result_and r (Ok None))
+and-step : {T : Type 0} (f : Filter) (place : ℕ) (g k : Ground) → (r : Result T ApplyError) → OnOk r (IsEntered f place g k × AreHeld k.store k.map) → OnErr r (k.map ≡ g.map) → IsTrueStep f place g k (result_and r (Ok None))
 and-step f place g k (Ok x) a b = a
 and-step f place g k (Err e) a b = b
 
@@ -46,7 +48,7 @@ keep_put-requires-clause-fit c =
     let f = shape c.args.filter.now in
     let g = c.args.ground.now in
     let h = c.take_turn.new.ground in
-    fits f g h c.args.place c.requires.ground c.take_turn.ensures.same c.take_turn.ensures.map c.requires.place c.requires.held c.in-New.shown c.in-New.body.items
+    fits f g h c.args.place c.requires.ground c.take_turn.ensures.same c.take_turn.ensures.map c.requires.place (held-there g.store g.map c.requires.held) c.in-New.shown c.in-New.body.items
     (λ d e. subst (IsTurn f g h c.args.place d) c.in-New.is (c.in_ok-below.ensures.ok d e))
 
 pub returns-in-Below-clause-step : goal.returns-in-Below-clause-step
@@ -81,8 +83,12 @@ returns-in-Kept-clause-step c =
     subst (IsTrueStep f c.args.place g k) (sym c.and.ensures)
     (and-step f c.args.place g k c.keep.result
     (ok-so c.keep.result
-    (entered-kept f g h c.args.place c.requires.ground c.take_turn.ensures.same c.take_turn.ensures.map c.requires.place c.requires.held k c.in-Kept.shown
-    (λ d e. subst (IsTurn f g h c.args.place d) c.in-Kept.is (c.in_ok-below.ensures.ok d e))) c.keep.ensures.ok)
+    (λ e.
+    let t : Turns f g h c.args.place (turns.Kept c.in-Kept.shown) = λ d e. subst (IsTurn f g h c.args.place d) c.in-Kept.is (c.in_ok-below.ensures.ok d e) in
+    let there = held-there g.store g.map c.requires.held in (
+      entered-kept f g h c.args.place c.requires.ground c.take_turn.ensures.same c.take_turn.ensures.map c.requires.place there k c.in-Kept.shown t e,
+      held-kept f g h c.args.place c.requires.ground c.take_turn.ensures.same c.take_turn.ensures.map c.requires.place there k c.in-Kept.shown t e c.requires.held,
+    )) c.keep.ensures.ok)
     (err-so (λ (e : ApplyError). IsApplyFault IsNone h.store e × (k ≡ h)) c.keep.result (λ e x. ap (λ (y : Ground). y.map) x.1 ∙ c.take_turn.ensures.map) c.keep.ensures.err))
 
 pub returns-in-Kept-clause-err : goal.returns-in-Kept-clause-err

@@ -56,7 +56,7 @@ pub loop-place-smaller : goal.loop-place-smaller
 loop-place-smaller c =
     let f = shape c.args.filter.now in
     smaller-more f c.args.head c.args.ground.now c.loop-place.ground c.step.new.ground c.requires.ground c.loop-place.asked c.step.new.asked c.loop-place.waiting.items c.pop.new.self.items c.in-Some.place c.in-Some.ensures.items
-    c.loop-place.invariant c.step.ensures.same (true-entered f c.in-Some.place c.loop-place.ground c.step.new.ground c.in_ok-below.field-0 c.in_ok-below.ensures.step c.in_default-2.is)
+    c.loop-place.invariant c.step.ensures.same (true-entered f c.in-Some.place c.loop-place.ground c.step.new.ground c.in_ok-below.field-0 c.in_ok-below.ensures.step c.in_default-2.is).0
 
 pub loop-place-preserved : goal.loop-place-preserved
 loop-place-preserved c =

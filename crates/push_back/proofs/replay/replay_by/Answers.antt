@@ -1,8 +1,10 @@
-use Rattle.std.proofs.Common.{◌≡◌, ◌<◌, ◌≤◌, ◌∙◌, Ok, Result, sym, subst, ap, arith}
-use Rattle.std.specs.Prelude.{IsOkAnd}
+use Rattle.std.proofs.Common.{List, ◌≡◌, ◌<◌, ◌≤◌, ◌∙◌, Ok, Result, sym, subst, ap, arith}
+use Rattle.std.specs.Prelude.{⊤, IsOkAnd}
 use Rattle.std.specs.Result.{result_err}
 use Rattle.git_objects.specs.declared.limits.TheConstants.{STREAM_BYTES}
-use Rattle.object_store.specs.Unfolding.{flat}
+use Rattle.object_store.specs.Growth.{IsGrownBy}
+use Rattle.object_store.specs.Objects.{Object}
+use Rattle.object_store.proofs.Growth.{grown_as}
 use Rattle.stream_reader.specs.Readers.{Follows, OnMore, Reading, TellsNext, came}
 use Rattle.stream_reader.specs.Waited.{IsNear}
 use Rattle.stream_reader.specs.declared.reader.Next.{Next}
@@ -10,18 +12,19 @@ use Rattle.fast_import.specs.Made.{IsMadeAt, IsMadeBy}
 use Rattle.fast_import.specs.Replays.{Replay, nothing_yet}
 use Rattle.fast_import.specs.Standing.{IsReplayOf}
 use Rattle.fast_import.proofs.Stopping.{ahead, ahead_fed, more_open, within_fed}
-use Rattle.push_back.specs.Grounds.{from_of}
-use Rattle.push_laws.specs.PushReplays.{StreamRefusal, push_base}
+use Rattle.push_laws.specs.PushReplays.{StreamRefusal}
 use Rattle.push_back.specs.Replaying.{IsPushFault}
 use Rattle.push_back.specs.declared.error.PushError.TheVariants as errors
-use Rattle.push_back.proofs.Grounding.{ground-grown, step-grown}
 use Rattle.push_back.proofs.PushedSoFar.{IsPushSoFar, all_given, end_refused, fed_waiting, feeding_refused, nothing_so_far, one_more, reading_refused, step_refused, taken_feeding, taken_given, taken_refused}
 use Rattle.push_back.proofs.replay.replay_by.Goals as goal
 
+grown-any : (made : Object → Type 0) (S T : List Object) → IsGrownBy made S T → IsGrownBy (λ o. ⊤) S T
+grown-any made S T h = grown_as made (λ o. ⊤) S T (λ o m. tt) h
+
 pub stream-init : goal.stream-init
 stream-init g c = record {
-  so_far = subst (λ (rd : Reading). IsPushSoFar c.args.base.now.refname (from_of c.args.base.now) (flat c.args.store.now c.args.base.now.shown.0) c.args.store.now c.args.store.now (g.S.Source.left c.args.input.now) (g.S.Source.left c.args.input.now) rd c.new-replay.result) (sym c.new-reader.ensures)
-      (nothing_so_far c.args.base.now.refname (from_of c.args.base.now) (flat c.args.store.now c.args.base.now.shown.0) c.args.store.now (g.S.Source.left c.args.input.now) c.new-replay.result c.store_law.ensures.store (c.new-replay.ensures c.args.store.now));
+  so_far = subst (λ (rd : Reading). IsPushSoFar (g.P.Pushed.upon c.args.store.now c.args.base.now) (g.P.Pushed.one c.args.store.now c.args.base.now) c.requires.goes (g.P.OnRef.refname c.args.base.now) (g.P.OnRef.from c.args.base.now) c.args.store.now c.args.store.now (g.S.Source.left c.args.input.now) (g.S.Source.left c.args.input.now) rd c.new-replay.result) (sym c.new-reader.ensures)
+      (nothing_so_far (g.P.Pushed.upon c.args.store.now c.args.base.now) (g.P.Pushed.one c.args.store.now c.args.base.now) c.requires.goes (g.P.OnRef.refname c.args.base.now) (g.P.OnRef.from c.args.base.now) c.args.store.now (g.S.Source.left c.args.input.now) c.new-replay.result c.store_law.ensures.store (c.new-replay.ensures c.args.store.now));
   told = (λ x. x, λ x. x);
   later = omega arith;
   within = let e : came c.new-reader.result ≡ 0 = ap came c.new-reader.ensures in omega arith;
@@ -30,31 +33,31 @@ stream-init g c = record {
 pub returns-in-Err-clause-stream : goal.returns-in-Err-clause-stream
 returns-in-Err-clause-stream g c =
     let h = c.stream.invariant.so_far in
-    reading_refused c.args.base.now.refname (from_of c.args.base.now) (flat c.args.store.now c.args.base.now.shown.0) c.args.store.now c.stream.store (g.S.Source.left c.args.input.now) (g.S.Source.left c.stream.input) c.stream.reader c.stream.replay h (g.met.S.Source.bytes c.stream.input) c.in-Err.fault c.in-Err.ensures.follows
+    reading_refused (g.P.Pushed.upon c.args.store.now c.args.base.now) (g.P.Pushed.one c.args.store.now c.args.base.now) c.requires.goes (g.P.OnRef.refname c.args.base.now) (g.P.OnRef.from c.args.base.now) c.args.store.now c.stream.store (g.S.Source.left c.args.input.now) (g.S.Source.left c.stream.input) c.stream.reader c.stream.replay h (g.met.S.Source.bytes c.stream.input) c.in-Err.fault c.in-Err.ensures.follows
 
 pub returns-in-Err-end_judged-clause-stream : goal.returns-in-Err-end_judged-clause-stream
 returns-in-Err-end_judged-clause-stream g c =
     let h = c.stream.invariant.so_far in
-    end_refused c.args.base.now.refname (from_of c.args.base.now) (flat c.args.store.now c.args.base.now.shown.0) c.args.store.now c.stream.store (g.S.Source.left c.args.input.now) (g.S.Source.left c.stream.input) c.stream.reader c.stream.replay h (g.met.S.Source.bytes c.stream.input) (subst (λ (n : Next). Follows (Ok n) c.stream.reader c.next.new.self) c.in-Ok-Ended.field-0-is c.in-Ok-Ended.ensures.follows) c.in-Err-end_judged.error (c.in-Err-end_judged.ensures.judged.refused c.stream.store h.state h.stands)
+    end_refused (g.P.Pushed.upon c.args.store.now c.args.base.now) (g.P.Pushed.one c.args.store.now c.args.base.now) c.requires.goes (g.P.OnRef.refname c.args.base.now) (g.P.OnRef.from c.args.base.now) c.args.store.now c.stream.store (g.S.Source.left c.args.input.now) (g.S.Source.left c.stream.input) c.stream.reader c.stream.replay h (g.met.S.Source.bytes c.stream.input) (subst (λ (n : Next). Follows (Ok n) c.stream.reader c.next.new.self) c.in-Ok-Ended.field-0-is c.in-Ok-Ended.ensures.follows) c.in-Err-end_judged.error (c.in-Err-end_judged.ensures.judged.refused c.stream.store h.state h.stands)
 
 pub returns-in-Ok-clause-stream : goal.returns-in-Ok-clause-stream
 returns-in-Ok-clause-stream g c =
     let h = c.stream.invariant.so_far in
-    all_given c.args.base.now.refname (from_of c.args.base.now) (flat c.args.store.now c.args.base.now.shown.0) c.args.store.now c.stream.store (g.S.Source.left c.args.input.now) (g.S.Source.left c.stream.input) c.stream.reader c.stream.replay h (g.met.S.Source.bytes c.stream.input) (subst (λ (n : Next). Follows (Ok n) c.stream.reader c.next.new.self) c.in-Ok-Ended.field-0-is c.in-Ok-Ended.ensures.follows) (c.in-Ok.ensures.judged.passed c.stream.store h.state h.stands) c.finish.result (c.finish.ensures.gives c.stream.store h.state h.stands)
+    all_given (g.P.Pushed.upon c.args.store.now c.args.base.now) (g.P.Pushed.one c.args.store.now c.args.base.now) c.requires.goes (g.P.OnRef.refname c.args.base.now) (g.P.OnRef.from c.args.base.now) c.args.store.now c.stream.store (g.S.Source.left c.args.input.now) (g.S.Source.left c.stream.input) c.stream.reader c.stream.replay h (g.met.S.Source.bytes c.stream.input) (subst (λ (n : Next). Follows (Ok n) c.stream.reader c.next.new.self) c.in-Ok-Ended.field-0-is c.in-Ok-Ended.ensures.follows) (c.in-Ok.ensures.judged.passed c.stream.store h.state h.stands) c.finish.result (c.finish.ensures.gives c.stream.store h.state h.stands)
 
 pub push_on-requires-clause-base : goal.push_on-requires-clause-base
 push_on-requires-clause-base g c =
     let h = c.stream.invariant.so_far in
-    ground-grown {made = IsMadeBy (push_base c.args.base.now.refname (from_of c.args.base.now) (flat c.args.store.now c.args.base.now.shown.0)) nothing_yet h.commands} c.args.store.now c.stream.store h.grown c.args.base.now c.requires.base
+    c.requires.lasts.still c.stream.store (grown-any (IsMadeBy (g.P.Pushed.upon c.args.store.now c.args.base.now) nothing_yet h.commands) c.args.store.now c.stream.store h.grown)
 
 pub returns-in-Err-push_on-clause-stream : goal.returns-in-Err-push_on-clause-stream
 returns-in-Err-push_on-clause-stream g c =
     let h = c.stream.invariant.so_far in
     let p = c.in-Ok-Command.placed in
     let k = c.in-Err-push_on.ensures.stepped h.state h.stands in
-    step_refused c.args.base.now.refname (from_of c.args.base.now) (flat c.args.store.now c.args.base.now.shown.0) c.args.store.now c.stream.store (g.S.Source.left c.args.input.now) (g.S.Source.left c.stream.input) c.stream.reader c.stream.replay h (g.met.S.Source.bytes c.stream.input) p c.next.new.self (subst (λ (n : Next). Follows (Ok n) c.stream.reader c.next.new.self) c.in-Ok-Command.field-0-is c.in-Ok-Command.ensures.follows)
+    step_refused (g.P.Pushed.upon c.args.store.now c.args.base.now) (g.P.Pushed.one c.args.store.now c.args.base.now) c.requires.goes (g.P.OnRef.refname c.args.base.now) (g.P.OnRef.from c.args.base.now) c.args.store.now c.stream.store (g.S.Source.left c.args.input.now) (g.S.Source.left c.stream.input) c.stream.reader c.stream.replay h (g.met.S.Source.bytes c.stream.input) p c.next.new.self (subst (λ (n : Next). Follows (Ok n) c.stream.reader c.next.new.self) c.in-Ok-Command.field-0-is c.in-Ok-Command.ensures.follows)
     c.push_on.new.store c.in-Err-push_on.error
-    (subst (λ (x : Result Replay StreamRefusal). IsPushFault (result_err x) (IsMadeAt h.state p.command) c.push_on.new.store c.in-Err-push_on.error) (step-grown {made = IsMadeBy (push_base c.args.base.now.refname (from_of c.args.base.now) (flat c.args.store.now c.args.base.now.shown.0)) nothing_yet h.commands} c.args.store.now c.stream.store h.grown c.args.base.now c.requires.base h.state p) k.refused)
+    (subst (λ (x : Result Replay StreamRefusal). IsPushFault (result_err x) (IsMadeAt h.state p.command) c.push_on.new.store c.in-Err-push_on.error) (c.requires.lasts.same c.stream.store (grown-any (IsMadeBy (g.P.Pushed.upon c.args.store.now c.args.base.now) nothing_yet h.commands) c.args.store.now c.stream.store h.grown) h.state p) k.refused)
     k.grown
 
 pub stream-preserved-in-Ok-push_on : goal.stream-preserved-in-Ok-push_on
@@ -64,10 +67,10 @@ stream-preserved-in-Ok-push_on g c =
     let t = subst (λ (n : Next). TellsNext (Ok n) c.stream.reader c.next.new.self) c.in-Ok-Command.field-0-is c.in-Ok-Command.ensures.told in
     let k = c.in-Ok-push_on.ensures.stepped h.state h.stands in
     record {
-      so_far = one_more c.args.base.now.refname (from_of c.args.base.now) (flat c.args.store.now c.args.base.now.shown.0) c.args.store.now c.stream.store (g.S.Source.left c.args.input.now) (g.S.Source.left c.stream.input) c.stream.reader c.stream.replay h p c.next.new.self t.0 t.1 c.in-Ok-Command.ensures.came
+      so_far = one_more (g.P.Pushed.upon c.args.store.now c.args.base.now) (g.P.Pushed.one c.args.store.now c.args.base.now) c.requires.goes (g.P.OnRef.refname c.args.base.now) (g.P.OnRef.from c.args.base.now) c.args.store.now c.stream.store (g.S.Source.left c.args.input.now) (g.S.Source.left c.stream.input) c.stream.reader c.stream.replay h p c.next.new.self t.0 t.1 c.in-Ok-Command.ensures.came
           (subst (λ (n : Next). Follows (Ok n) c.stream.reader c.next.new.self) c.in-Ok-Command.field-0-is c.in-Ok-Command.ensures.follows)
           c.push_on.new.store c.push_on.new.replay
-          (subst (λ (x : Result Replay StreamRefusal). IsOkAnd x (IsReplayOf c.push_on.new.store c.push_on.new.replay)) (step-grown {made = IsMadeBy (push_base c.args.base.now.refname (from_of c.args.base.now) (flat c.args.store.now c.args.base.now.shown.0)) nothing_yet h.commands} c.args.store.now c.stream.store h.grown c.args.base.now c.requires.base h.state p) k.done)
+          (subst (λ (x : Result Replay StreamRefusal). IsOkAnd x (IsReplayOf c.push_on.new.store c.push_on.new.replay)) (c.requires.lasts.same c.stream.store (grown-any (IsMadeBy (g.P.Pushed.upon c.args.store.now c.args.base.now) nothing_yet h.commands) c.args.store.now c.stream.store h.grown) h.state p) k.done)
           k.grown;
       told = c.stream.invariant.told;
       later = c.stream.invariant.later;
@@ -81,7 +84,7 @@ feed-requires-clause-open g c =
 pub returns-in-Err-feed-clause-stream : goal.returns-in-Err-feed-clause-stream
 returns-in-Err-feed-clause-stream g c =
     let h = c.stream.invariant.so_far in
-    feeding_refused c.args.base.now.refname (from_of c.args.base.now) (flat c.args.store.now c.args.base.now.shown.0) c.args.store.now c.stream.store (g.S.Source.left c.args.input.now) (g.S.Source.left c.stream.input) c.stream.reader c.stream.replay h (g.met.S.Source.bytes c.stream.input) c.in-Err-feed.error c.in-Err-feed.ensures.err
+    feeding_refused (g.P.Pushed.upon c.args.store.now c.args.base.now) (g.P.Pushed.one c.args.store.now c.args.base.now) c.requires.goes (g.P.OnRef.refname c.args.base.now) (g.P.OnRef.from c.args.base.now) c.args.store.now c.stream.store (g.S.Source.left c.args.input.now) (g.S.Source.left c.stream.input) c.stream.reader c.stream.replay h (g.met.S.Source.bytes c.stream.input) c.in-Err-feed.error c.in-Err-feed.ensures.err
 
 pub stream-smaller : goal.stream-smaller
 stream-smaller g c =
@@ -96,7 +99,7 @@ stream-preserved g c =
     let t = subst (λ (n : Next). TellsNext (Ok n) c.stream.reader c.next.new.self) c.in-Ok-More.field-0-is c.in-Ok-More.ensures.told in
     let w = subst (λ (n : Next). OnMore (Ok n) (came c.stream.reader ≤ STREAM_BYTES)) c.in-Ok-More.field-0-is c.in-Ok-More.ensures.more in
     record {
-      so_far = fed_waiting c.args.base.now.refname (from_of c.args.base.now) (flat c.args.store.now c.args.base.now.shown.0) c.args.store.now c.stream.store (g.S.Source.left c.args.input.now) (g.S.Source.left c.stream.input) c.stream.reader c.stream.replay h (g.S.Source.left c.feed.new.input) c.next.new.self c.feed.new.reader _ (omega (arith, c.requires.few, c.stream.auto.piece)) t.1
+      so_far = fed_waiting (g.P.Pushed.upon c.args.store.now c.args.base.now) (g.P.Pushed.one c.args.store.now c.args.base.now) c.requires.goes (g.P.OnRef.refname c.args.base.now) (g.P.OnRef.from c.args.base.now) c.args.store.now c.stream.store (g.S.Source.left c.args.input.now) (g.S.Source.left c.stream.input) c.stream.reader c.stream.replay h (g.S.Source.left c.feed.new.input) c.next.new.self c.feed.new.reader _ (omega (arith, c.requires.few, c.stream.auto.piece)) t.1
           (subst (λ (n : Next). OnMore (Ok n) (IsNear c.stream.reader)) c.in-Ok-More.field-0-is c.in-Ok-More.ensures.near)
           (subst (λ (n : Next). Follows (Ok n) c.stream.reader c.next.new.self) c.in-Ok-More.field-0-is c.in-Ok-More.ensures.follows)
           (more_open c.stream.reader c.next.new.self t) c.in-Ok-feed.ensures.fed;
@@ -110,28 +113,28 @@ stream-preserved g c =
 pub returns-in-Err-clause-taken : goal.returns-in-Err-clause-taken
 returns-in-Err-clause-taken g c =
     let h = c.stream.invariant.so_far in
-    taken_refused c.args.base.now.refname (from_of c.args.base.now) (flat c.args.store.now c.args.base.now.shown.0) c.args.store.now c.stream.store (g.S.Source.left c.args.input.now) (g.S.Source.left c.stream.input) c.stream.reader c.stream.replay h (errors.Stream c.in-Err.fault)
+    taken_refused (g.P.Pushed.upon c.args.store.now c.args.base.now) (g.P.Pushed.one c.args.store.now c.args.base.now) c.requires.goes (g.P.OnRef.refname c.args.base.now) (g.P.OnRef.from c.args.base.now) c.args.store.now c.stream.store (g.S.Source.left c.args.input.now) (g.S.Source.left c.stream.input) c.stream.reader c.stream.replay h (errors.Stream c.in-Err.fault)
 
 pub returns-in-Err-end_judged-clause-taken : goal.returns-in-Err-end_judged-clause-taken
 returns-in-Err-end_judged-clause-taken g c =
     let h = c.stream.invariant.so_far in
-    taken_refused c.args.base.now.refname (from_of c.args.base.now) (flat c.args.store.now c.args.base.now.shown.0) c.args.store.now c.stream.store (g.S.Source.left c.args.input.now) (g.S.Source.left c.stream.input) c.stream.reader c.stream.replay h c.in-Err-end_judged.error
+    taken_refused (g.P.Pushed.upon c.args.store.now c.args.base.now) (g.P.Pushed.one c.args.store.now c.args.base.now) c.requires.goes (g.P.OnRef.refname c.args.base.now) (g.P.OnRef.from c.args.base.now) c.args.store.now c.stream.store (g.S.Source.left c.args.input.now) (g.S.Source.left c.stream.input) c.stream.reader c.stream.replay h c.in-Err-end_judged.error
 
 pub returns-in-Ok-clause-taken : goal.returns-in-Ok-clause-taken
 returns-in-Ok-clause-taken g c =
     let h = c.stream.invariant.so_far in
     let t = subst (λ (n : Next). TellsNext (Ok n) c.stream.reader c.next.new.self) c.in-Ok-Ended.field-0-is c.in-Ok-Ended.ensures.told in
-    taken_given c.args.base.now.refname (from_of c.args.base.now) (flat c.args.store.now c.args.base.now.shown.0) c.args.store.now c.stream.store (g.S.Source.left c.args.input.now) (g.S.Source.left c.stream.input) c.stream.reader c.stream.replay h c.next.new.self t.0 c.in-Ok-Ended.ensures.came c.finish.result
+    taken_given (g.P.Pushed.upon c.args.store.now c.args.base.now) (g.P.Pushed.one c.args.store.now c.args.base.now) c.requires.goes (g.P.OnRef.refname c.args.base.now) (g.P.OnRef.from c.args.base.now) c.args.store.now c.stream.store (g.S.Source.left c.args.input.now) (g.S.Source.left c.stream.input) c.stream.reader c.stream.replay h c.next.new.self t.0 c.in-Ok-Ended.ensures.came c.finish.result
 
 pub returns-in-Err-push_on-clause-taken : goal.returns-in-Err-push_on-clause-taken
 returns-in-Err-push_on-clause-taken g c =
     let h = c.stream.invariant.so_far in
-    taken_refused c.args.base.now.refname (from_of c.args.base.now) (flat c.args.store.now c.args.base.now.shown.0) c.args.store.now c.stream.store (g.S.Source.left c.args.input.now) (g.S.Source.left c.stream.input) c.stream.reader c.stream.replay h c.in-Err-push_on.error
+    taken_refused (g.P.Pushed.upon c.args.store.now c.args.base.now) (g.P.Pushed.one c.args.store.now c.args.base.now) c.requires.goes (g.P.OnRef.refname c.args.base.now) (g.P.OnRef.from c.args.base.now) c.args.store.now c.stream.store (g.S.Source.left c.args.input.now) (g.S.Source.left c.stream.input) c.stream.reader c.stream.replay h c.in-Err-push_on.error
 
 pub returns-in-Err-feed-clause-taken : goal.returns-in-Err-feed-clause-taken
 returns-in-Err-feed-clause-taken g c =
     let h = c.stream.invariant.so_far in
     let t = subst (λ (n : Next). TellsNext (Ok n) c.stream.reader c.next.new.self) c.in-Ok-More.field-0-is c.in-Ok-More.ensures.told in
-    taken_feeding c.args.base.now.refname (from_of c.args.base.now) (flat c.args.store.now c.args.base.now.shown.0) c.args.store.now c.stream.store (g.S.Source.left c.args.input.now) (g.S.Source.left c.stream.input) c.stream.reader c.stream.replay h (subst (λ (n : Next). OnMore (Ok n) (IsNear c.stream.reader)) c.in-Ok-More.field-0-is c.in-Ok-More.ensures.near)
+    taken_feeding (g.P.Pushed.upon c.args.store.now c.args.base.now) (g.P.Pushed.one c.args.store.now c.args.base.now) c.requires.goes (g.P.OnRef.refname c.args.base.now) (g.P.OnRef.from c.args.base.now) c.args.store.now c.stream.store (g.S.Source.left c.args.input.now) (g.S.Source.left c.stream.input) c.stream.reader c.stream.replay h (subst (λ (n : Next). OnMore (Ok n) (IsNear c.stream.reader)) c.in-Ok-More.field-0-is c.in-Ok-More.ensures.near)
     (sym t.1.ended ∙ more_open c.stream.reader c.next.new.self t) (g.S.Source.left c.feed.new.input)
     (c.in-Err-feed.ensures.given.0, c.in-Err-feed.ensures.given.1, omega (arith, c.in-Err-feed.ensures.given.2, c.requires.few, c.stream.auto.piece)) c.in-Err-feed.error

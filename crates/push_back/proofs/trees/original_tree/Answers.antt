@@ -1,56 +1,13 @@
-use Rattle.std.proofs.Common.{refl, sym, subst, ◌∙◌, Err, Result}
+use Rattle.std.proofs.Common.{sym, subst, ◌∙◌, Result}
 use Rattle.git_objects.specs.Trees.{Flat}
 use Rattle.object_store.specs.Unfolding.{flat}
 use Rattle.filter_text.specs.Shapes.{shape}
 use Rattle.filter_unapply.specs.Hands.{IsLaidMade}
-use Rattle.workspace.specs.Workspaces.{next, resolve}
-use Rattle.projection_ground.proofs.Growing.{has-within}
-use Rattle.push_laws.specs.PushVerdicts.{Refusal, original_tree}
+use Rattle.workspace.specs.Workspaces.{next}
+use Rattle.push_laws.specs.PushVerdicts.{Refusal}
 use Rattle.push_back.specs.Refusals.{IsTreeAnswer}
-use Rattle.push_back.specs.declared.refusal.TreeRefusal.TheVariants.{BadWorkspace}
-use Rattle.push_back.proofs.LaidTrees.{grows-store, grows-tables, grows-then, nothing-made, tree-bad, tree-laid, tree-names}
+use Rattle.push_back.proofs.LaidTrees.{tree-changed, tree-names}
 use Rattle.push_back.proofs.trees.original_tree.Goals as goal
-
-pub returns-in_err-way-clause-same : goal.returns-in_err-way-clause-same
-returns-in_err-way-clause-same c =
-    let g = c.args.ground.now in
-    let f = shape c.args.filter.now in
-    let t = flat g.store c.args.base.0 in
-    let n = flat g.store c.args.pushed.0 in
-    grows-tables (IsLaidMade (next f t n) t n) g c.way_for.new.tables c.requires.ground c.way_for.ensures.tables
-
-pub returns-then-way-clause-same : goal.returns-then-way-clause-same
-returns-then-way-clause-same c =
-    let g = c.args.ground.now in
-    let f = shape c.args.filter.now in
-    let t = flat g.store c.args.base.0 in
-    let n = flat g.store c.args.pushed.0 in
-    grows-tables (IsLaidMade (next f t n) t n) g c.way_for.new.tables c.requires.ground c.way_for.ensures.tables
-
-pub returns-then-way-clause-answer : goal.returns-then-way-clause-answer
-returns-then-way-clause-answer c =
-    let g = c.args.ground.now in
-    let f = shape c.args.filter.now in
-    let s = c.requires.ground.graph.store in
-    let t = flat g.store c.args.base.0 in
-    let seen = flat g.store c.args.seen.0 in
-    let n = flat g.store c.args.pushed.0 in
-    nothing-made (original_tree f t seen n) (IsLaidMade (next f t n) t n) g.store (Err BadWorkspace) BadWorkspace s refl
-    (tree-bad f t seen n (tree-names g.store c.args.pushed.0 c.args.seen.0 s c.requires.pushed c.requires.seen ∙ sym c.if-eq.ensures) (sym c.in_ok-way.ensures.way.bad ∙ c.if-way.true))
-
-pub laid_by-requires-clause-ground : goal.laid_by-requires-clause-ground
-laid_by-requires-clause-ground c =
-    let g = c.args.ground.now in
-    let f = shape c.args.filter.now in
-    let t = flat g.store c.args.base.0 in
-    let n = flat g.store c.args.pushed.0 in
-    (grows-tables (IsLaidMade (next f t n) t n) g c.way_for.new.tables c.requires.ground c.way_for.ensures.tables).extends.ground
-
-pub laid_by-requires-clause-old : goal.laid_by-requires-clause-old
-laid_by-requires-clause-old c = has-within c.way_for.new.tables _ c.in_ok-way.way.old c.in_ok-way.ensures.way.below
-
-pub laid_by-requires-clause-new : goal.laid_by-requires-clause-new
-laid_by-requires-clause-new c = has-within c.way_for.new.tables _ c.in_ok-way.way.new c.in_ok-way.ensures.way.by
 
 pub returns-clause-answer : goal.returns-clause-answer
 returns-clause-answer c =
@@ -60,17 +17,5 @@ returns-clause-answer c =
     let t = flat g.store c.args.base.0 in
     let seen = flat g.store c.args.seen.0 in
     let n = flat g.store c.args.pushed.0 in
-    subst (λ (v : Result Flat Refusal). IsTreeAnswer v (IsLaidMade (next f t n) t n) g.store c.laid_by.new.ground.store c.laid_by.result)
-    (sym (tree-laid f t seen n (tree-names g.store c.args.pushed.0 c.args.seen.0 s c.requires.pushed c.requires.seen ∙ sym c.if-eq.ensures) (sym c.in_ok-way.ensures.way.bad ∙ c.if-way.false)))
-    (c.laid_by.ensures.answer (resolve f t) (next f t n) c.in_ok-way.ensures.way.below c.in_ok-way.ensures.way.by)
-
-pub returns-clause-same : goal.returns-clause-same
-returns-clause-same c =
-    let g = c.args.ground.now in
-    let f = shape c.args.filter.now in
-    let t = flat g.store c.args.base.0 in
-    let n = flat g.store c.args.pushed.0 in
-    let a = grows-tables (IsLaidMade (next f t n) t n) g c.way_for.new.tables c.requires.ground c.way_for.ensures.tables in
-    grows-then (IsLaidMade (next f t n) t n) g (record g { tables = c.way_for.new.tables }) c.laid_by.new.ground a
-    (grows-store (IsLaidMade (next f t n) t n) (record g { tables = c.way_for.new.tables }) c.laid_by.new.ground a.extends.ground c.laid_by.ensures.rest
-    (c.laid_by.ensures.answer (resolve f t) (next f t n) c.in_ok-way.ensures.way.below c.in_ok-way.ensures.way.by).grown)
+    subst (λ (v : Result Flat Refusal). IsTreeAnswer v (IsLaidMade (next f t n) t n) g.store c.tree_upon.new.ground.store c.tree_upon.result)
+    (sym (tree-changed f t seen n (tree-names g.store c.args.pushed.0 c.args.seen.0 s c.requires.pushed c.requires.seen ∙ sym c.if-eq.ensures))) c.tree_upon.ensures.answer
