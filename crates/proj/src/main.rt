@@ -28,6 +28,7 @@ const HELP: &[u8] = b"proj shows parts of a monorepo as Git repositories of thei
 \x20 proj STORE audit REF FILTER PATH\n\
 \x20                                 print a certificate of what it shows at a path\n\
 \x20 proj STORE push REF FILTER      take pushed commits back into the ref's history\n\
+\x20 proj STORE as USER COMMAND ..   project, export or push where the store's policy allows it\n\
 \x20 proj STORE rule (1 | 2)         set the rule by which merges are shown\n\
 \x20 proj STORE batch                answer commands one after another, each with its input\n\
 \x20 proj name REF FILTER            print such a name for a stream alone, without a store\n\

@@ -1,28 +1,19 @@
 -- What became of an audit.
-use Rattle.std.proofs.Common.{◌≡◌, ℕ, ◌<◌, ◌^◌, true, true≢false, List, [], length, Option, Some, None, IsSome, Result, Ok, Err, append-nil, refl, sym, ap, subst, ◌∙◌}
-use Rattle.std.specs.Prelude.{IfSome}
+use Rattle.std.proofs.Common.{◌≡◌, ◌<◌, ◌^◌, true, List, [], length, Option, Some, None, Result, Ok, Err, append-nil, refl, sym, ap, subst, ◌∙◌}
 use Rattle.std.specs.FinMap.{find}
 use Rattle.std.specs.Option.{option_map}
-use Rattle.std.proofs.lemmas.Option.{same_Some}
-use Rattle.git_objects.specs.CommitBodies.{commit_from}
-use Rattle.git_objects.specs.Commits.{Commit}
 use Rattle.git_objects.specs.Paths.{Bytes, Path, is_path}
 use Rattle.git_objects.specs.Refs.{bytes_cmp}
 use Rattle.git_objects.specs.Results.{◌>>=◌, or_refuse}
-use Rattle.git_objects.specs.Snapshots.{Graph, Snapshot, tree_at}
+use Rattle.git_objects.specs.Snapshots.{tree_at}
 use Rattle.git_objects.specs.Trees.{Flat, at}
 use Rattle.git_objects.specs.declared.kind.Kind.TheVariants.{Commit as CommitKind}
-use Rattle.object_store.specs.Objects.{Object, body_of, has}
-use Rattle.object_store.specs.Unfolding.{flat}
+use Rattle.object_store.specs.Objects.{Object, has}
 use Rattle.object_store.proofs.Growth.{grown_self}
 use Rattle.object_store.proofs.StoredCommits.{stored-commit}
-use Rattle.commit_graph.specs.Graphs.{Row, place_of}
 use Rattle.filter_text.specs.Filters.{Filter}
 use Rattle.workspace.specs.Laws.{IsUsable}
 use Rattle.workspace.specs.Workspaces.{shown}
-use Rattle.projection_laws.proofs.StoredGraphs.{at-row, name-is, row-at}
-use Rattle.history_ground.proofs.HeadLemmas.{head-has, head-tree}
-use Rattle.history_ground.proofs.ProjectLemmas.{place-named, place-within}
 use Rattle.proj_audit.specs.Certificates.{Fault, audit, verify}
 use Rattle.proj_audit.specs.Laws.{GrownLaw, StoreLaw, found_of}
 use Rattle.proj_audit.specs.Readings.{Found}
@@ -40,11 +31,8 @@ use Rattle.proj_cli.specs.Hands.{IsInHands}
 use Rattle.proj_cli.specs.Makes.{IsMadeOf, IsStateOf}
 use Rattle.proj_cli.proofs.Committing.{good-none}
 use Rattle.proj_cli.proofs.Forming.{keeps-self}
-use Rattle.proj_cli.proofs.StatesShown.{commits-are, head-placed, head-there}
-
-some-place : (o : Option ℕ) → IsSome o → (i : ℕ) × (Some i ≡ o)
-some-place (Some i) h = (i, refl)
-some-place None h = absurd (true≢false (sym h))
+use Rattle.proj_cli.proofs.Heads.{head-stored, tree-is}
+use Rattle.proj_cli.proofs.StatesShown.{head-there}
 
 module _ (items : List Bytes) (h : Held) (s : Contents) (f : Filter) (refname : Bytes) (q : Path) (w : IsStateOf items h s) where
   pub no-ref : find bytes_cmp refname h.refs ≡ None → (before : KeeperView) → IsMadeOf (audit_case h f refname q) items h s s before before NoPlan (Err UnknownRef)
@@ -63,29 +51,8 @@ module _ (items : List Bytes) (h : Held) (s : Contents) (f : Filter) (refname : 
     abbrev S : List Object
     S = s.basis.store
 
-    -- the commit of the ref is in the state's store, with the tree that is held
-    place : (i : ℕ) × (Some i ≡ place_of n s.basis.graph)
-    place = some-place (place_of n s.basis.graph) (head-placed h s refname n w.spells e)
-
-    pub head-stored : has CommitKind S n ≡ true
-    head-stored = head-has s.basis n place.0 w.ground place.1
-
     head-held : has CommitKind h.objects n ≡ true
     head-held = sym (has-commit n h.objects w.spells.store) ∙ head-there h s refname n w.spells e
-
-    tree-is : (c : Commit) → commit_from (body_of CommitKind S n) ≡ Some c → flat S c.tree ≡ tree_at (repo h).commits n
-    tree-is c told =
-        let rows = s.basis.graph in
-        let g = w.ground.graph in
-        let r = row-at S rows g place.0 (place-within n rows place.0 place.1) in
-        let a = at-row S rows g place.0 r.0 r.1 in
-        let named : r.0.name ≡ n = sym (name-is S rows g place.0 r.0 r.1) ∙ place-named n rows place.0 place.1 in
-        let same : c ≡ a.1.commit = same_Some c a.1.commit (sym told ∙ ap (λ (m : Bytes). commit_from (body_of CommitKind S m)) (sym named) ∙ a.1.named) in
-        ap (λ (d : Commit). flat S d.tree) same
-        ∙ ap (λ (d : Snapshot). d.tree) a.1.is
-        ∙ sym a.1.tree
-        ∙ sym (head-tree s.basis n place.0 w.ground place.1 r.0.tree (subst (λ (o : Option Row). IfSome o (λ (x : Row). r.0.tree ≡ x.tree)) (sym r.1) refl))
-        ∙ ap (λ (cs : Graph). tree_at cs n) (commits-are items h s f n w)
 
     -- ---- the certificate
 
@@ -94,11 +61,11 @@ module _ (items : List Bytes) (h : Held) (s : Contents) (f : Filter) (refname : 
 
     lawful : StoreLaw → GrownLaw → IsUsable f → is_path q ≡ true → IsAudited h f n q
     lawful law grown usable path small =
-        let c = stored-commit S n w.ground.graph.store head-stored in
+        let c = stored-commit S n w.ground.graph.store (head-stored items h s refname n w e) in
         let same = same-text grown in
         subst (λ (t : Bytes). verify n f q t ≡ Ok (option_map found_of (at (shown f (tree_at (repo h).commits n)) q))) same
-        (law f q S n c.commit usable path w.ground.graph.store head-stored c.read (subst (λ (t : Bytes). length t < 2 ^ 64) (sym same) small)
-        ∙ ap told (tree-is c.commit c.read))
+        (law f q S n c.commit usable path w.ground.graph.store (head-stored items h s refname n w e) c.read (subst (λ (t : Bytes). length t < 2 ^ 64) (sym same) small)
+        ∙ ap told (tree-is items h s refname n w e c.commit c.read))
       where
         told : Flat → Result (Option Found) Fault
         told t = Ok (option_map found_of (at (shown f t) q))

@@ -19,7 +19,8 @@ use Rattle.state_items.specs.Repos.{repo}
 use Rattle.state_items.specs.Changes.{KeepPlan, NoPlan, Plan, Room, fresh, held_after, objects_of, passed_by_objects, room_of}
 use Rattle.state_items.proofs.ReadObjects.{ok-same, value-of}
 use Rattle.import_laws.specs.Bases.{base_of}
-use Rattle.proj_words.specs.Words.{Command, Import, Project, Push, Export, Name, Batch, Trial, Rule, Audit, Verify, Unknown, writes}
+use Rattle.proj_gate.specs.Policies.{See, Push as PushAct}
+use Rattle.proj_words.specs.Words.{Command, As, Import, Project, Push, Export, Name, Batch, Trial, Rule, Audit, Verify, Unknown, writes}
 use Rattle.proj_words.specs.declared.outcome.Outcome.{Outcome}
 use Rattle.proj_words.specs.declared.outcome.Outcome.TheVariants as outcomes
 use Rattle.proj_cli.specs.Audit.{path_by}
@@ -30,15 +31,19 @@ use Rattle.proj_cli.specs.Project.{name_line, IsKeepPlan}
 use Rattle.proj_cli.specs.Filters.{entries_of, projected, projection, recalled, rule_by, sound}
 use Rattle.proj_cli.specs.Makes.{IsKeepOf, IsKeepPlanOf, IsPlanIn, recalled_made}
 use Rattle.proj_cli.specs.Plans.{HoldWhatTheyShould, RecallLaw, recalls}
+use Rattle.proj_cli.specs.Policy.{granted}
+use Rattle.proj_cli.specs.Push.{push_case}
 use Rattle.proj_cli.specs.Verify.{name_by, verify_outcome}
+use Rattle.proj_cli.specs.declared.lines.Telling.TheVariants.{Both, PushedAlone}
 use Rattle.proj_cli.proofs.RecalledTexts.{recalled-same}
 
 -- ---- where a case comes from
 
+-- The form takes what is kept for projections, and may append them; the items spell the state, and a text the filter.
 pub record IsProject (asked : Command) (items : List Bytes) (h : Held) (f : Filter) : Type 0 where
-  pub refname : Bytes
   pub text : Bytes
-  pub asked_is : asked ≡ Project refname text
+  pub takes_kept : recalls asked ≡ true
+  pub may_append : writes asked ≡ true
   pub read : read_items items ≡ Ok h
   pub sound_is : sound text ≡ Ok f
 
@@ -46,7 +51,7 @@ abbrev pub IsFrom : Command → List Bytes → Case → Type 0
 IsFrom asked items (ProjectCase h f n) = IsProject asked items h f
 IsFrom asked items (ImportCase force h x) = changes_state asked ≡ true
 IsFrom asked items (ExportCase h f refname n) = Unit {0}
-IsFrom asked items (PushCase h f refname n p) = changes_state asked ≡ true
+IsFrom asked items (PushCase telling h f refname n p) = changes_state asked ≡ true
 IsFrom asked items (NameCase f refname x) = Unit {0}
 IsFrom asked items (RuleCase h k) = changes_state asked ≡ true
 IsFrom asked items (AuditCase h f n q) = Unit {0}
@@ -71,17 +76,17 @@ from (Project r t) items all c g =
     let h = value-of (loaded items) (λ h. head_of r h.refs >>= λ n. Ok (ProjectCase h f.value n)) c f.rest in
     let n = value-of (head_of r h.value.refs) (λ n. Ok (ProjectCase h.value f.value n)) c h.rest in
     subst (IsFrom (Project r t) items) (ok-same (ProjectCase h.value f.value n.value) c n.rest)
-    (record { refname = r; text = t; asked_is = refl; read = read-from items h.value h.was; sound_is = f.was })
+    (record { text = t; takes_kept = refl; may_append = refl; read = read-from items h.value h.was; sound_is = f.was })
 from (Export r t) items all c g =
     let f = value-of (sound t) (λ f. loaded items >>= λ h. head_of r h.refs >>= λ n. Ok (ExportCase h f r n)) c g in
     let h = value-of (loaded items) (λ h. head_of r h.refs >>= λ n. Ok (ExportCase h f.value r n)) c f.rest in
     let n = value-of (head_of r h.value.refs) (λ n. Ok (ExportCase h.value f.value r n)) c h.rest in
     subst (IsFrom (Export r t) items) (ok-same (ExportCase h.value f.value r n.value) c n.rest) tt
 from (Push r t) items all c g =
-    let f = value-of (sound t) (λ f. loaded items >>= λ h. head_of r h.refs >>= λ n. Ok (PushCase h f r n (pushing (rule_by h.rule) f (repo h).commits n r all))) c g in
-    let h = value-of (loaded items) (λ h. head_of r h.refs >>= λ n. Ok (PushCase h f.value r n (pushing (rule_by h.rule) f.value (repo h).commits n r all))) c f.rest in
-    let n = value-of (head_of r h.value.refs) (λ n. Ok (PushCase h.value f.value r n (pushing (rule_by h.value.rule) f.value (repo h.value).commits n r all))) c h.rest in
-    subst (IsFrom (Push r t) items) (ok-same (PushCase h.value f.value r n.value (pushing (rule_by h.value.rule) f.value (repo h.value).commits n.value r all)) c n.rest) refl
+    let f = value-of (sound t) (λ f. loaded items >>= λ h. head_of r h.refs >>= λ n. Ok (PushCase Both h f r n (pushing (rule_by h.rule) f (repo h).commits n r all))) c g in
+    let h = value-of (loaded items) (λ h. head_of r h.refs >>= λ n. Ok (PushCase Both h f.value r n (pushing (rule_by h.rule) f.value (repo h).commits n r all))) c f.rest in
+    let n = value-of (head_of r h.value.refs) (λ n. Ok (PushCase Both h.value f.value r n (pushing (rule_by h.value.rule) f.value (repo h.value).commits n r all))) c h.rest in
+    subst (IsFrom (Push r t) items) (ok-same (PushCase Both h.value f.value r n.value (pushing (rule_by h.value.rule) f.value (repo h.value).commits n.value r all)) c n.rest) refl
 from (Name r t) items all c g =
     let f = value-of (sound t) (λ f. Ok (NameCase f r (ran empty_base all))) c g in
     subst (IsFrom (Name r t) items) (ok-same (NameCase f.value r (ran empty_base all)) c f.rest) tt
@@ -96,6 +101,26 @@ from (Audit r t p) items all c g =
 from (Verify n t p) items all c g =
     let f = value-of (sound t) (λ f. Ok (VerifyCase f (name_by n) (path_by p) all)) c g in
     subst (IsFrom (Verify n t p) items) (ok-same (VerifyCase f.value (name_by n) (path_by p) all) c f.rest) tt
+from (As u (Project r t)) items all c g =
+    let f = value-of (sound t) (λ f. loaded items >>= λ h. granted h u See r f >>= λ _. head_of r h.refs >>= λ n. Ok (ProjectCase h f n)) c g in
+    let h = value-of (loaded items) (λ h. granted h u See r f.value >>= λ _. head_of r h.refs >>= λ n. Ok (ProjectCase h f.value n)) c f.rest in
+    let p = value-of (granted h.value u See r f.value) (λ _. head_of r h.value.refs >>= λ n. Ok (ProjectCase h.value f.value n)) c h.rest in
+    let n = value-of (head_of r h.value.refs) (λ n. Ok (ProjectCase h.value f.value n)) c p.rest in
+    subst (IsFrom (As u (Project r t)) items) (ok-same (ProjectCase h.value f.value n.value) c n.rest)
+    (record { text = t; takes_kept = refl; may_append = refl; read = read-from items h.value h.was; sound_is = f.was })
+from (As u (Export r t)) items all c g =
+    let f = value-of (sound t) (λ f. loaded items >>= λ h. granted h u See r f >>= λ _. head_of r h.refs >>= λ n. Ok (ExportCase h f r n)) c g in
+    let h = value-of (loaded items) (λ h. granted h u See r f.value >>= λ _. head_of r h.refs >>= λ n. Ok (ExportCase h f.value r n)) c f.rest in
+    let p = value-of (granted h.value u See r f.value) (λ _. head_of r h.value.refs >>= λ n. Ok (ExportCase h.value f.value r n)) c h.rest in
+    let n = value-of (head_of r h.value.refs) (λ n. Ok (ExportCase h.value f.value r n)) c p.rest in
+    subst (IsFrom (As u (Export r t)) items) (ok-same (ExportCase h.value f.value r n.value) c n.rest) tt
+from (As u (Push r t)) items all c g =
+    let f = value-of (sound t) (λ f. loaded items >>= λ h. granted h u PushAct r f >>= λ _. push_case PushedAlone h f r all) c g in
+    let h = value-of (loaded items) (λ h. granted h u PushAct r f.value >>= λ _. push_case PushedAlone h f.value r all) c f.rest in
+    let p = value-of (granted h.value u PushAct r f.value) (λ _. push_case PushedAlone h.value f.value r all) c h.rest in
+    let n = value-of (head_of r h.value.refs) (λ n. Ok (PushCase PushedAlone h.value f.value r n (pushing (rule_by h.value.rule) f.value (repo h.value).commits n r all))) c p.rest in
+    subst (IsFrom (As u (Push r t)) items) (ok-same (PushCase PushedAlone h.value f.value r n.value (pushing (rule_by h.value.rule) f.value (repo h.value).commits n.value r all)) c n.rest) refl
+from (As u asked) items all c g = no-case (As u asked) items _ c g
 from Batch items all c g = no-case Batch items _ c g
 from (Trial n) items all c g = no-case (Trial n) items _ c g
 from Unknown items all c g = no-case Unknown items _ c g
@@ -125,7 +150,7 @@ name-made-plan room f refname x m g = sym (name-plan room f refname x m g)
 
 module _ (law : RecallLaw) (asked : Command) (items : List Bytes) (kept : HoldWhatTheyShould asked items) where
   project-same : (h : Held) (f : Filter) (n : Bytes) → IsProject asked items h f → IsStore h.objects → recalled (entries_of h f) h.rule f (repo h).commits n ≡ projected h f n
-  project-same h f n w store = recalled-same law items h w.text f n (kept h (ap recalls w.asked_is) w.read) store w.sound_is
+  project-same h f n w store = recalled-same law items h w.text f n (kept h w.takes_kept w.read) store w.sound_is
 
   pub recalled-made : (room : Room) (c : Case) → IsFrom asked items c → IsStore (hand c).held → recalled_made room c ≡ made room c
   recalled-made room (ProjectCase h f n) w store = ap (λ (p : Option Shown). Ok (unchanged h (name_line p))) (project-same h f n w store)
@@ -150,7 +175,7 @@ module _ (law : RecallLaw) (asked : Command) (items : List Bytes) (kept : HoldWh
   pub kept-plan : (c : Case) (m : Made) (p : Plan) → IsFrom asked items c → IsStore (hand c).held → IsPlanIn (room_of items) c m p → IsPlanOf items c m p
   kept-plan (ProjectCase h f n) m p w store k = keep-plan h f n p w store k
   kept-plan (ExportCase h f refname n) m p w store k = k.0
-  kept-plan (PushCase h f refname n x) m p w store k = k.0
+  kept-plan (PushCase telling h f refname n x) m p w store k = k.0
   kept-plan (AuditCase h f n q) m p w store k = k.0
   kept-plan (VerifyCase f n q text) m p w store k = k.0
   kept-plan _ m p w store k = k
@@ -158,7 +183,7 @@ module _ (law : RecallLaw) (asked : Command) (items : List Bytes) (kept : HoldWh
 pub lawful-plan : (items : List Bytes) (c : Case) (m : Made) (p : Plan) → IsPlanIn (room_of items) c m p → IsLawful items p c
 lawful-plan items (ProjectCase h f n) m p k = k.holds
 lawful-plan items (ExportCase h f refname n) m p k = k.1
-lawful-plan items (PushCase h f refname n x) m p k = k.1
+lawful-plan items (PushCase telling h f refname n x) m p k = k.1
 lawful-plan items (AuditCase h f n q) m p k = k.1
 lawful-plan items (VerifyCase f n q text) m p k = k.1
 lawful-plan items _ m p k = tt
@@ -183,7 +208,7 @@ pub stays-plan : (asked : Command) (items : List Bytes) (room : Room) (c : Case)
 stays-plan asked items room (ProjectCase g f n) m p w done k leaves h = same-kept g h f n room p k
 stays-plan asked items room (ImportCase force g x) m p w done k leaves h = no-change asked w leaves
 stays-plan asked items room (ExportCase g f refname n) m p w done k leaves h = same-none h p (k.0 ∙ sym (ap (λ (y : Made). y.plan) (ok-same _ m done)))
-stays-plan asked items room (PushCase g f refname n x) m p w done k leaves h = no-change asked w leaves
+stays-plan asked items room (PushCase telling g f refname n x) m p w done k leaves h = no-change asked w leaves
 stays-plan asked items room (NameCase f refname x) m p w done k leaves h = same-none h p (k ∙ name-plan room f refname x m done)
 stays-plan asked items room (RuleCase g j) m p w done k leaves h = no-change asked w leaves
 stays-plan asked items room (AuditCase g f n q) m p w done k leaves h = same-none h p (k.0 ∙ sym (ap (λ (y : Made). y.plan) (ok-same _ m done)))
@@ -194,6 +219,7 @@ stays-plan asked items room (VerifyCase f n q text) m p w done k leaves h = same
 -- a form that may change the state may append
 may-write : (asked : Command) → changes_state asked ≡ true → writes asked ≡ true
 may-write (Project r t) e = refl
+may-write (As u c) e = may-write c e
 may-write asked e = e
 
 no-write : {A : Type 0} (asked : Command) → writes asked ≡ true → writes asked ≡ false → A
@@ -201,10 +227,10 @@ no-write asked t f = absurd (true≢false (sym t ∙ f))
 
 pub unwritten-plan : (asked : Command) (items : List Bytes) (room : Room) (c : Case) (m : Made) (p : Plan) → IsFrom asked items c → recalled_made room c ≡ Ok m → IsPlanIn room c m p
     → writes asked ≡ false → p ≡ NoPlan
-unwritten-plan asked items room (ProjectCase g f n) m p w done k none = no-write asked (ap writes w.asked_is) none
+unwritten-plan asked items room (ProjectCase g f n) m p w done k none = no-write asked w.may_append none
 unwritten-plan asked items room (ImportCase force g x) m p w done k none = no-write asked (may-write asked w) none
 unwritten-plan asked items room (ExportCase g f refname n) m p w done k none = k.0 ∙ sym (ap (λ (y : Made). y.plan) (ok-same _ m done))
-unwritten-plan asked items room (PushCase g f refname n x) m p w done k none = no-write asked (may-write asked w) none
+unwritten-plan asked items room (PushCase telling g f refname n x) m p w done k none = no-write asked (may-write asked w) none
 unwritten-plan asked items room (NameCase f refname x) m p w done k none = k ∙ name-plan room f refname x m done
 unwritten-plan asked items room (RuleCase g j) m p w done k none = no-write asked (may-write asked w) none
 unwritten-plan asked items room (AuditCase g f n q) m p w done k none = k.0 ∙ sym (ap (λ (y : Made). y.plan) (ok-same _ m done))
@@ -233,7 +259,7 @@ pub own-planned : (items : List Bytes) (room : Room) (c : Case) → ArePlanned i
 own-planned items room (ProjectCase h f n) = all-one (λ d. IsPlanOf items d (unchanged h (name_line (projected h f n))) NoPlan) (ProjectCase h f n) tt
 own-planned items room (ImportCase force h x) = own-in items (ImportCase force h x) (λ m. refl) (made room (ImportCase force h x))
 own-planned items room (ExportCase h f refname n) = own-in items (ExportCase h f refname n) (λ m. refl) (made room (ExportCase h f refname n))
-own-planned items room (PushCase h f refname n p) = own-in items (PushCase h f refname n p) (λ m. refl) (made room (PushCase h f refname n p))
+own-planned items room (PushCase telling h f refname n p) = own-in items (PushCase telling h f refname n p) (λ m. refl) (made room (PushCase telling h f refname n p))
 own-planned items room (NameCase f refname x) = own-in items (NameCase f refname x) (λ m. refl) (made room (NameCase f refname x))
 own-planned items room (RuleCase h k) = own-in items (RuleCase h k) (λ m. refl) (made room (RuleCase h k))
 own-planned items room (AuditCase h f n q) = own-in items (AuditCase h f n q) (λ m. refl) (made room (AuditCase h f n q))

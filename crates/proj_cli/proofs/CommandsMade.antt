@@ -33,7 +33,7 @@ use Rattle.proj_cli.specs.Export.{export_case}
 use Rattle.proj_cli.specs.Filters.{history}
 use Rattle.proj_cli.specs.Forms.{FormPlan, IsFormMade}
 use Rattle.proj_cli.specs.Hands.{IsInHands}
-use Rattle.proj_cli.specs.Judging.{IsJudged, IsUnjudged}
+use Rattle.proj_cli.specs.Judging.{IsJudged, IsOwn, IsUnjudged}
 use Rattle.proj_cli.specs.Makes.{IsAtHand, IsExported, IsFlowed, IsMadeOf, IsPlanned, IsRefusal, IsReportOf, IsReported, IsStateAfter, IsStateOf, IsStored, PlansFor, hands_of, step_in}
 use Rattle.proj_cli.specs.Running.{IsCommandMade}
 use Rattle.proj_cli.specs.declared.judging.Judged.{Judged}
@@ -112,25 +112,30 @@ module _ (items : List Bytes) (h : Held) (s : Contents) (w : IsStateOf items h s
   self-grown : (r : Result Case Outcome) → IsGrownBy (IsInHands (hands_of r)) s.basis.store s.basis.store
   self-grown r = grown_self (IsInHands (hands_of r)) s.basis.store w.ground.graph.store
 
-  -- The command is refused by judging.
-  pub unjudged-command : (asked : Command) (all : Bytes) (e : Outcome) → IsUnjudged asked e → (k : KeeperView) (a : ℕ) (x : ℕ → List Bytes → Type 0)
-      → IsCommandMade asked all items h s s k k (OnlyAdds a a x x) (Err e)
-  unjudged-command asked all e u k a x = record {
+  -- The command is refused before it does anything.
+  pub refused-command : (asked : Command) (all : Bytes) (e : Outcome) → IsOwn e → ((H : Object → Type 0) (room : Room) → IsRefusal H e (step_in room (case asked (Ok h) all)))
+      → (k : KeeperView) (a : ℕ) (x : ℕ → List Bytes → Type 0) → IsCommandMade asked all items h s s k k (OnlyAdds a a x x) (Err e)
+  refused-command asked all e own refused k a x = record {
     plan = NoPlan;
     made = record {
-      reported = reported-err (IsAtHand s.basis.store r) (step_in (room_in s) r) e (unjudged-refusal (IsAtHand s.basis.store r) (room_in s) asked (Ok h) all e u);
-      planned = none-planned (room_in s) r e u.own.store;
+      reported = reported-err (IsAtHand s.basis.store r) (step_in (room_in s) r) e (refused (IsAtHand s.basis.store r) (room_in s));
+      planned = none-planned (room_in s) r e own.store;
       good = good-none items h (room_in s);
-      stored = none-stored e NoPlan k k u.own.store (keeps-self k);
+      stored = none-stored e NoPlan k k own.store (keeps-self k);
       state = state-stays items h s e w;
       grown = self-grown r;
     };
     stops = adds_none a x (IsStopOf h s NoPlan k.items);
-    unloaded = λ no. reported-err (IsInHands (hands_of r)) (step_in (room_of items) r) e (unjudged-refusal (IsInHands (hands_of r)) (room_of items) asked (Ok h) all e u);
+    unloaded = λ no. reported-err (IsInHands (hands_of r)) (step_in (room_of items) r) e (refused (IsInHands (hands_of r)) (room_of items));
   }
     where
       r : Result Case Outcome
       r = case asked (Ok h) all
+
+  -- The command is refused by judging.
+  pub unjudged-command : (asked : Command) (all : Bytes) (e : Outcome) → IsUnjudged asked e → (k : KeeperView) (a : ℕ) (x : ℕ → List Bytes → Type 0)
+      → IsCommandMade asked all items h s s k k (OnlyAdds a a x x) (Err e)
+  unjudged-command asked all e u k a x = refused-command asked all e u.own (λ H room. unjudged-refusal H room asked (Ok h) all e u) k a x
 
 -- ---- a map that is put away
 

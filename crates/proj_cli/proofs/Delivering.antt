@@ -6,7 +6,7 @@ use Rattle.object_store.specs.Objects.{Object}
 use Rattle.proj_io.specs.Items.{Stays, Gets}
 use Rattle.proj_io.specs.Views.{SourceView, SinkView, KeeperView}
 use Rattle.state_items.specs.Items.{Held, read_items}
-use Rattle.state_items.specs.Changes.{ChangePlan, KeepPlan, NoPlan, Plan, RulePlan, held_after, plan_items, room_of}
+use Rattle.state_items.specs.Changes.{ChangePlan, KeepPlan, NoPlan, Plan, RulePlan, TagPlan, held_after, plan_items, room_of}
 use Rattle.state_items.proofs.Appended.{append-law}
 use Rattle.repo_ground.specs.Changes.{GetsItems, KeepsItems}
 use Rattle.proj_words.specs.Words.{Command}
@@ -47,6 +47,7 @@ module _ (i j : SourceView) (o q : SinkView) (k l : KeeperView) where
   got (ChangePlan objects refs) h = one-got _ h
   got (RulePlan n) h = one-got _ h
   got (KeepPlan n text es) h = one-got _ h
+  got (TagPlan objects refs tags) h = one-got _ h
 
   -- ---- reports
 

@@ -6,7 +6,7 @@ use Rattle.std.specs.Option.{option_map}
 use Rattle.git_objects.specs.Paths.{Bytes}
 use Rattle.state_items.specs.Fields.{BrokenAt}
 use Rattle.state_items.specs.Items.{Break, Held, read_item, read_items}
-use Rattle.state_items.specs.Changes.{ChangePlan, KeepPlan, NoPlan, Plan, RulePlan, plan_items}
+use Rattle.state_items.specs.Changes.{ChangePlan, KeepPlan, NoPlan, Plan, RulePlan, TagPlan, plan_items}
 use Rattle.proj_io.specs.Stops.{OnlyAdds, Nothing}
 use Rattle.proj_disk.specs.Disks.{DiskView, IsImage, IsLeftBy, IsTornIfKnown, furthest, stable}
 use Rattle.proj_journal.specs.Journals.{IsBrokenAt, IsEmpty, IsSameOrSynced, ListsLeft, SpellsItsItems, TellsWhy, items_of}
@@ -207,6 +207,7 @@ one_at_most NoPlan = omega arith
 one_at_most (ChangePlan objects refs) = omega arith
 one_at_most (RulePlan n) = omega arith
 one_at_most (KeepPlan n text es) = omega arith
+one_at_most (TagPlan objects refs tags) = omega arith
 
 -- no item is empty
 empty_item : (items : List Bytes) → read_items ([] ∷ items) ≡ Err (0, BrokenAt 0)

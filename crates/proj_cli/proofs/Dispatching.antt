@@ -54,6 +54,9 @@ judged-one asked (judged.Name s) w = ap is_one w.asked_is
 judged-one asked (judged.Rule r) w = ap is_one w
 judged-one asked (judged.Audit s q) w = ap is_one w.of_subject.asked_is
 judged-one asked (judged.Verify c) w = ap is_one w.asked_is
+judged-one asked (judged.AsProject u s) w = ap is_one w.asked_is
+judged-one asked (judged.AsPush u s) w = ap is_one w.asked_is
+judged-one asked (judged.AsExport u s) w = ap is_one w.asked_is
 
 module _ (left : Option Bytes) (items : List Bytes) (a b : ℕ) (x y : ℕ → List Bytes → Type 0) where
   pub one-adds : (asked : Command) → is_one asked ≡ true → ForInput left (λ all. OnlyAdds a b x y (CommandLeaves asked items all)) → ForInput left (λ all. OnlyAdds a b x y (MayLeave asked items all))

@@ -1,5 +1,5 @@
 -- An export, and what it wrote, is an answer.
-use Rattle.std.proofs.Common.{◌≡◌, ◌≢◌, ◌⊎◌, inl, inr, ◌≤◌, ℕ, List, [], Some, Result, Ok, Err, refl, ap, subst, true≢false, arith}
+use Rattle.std.proofs.Common.{◌≡◌, ◌≢◌, ◌⊎◌, inl, inr, ◌≤◌, ℕ, List, [], Some, Result, Ok, Err, refl, sym, ap, subst, ◌∙◌, true, true≢false, arith}
 use Rattle.std.specs.Option.{option_to_list}
 use Rattle.std.specs.Result.{result_ok}
 use Rattle.std.proofs.KnownBytes.{Keeps-refl}
@@ -9,19 +9,21 @@ use Rattle.object_store.specs.Objects.{Object}
 use Rattle.filter_text.specs.Filters.{Filter}
 use Rattle.fast_export.specs.ExportTexts.{export_text}
 use Rattle.state_items.specs.Repos.{repo}
+use Rattle.proj_gate.specs.Policies.{See}
 use Rattle.proj_io.specs.Counts.{Counts}
 use Rattle.proj_io.specs.Views.{SourceView, SinkView, KeeperView}
 use Rattle.state_items.specs.Items.{Held}
 use Rattle.state_items.specs.Changes.{NoPlan, Room, room_of}
 use Rattle.repo_ground.specs.Changes.{KeepsItems}
-use Rattle.proj_words.specs.Words.{Export}
+use Rattle.proj_words.specs.Words.{Command, As, Export, loads}
 use Rattle.proj_words.specs.declared.outcome.Outcome.{Outcome}
 use Rattle.proj_words.specs.declared.outcome.Outcome.TheVariants.{Done, OutOfMemory, ReadFault, WriteFault, StoreFault}
-use Rattle.proj_cli.specs.Answers.{ArePlanned, Devices, Follows, IsCommandAnswer, IsAnswered, IsDelivered, IsLonger, IsOutcome, IsRecalledCase, IsSafe, IsStepDelivered}
+use Rattle.proj_cli.specs.Answers.{ArePlanned, Devices, Follows, IsCommandAnswer, IsAnswered, IsDelivered, IsLonger, IsOutcome, IsRecalledCase, IsSafe, IsStepDelivered, flows}
 use Rattle.proj_cli.specs.Cases.{Case, ExportCase, IsJudgedRightly, Made, head_of, loaded, unchanged}
 use Rattle.proj_cli.specs.Steps.{case, made, IsPlanOf, step}
 use Rattle.proj_cli.specs.Filters.{history, sound}
-use Rattle.proj_cli.specs.Forms.{IsEarly, IsExport, IsFormFlowed, exported_case}
+use Rattle.proj_cli.specs.Policy.{granted}
+use Rattle.proj_cli.specs.Forms.{IsEarly, IsExport, IsFormFlowed}
 use Rattle.proj_cli.specs.Hands.{IsInHands}
 use Rattle.proj_cli.specs.Intake.{waited_by}
 use Rattle.repo_ground.specs.Contents.{Contents, room_in}
@@ -36,7 +38,7 @@ use Rattle.std.specs.Prelude.{unwrap_or}
 -- ---- exports
 
 -- it is the case of an export, or none came up
-abbrev IsExportCase : Result Case Outcome → Type 0
+abbrev pub IsExportCase : Result Case Outcome → Type 0
 IsExportCase (Ok (ExportCase h f refname n)) = Unit {0}
 IsExportCase (Ok _) = ⊥
 IsExportCase (Err e) = Unit {0}
@@ -50,8 +52,22 @@ of-both refname (Ok f) (Ok h) = at-head refname h f (head_of refname h.refs)
 of-both refname (Ok f) (Err e) = tt
 of-both refname (Err e) l = tt
 
-export-case : (r t : Bytes) (items : List Bytes) (all : Bytes) → IsExportCase (case (Export r t) (loaded items) all)
+pub export-case : (r t : Bytes) (items : List Bytes) (all : Bytes) → IsExportCase (case (Export r t) (loaded items) all)
 export-case r t items all = of-both r (sound t) (loaded items)
+
+-- and so is one of a user
+let-through : (refname : Bytes) (h : Held) (f : Filter) (p : Result (Unit {0}) Outcome) → IsExportCase (p >>= λ _. head_of refname h.refs >>= λ n. Ok (ExportCase h f refname n))
+let-through refname h f (Ok u) = at-head refname h f (head_of refname h.refs)
+let-through refname h f (Err e) = tt
+
+of-user : (user refname : Bytes) (s : Result Filter Outcome) (l : Result Held Outcome)
+    → IsExportCase (s >>= λ f. l >>= λ h. granted h user See refname f >>= λ _. head_of refname h.refs >>= λ n. Ok (ExportCase h f refname n))
+of-user user refname (Ok f) (Ok h) = let-through refname h f (granted h user See refname f)
+of-user user refname (Ok f) (Err e) = tt
+of-user user refname (Err e) l = tt
+
+pub user-export-case : (u r t : Bytes) (items : List Bytes) (all : Bytes) → IsExportCase (case (As u (Export r t)) (loaded items) all)
+user-export-case u r t items all = of-user u r (sound t) (loaded items)
 
 step-same : (room : Room) (r : Result Case Outcome) → IsExportCase r → step_in room r ≡ (r >>= made room)
 step-same room (Ok (ExportCase h f refname n)) w = refl
@@ -103,79 +119,84 @@ module _ (r : Result Case Outcome) (items : List Bytes) (h : Held) (s s' : Conte
   pub no-store : (f g : ℕ) (R : Type 0) → Counts f g R → Counts f g (outcome ≡ StoreFault)
   no-store f g R counts = record { later = counts.later; rose = λ e. absurd (not-store e) }
 
--- of one whose items are not loaded
-pub unloaded-export : (f : Filter) (refname : Bytes) (items : List Bytes) (e : Outcome) (o : SinkView) → IsEarly (loaded items) e → IsExport (exported_case (loaded items) f refname) items o o e
-unloaded-export f refname items e o early =
-    record { flowed = inl (refused, Keeps-refl o.written); lawful = λ is. absurd (subst (λ (x : Outcome). IsRefusal (IsInHands (hands_of (exported_case (loaded items) f refname))) x (step_in (room_of items) (exported_case (loaded items) f refname))) is refused) }
-  where
-    refused : IsRefusal (IsInHands (hands_of (exported_case (loaded items) f refname))) e (step_in (room_of items) (exported_case (loaded items) f refname))
-    refused =
-        early-refusal (IsInHands (hands_of (exported_case (loaded items) f refname))) (step_in (room_of items) (exported_case (loaded items) f refname)) (loaded items) e
-        (λ g. (ap (λ (l : Result Held Outcome). step_in (room_of items) (exported_case l f refname)) g, loaded-own items e g)) early
+-- of one that is refused before there is a case
+pub refused-export : (r : Result Case Outcome) (items : List Bytes) (e : Outcome) (o : SinkView) → IsRefusal (IsInHands (hands_of r)) e (step_in (room_of items) r) → IsExport r items o o e
+refused-export r items e o refused = record {
+  flowed = inl (refused, Keeps-refl o.written);
+  lawful = λ is. absurd (subst (λ (x : Outcome). IsRefusal (IsInHands (hands_of r)) x (step_in (room_of items) r)) is refused);
+}
 
-module _ (r t : Bytes) (i : SourceView) (o q : SinkView) (k l : KeeperView) (g : KeepsItems k l) (H : Object → Type 0) where
-  flowed-step : (s : Result Made Outcome) (outcome : Outcome) → IsFlowed H s o q outcome → IsStepDelivered (Export r t) s NoPlan (before i i o q k l) (after i i o q k l) outcome
+-- of one whose items are not loaded
+pub unloaded-export : (exports : Result Held Outcome → Result Case Outcome) → ((x : Outcome) → exports (Err x) ≡ Err x) → (items : List Bytes) (e : Outcome) (o : SinkView) → IsEarly (loaded items) e
+    → IsExport (exports (loaded items)) items o o e
+unloaded-export exports first items e o early =
+    refused-export (exports (loaded items)) items e o
+    (early-refusal (IsInHands (hands_of (exports (loaded items)))) (step_in (room_of items) (exports (loaded items))) (loaded items) e
+    (λ g. (ap (λ (l : Result Held Outcome). step_in (room_of items) (exports l)) g ∙ ap (step_in (room_of items)) (first e), loaded-own items e g)) early)
+
+module _ (asked : Command) (flow : flows asked ≡ true) (i : SourceView) (o q : SinkView) (k l : KeeperView) (g : KeepsItems k l) (H : Object → Type 0) where
+  flowed-step : (s : Result Made Outcome) (outcome : Outcome) → IsFlowed H s o q outcome → IsStepDelivered asked s NoPlan (before i i o q k l) (after i i o q k l) outcome
   flowed-step (Ok m) Done h = (h, got i i o q k l NoPlan g)
   flowed-step (Ok m) WriteFault h = (h, got i i o q k l NoPlan g)
-  flowed-step (Ok m) OutOfMemory h = inr (inl (refl, h, g))
-  flowed-step (Ok m) e h = idle-delivered i i o q k l (Export r t) m.output [] H (Ok m) e h.0 h.2 g
+  flowed-step (Ok m) OutOfMemory h = inr (inl (flow, h, g))
+  flowed-step (Ok m) e h = idle-delivered i i o q k l asked m.output [] H (Ok m) e h.0 h.2 g
   flowed-step (Err x) OutOfMemory h = (h, g)
   flowed-step (Err x) e h = (h.2, g)
 
-  step-delivered : (s : Result Made Outcome) (outcome : Outcome) → IsFormFlowed H s o q outcome → IsStepDelivered (Export r t) s NoPlan (before i i o q k l) (after i i o q k l) outcome
-  step-delivered s outcome (inl h) = idle-step i i o q k l (Export r t) NoPlan s H s outcome h.0 h.1 g
+  step-delivered : (s : Result Made Outcome) (outcome : Outcome) → IsFormFlowed H s o q outcome → IsStepDelivered asked s NoPlan (before i i o q k l) (after i i o q k l) outcome
+  step-delivered s outcome (inl h) = idle-step i i o q k l asked NoPlan s H s outcome h.0 h.1 g
   step-delivered s outcome (inr h) = flowed-step s outcome h
 
-  flowed-idle : (x : Outcome) (outcome : Outcome) → IsFlowed H (Err x) o q outcome → IsDelivered (Export r t) [] [] (before i i o q k l) (after i i o q k l) outcome
+  flowed-idle : (x : Outcome) (outcome : Outcome) → IsFlowed H (Err x) o q outcome → IsDelivered asked [] [] (before i i o q k l) (after i i o q k l) outcome
   flowed-idle x OutOfMemory h = inl (h, g)
-  flowed-idle x e h = idle-delivered i i o q k l (Export r t) [] [] H (Err x) e h.0 h.2 g
+  flowed-idle x e h = idle-delivered i i o q k l asked [] [] H (Err x) e h.0 h.2 g
 
-  some-delivered : (s : Result Made Outcome) (outcome : Outcome) → IsFormFlowed H s o q outcome → (report : Bytes) × IsDelivered (Export r t) report [] (before i i o q k l) (after i i o q k l) outcome
+  some-delivered : (s : Result Made Outcome) (outcome : Outcome) → IsFormFlowed H s o q outcome → (report : Bytes) × IsDelivered asked report [] (before i i o q k l) (after i i o q k l) outcome
   some-delivered (Ok m) outcome h = (m.output, step-delivered (Ok m) outcome h)
-  some-delivered (Err x) outcome (inl h) = ([], idle-delivered i i o q k l (Export r t) [] [] H (Err x) outcome h.0 h.1 g)
+  some-delivered (Err x) outcome (inl h) = ([], idle-delivered i i o q k l asked [] [] H (Err x) outcome h.0 h.1 g)
   some-delivered (Err x) outcome (inr h) = ([], flowed-idle x outcome h)
 
 -- ---- the answer
 
-module _ (r t : Bytes) (i : SourceView) (o q : SinkView) (k l : KeeperView) (outcome : Outcome) where
-  export-allowed : (items : List Bytes) (all : Bytes) → IsExport (case (Export r t) (loaded items) all) items o q outcome
-      → IsOutcome (IsInHands (hands_of (case (Export r t) (loaded items) all))) outcome (step (Export r t) items all)
+module _ (asked : Command) (flow : flows asked ≡ true) (may : loads asked ≡ true) (up : (items : List Bytes) (all : Bytes) → IsExportCase (case asked (loaded items) all)) (i : SourceView) (o q : SinkView) (k l : KeeperView) (outcome : Outcome) where
+  export-allowed : (items : List Bytes) (all : Bytes) → IsExport (case asked (loaded items) all) items o q outcome
+      → IsOutcome (IsInHands (hands_of (case asked (loaded items) all))) outcome (step asked items all)
   export-allowed items all h =
-      subst (IsOutcome (IsInHands (hands_of (case (Export r t) (loaded items) all))) outcome) (step-same (room_of items) (case (Export r t) (loaded items) all) (export-case r t items all))
-      (flowed-outcome (IsInHands (hands_of (case (Export r t) (loaded items) all))) o q (step_in (room_of items) (case (Export r t) (loaded items) all)) outcome h.flowed)
+      subst (IsOutcome (IsInHands (hands_of (case asked (loaded items) all))) outcome) (step-same (room_of items) (case asked (loaded items) all) (up items all))
+      (flowed-outcome (IsInHands (hands_of (case asked (loaded items) all))) o q (step_in (room_of items) (case asked (loaded items) all)) outcome h.flowed)
 
-  export-answered : (items : List Bytes) (all : Bytes) → KeepsItems k l → IsExport (case (Export r t) (loaded items) all) items o q outcome
-      → IsAnswered (Export r t) items all (before i i o q k l) (after i i o q k l) outcome
+  export-answered : (items : List Bytes) (all : Bytes) → KeepsItems k l → IsExport (case asked (loaded items) all) items o q outcome
+      → IsAnswered asked items all (before i i o q k l) (after i i o q k l) outcome
   export-answered items all g h =
-      let same : step_in (room_of items) (case (Export r t) (loaded items) all) ≡ step (Export r t) items all =
-      step-same (room_of items) (case (Export r t) (loaded items) all) (export-case r t items all) in
+      let same : step_in (room_of items) (case asked (loaded items) all) ≡ step asked items all =
+      step-same (room_of items) (case asked (loaded items) all) (up items all) in
       record {
         plan = NoPlan;
-        planned = none-planned items (room_of items) (case (Export r t) (loaded items) all) (export-case r t items all);
+        planned = none-planned items (room_of items) (case asked (loaded items) all) (up items all);
         delivered =
-            subst (λ (s : Result Made Outcome). IsStepDelivered (Export r t) s NoPlan (before i i o q k l) (after i i o q k l) outcome) same
-            (step-delivered r t i o q k l g (IsInHands (hands_of (case (Export r t) (loaded items) all))) (step_in (room_of items) (case (Export r t) (loaded items) all)) outcome h.flowed);
+            subst (λ (s : Result Made Outcome). IsStepDelivered asked s NoPlan (before i i o q k l) (after i i o q k l) outcome) same
+            (step-delivered asked flow i o q k l g (IsInHands (hands_of (case asked (loaded items) all))) (step_in (room_of items) (case asked (loaded items) all)) outcome h.flowed);
         lawful = h.lawful;
         follows = λ told. kept-if items k l NoPlan told (Follows items NoPlan) (λ h kept. inl refl) g;
       }
 
-  export-safe : (items : List Bytes) (all : Bytes) (h : Held) → k.items ≡ Some items → KeepsItems k l → IsExport (case (Export r t) (loaded items) all) items o q outcome
-      → IsSafe (Export r t) items h (before i i o q k l) (after i i o q k l) outcome
+  export-safe : (items : List Bytes) (all : Bytes) (h : Held) → k.items ≡ Some items → KeepsItems k l → IsExport (case asked (loaded items) all) items o q outcome
+      → IsSafe asked items h (before i i o q k l) (after i i o q k l) outcome
   export-safe items all h told g e =
-      let d = some-delivered r t i o q k l g (IsInHands (hands_of (case (Export r t) (loaded items) all))) (step_in (room_of items) (case (Export r t) (loaded items) all)) outcome e.flowed in
-      record { report = d.0; more = []; delivered = d.1; spelled = kept-if items k l NoPlan told (λ now. (now ≡ items) ⊎ IsLonger (Export r t) items [] h now) (inl refl) g }
+      let d = some-delivered asked flow i o q k l g (IsInHands (hands_of (case asked (loaded items) all))) (step_in (room_of items) (case asked (loaded items) all)) outcome e.flowed in
+      record { report = d.0; more = []; delivered = d.1; spelled = kept-if items k l NoPlan told (λ now. (now ≡ items) ⊎ IsLonger asked items [] h now) (inl refl) g }
 
-  pub export-answer : IsJudgedRightly (Export r t) outcome → outcome ≢ ReadFault → Counts o.faults q.faults (outcome ≡ WriteFault) → Counts k.faults l.faults (outcome ≡ StoreFault) → o.refusals ≤ q.refusals → KeepsItems k l
-      → ((items : List Bytes) (all : Bytes) → k.items ≡ Some items → IsExport (case (Export r t) (loaded items) all) items o q outcome)
-      → IsCommandAnswer (Export r t) (before i i o q k l) (after i i o q k l) outcome
+  pub export-answer : IsJudgedRightly asked outcome → outcome ≢ ReadFault → Counts o.faults q.faults (outcome ≡ WriteFault) → Counts k.faults l.faults (outcome ≡ StoreFault) → o.refusals ≤ q.refusals → KeepsItems k l
+      → ((items : List Bytes) (all : Bytes) → k.items ≡ Some items → IsExport (case asked (loaded items) all) items o q outcome)
+      → IsCommandAnswer asked (before i i o q k l) (after i i o q k l) outcome
   export-answer judged unread write keep memory g exported = record {
     cause = record { read = record { later = omega arith; rose = λ e. absurd (unread e) }; write = write; keep = keep; memory = memory };
     judged = judged;
     unread = λ no. unread;
-    unloaded = λ no e. true≢false no;
+    unloaded = λ no e. true≢false (sym may ∙ no);
     unwritten = λ no. g;
     answered = λ items these.
-        let done = exported items (unwrap_or i.left []) (these refl) in
+        let done = exported items (unwrap_or i.left []) (these may) in
         record {
           input = unwrap_or i.left [];
           told = told-input i.left;
@@ -183,7 +204,7 @@ module _ (r t : Bytes) (i : SourceView) (o q : SinkView) (k l : KeeperView) (out
           answered = λ kept. export-answered items (unwrap_or i.left []) g done;
         };
     safe = λ items h told read. export-safe items [] h told g (exported items [] told);
-    taken = λ items told. takes-none (waited_by (case (Export r t) (loaded items))) i.left;
+    taken = λ items told. takes-none (waited_by (case asked (loaded items))) i.left;
     caseless = λ items told none. refl;
-    recalled = λ items told e. none-recalled (before i i o q k l) (after i i o q k l) (case (Export r t) (loaded items) []) (export-case r t items []);
+    recalled = λ items told e. none-recalled (before i i o q k l) (after i i o q k l) (case asked (loaded items) []) (up items []);
   }

@@ -11,6 +11,7 @@ use Rattle.state_items.proofs.RefsHeld.{head-found}
 use Rattle.state_items.specs.Items.{Held}
 use Rattle.state_items.specs.Repos.{repo}
 use Rattle.repo_ground.specs.Contents.{Contents, Spells}
+use Rattle.proj_gate.specs.Policies.{Push as PushAct}
 use Rattle.proj_words.specs.Words.{Command}
 use Rattle.proj_words.specs.declared.outcome.Outcome.{Outcome}
 use Rattle.proj_words.specs.declared.outcome.Outcome.TheVariants.{UnknownRef}
@@ -18,6 +19,9 @@ use Rattle.proj_cli.specs.Cases.{Case, PushCase}
 use Rattle.proj_cli.specs.Steps.{case}
 use Rattle.proj_cli.specs.Filters.{rule_by}
 use Rattle.proj_cli.specs.Judging.{IsJudged}
+use Rattle.proj_cli.specs.Policy.{granted}
+use Rattle.proj_cli.specs.Push.{push_case}
+use Rattle.proj_cli.specs.declared.lines.Telling.TheVariants.{Both, PushedAlone}
 use Rattle.proj_cli.specs.declared.judging.Claim.{Claim}
 use Rattle.proj_cli.specs.declared.judging.Judged.{Judged}
 use Rattle.proj_cli.specs.declared.judging.Judged.TheVariants as judged
@@ -42,8 +46,15 @@ none-at (Some n) K e = absurd (true≢false (sym e))
 
 pub no-head : (asked : Command) (s : Subject) → IsJudged asked (judged.Push s) → (h : Held) → ((all : Bytes) → IsErr (case asked (Ok h) all)) → find bytes_cmp s.refname h.refs ≡ None
 no-head asked s w h none =
-    none-at (find bytes_cmp s.refname h.refs) (λ n. PushCase h (shape s.filter) s.refname n (pushing (rule_by h.rule) (shape s.filter) (repo h).commits n s.refname []))
+    none-at (find bytes_cmp s.refname h.refs) (λ n. PushCase Both h (shape s.filter) s.refname n (pushing (rule_by h.rule) (shape s.filter) (repo h).commits n s.refname []))
     (no-case asked (judged.Push s) w h [] (none []))
+
+-- of a push of a user whom the policy lets push
+pub no-user-head : (asked : Command) (u : Bytes) (s : Subject) → IsJudged asked (judged.AsPush u s) → (h : Held) → granted h u PushAct s.refname (shape s.filter) ≡ Ok tt → ((all : Bytes) → IsErr (case asked (Ok h) all))
+    → find bytes_cmp s.refname h.refs ≡ None
+no-user-head asked u s w h may none =
+    none-at (find bytes_cmp s.refname h.refs) (λ n. PushCase PushedAlone h (shape s.filter) s.refname n (pushing (rule_by h.rule) (shape s.filter) (repo h).commits n s.refname []))
+    (subst (λ (p : Result (Unit {0}) Outcome). IsErr (p >>= λ _. push_case PushedAlone h (shape s.filter) s.refname [])) may (no-case asked (judged.AsPush u s) w h [] (none [])))
 
 -- the commit of a ref of a state is that of what is held
 pub head-held : (h : Held) (s : Contents) → Spells h s → (refname : Bytes) → head_of s.refs refname ≡ find bytes_cmp refname h.refs

@@ -30,6 +30,7 @@ use Rattle.proj_cli.specs.Filters.{rule_by}
 use Rattle.proj_cli.specs.Intake.{TakesUpTo, pushed_to, waited_by, waited_if}
 use Rattle.proj_cli.specs.Judging.{IsJudged}
 use Rattle.proj_cli.specs.declared.judging.Judged.{Judged}
+use Rattle.proj_cli.specs.declared.lines.Telling.{Telling}
 use Rattle.proj_cli.proofs.Judged.{case-upon, upon}
 use Rattle.proj_cli.proofs.StateBases.{state-base-is}
 
@@ -70,13 +71,18 @@ pub takes-at : (h : Held) (f : Filter) (refname m n : Bytes) → Some m ≡ find
 takes-at h f refname m n at is a b t = subst (λ (x : Bytes). TakesUpTo (pushed_to h f refname x) a b) (same_Some m n (at ∙ is)) t
 
 -- with the commit of its ref, or without one
-pub push-takes : (h : Held) (f : Filter) (refname : Bytes) (a b : Option Bytes) → ((n : Bytes) → find bytes_cmp refname h.refs ≡ Some n → TakesUpTo (pushed_to h f refname n) a b) → (find bytes_cmp refname h.refs ≡ None → b ≡ a)
-    → TakesUpTo (waited_by (push_case h f refname)) a b
-push-takes h f refname a b at none = by (find bytes_cmp refname h.refs) refl
+pub push-takes : (telling : Telling) (h : Held) (f : Filter) (refname : Bytes) (a b : Option Bytes) → ((n : Bytes) → find bytes_cmp refname h.refs ≡ Some n → TakesUpTo (pushed_to h f refname n) a b) → (find bytes_cmp refname h.refs ≡ None → b ≡ a)
+    → TakesUpTo (waited_by (push_case telling h f refname)) a b
+push-takes telling h f refname a b at none = by (find bytes_cmp refname h.refs) refl
   where
     placed : Option Bytes → Bytes → ℕ
-    placed o all = waited_if (or_refuse UnknownRef o >>= λ n. Ok (PushCase h f refname n (pushing (rule_by h.rule) f (repo h).commits n refname all))) all
+    placed o all = waited_if (or_refuse UnknownRef o >>= λ n. Ok (PushCase telling h f refname n (pushing (rule_by h.rule) f (repo h).commits n refname all))) all
 
-    by : (o : Option Bytes) → find bytes_cmp refname h.refs ≡ o → TakesUpTo (waited_by (push_case h f refname)) a b
-    by (Some n) e = takes-as (pushed_to h f refname n) (waited_by (push_case h f refname)) (λ all. sym (ap (λ (o : Option Bytes). placed o all) e)) a b (at n e)
-    by None e = subst (TakesUpTo (waited_by (push_case h f refname)) a) (sym (none e)) (takes-none (waited_by (push_case h f refname)) a)
+    by : (o : Option Bytes) → find bytes_cmp refname h.refs ≡ o → TakesUpTo (waited_by (push_case telling h f refname)) a b
+    by (Some n) e = takes-as (pushed_to h f refname n) (waited_by (push_case telling h f refname)) (λ all. sym (ap (λ (o : Option Bytes). placed o all) e)) a b (at n e)
+    by None e = subst (TakesUpTo (waited_by (push_case telling h f refname)) a) (sym (none e)) (takes-none (waited_by (push_case telling h f refname)) a)
+
+-- where a policy lets a case come up
+pub takes-let : (p : Result (Unit {0}) Outcome) (up : Bytes → Result Case Outcome) → p ≡ Ok tt → (a b : Option Bytes) → TakesUpTo (waited_by up) a b → TakesUpTo (waited_by (λ all. p >>= λ _. up all)) a b
+takes-let p up may a b t =
+    takes-as (waited_by up) (waited_by (λ all. p >>= λ _. up all)) (λ all. sym (ap (λ (q : Result (Unit {0}) Outcome). waited_if (q >>= λ _. up all) all) may)) a b t

@@ -1,5 +1,5 @@
 -- What a single command made, what came of writing it, and the text of the outcome are together the answer.
-use Rattle.std.proofs.Common.{◌≡◌, ◌≢◌, ◌⊎◌, inl, inr, ◌≤◌, List, [], Option, Some, Result, Ok, Err, IfSome, IsErr, refl, sym, ap, subst, ◌∙◌, arith, true≢false}
+use Rattle.std.proofs.Common.{◌≡◌, ◌≢◌, ◌⊎◌, inl, inr, ◌≤◌, List, [], Option, Some, Result, Ok, Err, IfSome, IsErr, refl, sym, ap, subst, ◌∙◌, arith, false, true≢false}
 use Rattle.std.specs.Prelude.{IsOk}
 use Rattle.std.specs.Io.KnownBytes.{Appends}
 use Rattle.git_objects.specs.Paths.{Bytes}
@@ -9,7 +9,7 @@ use Rattle.proj_io.specs.Views.{SourceView, SinkView, KeeperView}
 use Rattle.state_items.specs.Items.{Held, read_items}
 use Rattle.state_items.specs.Changes.{Plan, Room, plan_items, room_of}
 use Rattle.state_items.specs.Hands.{IsTwice}
-use Rattle.proj_words.specs.Words.{Command, Import, Project, Push, Export, Name, Batch, Trial, Rule, Audit, Verify, Unknown}
+use Rattle.proj_words.specs.Words.{Command, As, Import, Project, Push, Export, Name, Batch, Trial, Rule, Audit, Verify, Unknown}
 use Rattle.proj_words.specs.declared.outcome.Outcome.{Outcome}
 use Rattle.proj_words.specs.declared.outcome.Outcome.TheVariants.{Done, OutOfMemory, Collision, ReadFault, WriteFault, StoreFault}
 use Rattle.proj_cli.specs.Answers.{AreItems, Devices, IsCommandAnswer, IsCollision, IsCommandComplete, IsDelivered, IsOutcome, IsRecalled, IsRecalledCase, IsSafe, IsStepDelivered, HasAnswer, outcome_of}
@@ -18,7 +18,7 @@ use Rattle.proj_cli.specs.Steps.{case, step}
 use Rattle.proj_cli.specs.Forms.{IsForm, IsMade}
 use Rattle.proj_cli.specs.Hands.{IsInHands}
 use Rattle.proj_cli.specs.Makes.{IsReported, hands_of, step_in}
-use Rattle.proj_cli.specs.Plans.{RecallLaw}
+use Rattle.proj_cli.specs.Plans.{RecallLaw, recalls}
 use Rattle.proj_cli.specs.Sent.{IsConcluded, IsSent, TakesMemory}
 use Rattle.proj_cli.specs.Stopped.{ForInput}
 use Rattle.proj_cli.proofs.Answering.{form-allowed, form-answered, form-safe}
@@ -54,29 +54,34 @@ recalled-one : (room : Room) (r : Result Case Outcome) (i j : SourceView) (o q :
 recalled-one room (Ok (ProjectCase h f n)) i j o q k l H report e w = subst (Appends o.written q.written) (sym e) w
 recalled-one room _ i j o q k l H report e w = tt
 
-recalled-none : (asked : Command) (items : List Bytes) (b a : Devices) → ((r t : Bytes) → asked ≡ Project r t → ⊥) → (r : Result Case Outcome) → ((c : Case) → r ≡ Ok c → IsFrom asked items c)
+recalled-none : (asked : Command) (items : List Bytes) (b a : Devices) → recalls asked ≡ false → (r : Result Case Outcome) → ((c : Case) → r ≡ Ok c → IsFrom asked items c)
     → IsRecalledCase r b a
-recalled-none asked items b a none (Ok (ProjectCase h f n)) f' = let w = f' (ProjectCase h f n) refl in absurd (none w.refname w.text w.asked_is)
+recalled-none asked items b a none (Ok (ProjectCase h f n)) f' = let w = f' (ProjectCase h f n) refl in absurd (true≢false (sym w.takes_kept ∙ none))
 recalled-none asked items b a none _ f' = tt
 
 module _ (items : List Bytes) (all : Bytes) (i j : SourceView) (o q : SinkView) (k l : KeeperView) (report : Bytes) (w : Appends o.written q.written report) where
-  other : (asked : Command) → ((r t : Bytes) → asked ≡ Project r t → ⊥) → IsRecalledCase (case asked (loaded items) []) (before i j o q k l) (after i j o q k l)
+  other : (asked : Command) → recalls asked ≡ false → IsRecalledCase (case asked (loaded items) []) (before i j o q k l) (after i j o q k l)
   other asked none = recalled-none asked items (before i j o q k l) (after i j o q k l) none (case asked (loaded items) []) (λ c e. from asked items [] c e)
 
   recalled-of : (asked : Command) → IsReported (IsInHands (hands_of (case asked (loaded items) all))) (step_in (room_of items) (case asked (loaded items) all)) (Ok report)
       → IsRecalledCase (case asked (loaded items) []) (before i j o q k l) (after i j o q k l)
   recalled-of (Project r t) e =
       recalled-one (room_of items) (case (Project r t) (loaded items) all) i j o q k l (IsInHands (hands_of (case (Project r t) (loaded items) all))) report e w
-  recalled-of (Import force) e = other (Import force) (λ r t g. let no : ⊥ = cc in no)
-  recalled-of (Export x y) e = other (Export x y) (λ r t g. let no : ⊥ = cc in no)
-  recalled-of (Push x y) e = other (Push x y) (λ r t g. let no : ⊥ = cc in no)
-  recalled-of (Name x y) e = other (Name x y) (λ r t g. let no : ⊥ = cc in no)
-  recalled-of (Rule n) e = other (Rule n) (λ r t g. let no : ⊥ = cc in no)
-  recalled-of (Audit x y z) e = other (Audit x y z) (λ r t g. let no : ⊥ = cc in no)
-  recalled-of (Verify x y z) e = other (Verify x y z) (λ r t g. let no : ⊥ = cc in no)
-  recalled-of Batch e = other Batch (λ r t g. let no : ⊥ = cc in no)
-  recalled-of (Trial n) e = other (Trial n) (λ r t g. let no : ⊥ = cc in no)
-  recalled-of Unknown e = other Unknown (λ r t g. let no : ⊥ = cc in no)
+  recalled-of (As u (Project r t)) e =
+      recalled-one (room_of items) (case (As u (Project r t)) (loaded items) all) i j o q k l (IsInHands (hands_of (case (As u (Project r t)) (loaded items) all))) report e w
+  recalled-of (As u (Push x y)) e = other (As u (Push x y)) refl
+  recalled-of (As u (Export x y)) e = other (As u (Export x y)) refl
+  recalled-of (As u _) e = tt
+  recalled-of (Import force) e = other (Import force) refl
+  recalled-of (Export x y) e = other (Export x y) refl
+  recalled-of (Push x y) e = other (Push x y) refl
+  recalled-of (Name x y) e = other (Name x y) refl
+  recalled-of (Rule n) e = other (Rule n) refl
+  recalled-of (Audit x y z) e = other (Audit x y z) refl
+  recalled-of (Verify x y z) e = other (Verify x y z) refl
+  recalled-of Batch e = other Batch refl
+  recalled-of (Trial n) e = other (Trial n) refl
+  recalled-of Unknown e = other Unknown refl
 
 done-sent : (outcome : Outcome) (report : Bytes) (o q : SinkView) → IsSent outcome report o q → outcome ≡ Done → Appends o.written q.written report
 done-sent outcome report o q h e = subst (λ (x : Outcome). IsSent x report o q) e h

@@ -10,12 +10,13 @@ use Rattle.commit_map.specs.Rules.{rule_number}
 use Rattle.fast_import.specs.Replays.{empty_base, ran}
 use Rattle.push_laws.specs.Pushes.{pushing}
 use Rattle.import_laws.specs.Bases.{base_of}
+use Rattle.proj_gate.specs.Policies.{See, Push as PushAct}
 use Rattle.state_items.specs.Items.{Held, read_items}
 use Rattle.state_items.specs.Repos.{repo}
 use Rattle.repo_ground.specs.Contents.{Contents}
 use Rattle.repo_ground.specs.Loads.{IsLoadFault, IsLoaded}
 use Rattle.repo_ground.specs.declared.state.LoadError.{LoadError}
-use Rattle.proj_words.specs.Words.{Command, Import, Project, Push, Export, Name, Rule, Audit, Verify, loads}
+use Rattle.proj_words.specs.Words.{Command, As, Import, Project, Push, Export, Name, Rule, Audit, Verify, loads}
 use Rattle.proj_words.specs.declared.outcome.Outcome.{Outcome}
 use Rattle.proj_words.specs.declared.outcome.Outcome.TheVariants.{OutOfMemory}
 use Rattle.proj_cli.specs.Cases.{Case, ImportCase, ProjectCase, ExportCase, PushCase, NameCase, RuleCase, AuditCase, VerifyCase, head_of, verdict}
@@ -29,6 +30,8 @@ use Rattle.proj_cli.specs.Push.{push_case}
 use Rattle.proj_cli.specs.Filters.{rule_by, sound}
 use Rattle.proj_cli.specs.Judging.{IsClaimed, IsJudged, IsUnjudged}
 use Rattle.proj_cli.specs.Makes.{IsState}
+use Rattle.proj_cli.specs.Policy.{granted}
+use Rattle.proj_cli.specs.declared.lines.Telling.TheVariants.{Both, PushedAlone}
 use Rattle.proj_cli.specs.declared.judging.Judged.{Judged}
 use Rattle.proj_cli.specs.declared.judging.Judged.TheVariants as judged
 use Rattle.proj_cli.proofs.Forming.{HoldsAll}
@@ -55,12 +58,15 @@ read-filter {A} text f next is = ap (λ (s : Result Filter Outcome). s >>= next)
 abbrev pub upon : Judged → Held → Bytes → Result Case Outcome
 upon (judged.Import force) h all = Ok (ImportCase force h (ran (base_of h) all))
 upon (judged.Project s) h all = project_case h (shape s.filter) s.refname
-upon (judged.Push s) h all = push_case h (shape s.filter) s.refname all
+upon (judged.Push s) h all = push_case Both h (shape s.filter) s.refname all
 upon (judged.Export s) h all = export_case h (shape s.filter) s.refname
 upon (judged.Name s) h all = Ok (NameCase (shape s.filter) s.refname (ran empty_base all))
 upon (judged.Rule r) h all = Ok (RuleCase h (rule_number r))
 upon (judged.Audit s q) h all = audit_case h (shape s.filter) s.refname q
 upon (judged.Verify c) h all = Ok (VerifyCase (shape c.filter) c.commit.0 c.path all)
+upon (judged.AsProject u s) h all = granted h u See s.refname (shape s.filter) >>= λ _. project_case h (shape s.filter) s.refname
+upon (judged.AsPush u s) h all = granted h u PushAct s.refname (shape s.filter) >>= λ _. push_case PushedAlone h (shape s.filter) s.refname all
+upon (judged.AsExport u s) h all = granted h u See s.refname (shape s.filter) >>= λ _. export_case h (shape s.filter) s.refname
 
 -- a certificate needs nothing that is loaded
 pub claim-case : (asked : Command) (c : Claim) → IsClaimed asked c → (loading : Result Held Outcome) (all : Bytes) → case asked loading all ≡ Ok (VerifyCase (shape c.filter) c.commit.0 c.path all)
@@ -73,7 +79,7 @@ claim-case asked c w loading all =
 pub case-upon : (asked : Command) (j : Judged) → IsJudged asked j → (h : Held) (all : Bytes) → case asked (Ok h) all ≡ upon j h all
 case-upon asked (judged.Import force) w h all = ap (λ (a : Command). case a (Ok h) all) w
 case-upon asked (judged.Project s) w h all = ap (λ (a : Command). case a (Ok h) all) w.asked_is ∙ read-filter w.text (shape s.filter) (λ f. project_case h f s.refname) w.sound_is
-case-upon asked (judged.Push s) w h all = ap (λ (a : Command). case a (Ok h) all) w.asked_is ∙ read-filter w.text (shape s.filter) (λ f. push_case h f s.refname all) w.sound_is
+case-upon asked (judged.Push s) w h all = ap (λ (a : Command). case a (Ok h) all) w.asked_is ∙ read-filter w.text (shape s.filter) (λ f. push_case Both h f s.refname all) w.sound_is
 case-upon asked (judged.Export s) w h all = ap (λ (a : Command). case a (Ok h) all) w.asked_is ∙ read-filter w.text (shape s.filter) (λ f. export_case h f s.refname) w.sound_is
 case-upon asked (judged.Name s) w h all =
     ap (λ (a : Command). case a (Ok h) all) w.asked_is ∙ read-filter w.text (shape s.filter) (λ f. Ok (NameCase f s.refname (ran empty_base all))) w.sound_is
@@ -83,6 +89,13 @@ case-upon asked (judged.Audit s q) w h all =
     ∙ read-filter w.of_subject.text (shape s.filter) (λ f. audit_case h f s.refname (path_by w.path)) w.of_subject.sound_is
     ∙ ap (audit_case h (shape s.filter) s.refname) w.path_is
 case-upon asked (judged.Verify c) w h all = claim-case asked c w (Ok h) all
+case-upon asked (judged.AsProject u s) w h all =
+    ap (λ (a : Command). case a (Ok h) all) w.asked_is ∙ read-filter w.text (shape s.filter) (λ f. granted h u See s.refname f >>= λ _. project_case h f s.refname) w.sound_is
+case-upon asked (judged.AsPush u s) w h all =
+    ap (λ (a : Command). case a (Ok h) all) w.asked_is
+    ∙ read-filter w.text (shape s.filter) (λ f. granted h u PushAct s.refname f >>= λ _. push_case PushedAlone h f s.refname all) w.sound_is
+case-upon asked (judged.AsExport u s) w h all =
+    ap (λ (a : Command). case a (Ok h) all) w.asked_is ∙ read-filter w.text (shape s.filter) (λ f. granted h u See s.refname f >>= λ _. export_case h f s.refname) w.sound_is
 
 -- the first refusal of what is loaded is that of loading
 pub case-unloaded : (asked : Command) (j : Judged) → IsJudged asked j → loads asked ≡ true → (x : Outcome) (all : Bytes) → case asked (Err x) all ≡ Err x
@@ -95,6 +108,9 @@ case-unloaded asked (judged.Rule r) w l x all = ap (λ (a : Command). case a (Er
 case-unloaded asked (judged.Audit s q) w l x all =
     ap (λ (a : Command). case a (Err x) all) w.of_subject.asked_is ∙ read-filter w.of_subject.text (shape s.filter) (λ f. Err x) w.of_subject.sound_is
 case-unloaded asked (judged.Verify c) w l x all = absurd (true≢false (sym l ∙ ap loads w.asked_is))
+case-unloaded asked (judged.AsProject u s) w l x all = ap (λ (a : Command). case a (Err x) all) w.asked_is ∙ read-filter w.text (shape s.filter) (λ f. Err x) w.sound_is
+case-unloaded asked (judged.AsPush u s) w l x all = ap (λ (a : Command). case a (Err x) all) w.asked_is ∙ read-filter w.text (shape s.filter) (λ f. Err x) w.sound_is
+case-unloaded asked (judged.AsExport u s) w l x all = ap (λ (a : Command). case a (Err x) all) w.asked_is ∙ read-filter w.text (shape s.filter) (λ f. Err x) w.sound_is
 
 read-whole : (r : Result (Unit {0}) Outcome) (f : Filter) (text : Bytes) → sound text ≡ Ok f → r ≡ (sound text >>= λ _. Ok tt) → IsErr r → ⊥
 read-whole r f text is same refuses = true≢false (sym (subst (λ (x : Result (Unit {0}) Outcome). IsErr x) (same ∙ ap (λ (s : Result Filter Outcome). s >>= λ _. Ok tt) is) refuses))
@@ -109,6 +125,9 @@ judged-whole asked (judged.Name s) w refuses = read-whole (verdict asked) (shape
 judged-whole asked (judged.Rule r) w refuses = true≢false (sym (subst (λ (a : Command). IsErr (verdict a)) w refuses))
 judged-whole asked (judged.Audit s q) w refuses = read-whole (verdict asked) (shape s.filter) w.of_subject.text w.of_subject.sound_is (ap verdict w.of_subject.asked_is) refuses
 judged-whole asked (judged.Verify c) w refuses = read-whole (verdict asked) (shape c.filter) w.text w.sound_is (ap verdict w.asked_is) refuses
+judged-whole asked (judged.AsProject u s) w refuses = read-whole (verdict asked) (shape s.filter) w.text w.sound_is (ap verdict w.asked_is) refuses
+judged-whole asked (judged.AsPush u s) w refuses = read-whole (verdict asked) (shape s.filter) w.text w.sound_is (ap verdict w.asked_is) refuses
+judged-whole asked (judged.AsExport u s) w refuses = read-whole (verdict asked) (shape s.filter) w.text w.sound_is (ap verdict w.asked_is) refuses
 
 -- ---- forms
 
@@ -127,6 +146,9 @@ judged-loads asked (judged.Name s) w is = absurd (true≢false (sym is))
 judged-loads asked (judged.Rule r) w is = ap loads w
 judged-loads asked (judged.Audit s q) w is = ap loads w.of_subject.asked_is
 judged-loads asked (judged.Verify c) w is = absurd (true≢false (sym is))
+judged-loads asked (judged.AsProject u s) w is = ap loads w.asked_is
+judged-loads asked (judged.AsPush u s) w is = ap loads w.asked_is
+judged-loads asked (judged.AsExport u s) w is = ap loads w.asked_is
 
 -- ---- what a case holds
 
@@ -143,19 +165,33 @@ behind Says none (Err e) next w = none e
 by-text : (S : List Object) (r : Bytes) (h : Held) (s : Result Filter Outcome) (K : Filter → Bytes → Case) → ((f : Filter) (n : Bytes) → (hand (K f n)).held ≡ S) → HoldsAll S (s >>= λ f. head_of r h.refs >>= λ n. Ok (K f n))
 by-text S r h s K w = behind (HoldsAll S) (λ e. tt) s (λ f. head_of r h.refs >>= λ n. Ok (K f n)) (λ f. behind (HoldsAll S) (λ e. tt) (head_of r h.refs) (λ n. Ok (K f n)) (λ n. w f n))
 
+-- such a case of a user, whom the policy has to let do it
+by-user : (S : List Object) (r : Bytes) (h : Held) (s : Result Filter Outcome) (p : Filter → Result (Unit {0}) Outcome) (K : Filter → Bytes → Case) → ((f : Filter) (n : Bytes) → (hand (K f n)).held ≡ S)
+    → HoldsAll S (s >>= λ f. p f >>= λ _. head_of r h.refs >>= λ n. Ok (K f n))
+by-user S r h s p K w =
+    behind (HoldsAll S) (λ e. tt) s (λ f. p f >>= λ _. head_of r h.refs >>= λ n. Ok (K f n))
+    (λ f. behind (HoldsAll S) (λ e. tt) (p f) (λ _. head_of r h.refs >>= λ n. Ok (K f n)) (λ _. behind (HoldsAll S) (λ e. tt) (head_of r h.refs) (λ n. Ok (K f n)) (λ n. w f n)))
+
 pub export-holds : (f : Filter) (r : Bytes) (h : Held) → HoldsAll h.objects (export_case h f r)
 export-holds f r h = behind (HoldsAll h.objects) (λ e. tt) (head_of r h.refs) (λ n. Ok (ExportCase h f r n)) (λ n. refl)
+
+pub user-export-holds : (u : Bytes) (f : Filter) (r : Bytes) (h : Held) → HoldsAll h.objects (granted h u See r f >>= λ _. export_case h f r)
+user-export-holds u f r h = behind (HoldsAll h.objects) (λ e. tt) (granted h u See r f) (λ _. export_case h f r) (λ _. export-holds f r h)
 
 -- a form that doesn't load holds nothing of the state, and every other holds all its objects
 pub case-holds : (asked : Command) (h : Held) (input : Bytes) → ((loads asked ≡ false) × HoldsStore (case asked (Ok h) input)) ⊎ HoldsAll h.objects (case asked (Ok h) input)
 case-holds (Import force) h input = inr refl
 case-holds (Project r t) h input = inr (by-text h.objects r h (sound t) (λ f n. ProjectCase h f n) (λ f n. refl))
 case-holds (Export r t) h input = inr (by-text h.objects r h (sound t) (λ f n. ExportCase h f r n) (λ f n. refl))
-case-holds (Push r t) h input = inr (by-text h.objects r h (sound t) (λ f n. PushCase h f r n (pushing (rule_by h.rule) f (repo h).commits n r input)) (λ f n. refl))
+case-holds (Push r t) h input = inr (by-text h.objects r h (sound t) (λ f n. PushCase Both h f r n (pushing (rule_by h.rule) f (repo h).commits n r input)) (λ f n. refl))
 case-holds (Name r t) h input = inl (refl, behind HoldsStore (λ e. tt) (sound t) (λ f. Ok (NameCase f r (ran empty_base input))) (λ f. tt))
 case-holds (Rule k) h input = inr refl
 case-holds (Audit r t p) h input = inr (by-text h.objects r h (sound t) (λ f n. AuditCase h f n (path_by p)) (λ f n. refl))
 case-holds (Verify n t p) h input = inl (refl, behind HoldsStore (λ e. tt) (sound t) (λ f. Ok (VerifyCase f (name_by n) (path_by p) input)) (λ f. tt))
+case-holds (As u (Project r t)) h input = inr (by-user h.objects r h (sound t) (granted h u See r) (λ f n. ProjectCase h f n) (λ f n. refl))
+case-holds (As u (Export r t)) h input = inr (by-user h.objects r h (sound t) (granted h u See r) (λ f n. ExportCase h f r n) (λ f n. refl))
+case-holds (As u (Push r t)) h input =
+    inr (by-user h.objects r h (sound t) (granted h u PushAct r) (λ f n. PushCase PushedAlone h f r n (pushing (rule_by h.rule) f (repo h).commits n r input)) (λ f n. refl))
 case-holds _ h input = inr tt
 
 pub loaded-holds : (asked : Command) (h : Held) (input : Bytes) → loads asked ≡ true → HoldsAll h.objects (case asked (Ok h) input)

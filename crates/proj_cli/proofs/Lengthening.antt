@@ -5,7 +5,7 @@ use Rattle.git_objects.specs.Paths.{Bytes}
 use Rattle.proj_io.specs.Stops.{OnlyAdds, IsPresent, adds_as}
 use Rattle.proj_io.specs.Views.{KeeperView}
 use Rattle.state_items.specs.Items.{Held, read_items}
-use Rattle.state_items.specs.Changes.{ChangePlan, KeepPlan, NoPlan, Plan, RulePlan, held_after, plan_items, room_of}
+use Rattle.state_items.specs.Changes.{ChangePlan, KeepPlan, NoPlan, Plan, RulePlan, TagPlan, held_after, plan_items, room_of}
 use Rattle.proj_words.specs.Outcomes.{is_plain}
 use Rattle.proj_words.specs.Words.{Command}
 use Rattle.proj_words.specs.declared.outcome.Outcome.{Outcome}
@@ -46,6 +46,7 @@ module _ (law : RecallLaw) (asked : Command) (items : List Bytes) (all : Bytes) 
   one-more (ChangePlan objects refs) w good list e = inr (lengthened (ChangePlan objects refs) w good list e (λ g. cc))
   one-more (RulePlan n) w good list e = inr (lengthened (RulePlan n) w good list e (λ g. cc))
   one-more (KeepPlan n text es) w good list e = inr (lengthened (KeepPlan n text es) w good list e (λ g. cc))
+  one-more (TagPlan objects refs tags) w good list e = inr (lengthened (TagPlan objects refs tags) w good list e (λ g. cc))
 
   none-more : (p : Plan) → p ≡ NoPlan → (list : List Bytes) → list ≡ items ++ plan_items p → CommandLeaves asked items all list
   none-more p n list e = inl (e ∙ ap (λ (x : Plan). items ++ plan_items x) n ∙ append-nil items)

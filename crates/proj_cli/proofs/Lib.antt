@@ -7,7 +7,9 @@ mod RulesSet
 mod InHands
 mod StatesShown
 mod Exports
+mod Heads
 mod Audits
+mod PolicyTexts
 mod SoundTexts
 mod NewRows
 mod Keeps
@@ -32,6 +34,7 @@ pub mod ExportAnswers
 pub mod AloneForms
 pub mod Making
 mod CommandsMade
+mod Grants
 pub mod Outcomes
 mod NameCases
 mod NamesTold
@@ -57,3 +60,5 @@ mod TrialSteps
 mod TrialParts
 mod TrialPushes
 mod TrialReports
+pub mod Alike
+pub mod TwoRuns

@@ -82,6 +82,8 @@ module _ (all : Bytes) (s : Contents) (empty : IsEmpty s) (S : List Object) (gro
         entries = w.entries;
         few = w.few;
         rule = w.rule;
+        tags = w.tags;
+        rising = w.rising;
       }
 
   pub store-ground : IsGround (with_store s S).basis

@@ -34,6 +34,7 @@ use Rattle.push_laws.proofs.PushSteps.{goes-on}
 use Rattle.state_items.specs.Items.{Held}
 use Rattle.state_items.specs.Repos.{repo}
 use Rattle.proj_cli.specs.Cases.{PushCase}
+use Rattle.proj_cli.specs.declared.lines.Telling.TheVariants.{Both}
 use Rattle.proj_cli.specs.Filters.{rule_by}
 use Rattle.proj_cli.specs.Hands.{CommitMade, Hand, IsInHand, IsInHands, TreeMade, all_components, all_leaves, blobs_read, command_components, components_for, own}
 use Rattle.proj_cli.specs.Steps.{hand}
@@ -110,6 +111,7 @@ module _ (refname : Bytes) (from : Option Bytes) (seen : Flat) where
       by (commands.Change c) q w = inl w
       by commands.CommitEnd q w = absurd (none-ended r p.at f o r.draft q w)
       by (commands.Reset name target) q w = absurd w
+      by (commands.Tag h) q w = absurd w
       by commands.Done q w = absurd w
 
   pub stream-brought : (end : Option StreamRefusal) (ps : List Placed) (o : Object) → IsMadeBy base nothing_yet (ran_by one end nothing_yet ps).tried o
@@ -196,7 +198,7 @@ module _ (h : Held) (f : Filter) (refname n all : Bytes) where
   push_here = pushing (rule_by h.rule) f G n refname all
 
   abbrev pub push_hand : Hand
-  push_hand = hand (PushCase h f refname n push_here)
+  push_hand = hand (PushCase Both h f refname n push_here)
 
   abbrev owned : List Snapshot
   owned = own h.rule f G n

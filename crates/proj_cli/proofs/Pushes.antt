@@ -35,7 +35,7 @@ use Rattle.fast_import.specs.declared.replayed.Made.{Made as MadeNames}
 use Rattle.push_back.specs.Faults.{IsPushFault}
 use Rattle.push_laws.specs.Given.{AreBrought, IsGiven, IsGivenCommit, IsSeenTree, blobs_in}
 use Rattle.push_back.specs.Originals as pushed_names
-use Rattle.push_laws.specs.PushReplays.{OtherRef as OnOtherRef, NotAtHead as IsNotAtHead, MergePushed as IsMerge, Faulty}
+use Rattle.push_laws.specs.PushReplays.{OtherRef as OnOtherRef, NotAtHead as IsNotAtHead, FurtherParents as IsMerge, Faulty}
 use Rattle.push_laws.specs.PushLaws.{AreTrees, originals}
 use Rattle.push_laws.specs.PushVerdicts.{verdict}
 use Rattle.push_laws.specs.PushVerdicts as verdicts
@@ -68,11 +68,12 @@ use Rattle.proj_words.specs.declared.outcome.Outcome.{Outcome}
 use Rattle.proj_words.specs.declared.outcome.Outcome.TheVariants as outcomes
 use Rattle.proj_cli.specs.Cases.{Case, PushCase, Made, unchanged, within}
 use Rattle.proj_cli.specs.Steps.{made}
-use Rattle.proj_cli.specs.Push.{name_or_none, no_refusal, pair_line, push_case, push_outcome, push_plan, IsPushed}
+use Rattle.proj_cli.specs.Push.{name_or_none, no_refusal, push_case, push_outcome, push_plan, told_digits, told_line, IsPushed}
 use Rattle.proj_cli.specs.Filters.{project_by, rule_by}
 use Rattle.proj_cli.specs.Hands.{IsInHands}
 use Rattle.proj_cli.specs.Makes.{IsAtHand, IsMadeOf, IsRefusal, IsStateOf, hands_of}
-use Rattle.proj_cli.specs.Pushing.{IsMadeOver, IsPlannedUpon, IsPushPrepared, digits_line, fault_outcome}
+use Rattle.proj_cli.specs.Pushing.{IsMadeOver, IsPlannedUpon, IsPushPrepared, fault_outcome}
+use Rattle.proj_cli.specs.declared.lines.Telling.{Telling}
 use Rattle.proj_cli.specs.Refusals.{commit_outcome}
 use Rattle.proj_cli.proofs.Committing.{IsCase, good-none, keeps-self, made-done, made-refused, made-untouched, made-without, planned_by, stop-as, stops-by, told-report}
 use Rattle.proj_cli.proofs.InHands.{twice-at}
@@ -130,16 +131,16 @@ originals_of ps = map (λ c. c.original) ps
 abbrev pushed_of : List Pair → List Bytes
 pushed_of ps = map (λ c. c.pushed.0) ps
 
-lines-are : (S : List Object) (ps : List Pair) (cs os : List Snapshot) → pushed_of ps ≡ map snapshot_name cs → pushed_names.AreNamedIn S (originals_of ps) os
-    → flat_map pair_line (zip cs os) ≡ flat_map (λ (c : Pair). digits_line c.pushed.0 c.original.0) ps
-lines-are S [] [] [] e w = refl
-lines-are S [] [] (o ∷ os) e w = absurd w
-lines-are S [] (c ∷ cs) os e w = let no : [] ≡ map snapshot_name (c ∷ cs) = e in cc
-lines-are S (p ∷ ps) [] os e w = let no : pushed_of (p ∷ ps) ≡ [] = e in cc
-lines-are S (p ∷ ps) (c ∷ cs) [] e w = absurd w
-lines-are S (p ∷ ps) (c ∷ cs) (o ∷ os) e w =
-    ap₂ (λ (x y : Bytes). x ++ y) (λ i. digits_line (sym (head-is p.pushed.0 (snapshot_name c) (pushed_of ps) (map snapshot_name cs) e) i) (w.0.named i))
-    (lines-are S ps cs os (tail-is p.pushed.0 (snapshot_name c) (pushed_of ps) (map snapshot_name cs) e) w.1)
+lines-are : (telling : Telling) (S : List Object) (ps : List Pair) (cs os : List Snapshot) → pushed_of ps ≡ map snapshot_name cs → pushed_names.AreNamedIn S (originals_of ps) os
+    → flat_map (told_line telling) (zip cs os) ≡ flat_map (λ (c : Pair). told_digits telling c.pushed.0 c.original.0) ps
+lines-are telling S [] [] [] e w = refl
+lines-are telling S [] [] (o ∷ os) e w = absurd w
+lines-are telling S [] (c ∷ cs) os e w = let no : [] ≡ map snapshot_name (c ∷ cs) = e in cc
+lines-are telling S (p ∷ ps) [] os e w = let no : pushed_of (p ∷ ps) ≡ [] = e in cc
+lines-are telling S (p ∷ ps) (c ∷ cs) [] e w = absurd w
+lines-are telling S (p ∷ ps) (c ∷ cs) (o ∷ os) e w =
+    ap₂ (λ (x y : Bytes). x ++ y) (λ i. told_digits telling (sym (head-is p.pushed.0 (snapshot_name c) (pushed_of ps) (map snapshot_name cs) e) i) (w.0.named i))
+    (lines-are telling S ps cs os (tail-is p.pushed.0 (snapshot_name c) (pushed_of ps) (map snapshot_name cs) e) w.1)
 
 -- ---- the last original
 
@@ -249,15 +250,15 @@ push-refusal made P T refusal faults.OutOfMemory r twice by i = tt
 
 -- ---- a push to a ref that isn't there
 
-module _ (items : List Bytes) (h : Held) (f : Filter) (refname all : Bytes) (s : Contents) (st : IsStateOf items h s) where
+module _ (telling : Telling) (items : List Bytes) (h : Held) (f : Filter) (refname all : Bytes) (s : Contents) (st : IsStateOf items h s) where
   abbrev pub IsPushMade : Contents → KeeperView → KeeperView → ℕ → ℕ → (ℕ → List Bytes → Type 0) → (ℕ → List Bytes → Type 0) → Result Bytes Outcome → Type 0
   IsPushMade after before now a b y z result =
-      (p : Plan) × IsMadeOf (push_case h f refname all) items h s after before now p result × OnlyAdds a b y z (IsStopOf h s p before.items)
+      (p : Plan) × IsMadeOf (push_case telling h f refname all) items h s after before now p result × OnlyAdds a b y z (IsStopOf h s p before.items)
 
   pub no-ref : find bytes_cmp refname h.refs ≡ None → (before : KeeperView) (a : ℕ) (y : ℕ → List Bytes → Type 0) → IsPushMade s before before a a y y (Err outcomes.UnknownRef)
   no-ref e before a y = (
     NoPlan,
-    subst (λ (o : Option Bytes). IsMadeOf (or_refuse outcomes.UnknownRef o >>= λ n. Ok (PushCase h f refname n (pushing (rule_by h.rule) f (repo h).commits n refname all))) items h s s before before NoPlan (Err outcomes.UnknownRef)) (sym e)
+    subst (λ (o : Option Bytes). IsMadeOf (or_refuse outcomes.UnknownRef o >>= λ n. Ok (PushCase telling h f refname n (pushing (rule_by h.rule) f (repo h).commits n refname all))) items h s s before before NoPlan (Err outcomes.UnknownRef)) (sym e)
         (record {
           reported = refl;
           planned = refl;
@@ -271,7 +272,7 @@ module _ (items : List Bytes) (h : Held) (f : Filter) (refname all : Bytes) (s :
 
 -- ---- a push to a ref
 
-module _ (items : List Bytes) (h : Held) (f : Filter) (refname n all : Bytes) (bytes : is_bytes all ≡ true) (s : Contents) (st : IsStateOf items h s) (usable : IsUsable f)
+module _ (telling : Telling) (items : List Bytes) (h : Held) (f : Filter) (refname n all : Bytes) (bytes : is_bytes all ≡ true) (s : Contents) (st : IsStateOf items h s) (usable : IsUsable f)
     (at_ref : find bytes_cmp refname h.refs ≡ Some n) where
   abbrev G : Graph
   G = (repo h).commits
@@ -280,7 +281,7 @@ module _ (items : List Bytes) (h : Held) (f : Filter) (refname n all : Bytes) (b
   x = pushing (rule_by h.rule) f G n refname all
 
   abbrev asked : Case
-  asked = PushCase h f refname n x
+  asked = PushCase telling h f refname n x
 
   abbrev S : List Object
   S = s.basis.store
@@ -314,31 +315,31 @@ module _ (items : List Bytes) (h : Held) (f : Filter) (refname n all : Bytes) (b
 
   -- what is said of the case is said of the push
   came-up : (after : Contents) (before now : KeeperView) (a b : ℕ) (y z : ℕ → List Bytes → Type 0) (result : Result Bytes Outcome) (p : Plan) → IsMadeOf (Ok asked) items h s after before now p result
-      → OnlyAdds a b y z (IsStopOf h s p before.items) → IsPushMade items h f refname all s st after before now a b y z result
+      → OnlyAdds a b y z (IsStopOf h s p before.items) → IsPushMade telling items h f refname all s st after before now a b y z result
   came-up after before now a b y z result p m o = (
     p,
-    subst (λ (q : Option Bytes). IsMadeOf (or_refuse outcomes.UnknownRef q >>= λ m. Ok (PushCase h f refname m (pushing (rule_by h.rule) f G m refname all))) items h s after before now p result) (sym at_ref) m,
+    subst (λ (q : Option Bytes). IsMadeOf (or_refuse outcomes.UnknownRef q >>= λ m. Ok (PushCase telling h f refname m (pushing (rule_by h.rule) f G m refname all))) items h s after before now p result) (sym at_ref) m,
     o,
   )
 
   made-refusal : (e : PushRefusal) → x.refusal ≡ Some e → made (room_in s) asked ≡ Err (push_outcome e)
-  made-refusal e q = ap (λ (o : Option PushRefusal). no_refusal o >>= λ _. within (room_in s) h (flat_map pair_line (zip x.stream.state.commits x.originals)) (push_plan h refname x (last_or None x.originals))) q
+  made-refusal e q = ap (λ (o : Option PushRefusal). no_refusal o >>= λ _. within (room_in s) h (flat_map (told_line telling) (zip x.stream.state.commits x.originals)) (push_plan h refname x (last_or None x.originals))) q
 
   module _ (s1 : Contents) (before : KeeperView) (a : ℕ) (y : ℕ → List Bytes → Type 0) where
     -- the push brings nothing
     pub unplanned : (e : Outcome) (result : Result Bytes Outcome) → result ≡ Err e → IsPlannedUpon items h f refname n all s s1 (Err e) → e ≢ outcomes.StoreFault
-        → IsPushMade items h f refname all s st s1 before before a a y y result
+        → IsPushMade telling items h f refname all s st s1 before before a a y y result
     unplanned e result q u quiet =
         let w = u.refused in
         let twice : (k : Bytes) → IsClash IsMadeHere s1.basis.store k → IsTwice (IsAtHand S (Ok asked)) k = λ k c. twice-at IsMadeHere (IsInHands (hands_of (Ok asked))) S s1.basis.store k in-hand u.grown c in
         let why : IsRefusal (IsAtHand S (Ok asked)) e (made (room_in s) asked) =
         subst (λ (o : Outcome). IsRefusal (IsAtHand S (Ok asked)) o (made (room_in s) asked)) (sym w.1)
         (push-refusal IsMadeHere (IsAtHand S (Ok asked)) s1.basis.store x.refusal w.0 (made (room_in s) asked) twice made-refusal w.2) in
-        subst (IsPushMade items h f refname all s st s1 before before a a y y) (sym q)
+        subst (IsPushMade telling items h f refname all s st s1 before before a a y y) (sym q)
         (came-up s1 before before a a y y (Err e) NoPlan (made-untouched asked items h s s1 before e why quiet u.state (hand-grown s1.basis.store u.grown)) (adds_none a y (IsStopOf h s NoPlan before.items)))
 
     -- there was no memory behind it
-    pub no-memory : (g : Planned) → IsPlannedUpon items h f refname n all s s1 (Ok g) → IsPushMade items h f refname all s st s1 before before a a y y (Err outcomes.OutOfMemory)
+    pub no-memory : (g : Planned) → IsPlannedUpon items h f refname n all s s1 (Ok g) → IsPushMade telling items h f refname all s st s1 before before a a y y (Err outcomes.OutOfMemory)
     no-memory g u =
         came-up s1 before before a a y y (Err outcomes.OutOfMemory) NoPlan (made-without asked items h s s1 before (hand-grown s1.basis.store u.grown)) (adds_none a y (IsStopOf h s NoPlan before.items))
 
@@ -407,20 +408,20 @@ module _ (items : List Bytes) (h : Held) (f : Filter) (refname n all : Bytes) (b
       own = own;
     }) brought
 
-    made-so : made (room_in s) asked ≡ within (room_in s) h (flat_map pair_line (zip x.stream.state.commits x.originals)) (push_plan h refname x (last_or None x.originals))
+    made-so : made (room_in s) asked ≡ within (room_in s) h (flat_map (told_line telling) (zip x.stream.state.commits x.originals)) (push_plan h refname x (last_or None x.originals))
     made-so =
-        ap (λ (o : Option PushRefusal). no_refusal o >>= λ _. within (room_in s) h (flat_map pair_line (zip x.stream.state.commits x.originals)) (push_plan h refname x (last_or None x.originals))) u.given.accepted
+        ap (λ (o : Option PushRefusal). no_refusal o >>= λ _. within (room_in s) h (flat_map (told_line telling) (zip x.stream.state.commits x.originals)) (push_plan h refname x (last_or None x.originals))) u.given.accepted
 
-    output-is : flat_map pair_line (zip x.stream.state.commits x.originals) ≡ flat_map (λ (c : Pair). digits_line c.pushed.0 c.original.0) g.commits.items
-    output-is = lines-are S1 g.commits.items x.stream.state.commits x.originals u.given.pushed u.given.originals
+    output-is : flat_map (told_line telling) (zip x.stream.state.commits x.originals) ≡ flat_map (λ (c : Pair). told_digits telling c.pushed.0 c.original.0) g.commits.items
+    output-is = lines-are telling S1 g.commits.items x.stream.state.commits x.originals u.given.pushed u.given.originals
 
     -- ---- nothing is pushed
 
     none-here : last_or None g.commits.items ≡ None → x.originals ≡ []
     none-here e = none-original S1 g.commits.items x.originals u.given.originals (none-pairs g.commits.items e)
 
-    none-output : last_or None g.commits.items ≡ None → flat_map pair_line (zip x.stream.state.commits x.originals) ≡ []
-    none-output e = output-is ∙ ap (λ (ps : List Pair). flat_map (λ (c : Pair). digits_line c.pushed.0 c.original.0) ps) (none-pairs g.commits.items e)
+    none-output : last_or None g.commits.items ≡ None → flat_map (told_line telling) (zip x.stream.state.commits x.originals) ≡ []
+    none-output e = output-is ∙ ap (λ (ps : List Pair). flat_map (λ (c : Pair). told_digits telling c.pushed.0 c.original.0) ps) (none-pairs g.commits.items e)
 
     none-made : last_or None g.commits.items ≡ None → made (room_in s) asked ≡ Ok (unchanged h [])
     none-made e = made-so ∙ (λ i. within (room_in s) h (none-output e i) (push_plan h refname x (last_or None (none-here e i))))
@@ -428,9 +429,9 @@ module _ (items : List Bytes) (h : Held) (f : Filter) (refname n all : Bytes) (b
     none-pushed-so : last_or None g.commits.items ≡ None → IsPushed h h f refname n x
     none-pushed-so e = subst (λ (os : List Snapshot). IsPushed h (held_after h (push_plan h refname x (last_or None os))) f refname n x) (none-here e) is-pushed
 
-    pub none-pushed : (e : last_or None g.commits.items ≡ None) (before : KeeperView) (a : ℕ) (y : ℕ → List Bytes → Type 0) (report : Bytes) → report ≡ [] → IsPushMade items h f refname all s st s1 before before a a y y (Ok report)
+    pub none-pushed : (e : last_or None g.commits.items ≡ None) (before : KeeperView) (a : ℕ) (y : ℕ → List Bytes → Type 0) (report : Bytes) → report ≡ [] → IsPushMade telling items h f refname all s st s1 before before a a y y (Ok report)
     none-pushed e before a y report q =
-        subst (λ (r : Bytes). IsPushMade items h f refname all s st s1 before before a a y y (Ok r)) (sym q)
+        subst (λ (r : Bytes). IsPushMade telling items h f refname all s st s1 before before a a y y (Ok r)) (sym q)
         (came-up s1 before before a a y y (Ok []) NoPlan (record {
           reported = told-report (IsAtHand S (Ok asked)) (made (room_in s) asked) (unchanged h []) [] (none-made e) refl;
           planned = record { case = asked; came_up = refl; step = unchanged h []; done = none-made e; planned = (refl, none-pushed-so e) };
@@ -442,7 +443,7 @@ module _ (items : List Bytes) (h : Held) (f : Filter) (refname n all : Bytes) (b
 
     -- ---- what it brings is to be committed
 
-    module _ (report : Bytes) (b : Batch) (pair : Pair) (p : IsPushPrepared g refname pair.original.0 report b) (e : last_or None g.commits.items ≡ Some pair) where
+    module _ (report : Bytes) (b : Batch) (pair : Pair) (p : IsPushPrepared telling g refname pair.original.0 report b) (e : last_or None g.commits.items ≡ Some pair) where
       l : IsLast x.originals pair
       l = last-original S1 g.commits.items x.originals pair u.given.originals e
 
@@ -483,11 +484,11 @@ module _ (items : List Bytes) (h : Held) (f : Filter) (refname n all : Bytes) (b
           ∙ ap (λ (m : Bytes). change_plan h (objects_of x.stream.state.blobs x.originals) ((refname, m) ∷ [])) (sym l.named)
           ∙ sym (ap (push_plan h refname x) l.last)
 
-      of-case : IsCase asked items h s s1 (flat_map pair_line (zip x.stream.state.commits x.originals)) plan
+      of-case : IsCase asked items h s s1 (flat_map (told_line telling) (zip x.stream.state.commits x.originals)) plan
       of-case = record {
         state = u.state;
         room = room-same;
-        step = made-so ∙ ap (within (room_in s) h (flat_map pair_line (zip x.stream.state.commits x.originals))) (sym plan-same);
+        step = made-so ∙ ap (within (room_in s) h (flat_map (told_line telling) (zip x.stream.state.commits x.originals))) (sym plan-same);
         plan = λ w. (refl, subst (λ (q : Plan). IsPushed h (held_after h q) f refname n x) (sym plan-same) is-pushed);
         addition = change-law h x.stream.state.blobs x.originals (settings_of b) brought small refs;
         kept = λ w k. (kept-law project_by).change items h x.stream.state.blobs x.originals (settings_of b) stay k brought small refs (passed-same items h plan s st.current w);
@@ -501,18 +502,18 @@ module _ (items : List Bytes) (h : Held) (f : Filter) (refname n all : Bytes) (b
 
         pub commit-refused : (d : CommitError) (o : Outcome) → o ≡ commit_outcome d → ForBatch (λ blobs cs. IsRefused h (batch_plan h b blobs cs) s1 after d) → after.basis.store ≡ s1.basis.store
             → ForBatch (λ blobs cs. Appends (batch_plan h b blobs cs) before now (Err d)) → (IsRefusedBy (Err d) → OnlyAdds a c y z (IsPresent before.items))
-            → IsPushMade items h f refname all s st after before now a c y z (Err o)
+            → IsPushMade telling items h f refname all s st after before now a c y z (Err o)
         commit-refused d o q why same got refused =
-            subst (λ (w : Outcome). IsPushMade items h f refname all s st after before now a c y z (Err w)) (sym q)
+            subst (λ (w : Outcome). IsPushMade telling items h f refname all s st after before now a c y z (Err w)) (sym q)
             (came-up after before now a c y z (Err (commit_outcome d)) (planned_by plan (Err d))
-            (made-refused asked items h s s1 (flat_map pair_line (zip x.stream.state.commits x.originals)) plan of-case after before now d (why x.stream.state.blobs x.originals batch) same
+            (made-refused asked items h s s1 (flat_map (told_line telling) (zip x.stream.state.commits x.originals)) plan of-case after before now d (why x.stream.state.blobs x.originals batch) same
             (got x.stream.state.blobs x.originals batch))
             (stops-as (planned_by plan (Err d)) (stops-by h s1 plan before.items a c y z (Err d) (stops x.stream.state.blobs x.originals batch) refused)))
 
         pub commit-done : (w : Unit {0}) → ForBatch (λ blobs cs. IsCommitted h (batch_plan h b blobs cs) s1 after × IsGround after.basis)
-            → ForBatch (λ blobs cs. Appends (batch_plan h b blobs cs) before now (Ok w)) → IsPushMade items h f refname all s st after before now a c y z (Ok report)
+            → ForBatch (λ blobs cs. Appends (batch_plan h b blobs cs) before now (Ok w)) → IsPushMade telling items h f refname all s st after before now a c y z (Ok report)
         commit-done w done got =
             came-up after before now a c y z (Ok report) plan
-            (made-done asked items h s s1 (flat_map pair_line (zip x.stream.state.commits x.originals)) plan of-case after w before now report (output-is ∙ sym p.lines)
+            (made-done asked items h s s1 (flat_map (told_line telling) (zip x.stream.state.commits x.originals)) plan of-case after w before now report (output-is ∙ sym p.lines)
             (done x.stream.state.blobs x.originals batch).0.appended (done x.stream.state.blobs x.originals batch).1 (got x.stream.state.blobs x.originals batch))
             (stops-as plan (stops x.stream.state.blobs x.originals batch))

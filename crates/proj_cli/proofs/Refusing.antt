@@ -11,6 +11,7 @@ use Rattle.fast_import.specs.Replays.{empty_base, ran}
 use Rattle.filter_routes.specs.FaultTests.{fault}
 use Rattle.filter_routes.specs.declared.fault.RouteFault.{RouteFault}
 use Rattle.filter_routes.specs.declared.fault.RouteFault.TheVariants as routes
+use Rattle.proj_gate.specs.Policies.{Act, Allowed, Denied, Rule as PolicyRule, See, Push as PushAct, Verdict, decide, rules}
 use Rattle.proj_io.specs.Counts.{Counts}
 use Rattle.proj_io.specs.Stops.{OnlyAdds, Nothing}
 use Rattle.proj_io.specs.Views.{KeeperView}
@@ -22,9 +23,10 @@ use Rattle.repo_ground.specs.Loads.{IsLoadFault}
 use Rattle.repo_ground.specs.declared.state.LoadError.{LoadError}
 use Rattle.repo_ground.specs.declared.state.LoadError.TheVariants as load
 use Rattle.proj_words.specs.Faults.{filter_outcome, route_outcome}
-use Rattle.proj_words.specs.Words.{Command, Import, Project, Push, Export, Name, Rule, Audit, Verify}
+use Rattle.proj_words.specs.Words.{Command, As, Import, Project, Push, Export, Name, Rule, Audit, Verify}
 use Rattle.proj_words.specs.declared.outcome.Outcome.{Outcome}
 use Rattle.proj_words.specs.declared.outcome.Outcome.TheVariants.{Done, OutOfMemory, Collision, ReadFault, WriteFault, StoreFault, Usage}
+use Rattle.proj_words.specs.declared.outcome.Outcome.TheVariants as outcomes
 use Rattle.proj_cli.specs.Cases.{Case, Made, break_outcome, loaded, NameCase, VerifyCase, verdict}
 use Rattle.proj_cli.specs.Steps.{case}
 use Rattle.proj_cli.specs.Audit.{audit_case, path_by}
@@ -37,7 +39,9 @@ use Rattle.proj_cli.specs.Hands.{IsInHands}
 use Rattle.proj_cli.specs.Judging.{IsOwn, IsUnjudged}
 use Rattle.proj_cli.specs.Makes.{IsGoodPlan, IsRefusal, IsReported, IsStored, hands_of, step_in}
 use Rattle.proj_cli.specs.Plans.{AreKept}
+use Rattle.proj_cli.specs.Policy.{allowed, granted, policy_text}
 use Rattle.proj_cli.specs.Verify.{name_by}
+use Rattle.proj_cli.specs.declared.lines.Telling.TheVariants.{Both, PushedAlone}
 use Rattle.proj_cli.proofs.Forming.{adds-nothing}
 
 -- ---- outcomes that no device tells, and that aren't the last
@@ -149,6 +153,19 @@ none-written n e h = record { later = omega arith; rose = λ g. absurd (h.0 (ap 
 pub of-counts : {A : Type 0} (f g : ℕ) (e : Outcome) → Counts f g (◌≡◌ {A = Result A Outcome} (Err e) (Err StoreFault)) → Counts f g (e ≡ StoreFault)
 of-counts f g e counts = record { later = counts.later; rose = λ h. counts.rose (ap Err h) }
 
+-- ---- policies
+
+allowed-own : (v : Verdict) (e : Outcome) → allowed v ≡ Err e → IsOwn e
+allowed-own (Allowed line) e g = cc
+allowed-own (Denied line) e g = subst IsOwn (err-same {A = Unit {0}} (outcomes.Denied line) e g) (record { done = λ e. cc; read = λ e. cc; write = λ e. cc; store = λ e. cc })
+
+policy-own : (r : Result (List PolicyRule) ℕ) (decided : List PolicyRule → Verdict) (e : Outcome) → (refused_by outcomes.BadPolicy r >>= λ rs. allowed (decided rs)) ≡ Err e → IsOwn e
+policy-own (Ok rs) decided e g = allowed-own (decided rs) e g
+policy-own (Err line) decided e g = subst IsOwn (err-same {A = Unit {0}} (outcomes.BadPolicy line) e g) (record { done = λ e. cc; read = λ e. cc; write = λ e. cc; store = λ e. cc })
+
+pub granted-own : (h : Held) (user : Bytes) (act : Act) (refname : Bytes) (f : Filter) (e : Outcome) → granted h user act refname f ≡ Err e → IsOwn e
+granted-own h user act refname f e g = policy-own (rules (policy_text h)) (λ rs. decide rs user act refname f) e g
+
 -- ---- refusals
 
 refusal-own : (H : Object → Type 0) (e : Outcome) → e ≢ Done → e ≢ WriteFault → IsRefusal H e (Err e)
@@ -221,10 +238,13 @@ verdict-case (Audit r t p) e g loading all = of-text (sound t) (λ f. loading >>
 verdict-case (Verify n t p) e g loading all = of-text (sound t) (λ f. Ok (VerifyCase f (name_by n) (path_by p) all)) e g
 verdict-case (Import force) e g loading all = cc
 verdict-case (Project r t) e g loading all = of-text (sound t) (λ f. loading >>= λ h. project_case h f r) e g
-verdict-case (Push r t) e g loading all = of-text (sound t) (λ f. loading >>= λ h. push_case h f r all) e g
+verdict-case (Push r t) e g loading all = of-text (sound t) (λ f. loading >>= λ h. push_case Both h f r all) e g
 verdict-case (Export r t) e g loading all = of-text (sound t) (λ f. loading >>= λ h. export_case h f r) e g
 verdict-case (Name r t) e g loading all = of-text (sound t) (λ f. Ok (NameCase f r (ran empty_base all))) e g
 verdict-case (Rule k) e g loading all = cc
+verdict-case (As u (Project r t)) e g loading all = of-text (sound t) (λ f. loading >>= λ h. granted h u See r f >>= λ _. project_case h f r) e g
+verdict-case (As u (Push r t)) e g loading all = of-text (sound t) (λ f. loading >>= λ h. granted h u PushAct r f >>= λ _. push_case PushedAlone h f r all) e g
+verdict-case (As u (Export r t)) e g loading all = of-text (sound t) (λ f. loading >>= λ h. granted h u See r f >>= λ _. export_case h f r) e g
 verdict-case _ e g loading all = ap Err (err-same {A = Unit {0}} Usage e g)
 
 pub unjudged-refusal : (H : Object → Type 0) (room : Room) (asked : Command) (loading : Result Held Outcome) (all : Bytes) (e : Outcome) → IsUnjudged asked e → IsRefusal H e (step_in room (case asked loading all))

@@ -18,7 +18,8 @@ use Rattle.stream_reader.specs.declared.command.Placed.{Placed}
 use Rattle.stream_reader.specs.declared.fault.StreamFault.{StreamFault}
 use Rattle.stream_reader.specs.declared.fault.StreamFault.TheVariants.{Syntax}
 use Rattle.fast_import.specs.Made.{IsBlobAmong, IsDirectoryOf, IsMadeAt, IsMadeBy, IsMadeOf, IsMadeOn, tree_object}
-use Rattle.fast_import.specs.Replays.{Base, BlobMark, CommitMark, Draft, Marked, Ran, Replay, begun, commit_of, committed, command_step, edited, first_parent, gone_on, inline_blob, nothing_yet, ran_by, said, step, with_branch, with_mark, with_merges}
+use Rattle.fast_import.specs.Replays.{Base, BlobMark, CommitMark, Draft, Marked, Ran, Replay, TagMark, begun, commit_of, committed, command_step, edited, first_parent, gone_on, inline_blob, known, nothing_yet, ran_by, said, step, tag_of, tagged, with_branch, with_mark, with_merges}
+use Rattle.tag_objects.specs.TagLists.{put_tag}
 use Rattle.state_items.proofs.ReadObjects.{ok-same, value-of}
 use Rattle.state_items.proofs.TreeParts.{all-each, below-made, each-map}
 use Rattle.import_laws.proofs.Replaying.{refuse-value}
@@ -60,6 +61,10 @@ module _ (base : Base) where
   step-more r q at (commands.Reset refname from) x e there =
       let n = value-of (said base r from) (λ n. Ok (with_branch refname n r)) q e in
       subst (λ (s : Replay). Contains s.commits x) (ok-same (with_branch refname n.value r) q n.rest) there
+  step-more r q at (commands.Tag h) x e there =
+      let n = value-of (known base r h.from) (λ n. Ok (tagged h n r)) q e in
+      subst (λ (s : Replay). Contains s.commits x) (ok-same (tagged h n.value r) q n.rest)
+      (mark-more h.mark TagMark (record r { tags = put_tag (tag_of h n.value) r.tags }) x there)
   step-more r q at commands.Done x e there = subst (λ (s : Replay). Contains s.commits x) (ok-same r q e) there
 
   -- what a command brings that is done
@@ -77,6 +82,7 @@ module _ (base : Base) where
         subst (λ x. IsMadeOf x o) there made,
       )
   step-brought r q at (commands.Reset refname from) o e made = absurd made
+  step-brought r q at (commands.Tag h) o e made = absurd made
   step-brought r q at commands.Done o e made = absurd made
 
   -- and one that is refused
@@ -90,6 +96,7 @@ module _ (base : Base) where
       none None e made = made
       none (Some d) e made = let no : Ok (committed r d) ≡ Err f = e in cc
   refused-brought r at (commands.Reset refname from) f o e made = absurd made
+  refused-brought r at (commands.Tag h) f o e made = absurd made
   refused-brought r at commands.Done f o e made = absurd made
 
 -- ---- a stream

@@ -38,6 +38,7 @@ use Rattle.proj_words.specs.declared.outcome.Outcome.TheVariants.{OutOfMemory, U
 use Rattle.proj_cli.specs.Cases.{Case, ExportCase, PushCase, break_outcome, head_of, loaded}
 use Rattle.proj_cli.specs.Steps.{case}
 use Rattle.proj_cli.specs.Push.{push_case}
+use Rattle.proj_cli.specs.declared.lines.Telling.TheVariants.{Both}
 use Rattle.proj_cli.specs.Filters.{history, projected, rule_by, sound}
 use Rattle.proj_cli.specs.Hands.{Hand, IsInHands}
 use Rattle.proj_cli.specs.Makes.{IsStateOf, hands_of}
@@ -77,10 +78,10 @@ no-head ks h f refname e = ap (λ (o : Option Bytes). or_refuse UnknownRef o >>=
 
 module _ (items : List Bytes) (h : Held) (hands : List Hand) (s : Contents) (f : Filter) (refname n all : Bytes) (w : IsTried items h hands s)
     (e : find bytes_cmp refname h.refs ≡ Some n) where
-  came-push : push_case h f refname all ≡ Ok (PushCase h f refname n (pushing (rule_by h.rule) f (repo h).commits n refname all))
-  came-push = ap (λ (o : Option Bytes). or_refuse UnknownRef o >>= λ m. Ok (PushCase h f refname m (pushing (rule_by h.rule) f (repo h).commits m refname all))) e
+  came-push : push_case Both h f refname all ≡ Ok (PushCase Both h f refname n (pushing (rule_by h.rule) f (repo h).commits n refname all))
+  came-push = ap (λ (o : Option Bytes). or_refuse UnknownRef o >>= λ m. Ok (PushCase Both h f refname m (pushing (rule_by h.rule) f (repo h).commits m refname all))) e
 
-  pub seen-at : (o : Object) → IsSeenObject f s.basis n o → IsInHands (hands_of (push_case h f refname all)) o
+  pub seen-at : (o : Object) → IsSeenObject f s.basis n o → IsInHands (hands_of (push_case Both h f refname all)) o
   seen-at o q =
       let over = subst (λ (r : Rule). IsSeenOver f n r (repo h).commits o) (rule-is h s w.state.spells) (subst (λ (cs : Graph). IsSeenOver f n s.basis.rule cs o) (commits-are items h s f n w.state) q) in
       subst (λ (r : Result Case Outcome). IsInHands (hands_of r) o) (sym came-push) (in-hands (push_hand h f refname n all) o (seen-in h f refname n all o over))
@@ -93,11 +94,11 @@ module _ (items : List Bytes) (h : Held) (hands : List Hand) (s : Contents) (f :
 
   module _ (g : Ground) (x : Extends (IsSeenObject f s.basis n) s.basis g) where
     pub head-seen : (seen : Seen) → IsSeen f s.basis n g.store seen → g.map ≡ s.basis.map
-        → IsFrom items h (hands ++ hands_of (push_case h f refname all)) (from_of h f refname) (record s { basis = g }) (Ok seen.from)
-    head-seen seen p m = (from-is g.store seen p, shown-tried items h hands (hands_of (push_case h f refname all)) s f n w (IsSeenObject f s.basis n) seen-at g x m)
+        → IsFrom items h (hands ++ hands_of (push_case Both h f refname all)) (from_of h f refname) (record s { basis = g }) (Ok seen.from)
+    head-seen seen p m = (from-is g.store seen p, shown-tried items h hands (hands_of (push_case Both h f refname all)) s f n w (IsSeenObject f s.basis n) seen-at g x m)
 
-    pub head-unseen : (a : ApplyError) → IsApplyFault (IsSeenObject f s.basis n) g.store a → IsEnded (hands ++ hands_of (push_case h f refname all)) (from_of h f refname) (apply_outcome a)
-    head-unseen a q = shown-ended items h hands (hands_of (push_case h f refname all)) s f n w (IsSeenObject f s.basis n) seen-at g x (from_of h f refname) a q
+    pub head-unseen : (a : ApplyError) → IsApplyFault (IsSeenObject f s.basis n) g.store a → IsEnded (hands ++ hands_of (push_case Both h f refname all)) (from_of h f refname) (apply_outcome a)
+    head-unseen a q = shown-ended items h hands (hands_of (push_case Both h f refname all)) s f n w (IsSeenObject f s.basis n) seen-at g x (from_of h f refname) a q
 
 -- ---- the line of a history
 

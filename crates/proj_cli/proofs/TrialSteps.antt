@@ -22,6 +22,7 @@ use Rattle.proj_words.specs.declared.outcome.Outcome.TheVariants.{Done, OutOfMem
 use Rattle.proj_cli.specs.Cases.{Case, ImportCase, Made, PushCase, head_of, loaded}
 use Rattle.proj_cli.specs.Steps.{case, made, step}
 use Rattle.proj_cli.specs.Push.{push_case}
+use Rattle.proj_cli.specs.declared.lines.Telling.TheVariants.{Both}
 use Rattle.proj_cli.specs.Filters.{rule_by, sound}
 use Rattle.proj_cli.specs.Hands.{Hand, IsInHands}
 use Rattle.proj_cli.specs.Makes.{IsAtHand, IsMadeOf, IsPlanIn, IsRefusal, IsReported, hands_of, step_in}
@@ -162,7 +163,7 @@ import-plain h all = record {
 
 module _ (h : Held) (f : Filter) (refname all : Bytes) where
   abbrev pushed : Bytes → Case
-  pushed n = PushCase h f refname n (pushing (rule_by h.rule) f (repo h).commits n refname all)
+  pushed n = PushCase Both h f refname n (pushing (rule_by h.rule) f (repo h).commits n refname all)
 
   push-same : (room : Room) (x : Result Bytes Outcome) → ((x >>= λ n. Ok (pushed n)) >>= made room) ≡ step_in room (x >>= λ n. Ok (pushed n))
   push-same room (Ok n) = refl
@@ -172,7 +173,7 @@ module _ (h : Held) (f : Filter) (refname all : Bytes) where
   push-planned room c m p (Ok n) e w = subst (λ (d : Case). IsPlanIn room d m p → p ≡ m.plan) (ok-same (pushed n) c e) (λ q. q.0) w
   push-planned room c m p (Err x) e w = absurd (let no : Err x ≡ Ok c = e in cc)
 
-  pub push-plain : IsPlain (push_case h f refname all)
+  pub push-plain : IsPlain (push_case Both h f refname all)
   push-plain = record { same = λ room. push-same room (head_of refname h.refs); planned = λ room c m p e w. push-planned room c m p (head_of refname h.refs) e w }
 
 module _ (asked : Command) (input : Bytes) (items : List Bytes) (h : Held) (hands : List Hand) (s s' : Contents) (w : IsTried items h hands s)

@@ -7,7 +7,7 @@ use Rattle.object_store.specs.Growth.{IsGrownBy}
 use Rattle.object_store.specs.Objects.{Object, IsStore}
 use Rattle.state_items.specs.Hands.{IsTwice}
 use Rattle.state_items.specs.Items.{Held}
-use Rattle.state_items.specs.Changes.{ChangePlan, KeepPlan, NoPlan, Plan, RulePlan, held_after}
+use Rattle.state_items.specs.Changes.{ChangePlan, KeepPlan, NoPlan, Plan, RulePlan, TagPlan, held_after}
 use Rattle.repo_ground.proofs.StatesRead.{found-in}
 use Rattle.proj_words.specs.declared.outcome.Outcome.{Outcome}
 use Rattle.proj_cli.specs.Cases.{Case}
@@ -58,6 +58,7 @@ held-stays h NoPlan o m = m
 held-stays h (ChangePlan objects refs) o m = Contains-append_right _ h.objects o m
 held-stays h (RulePlan k) o m = m
 held-stays h (KeepPlan k text es) o m = m
+held-stays h (TagPlan objects refs tags) o m = Contains-append_right _ h.objects o m
 
 module _ (S S' : List Object) (h : Held) (p : Plan) (ks ls : List Hand) (grown : IsGrownBy (IsInHands ls) S S') (brought : AreBrought S h.objects ks) where
   old-brought : (o : Object) → Contains h.objects o ⊎ IsInHands ks o → Contains (held_after h p).objects o ⊎ IsInHands (ks ++ ls) o

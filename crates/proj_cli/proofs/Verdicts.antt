@@ -16,9 +16,10 @@ use Rattle.stream_reader.specs.declared.fault.StreamFault.{StreamFault}
 use Rattle.stream_reader.specs.declared.fault.StreamFault.TheVariants as streams
 use Rattle.fast_import.specs.Replays.{Ran, outcome_of}
 use Rattle.push_laws.specs.Pushes.{PushRefusal, StreamRefused, CommitRefused}
-use Rattle.push_laws.specs.PushReplays.{StreamRefusal, OtherRef, NotAtHead, MergePushed, Faulty}
+use Rattle.push_laws.specs.PushReplays.{StreamRefusal, OtherRef, NotAtHead, FurtherParents, Faulty}
 use Rattle.push_laws.specs.PushVerdicts.{Refusal, NoChange, BadWorkspace, Unseen, NotHeld, Blocked, TreeLimit}
 use Rattle.proj_audit.specs.Certificates.{Fault, Syntax, NotProved, verify}
+use Rattle.proj_gate.specs.Policies.{Act, Allowed, Denied, Push as PushAct, See, Verdict, decide, rules}
 use Rattle.state_items.specs.Fields.{BrokenAt, Clash}
 use Rattle.state_items.specs.Items.{Break, Held, read_items}
 use Rattle.state_items.specs.Changes.{Plan, Room, fresh, objects_of, passed, passed_by_objects, rule_plan}
@@ -29,14 +30,16 @@ use Rattle.repo_ground.specs.Moves.{Move, first_backward}
 use Rattle.repo_ground.specs.declared.state.LoadError.{LoadError}
 use Rattle.repo_ground.specs.declared.state.LoadError.TheVariants as load
 use Rattle.proj_words.specs.Faults.{stream_outcome}
-use Rattle.proj_words.specs.Words.{Command, Import, Project, Push, Export, Name, Batch, Trial, Rule, Audit, Verify, Unknown}
+use Rattle.proj_words.specs.Words.{Command, As, Import, Project, Push, Export, Name, Batch, Trial, Rule, Audit, Verify, Unknown}
 use Rattle.proj_words.specs.declared.outcome.Outcome.{Outcome}
 use Rattle.proj_words.specs.declared.outcome.Outcome.TheVariants.{Done, Limit, OutOfMemory, UnknownRef, Collision, ReadFault, WriteFault, StoreFault}
+use Rattle.proj_words.specs.declared.outcome.Outcome.TheVariants as outcomes
 use Rattle.proj_cli.specs.Cases.{Case, ImportCase, ProjectCase, ExportCase, PushCase, NameCase, RuleCase, AuditCase, VerifyCase, IsJudgedRightly, Made, break_outcome, head_of, is_verdict, loaded, no_limit, streamed, verdict, within}
 use Rattle.proj_cli.specs.Import.{all_forward, import_plan, no_backward, ref_line}
 use Rattle.proj_cli.specs.Steps.{case}
-use Rattle.proj_cli.specs.Push.{commit_refusal, no_refusal, pair_line, push_outcome, push_plan, stream_refusal}
+use Rattle.proj_cli.specs.Push.{commit_refusal, no_refusal, push_outcome, push_plan, stream_refusal, told_line}
 use Rattle.proj_cli.specs.Export.{export_case}
+use Rattle.proj_cli.specs.Policy.{allowed, granted, policy_text}
 use Rattle.proj_cli.specs.Rule.{rule_line}
 use Rattle.proj_cli.specs.Verify.{verify_outcome}
 use Rattle.proj_cli.specs.Filters.{sound}
@@ -110,7 +113,7 @@ forward-other false cs refs es = backward-other (first_backward cs refs es)
 replay-other : (e : StreamRefusal) → is_verdict (stream_refusal e) ≡ false
 replay-other (OtherRef at) = refl
 replay-other (NotAtHead expected got) = refl
-replay-other (MergePushed n) = refl
+replay-other (FurtherParents n) = refl
 replay-other (Faulty e) = stream-other e
 
 commit-other : (n : ℕ) (e : Refusal) → is_verdict (commit_refusal n e) ≡ false
@@ -143,9 +146,9 @@ made-other room (ImportCase force h x) =
     (forward-other force (reverse r.commits ++ (repo h).commits) h.refs r.heads) (λ _. within-other room h (flat_map ref_line r.heads) (import_plan h r)))
 made-other room (ProjectCase h f n) = tt
 made-other room (ExportCase h f refname n) = tt
-made-other room (PushCase h f refname n p) =
+made-other room (PushCase telling h f refname n p) =
     other-on (no_refusal p.refusal) _ (pushed-other p.refusal)
-    (λ _. within-other room h (flat_map pair_line (zip p.stream.state.commits p.originals)) (push_plan h refname p (last_or None p.originals)))
+    (λ _. within-other room h (flat_map (told_line telling) (zip p.stream.state.commits p.originals)) (push_plan h refname p (last_or None p.originals)))
 made-other room (NameCase f refname x) =
     other-on (streamed x) _ (streamed-other x) (λ r. other-on (no_limit (passed_by_objects (fresh [] (objects_of r.blobs r.commits)) None)) _
     (limit-other (passed_by_objects (fresh [] (objects_of r.blobs r.commits)) None))
@@ -155,6 +158,17 @@ made-other room (AuditCase h f n q) = tt
 made-other room (VerifyCase f n q text) =
     other-on (must (Limit Input None) (nat_le (length text) INPUT_BYTES)) _ (must-other (Limit Input None) (nat_le (length text) INPUT_BYTES) refl)
     (λ _. other-on (refused_by verify_outcome (verify n f q text)) _ (other-by verify_outcome (verify n f q text) certificate-other) (λ x. tt))
+
+-- ---- policies
+
+allowed-other : (v : Verdict) → IsOther (allowed v)
+allowed-other (Allowed line) = tt
+allowed-other (Denied line) = refl
+
+pub granted-other : (h : Held) (user : Bytes) (act : Act) (refname : Bytes) (f : Filter) → IsOther (granted h user act refname f)
+granted-other h user act refname f =
+    other-on (refused_by outcomes.BadPolicy (rules (policy_text h))) (λ rs. allowed (decide rs user act refname f)) (other-by outcomes.BadPolicy (rules (policy_text h)) (λ line. refl))
+    (λ rs. allowed-other (decide rs user act refname f))
 
 -- ---- cases
 
@@ -183,6 +197,16 @@ case-judged (Rule k) loading input w = other-judged (Rule k) (case (Rule k) load
 case-judged (Audit r t p) loading input w =
     of-sound (Audit r t p) (sound t) _ (λ f. other-on loading _ w (λ h. other-on (head_of r h.refs) _ (other-found (find_entry bytes_cmp r h.refs)) (λ n. tt))) refl
 case-judged (Verify n t p) loading input w = of-sound (Verify n t p) (sound t) _ (λ f. tt) refl
+case-judged (As u (Project r t)) loading input w =
+    of-sound (As u (Project r t)) (sound t) _
+    (λ f. other-on loading _ w (λ h. other-on (granted h u See r f) _ (granted-other h u See r f) (λ _. other-on (head_of r h.refs) _ (other-found (find_entry bytes_cmp r h.refs)) (λ n. tt)))) refl
+case-judged (As u (Export r t)) loading input w =
+    of-sound (As u (Export r t)) (sound t) _
+    (λ f. other-on loading _ w (λ h. other-on (granted h u See r f) _ (granted-other h u See r f) (λ _. other-on (head_of r h.refs) _ (other-found (find_entry bytes_cmp r h.refs)) (λ n. tt)))) refl
+case-judged (As u (Push r t)) loading input w =
+    of-sound (As u (Push r t)) (sound t) _
+    (λ f. other-on loading _ w (λ h. other-on (granted h u PushAct r f) _ (granted-other h u PushAct r f) (λ _. other-on (head_of r h.refs) _ (other-found (find_entry bytes_cmp r h.refs)) (λ n. tt)))) refl
+case-judged (As u _) loading input w = λ _. refl
 case-judged Batch loading input w = λ _. refl
 case-judged (Trial n) loading input w = λ _. refl
 case-judged Unknown loading input w = λ _. refl

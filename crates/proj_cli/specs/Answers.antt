@@ -10,7 +10,7 @@ use Rattle.state_items.specs.Repos.{repo}
 use Rattle.state_items.specs.Changes.{Plan, held_after, plan_items}
 use Rattle.state_items.specs.Hands.{IsTwice}
 use Rattle.repo_ground.specs.Changes.{KeepsItems}
-use Rattle.proj_words.specs.Words.{Command, Export, Project, loads, reads, writes}
+use Rattle.proj_words.specs.Words.{Command, As, Export, Project, loads, reads, writes}
 use Rattle.proj_words.specs.declared.outcome.Outcome.{Outcome}
 use Rattle.proj_words.specs.declared.outcome.Outcome.TheVariants.{Done, OutOfMemory, Collision, ReadFault, WriteFault, StoreFault}
 use Rattle.proj_cli.specs.Cases.{Case, ProjectCase, IsJudgedRightly, Made, loaded}
@@ -90,6 +90,7 @@ IsOutcome hand outcome r = r ≡ Err outcome
 -- whether a form writes its report while it is made
 abbrev pub flows : Command → Bool
 flows (Export r f) = true
+flows (As u c) = flows c
 flows asked = false
 
 -- Where the report is this and these items are appended, none or one: what was done by each outcome. A report is written after the append.
@@ -142,6 +143,7 @@ AreItems asked before items = loads asked ≡ true → before.store.items ≡ So
 -- whether a form may change the state
 abbrev pub changes_state : Command → Bool
 changes_state (Project r f) = false
+changes_state (As u c) = changes_state c
 changes_state asked = writes asked
 
 -- the same state, whatever is kept

@@ -13,10 +13,11 @@ use Rattle.state_items.specs.Fields.{BrokenAt, Clash}
 use Rattle.state_items.specs.Items.{Break, Held, read_items, nothing}
 use Rattle.push_laws.specs.Pushes.{Pushing}
 use Rattle.proj_words.specs.Faults.{stream_outcome}
-use Rattle.proj_words.specs.Words.{Command, Import, Project, Push, Export, Name, Rule, Audit, Verify, Batch, Trial}
+use Rattle.proj_words.specs.Words.{Command, Import, Project, Push, Export, Name, Rule, Audit, Verify, As, Batch, Trial}
 use Rattle.proj_words.specs.declared.outcome.Outcome.TheVariants.{Usage, FilterFault, Overlap, NotKeeping, Collision, Damaged, UnknownRef, Limit}
 use Rattle.proj_words.specs.declared.outcome.Outcome.{Outcome}
 use Rattle.proj_cli.specs.Filters.{sound}
+use Rattle.proj_cli.specs.declared.lines.Telling.{Telling}
 
 -- ---- judging
 
@@ -29,6 +30,9 @@ verdict (Export refname text) = sound text >>= λ _. Ok tt
 verdict (Name refname text) = sound text >>= λ _. Ok tt
 verdict (Audit refname text path) = sound text >>= λ _. Ok tt
 verdict (Verify digits text path) = sound text >>= λ _. Ok tt
+verdict (As user (Project refname text)) = sound text >>= λ _. Ok tt
+verdict (As user (Export refname text)) = sound text >>= λ _. Ok tt
+verdict (As user (Push refname text)) = sound text >>= λ _. Ok tt
 verdict (Import force) = Ok tt
 verdict (Rule k) = Ok tt
 verdict asked = Err Usage
@@ -75,7 +79,8 @@ pub data Case : Type 0 where
   ProjectCase : Held → Filter → Bytes → Case
   -- of the ref and its commit
   ExportCase : Held → Filter → Bytes → Bytes → Case
-  PushCase : Held → Filter → Bytes → Bytes → Pushing → Case
+  -- and of what is told of each pushed commit
+  PushCase : Telling → Held → Filter → Bytes → Bytes → Pushing → Case
   -- of the ref, and the stream upon nothing
   NameCase : Filter → Bytes → Ran StreamFault → Case
   RuleCase : Held → ℕ → Case
@@ -89,7 +94,7 @@ abbrev pub held_in : Case → Held
 held_in (ImportCase force h x) = h
 held_in (ProjectCase h f n) = h
 held_in (ExportCase h f refname n) = h
-held_in (PushCase h f refname n p) = h
+held_in (PushCase w h f refname n p) = h
 held_in (NameCase f refname x) = nothing
 held_in (RuleCase h k) = h
 held_in (AuditCase h f n q) = h

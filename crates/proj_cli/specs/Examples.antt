@@ -25,10 +25,11 @@ use Rattle.state_items.specs.Items.{change_text, is_canonical, kept_text, read_i
 use Rattle.state_items.specs.Changes.{fresh, plan_items, room_of}
 use Rattle.push_laws.specs.Examples.{commit, naming, reading, showing}
 use Rattle.push_laws.specs.StreamExamples.{replaying}
+use Rattle.proj_gate.specs.Policies.{decide, rules}
 use Rattle.proj_words.specs.Entries.{Entry, entries}
-use Rattle.proj_words.specs.Words.{Import, Project, Export, Push, Name, Rule, Trial, Batch, Unknown}
+use Rattle.proj_words.specs.Words.{As, Import, Project, Export, Push, Name, Rule, Trial, Batch, Unknown}
 use Rattle.proj_words.specs.declared.outcome.Outcome.{Outcome}
-use Rattle.proj_words.specs.declared.outcome.Outcome.TheVariants.{Done, Usage, UnknownRef, NotForward, NotAtHead, Limit, FilterFault, Overlap, Damaged, Syntax}
+use Rattle.proj_words.specs.declared.outcome.Outcome.TheVariants.{Done, Usage, UnknownRef, NotForward, NotAtHead, Limit, FilterFault, Overlap, Damaged, Syntax, Denied, BadPolicy}
 use Rattle.proj_words.specs.declared.outcome.FilterWhat.TheVariants as filters
 use Rattle.proj_cli.specs.Cases.{Made, ProjectCase, head_of, loaded, verdict}
 use Rattle.proj_cli.specs.Push.{name_or_none}
@@ -293,3 +294,76 @@ pub not_at_the_head : step (Push main (codes ":/a")) after_the_push pushed
     ≡ Err (NotAtHead (name_or_none (digits_name (codes "603e327e45d6237f0ea929264b187f78ba56c8de"))) (name_or_none (digits_name (codes "6a27ff6de5d45a65cc66723c6ae6227ea6004aa6"))))
 unfolding judging showing loading holding replaying reading naming digits
 not_at_the_head = refl
+
+-- ---- commands of users
+
+-- what a theorem about policies unfolds beside that, so that it computes
+unfoldable ruling : Option Path
+unfolding rules decide
+ruling = None
+
+abbrev ann : Bytes
+ann = codes "ann"
+
+abbrev bob : Bytes
+bob = codes "bob"
+
+-- the two directories, with a policy beside them: what stands at `access` in the commit of its ref
+abbrev ruled : Bytes → List Bytes
+ruled access =
+    two_imported
+    ++ items_or_none (items_of (step (Import false) two_imported
+    (codes "commit refs/proj/policy\ncommitter A <a@x> 1700000000 +0000\ndata 0\nM " ++ access)))
+
+abbrev policy : Bytes
+policy = codes "allow ann push refs/heads/main :/a\nallow * see refs/heads/* :/b\ndeny * see refs/heads/main :/a\n"
+
+abbrev by_policy : List Bytes
+by_policy = ruled (codes "100644 inline access\ndata 95\n" ++ policy)
+
+-- only the pushed commits are told
+pub a_user_pushes : output_of (step (As ann (Push main (codes ":/a"))) by_policy pushed)
+    ≡ Ok (codes "21c8dcd98bd914d4a202c87b6f55917c9606761b\n603e327e45d6237f0ea929264b187f78ba56c8de\n")
+unfolding judging showing loading holding replaying reading naming digits ruling
+a_user_pushes = refl
+
+pub what_is_shown_to_a_user : output_of (step (As bob (Project main (codes ":/b"))) by_policy []) ≡ output_of (step (Project main (codes ":/b")) by_policy [])
+unfolding judging showing loading holding replaying reading naming digits ruling
+what_is_shown_to_a_user = refl
+
+-- the second rule speaks of another filter
+pub a_rule_denies : step (As bob (Project main (codes ":/a"))) by_policy [] ≡ Err (Denied 3)
+unfolding judging showing loading holding replaying reading naming digits ruling
+a_rule_denies = refl
+
+pub no_rule_speaks_of_it : step (As bob (Push main (codes ":/b"))) by_policy [] ≡ Err (Denied 0)
+unfolding judging showing loading holding replaying reading naming digits ruling
+no_rule_speaks_of_it = refl
+
+-- also where no such ref is there
+pub denied_before_the_ref : step (As ann (Export (codes "refs/heads/none") (codes ":/a"))) by_policy [] ≡ Err (Denied 0)
+unfolding judging showing loading holding replaying reading naming digits ruling
+denied_before_the_ref = refl
+
+-- a bad line is told to everybody, whatever the lines before it allow
+pub a_bad_line : step (As ann (Push main (codes ":/a")))
+    (ruled (codes "100644 inline access\ndata 96\nallow ann push refs/heads/main :/a\nallow * look refs/heads/* :/b\ndeny * see refs/heads/main :/a\n")) pushed
+    ≡ Err (BadPolicy 2)
+unfolding judging showing loading holding replaying reading naming digits ruling
+a_bad_line = refl
+
+pub a_link_has_no_rules : step (As ann (Push main (codes ":/a"))) (ruled (codes "120000 inline access\ndata 95\n" ++ policy)) pushed ≡ Err (Denied 0)
+unfolding judging showing loading holding replaying reading naming digits ruling
+a_link_has_no_rules = refl
+
+pub no_policy_has_no_rules : step (As ann (Push main (codes ":/a"))) two_imported pushed ≡ Err (Denied 0)
+unfolding judging showing loading holding replaying reading naming digits ruling
+no_policy_has_no_rules = refl
+
+pub a_user's_filter_comes_first : step (As ann (Project main (codes ":c"))) damaged [] ≡ Err (FilterFault filters.Syntax)
+unfolding judging
+a_user's_filter_comes_first = refl
+
+pub then_a_user's_items : step (As ann (Project main (codes ":/a"))) damaged [] ≡ Err (Damaged 0 0)
+unfolding judging loading
+then_a_user's_items = refl

@@ -7,6 +7,7 @@ use Rattle.git_objects.specs.Paths.{Bytes}
 use Rattle.git_objects.specs.Results.{◌>>=◌}
 use Rattle.object_store.specs.Objects.{Object, IsStore}
 use Rattle.filter_text.specs.Filters.{Filter}
+use Rattle.proj_gate.specs.Policies.{See}
 use Rattle.proj_io.specs.Counts.{Counts}
 use Rattle.proj_io.specs.Views.{SourceView, SinkView, KeeperView}
 use Rattle.state_items.specs.Items.{Held, read_items}
@@ -22,6 +23,7 @@ use Rattle.proj_cli.specs.Steps.{case, hand, IsLawful}
 use Rattle.proj_cli.specs.Export.{export_case}
 use Rattle.proj_cli.specs.Hands.{IsInHands}
 use Rattle.proj_cli.specs.Intake.{TakesUpTo, waited_by}
+use Rattle.proj_cli.specs.Policy.{granted}
 use Rattle.proj_cli.specs.Makes.{IsFlowed, IsGoodPlan, IsPlanned, IsRefusal, IsReported, IsStored, hands_of, step_in}
 use Rattle.proj_cli.specs.Stopped.{ForInput}
 
@@ -100,6 +102,10 @@ IsFormFlowed hand r before after outcome = (IsRefusal hand outcome r × Keeps be
 -- the case of an export of what is loaded
 abbrev pub exported_case : Result Held Outcome → Filter → Bytes → Result Case Outcome
 exported_case loading f refname = loading >>= λ h. export_case h f refname
+
+-- that of a user, whom the policy has to let see it
+abbrev pub user_exported_case : Result Held Outcome → Bytes → Filter → Bytes → Result Case Outcome
+user_exported_case loading user f refname = loading >>= λ h. granted h user See refname f >>= λ _. export_case h f refname
 
 -- What became of an export for these items. It is lawful where it is done.
 pub record IsExport (r : Result Case Outcome) (items : List Bytes) (before after : SinkView) (outcome : Outcome) : Type 0 where

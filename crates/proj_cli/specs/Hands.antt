@@ -59,6 +59,7 @@ blobs_read (commands.Commit h) = []
 blobs_read (commands.Change c) = inline_blob c
 blobs_read commands.CommitEnd = []
 blobs_read (commands.Reset refname from) = []
+blobs_read (commands.Tag h) = []
 blobs_read commands.Done = []
 
 -- the components of a change's paths
@@ -75,6 +76,7 @@ command_components (commands.Commit h) = []
 command_components (commands.Change c) = change_components c
 command_components commands.CommitEnd = []
 command_components (commands.Reset refname from) = []
+command_components (commands.Tag h) = []
 command_components commands.Done = []
 
 abbrev pub leaf_by : {E : Type 0} → (Bytes → Leaf) → Result Bytes E → List Leaf
@@ -94,6 +96,7 @@ given_leaf base r p (commands.Commit h) = []
 given_leaf base r p (commands.Change c) = change_leaf base r p c
 given_leaf base r p commands.CommitEnd = []
 given_leaf base r p (commands.Reset refname from) = []
+given_leaf base r p (commands.Tag h) = []
 given_leaf base r p commands.Done = []
 
 abbrev pub leaves_on : {E : Type 0} → (Replay → List Leaf) → Result Replay E → List Leaf

@@ -24,7 +24,7 @@ pushed_to h f refname n all = push_waited refname (option_map (λ s. s.commit) (
 -- the stream's last line. A certificate is read whole, up to 2^29 + 1 bytes of it: 2^25 bytes behind this place.
 abbrev pub waited_in : Case → Bytes → ℕ
 waited_in (ImportCase force h x) all = waited (base_of h) all
-waited_in (PushCase h f refname n p) all = pushed_to h f refname n all
+waited_in (PushCase w h f refname n p) all = pushed_to h f refname n all
 waited_in (NameCase f refname x) all = waited empty_base all
 waited_in (VerifyCase f n q text) all = 503316481
 waited_in _ all = 0

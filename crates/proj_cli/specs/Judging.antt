@@ -1,15 +1,18 @@
 -- What judging says of a command: of its words and its filter, before any device is touched.
-use Rattle.std.specs.Prelude.{◌≡◌, ◌≢◌, ◌⊎◌, Ok, Err}
+use Rattle.std.specs.Prelude.{◌≡◌, ◌≢◌, ◌⊎◌, Result, Ok, Err}
 use Rattle.git_objects.specs.Paths.{Bytes, Path}
 use Rattle.filter_text.specs.Shapes.{shape}
 use Rattle.commit_map.specs.Rules.{rule_number}
 use Rattle.workspace.specs.Laws.{IsUsable}
-use Rattle.proj_words.specs.Words.{Command, Import, Project, Push, Export, Name, Rule, Audit, Verify}
+use Rattle.proj_gate.specs.Policies.{See, Push as PushAct}
+use Rattle.state_items.specs.Items.{Held}
+use Rattle.proj_words.specs.Words.{Command, Import, Project, Push, Export, Name, Rule, Audit, Verify, As}
 use Rattle.proj_words.specs.declared.outcome.Outcome.{Outcome}
 use Rattle.proj_words.specs.declared.outcome.Outcome.TheVariants.{Done, OutOfMemory, ReadFault, WriteFault, StoreFault}
 use Rattle.proj_cli.specs.Audit.{path_by}
 use Rattle.proj_cli.specs.Cases.{verdict}
 use Rattle.proj_cli.specs.Filters.{sound}
+use Rattle.proj_cli.specs.Policy.{granted}
 use Rattle.proj_cli.specs.Verify.{name_by}
 use Rattle.proj_cli.specs.declared.judging.Claim.{Claim}
 use Rattle.proj_cli.specs.declared.judging.Judged.{Judged}
@@ -52,10 +55,20 @@ IsJudged asked (judged.Name s) = IsOf Name asked s
 IsJudged asked (judged.Rule r) = asked ≡ Rule (rule_number r)
 IsJudged asked (judged.Audit s q) = IsAuditOf asked s q
 IsJudged asked (judged.Verify c) = IsClaimed asked c
+IsJudged asked (judged.AsProject u s) = IsOf (λ refname text. As u (Project refname text)) asked s
+IsJudged asked (judged.AsPush u s) = IsOf (λ refname text. As u (Push refname text)) asked s
+IsJudged asked (judged.AsExport u s) = IsOf (λ refname text. As u (Export refname text)) asked s
 
 -- some command is
 abbrev pub IsSomeJudged : Judged → Type 0
 IsSomeJudged j = (asked : Command) × IsJudged asked j
+
+-- what the policy says of it, where a user asks
+abbrev pub permission : Held → Judged → Result (Unit {0}) Outcome
+permission h (judged.AsProject user s) = granted h user See s.refname (shape s.filter)
+permission h (judged.AsPush user s) = granted h user PushAct s.refname (shape s.filter)
+permission h (judged.AsExport user s) = granted h user See s.refname (shape s.filter)
+permission h j = Ok tt
 
 -- ---- a refusal
 

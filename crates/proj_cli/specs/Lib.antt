@@ -3,6 +3,7 @@ pub mod Cases
 pub mod Hands
 pub mod Plans
 pub mod Import
+pub mod Policy
 pub mod Project
 pub mod Export
 pub mod Push
@@ -11,6 +12,7 @@ pub mod Rule
 pub mod Audit
 pub mod Verify
 pub mod Steps
+pub mod Alike
 pub mod Intake
 pub mod Judging
 pub mod Makes
@@ -27,6 +29,7 @@ pub mod Inputs
 pub mod Batches
 pub mod Trials
 pub mod Runs
+pub mod TwoRuns
 pub mod Running
 pub mod Trying
 pub mod Calls

@@ -120,7 +120,7 @@ IsPlanIn room (ProjectCase h f n) m p = IsKeepPlanOf h f n room p
 IsPlanIn room (ExportCase h f refname n) m p = (p ≡ m.plan) × EndsAtProjection h f n
 IsPlanIn room (AuditCase h f n q) m p = (p ≡ m.plan) × IsAudited h f n q
 IsPlanIn room (VerifyCase f n q text) m p = (p ≡ m.plan) × IsVerified f n q text
-IsPlanIn room (PushCase h f refname n x) m p = (p ≡ m.plan) × IsPushed h (held_after h p) f refname n x
+IsPlanIn room (PushCase w h f refname n x) m p = (p ≡ m.plan) × IsPushed h (held_after h p) f refname n x
 IsPlanIn room other m p = p ≡ m.plan
 
 -- A plan comes of the case that came up.

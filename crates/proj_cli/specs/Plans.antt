@@ -6,7 +6,7 @@ use Rattle.filter_text.specs.Filters.{Filter}
 use Rattle.filter_text.specs.Printing.{printed}
 use Rattle.state_items.specs.Items.{Held, read_items}
 use Rattle.state_items.specs.Repos.{IsKept, repo}
-use Rattle.proj_words.specs.Words.{Command, Project}
+use Rattle.proj_words.specs.Words.{Command, As, Project}
 use Rattle.proj_cli.specs.Filters.{project_by, entries_of, projected, recalled, sound}
 
 -- ---- items that hold what they should
@@ -18,6 +18,7 @@ AreKept items h = IsKept project_by items h
 -- whether a form takes what is kept for projections
 abbrev pub recalls : Command → Bool
 recalls (Project refname text) = true
+recalls (As user asked) = recalls asked
 recalls asked = false
 
 -- items that hold what they should where a form takes what is kept for projections

@@ -8,7 +8,7 @@ use Rattle.git_objects.specs.Snapshots.{snapshot_name}
 use Rattle.filter_text.specs.Filters.{Filter}
 use Rattle.filter_text.specs.Printing.{printed}
 use Rattle.commit_map.specs.Shown.{Shown}
-use Rattle.state_items.specs.Changes.{KeepPlan, passed, room_of, Plan, NoPlan, ChangePlan, RulePlan, held_after}
+use Rattle.state_items.specs.Changes.{KeepPlan, passed, room_of, Plan, NoPlan, ChangePlan, RulePlan, TagPlan, held_after}
 use Rattle.state_items.specs.Items.{Held, is_of, is_canonical}
 use Rattle.state_items.specs.Repos.{repo}
 use Rattle.proj_words.specs.declared.outcome.Outcome.{Outcome}
@@ -52,6 +52,7 @@ IsKeepPlan h f items NoPlan = ⊤
 IsKeepPlan h f items (KeepPlan k text es) = IsKeep h f items k text es
 IsKeepPlan h f items (ChangePlan objects refs) = ⊥
 IsKeepPlan h f items (RulePlan k) = ⊥
+IsKeepPlan h f items (TagPlan objects refs tags) = ⊥
 
 -- Behind a `project` that is done an entry of the ref's commit is held, where the filter's canonical text is read, there were fewer than
 -- 2^20 items, and their bytes with 61 for each commit and 8,192 more are at most 2^31.

@@ -19,7 +19,7 @@ use Rattle.state_items.specs.Changes.{NoPlan, Plan, change_plan, objects_of, Roo
 use Rattle.state_items.specs.Items.{Held}
 use Rattle.state_items.specs.Repos.{repo}
 use Rattle.push_laws.specs.PushLaws.{IsStep, Agrees}
-use Rattle.push_laws.specs.PushReplays.{StreamRefusal, OtherRef as OnOtherRef, NotAtHead as IsNotAtHead, MergePushed as IsMerge, Faulty}
+use Rattle.push_laws.specs.PushReplays.{StreamRefusal, OtherRef as OnOtherRef, NotAtHead as IsNotAtHead, FurtherParents as IsMerge, Faulty}
 use Rattle.push_laws.specs.PushVerdicts.{Refusal, NoChange as IsUnchanged, BadWorkspace as IsBadWorkspace, Unseen as IsUnseen, NotHeld as IsNotHeld, Blocked as IsBlocked, TreeLimit, original_tree}
 use Rattle.push_laws.specs.Pushes.{pushing, PushRefusal, StreamRefused, CommitRefused, Pushing}
 use Rattle.filter_apply.specs.Hands.{parts_in}
@@ -29,10 +29,12 @@ use Rattle.proj_words.specs.declared.outcome.Outcome.{Outcome}
 use Rattle.proj_cli.specs.Cases.{head_of, Case, PushCase, Made, within}
 use Rattle.proj_cli.specs.Filters.{rule_by, projected}
 use Rattle.proj_cli.specs.Hands.{Hand, components_for, hand_of, own}
+use Rattle.proj_cli.specs.declared.lines.Telling.{Telling}
+use Rattle.proj_cli.specs.declared.lines.Telling.TheVariants.{Both, PushedAlone}
 
-abbrev pub push_case : Held → Filter → Bytes → Bytes → Result Case Outcome
-push_case h f refname input =
-    head_of refname h.refs >>= λ n. Ok (PushCase h f refname n (pushing (rule_by h.rule) f (repo h).commits n refname input))
+abbrev pub push_case : Telling → Held → Filter → Bytes → Bytes → Result Case Outcome
+push_case w h f refname input =
+    head_of refname h.refs >>= λ n. Ok (PushCase w h f refname n (pushing (rule_by h.rule) f (repo h).commits n refname input))
 
 -- ---- refusals
 
@@ -65,9 +67,13 @@ no_refusal (Some e) = Err (push_outcome e)
 
 -- ---- what is written, and what is new
 
--- the digits of the pushed and of the original commit
-abbrev pub pair_line : Snapshot × Snapshot → Bytes
-pair_line c = hex (snapshot_name c.0) ++ 32 ∷ (hex (snapshot_name c.1) ++ 10 ∷ [])
+-- What is told of a pushed commit and its original, by their names: the digits of both, or those of the pushed commit alone.
+abbrev pub told_digits : Telling → Bytes → Bytes → Bytes
+told_digits Both m n = hex m ++ 32 ∷ (hex n ++ 10 ∷ [])
+told_digits PushedAlone m n = hex m ++ 10 ∷ []
+
+abbrev pub told_line : Telling → Snapshot × Snapshot → Bytes
+told_line w c = told_digits w (snapshot_name c.0) (snapshot_name c.1)
 
 -- a push of no commits changes nothing; else its ref is at the last original
 abbrev pub push_plan : Held → Bytes → Pushing → Option Snapshot → Plan
@@ -75,10 +81,10 @@ push_plan h refname p None = NoPlan
 push_plan h refname p (Some c) = change_plan h (objects_of p.stream.state.blobs p.originals) ((refname, snapshot_name c) ∷ [])
 
 -- what comes of it, or the first refusal: of the push, and of the limits of the state
-abbrev pub push_made : Room → Held → Bytes → Pushing → Result Made Outcome
-push_made room h refname p = do
+abbrev pub push_made : Telling → Room → Held → Bytes → Pushing → Result Made Outcome
+push_made w room h refname p = do
   _ ← no_refusal p.refusal
-  within room h (flat_map pair_line (zip p.stream.state.commits p.originals)) (push_plan h refname p (last_or None p.originals))
+  within room h (flat_map (told_line w) (zip p.stream.state.commits p.originals)) (push_plan h refname p (last_or None p.originals))
 
 -- ---- objects in hand
 

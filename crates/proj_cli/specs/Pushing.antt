@@ -1,7 +1,6 @@
 -- A push upon a state.
-use Rattle.std.specs.Prelude.{◌≡◌, ◌⊎◌, List, [], ◌∷◌, ◌++◌, map, Contains, IfOk, IfErr, None, Result}
+use Rattle.std.specs.Prelude.{◌≡◌, ◌⊎◌, List, [], ◌∷◌, map, Contains, IfOk, IfErr, None, Result}
 use Rattle.std.specs.List.{flat_map}
-use Rattle.git_objects.specs.Commits.{hex}
 use Rattle.git_objects.specs.Paths.{Bytes}
 use Rattle.git_objects.specs.Snapshots.{Snapshot, Graph, tree_at}
 use Rattle.object_store.specs.Growth.{IsGrownBy}
@@ -31,10 +30,8 @@ use Rattle.proj_words.specs.declared.outcome.Outcome.{Outcome}
 use Rattle.proj_words.specs.declared.outcome.Outcome.TheVariants.{ReadFault, OtherRef, NotAtHead, MergePushed, NoChange, BadWorkspace, Unseen, NotHeld, Blocked, Limit, Collision, OutOfMemory}
 use Rattle.proj_cli.specs.Filters.{rule_by}
 use Rattle.proj_cli.specs.Makes.{IsStateOf}
-
--- the digits of two commits
-abbrev pub digits_line : Bytes → Bytes → Bytes
-digits_line m n = hex m ++ 32 ∷ (hex n ++ 10 ∷ [])
+use Rattle.proj_cli.specs.Push.{told_digits}
+use Rattle.proj_cli.specs.declared.lines.Telling.{Telling}
 
 -- why a push brings nothing
 abbrev pub fault_outcome : PushFault → Outcome
@@ -76,8 +73,8 @@ pub record IsPlannedUpon (items : List Bytes) (h : Held) (f : Filter) (refname n
   pub same : s' ≡ record s { basis = s'.basis }
 
 -- what a push brings, as a report and as what is to be committed, with its ref at that commit
-pub record IsPushPrepared (p : Plan) (refname n : Bytes) (report : Bytes) (b : Batch) : Type 0 where
-  pub lines : report ≡ flat_map (λ c. digits_line c.pushed.0 c.original.0) p.commits.items
+pub record IsPushPrepared (w : Telling) (p : Plan) (refname n : Bytes) (report : Bytes) (b : Batch) : Type 0 where
+  pub lines : report ≡ flat_map (λ c. told_digits w c.pushed.0 c.original.0) p.commits.items
   pub blobs : b.blobs.items ≡ p.blobs.items
   pub commits : b.commits.items ≡ map (λ c. c.original) p.commits.items
   pub refs : map setting_value b.refs.items ≡ (refname, n) ∷ []

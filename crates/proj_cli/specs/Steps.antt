@@ -9,7 +9,8 @@ use Rattle.fast_import.specs.Replays.{empty_base, ran}
 use Rattle.state_items.specs.Changes.{room_of, Room, rule_plan, Plan, held_after}
 use Rattle.state_items.specs.Items.{Held}
 use Rattle.import_laws.specs.Bases.{base_of}
-use Rattle.proj_words.specs.Words.{Command, Import, Project, Push, Export, Name, Rule, Audit, Verify}
+use Rattle.proj_gate.specs.Policies.{See, Push as PushAct}
+use Rattle.proj_words.specs.Words.{Command, Import, Project, Push, Export, Name, Rule, Audit, Verify, As}
 use Rattle.proj_words.specs.declared.outcome.Outcome.TheVariants.{Usage}
 use Rattle.proj_words.specs.declared.outcome.Outcome.{Outcome}
 use Rattle.proj_cli.specs.Audit.{IsAudited, audit_case, audit_made, path_by}
@@ -19,22 +20,31 @@ use Rattle.proj_cli.specs.Filters.{sound}
 use Rattle.proj_cli.specs.Hands.{Hand, still_hand, history_hand}
 use Rattle.proj_cli.specs.Import.{import_made, import_hand}
 use Rattle.proj_cli.specs.Name.{name_hand, name_made}
+use Rattle.proj_cli.specs.Policy.{granted}
 use Rattle.proj_cli.specs.Project.{IsKeepPlan, HoldsHead, project_case, project_made}
 use Rattle.proj_cli.specs.Push.{IsPushed, push_case, push_hand, push_made}
 use Rattle.proj_cli.specs.Rule.{rule_line}
 use Rattle.proj_cli.specs.Verify.{IsVerified, name_by, verify_made}
+use Rattle.proj_cli.specs.declared.lines.Telling.TheVariants.{Both, PushedAlone}
 
--- The case of a command for what is loaded and an input, or the first refusal: of the filter, of loading, and of the ref. A batch and a
--- trial are made of several commands, and are none in a batch.
+-- The case of a command for what is loaded and an input, or the first refusal: of the filter, of loading, of the policy where a user asks,
+-- and of the ref. A batch and a trial are made of several commands, and are none in a batch.
 abbrev pub case : Command → Result Held Outcome → Bytes → Result Case Outcome
 case (Import force) loading input = loading >>= λ h. Ok (ImportCase force h (ran (base_of h) input))
 case (Project refname text) loading input = sound text >>= λ f. loading >>= λ h. project_case h f refname
 case (Export refname text) loading input = sound text >>= λ f. loading >>= λ h. export_case h f refname
-case (Push refname text) loading input = sound text >>= λ f. loading >>= λ h. push_case h f refname input
+case (Push refname text) loading input = sound text >>= λ f. loading >>= λ h. push_case Both h f refname input
 case (Name refname text) loading input = sound text >>= λ f. Ok (NameCase f refname (ran empty_base input))
 case (Rule k) loading input = loading >>= λ h. Ok (RuleCase h k)
 case (Audit refname text path) loading input = sound text >>= λ f. loading >>= λ h. audit_case h f refname (path_by path)
 case (Verify digits text path) loading input = sound text >>= λ f. Ok (VerifyCase f (name_by digits) (path_by path) input)
+case (As user (Project refname text)) loading input =
+    sound text >>= λ f. loading >>= λ h. granted h user See refname f >>= λ _. project_case h f refname
+case (As user (Export refname text)) loading input =
+    sound text >>= λ f. loading >>= λ h. granted h user See refname f >>= λ _. export_case h f refname
+case (As user (Push refname text)) loading input =
+    sound text >>= λ f. loading >>= λ h. granted h user PushAct refname f >>= λ _. push_case PushedAlone h f refname input
+case (As user asked) loading input = Err Usage
 case Rattle.proj_words.specs.Words.Batch loading input = Err Usage
 case (Rattle.proj_words.specs.Words.Trial n) loading input = Err Usage
 case Rattle.proj_words.specs.Words.Unknown loading input = Err Usage
@@ -45,7 +55,7 @@ abbrev pub made : Room → Case → Result Made Outcome
 made room (ImportCase force h x) = import_made room force h x
 made room (ProjectCase h f n) = project_made h f n
 made room (ExportCase h f refname n) = export_made h f refname n
-made room (PushCase h f refname n p) = push_made room h refname p
+made room (PushCase w h f refname n p) = push_made w room h refname p
 made room (NameCase f refname x) = name_made f refname x
 made room (RuleCase h k) = within room h (rule_line k) (rule_plan h k)
 made room (AuditCase h f n q) = audit_made h f n q
@@ -64,7 +74,7 @@ abbrev pub hand : Case → Hand
 hand (ImportCase force h x) = import_hand h x
 hand (ProjectCase h f n) = history_hand h f n
 hand (ExportCase h f refname n) = history_hand h f n
-hand (PushCase h f refname n p) = push_hand h f n p
+hand (PushCase w h f refname n p) = push_hand h f n p
 hand (NameCase f refname x) = name_hand f refname x
 hand other = still_hand (held_in other).objects [] []
 
@@ -75,7 +85,7 @@ IsPlanOf items other m p = p ≡ m.plan
 
 -- What a command has done that is done, with this in the state then.
 abbrev pub IsLawful : List Bytes → Plan → Case → Type 0
-IsLawful items plan (PushCase h f refname n p) = IsPushed h (held_after h plan) f refname n p
+IsLawful items plan (PushCase w h f refname n p) = IsPushed h (held_after h plan) f refname n p
 IsLawful items plan (ProjectCase h f n) = HoldsHead h f n items plan
 IsLawful items plan (ExportCase h f refname n) = EndsAtProjection h f n
 IsLawful items plan (AuditCase h f n q) = IsAudited h f n q

@@ -1,5 +1,5 @@
 // The projected history of a ref's commit, as a stream.
-ghost use Rattle.std.specs.Prelude.{◌≡◌, ◌↔◌, ◌≤◌, ◌≢◌, false, List, Err, Some};
+ghost use Rattle.std.specs.Prelude.{◌≡◌, ◌↔◌, ◌≤◌, ◌≢◌, false, List, Ok, Err, Some};
 ghost use Rattle.git_objects.specs.Paths.{Bytes};
 ghost use Rattle.filter_text.specs.Shapes.{shape};
 ghost use Rattle.proj_io.specs.Counts.{Counts};
@@ -10,9 +10,11 @@ ghost use Rattle.state_items.specs.Items.{Held};
 ghost use Rattle.workspace.specs.Laws.{IsUsable};
 ghost use Rattle.proj_cli.specs.Export.{export_case};
 ghost use Rattle.proj_cli.specs.Cases.{is_verdict, loaded};
-ghost use Rattle.proj_cli.specs.Forms.{IsExport, exported_case};
+ghost use Rattle.proj_cli.specs.Filters.{sound};
+ghost use Rattle.proj_cli.specs.Forms.{IsExport, exported_case, user_exported_case};
 ghost use Rattle.proj_cli.specs.Makes.{IsExported, IsMadeOf, IsState, IsStateOf};
 
+use crate::gating::granted;
 use crate::judging::Subject;
 use crate::loading::load;
 use fast_export::{ExportError, write_history};
@@ -22,6 +24,7 @@ use git_objects::Bytes;
 use history_ground::history;
 use memory_devices::ByteSink;
 use path_names::RefName;
+use proj_gate::Act;
 use proj_io::{Keeper, Sink};
 use proj_words::Outcome;
 use projection_laws::{history_law, order_law};
@@ -86,6 +89,38 @@ pub(crate) fn export_loaded<O: Sink, K: Keeper>(
     match load(alloc, store) {
         Err(outcome) => outcome,
         Ok(mut state) => export(alloc, &mut state, &subject.filter, &subject.refname, out),
+    }
+}
+
+/// Loads what the items of a store hold, and writes the export of a subject while it is made, where the policy that they
+/// have lets a user see it.
+pub(crate) fn export_granted<O: Sink, K: Keeper>(
+    alloc: Global,
+    user: &[u8],
+    subject: &Subject,
+    out: &mut O,
+    store: &mut K,
+) -> Outcome
+    requires open { K.is_open store.old }
+    requires usable { IsUsable (shape subject.now.filter) }
+    requires sound { (text : Bytes) × (sound text ≡ Ok (shape subject.now.filter)) }
+    ensures exported { let seen = sink_view O.written O.faults O.refusals in
+        (items : List Bytes) → K.items store.old ≡ Some items →
+        IsExport (user_exported_case (loaded items) user.now (shape subject.now.filter) subject.now.refname) items
+        (seen out.old) (seen out.new) result }
+    ensures other { is_verdict result ≡ false }
+    ensures unread { result ≢ Outcome.ReadFault }
+    ensures kept { IsOnlyRead K.items K.number K.is_open K.tells K.moment K.left_since store.old store.new }
+    ensures cause { Counts (K.faults store.old) (K.faults store.new) (result ≡ Outcome.StoreFault) }
+    ensures write { Counts (O.faults out.old) (O.faults out.new) (result ≡ Outcome.WriteFault) }
+    ensures memory { O.refusals out.old ≤ O.refusals out.new }
+{
+    match load(alloc, store) {
+        Err(outcome) => outcome,
+        Ok(mut state) => match granted(alloc, &state, user, Act::See, subject) {
+            Err(outcome) => outcome,
+            Ok(()) => export(alloc, &mut state, &subject.filter, &subject.refname, out),
+        },
     }
 }
 

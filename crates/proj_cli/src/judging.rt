@@ -14,7 +14,7 @@ ghost use Rattle.proj_cli.specs.Judging.{IsJudged, IsUnjudged};
 use crate::filters::sound_filter;
 use commit_map::Rule;
 use filter_text::Filter;
-use git_objects::Name;
+use git_objects::{Bytes, Name};
 use path_names::{Path, PathFault, RefFault, RefName};
 use proj_words::{Command, Outcome};
 use std::alloc::Global;
@@ -47,6 +47,10 @@ pub(crate) enum Judged {
     /// At a path.
     Audit(Subject, Path),
     Verify(Claim),
+    /// Each of a user, whom the policy has to let do it.
+    AsProject(Bytes, Subject),
+    AsPush(Bytes, Subject),
+    AsExport(Bytes, Subject),
 }
 
 /// The ref name that a text is.
@@ -86,6 +90,17 @@ pub(crate) fn read_subject(alloc: Global, refname: &[u8], filter: &[u8]) -> Resu
     let filter = sound_filter(alloc, filter)?;
     let refname = ref_name(alloc, refname)?;
     Ok(Subject { filter, refname })
+}
+
+// A user's name.
+fn user_name(alloc: Global, user: &[u8]) -> Result<Bytes, Outcome>
+    ensures ok { IfOk result (λ name. name ≡ user.now) }
+    ensures err { IfErr result (λ e. e ≡ Outcome.OutOfMemory) }
+{
+    match user.to_vec(alloc) {
+        Ok(name) => Ok(Bytes::of(name)),
+        Err(_) => Err(Outcome::OutOfMemory),
+    }
 }
 
 /// Judges a command: what it is to do, or its refusal.
@@ -133,6 +148,18 @@ pub(crate) fn judge(alloc: Global, asked: Command<'_>) -> Result<Judged, Outcome
                 })),
                 None => unreachable!(),
             }
+        }
+        Command::AsProject(user, refname, filter) => {
+            let subject = read_subject(alloc, refname, filter)?;
+            Ok(Judged::AsProject(user_name(alloc, user)?, subject))
+        }
+        Command::AsPush(user, refname, filter) => {
+            let subject = read_subject(alloc, refname, filter)?;
+            Ok(Judged::AsPush(user_name(alloc, user)?, subject))
+        }
+        Command::AsExport(user, refname, filter) => {
+            let subject = read_subject(alloc, refname, filter)?;
+            Ok(Judged::AsExport(user_name(alloc, user)?, subject))
         }
         Command::Batch => Err(Outcome::Usage),
         Command::Trial(_) => Err(Outcome::Usage),

@@ -1,7 +1,9 @@
-// What projections keep to.
+// What projections keep to, and what a user can't tell.
 ghost use Rattle.state_items.specs.KeptLaws.{StayLaw};
+ghost use Rattle.proj_cli.specs.Alike.{AlikeLaw};
 ghost use Rattle.proj_cli.specs.Filters.{project_by};
 ghost use Rattle.proj_cli.specs.Plans.{RecallLaw};
+ghost use Rattle.proj_cli.specs.TwoRuns.{TwoRunsLaw};
 
 use projection_laws::projection_law;
 
@@ -16,3 +18,14 @@ pub fn recall_law()
 {
     projection_law();
 }
+
+/// Two states with one policy, of whose heads a filter shows the same: a user is told the same of a step. A push may be
+/// refused by what isn't shown.
+pub fn alike_law()
+    ensures { AlikeLaw }
+{}
+
+/// Two calls of `run` for a user upon stores whose states are alike so have one outcome, and write the same.
+pub fn two_runs_law()
+    ensures { TwoRunsLaw }
+{}

@@ -11,7 +11,7 @@ ghost use Rattle.proj_audit.specs.Steps.{found_value};
 ghost use Rattle.proj_cli.specs.Project.{name_line};
 ghost use Rattle.proj_cli.specs.Import.{ref_line};
 ghost use Rattle.proj_cli.specs.Rule.{rule_line};
-ghost use Rattle.proj_cli.specs.Pushing.{digits_line};
+ghost use Rattle.proj_cli.specs.Push.{told_digits};
 
 use commit_map::{Rule, Shown};
 use fast_import::Setting;
@@ -42,25 +42,40 @@ pub fn refs_report(alloc: Global, refs: &[Setting]) -> Result<Vec<u8>, AllocErro
     Ok(report)
 }
 
+/// What the report of a push tells of each pushed commit.
+#[derive(Clone, Copy)]
+pub enum Telling {
+    /// Its name and its original's.
+    Both,
+    /// Its name alone: whoever pushes as a user is told no original.
+    PushedAlone,
+}
+
 // Adds the line of a pushed commit and its original.
-fn add_pair_line(report: &mut Vec<u8>, pair: &Pair) -> Result<(), AllocError>
-    ensures { OnOk result (report.new.items ≡ report.old.items ++ digits_line pair.now.pushed.0 pair.now.original.0) }
+fn add_pair_line(report: &mut Vec<u8>, pair: &Pair, telling: Telling) -> Result<(), AllocError>
+    ensures { OnOk result (report.new.items ≡ report.old.items
+        ++ told_digits telling pair.now.pushed.0 pair.now.original.0) }
 {
     report.extend_from_slice(&pair.pushed.hex())?;
-    report.push(b' ')?;
-    report.extend_from_slice(&pair.original.hex())?;
+    match telling {
+        Telling::Both => {
+            report.push(b' ')?;
+            report.extend_from_slice(&pair.original.hex())?;
+        }
+        Telling::PushedAlone => {}
+    }
     report.push(b'\n')?;
     Ok(())
 }
 
-/// The lines of pushed commits with their originals.
-pub fn pairs_report(alloc: Global, pairs: &[Pair]) -> Result<Vec<u8>, AllocError>
+/// The lines of pushed commits, with their originals where these are told.
+pub fn pairs_report(alloc: Global, pairs: &[Pair], telling: Telling) -> Result<Vec<u8>, AllocError>
     ensures { IfOk result (λ report.
-        report.items ≡ flat_map (λ c. digits_line c.pushed.0 c.original.0) pairs.now) }
+        report.items ≡ flat_map (λ c. told_digits telling c.pushed.0 c.original.0) pairs.now) }
 {
     let mut report = Vec::new(alloc);
     for pair in pairs {
-        add_pair_line(&mut report, pair)?;
+        add_pair_line(&mut report, pair, telling)?;
     }
     Ok(report)
 }

@@ -18,7 +18,7 @@ ghost use Rattle.proj_cli.specs.Stopped.{ForInput, OnlyGrows};
 
 use crate::batching::batch;
 use crate::deliver::{conclude, finish};
-use crate::exporting::export_loaded;
+use crate::exporting::{export_granted, export_loaded};
 use crate::judging::{Judged, judge};
 use crate::laws::recall_law;
 use crate::loading::load;
@@ -85,6 +85,9 @@ fn perform_judged<S: Source, O: Sink, K: Keeper>(
     recall_law();
     match judged {
         Judged::Export(subject) => export_loaded(alloc, subject, out, store),
+        Judged::AsExport(user, subject) => {
+            export_granted(alloc, user.bytes(), subject, out, store)
+        }
         Judged::Name(subject) => {
             let made = name(alloc, &subject.filter, &subject.refname, input);
             conclude(made, out)

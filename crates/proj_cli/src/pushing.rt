@@ -19,7 +19,7 @@ ghost use Rattle.proj_cli.specs.Intake.{TakesUpTo, pushed_to};
 ghost use Rattle.proj_cli.specs.Makes.{IsMadeOf, IsState, IsStateOf};
 ghost use Rattle.proj_cli.specs.Pushing.{IsPlannedUpon, IsPushPrepared};
 
-use crate::lines::pairs_report;
+use crate::lines::{Telling, pairs_report};
 use crate::refusals::{commit_outcome, fault_outcome};
 use fast_import::Setting;
 use filter_text::Filter;
@@ -75,10 +75,11 @@ fn push_prepared(
     plan: Pushed,
     refname: &RefName,
     last: Name,
+    telling: Telling,
 ) -> Result<(Bytes, Batch), AllocError>
-    ensures { IfOk result (λ x. IsPushPrepared plan refname.now last.0 x.0 x.1) }
+    ensures { IfOk result (λ x. IsPushPrepared telling plan refname.now last.0 x.0 x.1) }
 {
-    let report = pairs_report(alloc, &plan.commits)?;
+    let report = pairs_report(alloc, &plan.commits, telling)?;
     let commits = original_names(alloc, &plan.commits)?;
     let mut refs = Vec::new(alloc);
     refs.push(Setting {
@@ -95,7 +96,7 @@ fn push_prepared(
 }
 
 /// Replays a stream upon the projection of a ref's commit, and commits the originals of its commits, with the ref at
-/// the last. The report has the names of each pushed commit and its original.
+/// the last. The report has the name of each pushed commit, and its original's where that is told.
 pub fn push<S: Source, K: Keeper>(
     alloc: Global,
     state: &mut State,
@@ -103,6 +104,7 @@ pub fn push<S: Source, K: Keeper>(
     store: &mut K,
     filter: &Filter,
     refname: &RefName,
+    telling: Telling,
 ) -> Result<Bytes, Outcome>
     requires open { K.is_open store.old × (state.old.number ≡ K.number store.old) }
     requires usable { IsUsable (shape filter.now) }
@@ -110,7 +112,7 @@ pub fn push<S: Source, K: Keeper>(
     ensures made { let seen = keeper_view K.items K.number K.faults in
         (items : List Bytes) (h : Held) → IsStateOf items h state.old →
         (all : Bytes) × IfSome (S.left input.old) (λ l. all ≡ l) × (p : Plan) ×
-        IsMadeOf (push_case h (shape filter.now) refname.now all) items h
+        IsMadeOf (push_case telling h (shape filter.now) refname.now all) items h
         state.old state.new (seen store.old) (seen store.new) p result ×
         OnlyAdds (K.moment store.old) (K.moment store.new) (K.left_since store.old) (K.left_since store.new)
         (IsStopOf h state.old p (K.items store.old)) }
@@ -131,7 +133,7 @@ pub fn push<S: Source, K: Keeper>(
         // Nothing was pushed.
         return Ok(Bytes::of(Vec::new(alloc)));
     };
-    let Ok((report, batch)) = push_prepared(alloc, plan, refname, last.original) else {
+    let Ok((report, batch)) = push_prepared(alloc, plan, refname, last.original, telling) else {
         return Err(Outcome::OutOfMemory);
     };
     match state.commit(store, batch) {

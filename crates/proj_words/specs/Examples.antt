@@ -14,7 +14,7 @@ use Rattle.stream_reader.specs.declared.fault.Feature.TheVariants as features
 use Rattle.stream_reader.specs.declared.fault.StreamFault.TheVariants as streams
 use Rattle.filter_text.specs.declared.filter.FilterFault.TheVariants as texts
 use Rattle.filter_routes.specs.declared.fault.RouteFault.TheVariants as routes
-use Rattle.proj_words.specs.Words.{Import, Project, Push, Export, Name, Batch, Trial, Rule, Audit, Verify, Unknown}
+use Rattle.proj_words.specs.Words.{Import, Project, Push, Export, Name, Batch, Trial, Rule, Audit, Verify, As, Unknown}
 use Rattle.proj_words.specs.Words.{command, line_command, line_words, loads, reads, writes}
 use Rattle.proj_words.specs.Outcomes.{code_of, text_of, usage}
 use Rattle.proj_words.specs.Entries.{byte_count, entries, reply_text}
@@ -148,6 +148,75 @@ an_audit_in_a_batch = refl
 pub a_verification_in_a_batch : line_command (codes "verify " ++ digits_of_a_commit ++ codes " :/a f") ≡ Unknown
 unfolding is_ref_name
 a_verification_in_a_batch = refl
+
+-- ---- users
+
+abbrev ann : Bytes
+ann = codes "ann"
+
+pub a_projection_of_a_user : command (codes "as" ∷ ann ∷ codes "project" ∷ main ∷ codes ":/a" ∷ []) ≡
+    As ann (Project main (codes ":/a"))
+unfolding is_ref_name
+a_projection_of_a_user = refl
+
+pub a_push_of_a_user : command (codes "as" ∷ ann ∷ codes "push" ∷ main ∷ codes ":/a" ∷ []) ≡
+    As ann (Push main (codes ":/a"))
+unfolding is_ref_name
+a_push_of_a_user = refl
+
+pub an_export_of_a_user : command (codes "as" ∷ ann ∷ codes "export" ∷ main ∷ codes ":/a" ∷ []) ≡
+    As ann (Export main (codes ":/a"))
+unfolding is_ref_name
+an_export_of_a_user = refl
+
+-- no policy speaks of names and of other commands
+pub a_name_of_a_user : command (codes "as" ∷ ann ∷ codes "name" ∷ main ∷ codes ":/a" ∷ []) ≡ Unknown
+unfolding is_ref_name
+a_name_of_a_user = refl
+
+pub a_user_without_a_command : command (codes "as" ∷ ann ∷ []) ≡ Unknown
+a_user_without_a_command = refl
+
+pub an_import_of_a_user : command (codes "as" ∷ ann ∷ codes "import" ∷ []) ≡ Unknown
+unfolding is_ref_name
+an_import_of_a_user = refl
+
+-- a policy's rule for everybody is no user's name
+pub everybody_is_no_user : command (codes "as" ∷ codes "*" ∷ codes "push" ∷ main ∷ codes ":/a" ∷ []) ≡ Unknown
+everybody_is_no_user = refl
+
+pub a_user_of_64_bytes : command (codes "as" ∷ replicate 64 97 ∷ codes "push" ∷ main ∷ codes ":/a" ∷ []) ≡
+    As (replicate 64 97) (Push main (codes ":/a"))
+unfolding is_ref_name
+a_user_of_64_bytes = refl
+
+pub a_user_of_65_bytes : command (codes "as" ∷ replicate 65 97 ∷ codes "push" ∷ main ∷ codes ":/a" ∷ []) ≡ Unknown
+a_user_of_65_bytes = refl
+
+pub a_user_with_a_space : command (codes "as" ∷ codes "ann b" ∷ codes "push" ∷ main ∷ codes ":/a" ∷ []) ≡ Unknown
+a_user_with_a_space = refl
+
+pub a_user_without_a_ref_name : command (codes "as" ∷ ann ∷ codes "push" ∷ codes "main" ∷ codes ":/a" ∷ []) ≡ Unknown
+unfolding is_ref_name
+a_user_without_a_ref_name = refl
+
+-- a line has three words at most, and a user as its second is no ref name
+pub a_user_in_a_batch : line_command (codes "as ann push refs/heads/main :/a") ≡ Unknown
+unfolding is_ref_name
+a_user_in_a_batch = refl
+
+-- what a user's command reads, loads and may append is its own
+pub a_user_who_pushes : reads (As ann (Push main [])) ≡ true
+a_user_who_pushes = refl
+
+pub a_user_who_projects : writes (As ann (Project main [])) ≡ true
+a_user_who_projects = refl
+
+pub a_user_who_exports : loads (As ann (Export main [])) ≡ true
+a_user_who_exports = refl
+
+pub a_user_who_only_exports : writes (As ann (Export main [])) ≡ false
+a_user_who_only_exports = refl
 
 -- bytes that are no UTF-8 are told from a word as others are
 pub a_word_that_is_no_text : line_command (255 ∷ []) ≡ Unknown

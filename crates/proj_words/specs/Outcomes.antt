@@ -111,7 +111,7 @@ path_words p = quote (text p)
 abbrev pub usage : Bytes
 usage =
     codes "usage: proj STORE (import [--force] | project REF FILTER | push REF FILTER | export REF FILTER | "
-    ++ codes "audit REF FILTER PATH | batch | "
+    ++ codes "audit REF FILTER PATH | as USER (project | push | export) REF FILTER | batch | "
     ++ codes "rule (1 | 2)), proj name REF FILTER, proj trial N, proj verify COMMIT FILTER PATH"
 
 -- the line for the error stream, without its end

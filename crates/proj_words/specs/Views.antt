@@ -1,7 +1,7 @@
 -- Commands, entries and pushes of a trial, as the definitions have them.
 use Rattle.std.specs.Prelude.{◌≡◌, ℕ, List, ◌∷◌, Some, Result, Ok, Err}
 use Rattle.git_objects.specs.Results.{◌>>=◌}
-use Rattle.proj_words.specs.Words.{Command, Import, Project, Push, Export, Name, Batch, Trial, Rule, Audit, Verify, Unknown}
+use Rattle.proj_words.specs.Words.{Command, Import, Project, Push, Export, Name, Batch, Trial, Rule, Audit, Verify, As, Unknown}
 use Rattle.proj_words.specs.Entries.{Entry, Spot, TextLine, entries_by}
 use Rattle.proj_words.specs.TrialTexts.{TrialPush}
 use Rattle.proj_words.specs.declared.words.Command.{Command as ReadCommand}
@@ -22,6 +22,9 @@ command_of (forms.Trial n) = Trial n
 command_of (forms.Rule n) = Rule n
 command_of (forms.Audit refname filter path) = Audit refname.now filter.now path.now
 command_of (forms.Verify commit filter path) = Verify commit.now filter.now path.now
+command_of (forms.AsProject user refname filter) = As user.now (Project refname.now filter.now)
+command_of (forms.AsPush user refname filter) = As user.now (Push refname.now filter.now)
+command_of (forms.AsExport user refname filter) = As user.now (Export refname.now filter.now)
 command_of forms.Unknown = Unknown
 
 abbrev pub entry_value : ReadEntry → Entry

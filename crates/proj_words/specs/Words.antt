@@ -9,6 +9,7 @@ use Rattle.git_objects.specs.CommitBodies.{digits_name}
 use Rattle.git_objects.specs.Idents.{cut_at}
 use Rattle.path_names.specs.PathTexts.{path_of}
 use Rattle.path_names.specs.RefNames.{is_ref_name}
+use Rattle.path_names.specs.UserNames.{is_user}
 use Rattle.path_names.specs.Words.{number}
 
 pub data Command : Type 0 where
@@ -27,6 +28,8 @@ pub data Command : Type 0 where
   Audit : Bytes → Bytes → Bytes → Command
   -- of a commit's digits, the text of a filter, and that of a path
   Verify : Bytes → Bytes → Bytes → Command
+  -- of a user, and of the command that a policy may let him do: one of Project, Push and Export
+  As : Bytes → Command → Command
   -- no form
   Unknown : Command
 
@@ -81,16 +84,28 @@ certificate_words w n f p =
 abbrev pub four_words : Bytes → Bytes → Bytes → Bytes → Command
 four_words w n f p = if is_path_word p then certificate_words w n f p else Unknown
 
+-- what a policy may let a user do
+abbrev pub user_words : Bytes → Bytes → Bytes → Bytes → Command
+user_words u w r f =
+    if same_bytes w (codes "project") then As u (Project r f) else
+    (if same_bytes w (codes "push") then As u (Push r f) else
+    (if same_bytes w (codes "export") then As u (Export r f) else Unknown))
+
+-- of the word `as`, a user, a word, a ref, and the text of a filter
+abbrev pub five_words : Bytes → Bytes → Bytes → Bytes → Bytes → Command
+five_words a u w r f = if same_bytes a (codes "as") && is_user u && is_ref_name r then user_words u w r f else Unknown
+
 -- the form of the words; a ref must be a ref name
 abbrev pub command : List Bytes → Command
 command (w ∷ []) = one_word w
 command (w ∷ v ∷ []) = two_words w v
 command (w ∷ r ∷ f ∷ []) = if is_ref_name r then three_words w r f else Unknown
 command (w ∷ n ∷ f ∷ p ∷ []) = four_words w n f p
+command (a ∷ u ∷ w ∷ r ∷ f ∷ []) = five_words a u w r f
 command _ = Unknown
 
 -- Whether the ref of a command is a ref name, its commit 40 digits, its path one that can be read, the number of a rule 1
--- or 2, and that of a trial from 1 to 100,000.
+-- or 2, and that of a trial from 1 to 100,000; and whether its user can be one, and does what a policy may let him do.
 abbrev pub is_formed : Command → Bool
 is_formed (Project r f) = is_ref_name r
 is_formed (Push r f) = is_ref_name r
@@ -100,6 +115,10 @@ is_formed (Trial n) = nat_le 1 n && nat_le n 100000
 is_formed (Rule k) = k == 1 || k == 2
 is_formed (Audit r f p) = is_ref_name r && is_path_word p
 is_formed (Verify n f p) = is_commit_word n && is_path_word p
+is_formed (As u (Project r f)) = is_user u && is_ref_name r
+is_formed (As u (Push r f)) = is_user u && is_ref_name r
+is_formed (As u (Export r f)) = is_user u && is_ref_name r
+is_formed (As u c) = false
 is_formed _ = true
 
 -- ---- in a batch
@@ -131,6 +150,7 @@ reads (Push r f) = true
 reads (Name r f) = true
 reads Batch = true
 reads (Verify n f p) = true
+reads (As u c) = reads c
 reads _ = false
 
 -- whether it reads the items of the store
@@ -138,6 +158,7 @@ abbrev pub loads : Command → Bool
 loads (Name r f) = false
 loads (Trial n) = false
 loads (Verify n f p) = false
+loads (As u c) = loads c
 loads Unknown = false
 loads _ = true
 
@@ -145,4 +166,5 @@ loads _ = true
 abbrev pub writes : Command → Bool
 writes (Export r f) = false
 writes (Audit r f p) = false
+writes (As u c) = writes c
 writes c = loads c

@@ -13,7 +13,7 @@ use stream_reader::Feature;
 
 const USAGE: &[u8] =
     b"usage: proj STORE (import [--force] | project REF FILTER | push REF FILTER | export REF FILTER | \
-    audit REF FILTER PATH | batch | \
+    audit REF FILTER PATH | as USER (project | push | export) REF FILTER | batch | \
     rule (1 | 2)), proj name REF FILTER, proj trial N, proj verify COMMIT FILTER PATH\n";
 
 /// The line for the error stream where it says no number, name, path or other cause. It takes no memory.

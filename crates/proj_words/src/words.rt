@@ -1,14 +1,15 @@
 // The forms of the words.
 ghost use Rattle.std.specs.Prelude.{◌≡◌, true, map, string_bytes, IfSome};
 ghost use Rattle.path_names.specs.RefNames.{is_ref_name};
+ghost use Rattle.path_names.specs.UserNames.{is_user};
 ghost use Rattle.proj_words.specs.Views.{command_of};
 ghost use Rattle.proj_words.specs.Words.{command, is_formed, one_word, rule_word, two_words, three_words, trial_number};
-ghost use Rattle.proj_words.specs.Words.{Trial, certificate_words, four_words, is_path_word};
+ghost use Rattle.proj_words.specs.Words.{Trial, certificate_words, five_words, four_words, is_path_word, user_words};
 ghost use Rattle.proj_words.specs.Words.{in_batch, line_command, line_words};
 
 use crate::cut::cut;
 use git_objects::Name;
-use path_names::{is_path_text, is_ref_name, number};
+use path_names::{is_path_text, is_ref_name, is_user, number};
 
 // The most commits of a trial.
 const TRIAL_COMMITS: u64 = 100_000;
@@ -31,6 +32,10 @@ pub enum Command<'a> {
     Audit(&'a [u8], &'a [u8], &'a [u8]),
     /// A commit's 40 digits of either case, the text of a filter, and that of a path, which is read as one.
     Verify(&'a [u8], &'a [u8], &'a [u8]),
+    /// A user, and the ref and the filter's text of the command that a policy may let him do.
+    AsProject(&'a [u8], &'a [u8], &'a [u8]),
+    AsPush(&'a [u8], &'a [u8], &'a [u8]),
+    AsExport(&'a [u8], &'a [u8], &'a [u8]),
     /// The words have none of the forms.
     Unknown,
 }
@@ -152,6 +157,47 @@ fn four_words<'a>(word: &[u8], name: &'a [u8], filter: &'a [u8], path: &'a [u8])
     }
 }
 
+// A policy may let a user project, push and export.
+fn user_words<'a>(user: &'a [u8], word: &[u8], refname: &'a [u8], filter: &'a [u8]) -> Command<'a>
+    requires user { is_user user.now ≡ true }
+    requires refname { is_ref_name refname.now ≡ true }
+    ensures command { command_of result ≡ user_words user.now word.now refname.now filter.now }
+    ensures formed { is_formed (command_of result) ≡ true }
+{
+    if word == b"project".as_slice() {
+        return Command::AsProject(user, refname, filter);
+    }
+    if word == b"push".as_slice() {
+        return Command::AsPush(user, refname, filter);
+    }
+    if word == b"export".as_slice() {
+        return Command::AsExport(user, refname, filter);
+    }
+    Command::Unknown
+}
+
+fn five_words<'a>(
+    first: &[u8],
+    user: &'a [u8],
+    word: &[u8],
+    refname: &'a [u8],
+    filter: &'a [u8],
+) -> Command<'a>
+    ensures command { command_of result ≡ five_words first.now user.now word.now refname.now filter.now }
+    ensures formed { is_formed (command_of result) ≡ true }
+{
+    if first != b"as".as_slice() {
+        return Command::Unknown;
+    }
+    if !is_user(user) {
+        return Command::Unknown;
+    }
+    if !is_ref_name(refname) {
+        return Command::Unknown;
+    }
+    user_words(user, word, refname, filter)
+}
+
 /// What the words ask for, by their form alone: no device is looked at, and a filter's text isn't read.
 pub fn read_command<'a>(words: &'a [String]) -> Command<'a>
     ensures command { command_of result ≡ command (map (λ word. string_bytes word) words.now) }
@@ -168,6 +214,13 @@ pub fn read_command<'a>(words: &'a [String]) -> Command<'a>
             name.as_bytes(),
             filter.as_bytes(),
             path.as_bytes(),
+        ),
+        [first, user, word, refname, filter] => five_words(
+            first.as_bytes(),
+            user.as_bytes(),
+            word.as_bytes(),
+            refname.as_bytes(),
+            filter.as_bytes(),
         ),
         _ => Command::Unknown,
     }

@@ -6,14 +6,15 @@ use Rattle.repo_ground.specs.Contents.{Contents}
 use Rattle.repo_ground.specs.contracts.state.State.{the_view}
 use Rattle.proj_cli.specs.Audit.{audit_case}
 use Rattle.proj_cli.specs.Makes.{IsMadeOf, IsStateOf}
-use Rattle.proj_cli.proofs.Audits.{head-stored, whole}
+use Rattle.proj_cli.proofs.Audits.{whole}
+use Rattle.proj_cli.proofs.Heads.{head-stored}
 use Rattle.proj_cli.proofs.auditing.audited.Goals as goal
 
 pub audit_text-requires-clause-commit : goal.audit_text-requires-clause-commit
 audit_text-requires-clause-commit c =
     let q = c.requires.state in
     let w = subst (IsStateOf q.0 q.1) (sym c.state.view_is) q.2 in
-    head-stored q.0 q.1 (the_view c.state.inside) (shape c.args.subject.now.filter) c.args.subject.now.refname c.args.path.now w c.in-Some.head.0 (sym (c.in-Some.ensures.held q.1 q.2.spells))
+    head-stored q.0 q.1 (the_view c.state.inside) c.args.subject.now.refname c.in-Some.head.0 w (sym (c.in-Some.ensures.held q.1 q.2.spells))
 
 pub returns-clause-made : goal.returns-clause-made
 returns-clause-made c = λ items h store w.

@@ -18,7 +18,7 @@ use Rattle.proj_cli.proofs.exporting.export_loaded.Goals as goal
 pub returns-in-Err-clause-exported : goal.returns-in-Err-clause-exported
 returns-in-Err-clause-exported g c = λ (items : List Bytes) told.
     let s = c.args.subject.now in
-    unloaded-export (shape s.filter) s.refname items c.in-Err.outcome (sink_view g.O.Sink.written g.O.Sink.faults g.O.Sink.refusals c.args.out.now) (c.in-Err.ensures.err items told)
+    unloaded-export (λ (l : Result Held Outcome). exported_case l (shape s.filter) s.refname) (λ x. refl) items c.in-Err.outcome (sink_view g.O.Sink.written g.O.Sink.faults g.O.Sink.refusals c.args.out.now) (c.in-Err.ensures.err items told)
 
 pub returns-in-Err-clause-unread : goal.returns-in-Err-clause-unread
 returns-in-Err-clause-unread g c = none-read c.in-Err.outcome c.in-Err.ensures.early

@@ -1,7 +1,7 @@
 -- Proves what src/judging.rt needs of `judge`.
 use Rattle.std.proofs.Common.{sym, refl, ap}
 use Rattle.proj_words.specs.Views.{command_of}
-use Rattle.proj_words.specs.Words.{Project, Push, Export, Name, Audit, Verify}
+use Rattle.proj_words.specs.Words.{As, Project, Push, Export, Name, Audit, Verify}
 use Rattle.proj_cli.proofs.Judged.{text-refused}
 use Rattle.proj_cli.proofs.judging.judge.Goals as goal
 
@@ -34,3 +34,18 @@ pub returns-in_err-filter-in-Verify-clause-err : goal.returns-in_err-filter-in-V
 returns-in_err-filter-in-Verify-clause-err c =
     let t = c.in-Verify.filter.now in
     text-refused (Verify c.in-Verify.commit.now t c.in-Verify.path.now) (command_of c.args.asked) t (sym (ap command_of c.in-Verify.is)) refl c.from_residual-in_err-filter-in-Verify.result c.in_err-filter-in-Verify.field-0.0 c.from_residual-in_err-filter-in-Verify.ensures.1 c.in_err-filter-in-Verify.ensures.err
+
+pub returns-in_err-subject-in-AsProject-clause-err : goal.returns-in_err-subject-in-AsProject-clause-err
+returns-in_err-subject-in-AsProject-clause-err c =
+    let t = c.in-AsProject.filter.now in
+    text-refused (As c.in-AsProject.user.now (Project c.in-AsProject.refname.now t)) (command_of c.args.asked) t (sym (ap command_of c.in-AsProject.is)) refl c.from_residual-in_err-subject-in-AsProject.result c.in_err-subject-in-AsProject.field-0.0 c.from_residual-in_err-subject-in-AsProject.ensures.1 c.in_err-subject-in-AsProject.ensures.err
+
+pub returns-in_err-subject-in-AsPush-clause-err : goal.returns-in_err-subject-in-AsPush-clause-err
+returns-in_err-subject-in-AsPush-clause-err c =
+    let t = c.in-AsPush.filter.now in
+    text-refused (As c.in-AsPush.user.now (Push c.in-AsPush.refname.now t)) (command_of c.args.asked) t (sym (ap command_of c.in-AsPush.is)) refl c.from_residual-in_err-subject-in-AsPush.result c.in_err-subject-in-AsPush.field-0.0 c.from_residual-in_err-subject-in-AsPush.ensures.1 c.in_err-subject-in-AsPush.ensures.err
+
+pub returns-in_err-subject-in-AsExport-clause-err : goal.returns-in_err-subject-in-AsExport-clause-err
+returns-in_err-subject-in-AsExport-clause-err c =
+    let t = c.in-AsExport.filter.now in
+    text-refused (As c.in-AsExport.user.now (Export c.in-AsExport.refname.now t)) (command_of c.args.asked) t (sym (ap command_of c.in-AsExport.is)) refl c.from_residual-in_err-subject-in-AsExport.result c.in_err-subject-in-AsExport.field-0.0 c.from_residual-in_err-subject-in-AsExport.ensures.1 c.in_err-subject-in-AsExport.ensures.err

@@ -1,133 +1,47 @@
 -- Proves what src/performing.rt needs of `perform`.
-use Rattle.std.proofs.Common.{◌∙◌, List, Ok, ap, refl, subst}
-use Rattle.filter_text.specs.Shapes.{shape}
+use Rattle.std.proofs.Common.{List, Ok, refl}
 use Rattle.git_objects.specs.Paths.{Bytes}
-use Rattle.fast_import.specs.Replays.{empty_base, ran}
 use Rattle.proj_io.specs.Views.{keeper_view}
-use Rattle.repo_ground.proofs.Stopping.{adds_none}
-use Rattle.repo_ground.specs.Changes.{IsStopOf}
 use Rattle.proj_words.specs.Words.{Command}
-use Rattle.state_items.specs.Changes.{NoPlan}
 use Rattle.state_items.specs.Items.{Held}
-use Rattle.proj_cli.specs.Cases.{NameCase, VerifyCase}
-use Rattle.proj_cli.specs.Steps.{case}
 use Rattle.proj_cli.specs.Intake.{waited_by}
-use Rattle.proj_cli.specs.Judging.{IsJudged}
-use Rattle.proj_cli.specs.declared.judging.Judged.TheVariants as judged
-use Rattle.proj_cli.proofs.AloneForms.{claim-alone, name-alone}
-use Rattle.proj_cli.proofs.CommandsMade.{alone-command, performed}
-use Rattle.proj_cli.proofs.Headless.{head-held, no-claim, no-head, no-import, no-name}
-use Rattle.proj_cli.proofs.Intaking.{push-takes, takes-by, takes-none}
-use Rattle.proj_cli.proofs.Judged.{case-upon}
+use Rattle.proj_cli.specs.Steps.{case}
+use Rattle.proj_cli.proofs.CommandsMade.{refused-command}
+use Rattle.proj_cli.proofs.Forming.{used-not}
+use Rattle.proj_cli.proofs.Grants.{unpermitted-own, unpermitted-refusal}
+use Rattle.proj_cli.proofs.Intaking.{takes-none}
 use Rattle.proj_cli.proofs.Lengthening.{for-any}
+use Rattle.proj_cli.proofs.Refusing.{own-before, own-counts, own-read}
 use Rattle.proj_cli.proofs.performing.perform.Goals as goal
 
-pub returns-in-Import-clause-made : goal.returns-in-Import-clause-made
-returns-in-Import-clause-made g c = λ (asked : Command) (items : List Bytes) (h : Held) w st.
-    let m = c.import.ensures.made items h st in
-    record { all = m.0; told = m.1; says = performed asked (judged.Import _) (subst (IsJudged asked) c.in-Import.is w) refl m.0 items h _ _ _ _ _ _ _ _ _ m.2 m.3 m.4 }
-
-pub returns-in-Push-clause-made : goal.returns-in-Push-clause-made
-returns-in-Push-clause-made g c = λ (asked : Command) (items : List Bytes) (h : Held) w st.
-    let m = c.push.ensures.made items h st in
-    record { all = m.0; told = m.1; says = performed asked (judged.Push _) (subst (IsJudged asked) c.in-Push.is w) refl m.0 items h _ _ _ _ _ _ _ _ _ m.2 m.3 m.4 }
-
-pub returns-in-Project-clause-made : goal.returns-in-Project-clause-made
-returns-in-Project-clause-made g c = λ (asked : Command) (items : List Bytes) (h : Held) w st.
-    let m = c.project_upon.ensures.made items h st in
-    for-any (g.S.Source.left c.args.input.now) _ (λ all. performed asked (judged.Project _) (subst (IsJudged asked) c.in-Project.is w) refl all items h _ _ _ _ _ _ _ _ _ m.0 m.1 m.2)
-
-pub returns-in-Rule-clause-made : goal.returns-in-Rule-clause-made
-returns-in-Rule-clause-made g c = λ (asked : Command) (items : List Bytes) (h : Held) w st.
-    let m = c.set_rule.ensures.made items h st in
-    for-any (g.S.Source.left c.args.input.now) _ (λ all. performed asked (judged.Rule _) (subst (IsJudged asked) c.in-Rule.is w) refl all items h _ _ _ _ _ _ _ _ _ m.0 m.1 m.2)
-
-pub returns-in-Export-clause-made : goal.returns-in-Export-clause-made
-returns-in-Export-clause-made g c = λ (asked : Command) (items : List Bytes) (h : Held) w st.
+pub returns-in-Err-clause-made : goal.returns-in-Err-clause-made
+returns-in-Err-clause-made g c = λ (asked : Command) (items : List Bytes) (h : Held) w st.
     let seen = keeper_view g.K.Keeper.items g.K.Keeper.number g.K.Keeper.faults c.args.store.now in
+    let j = c.args.judged.now in
+    let e = c.in-Err.outcome in
+    let why = c.in-Err.ensures items h st in
     for-any (g.S.Source.left c.args.input.now) _
-    (λ all. performed asked (judged.Export _) (subst (IsJudged asked) c.in-Export.is w) refl all items h _ _ _ _ _ _ _ _ _ NoPlan (c.exported.ensures.made items h seen st) (adds_none _ _ (IsStopOf h c.args.state.now NoPlan seen.items)))
+    (λ all. refused-command items h c.args.state.now st asked all e (unpermitted-own h j e why) (λ H room. unpermitted-refusal H room asked j w h all e why) seen _ _)
 
-pub returns-in-Audit-clause-made : goal.returns-in-Audit-clause-made
-returns-in-Audit-clause-made g c = λ (asked : Command) (items : List Bytes) (h : Held) w st.
-    let seen = keeper_view g.K.Keeper.items g.K.Keeper.number g.K.Keeper.faults c.args.store.now in
-    for-any (g.S.Source.left c.args.input.now) _
-    (λ all. performed asked (judged.Audit _ _) (subst (IsJudged asked) c.in-Audit.is w) refl all items h _ _ _ _ _ _ _ _ _ NoPlan (c.audited.ensures.made items h seen st) (adds_none _ _ (IsStopOf h c.args.state.now NoPlan seen.items)))
+pub returns-in-Err-clause-taken : goal.returns-in-Err-clause-taken
+returns-in-Err-clause-taken g c = λ (asked : Command) (items : List Bytes) (h : Held) w st. takes-none (waited_by (case asked (Ok h))) (g.S.Source.left c.args.input.now)
 
-pub returns-in-Name-clause-made : goal.returns-in-Name-clause-made
-returns-in-Name-clause-made g c = λ (asked : Command) (items : List Bytes) (h : Held) w st.
-    let seen = keeper_view g.K.Keeper.items g.K.Keeper.number g.K.Keeper.faults c.args.store.now in
-    let m = c.name.ensures.made in
-    let s = c.in-Name.subject in
-    record {
-      all = m.0;
-      told = m.1;
-      says =
-          alone-command (NameCase (shape s.filter) s.refname (ran empty_base m.0)) (name-alone (shape s.filter) s.refname (ran empty_base m.0)) m.0 items h c.args.state.now st seen
-          asked (case-upon asked (judged.Name s) (subst (IsJudged asked) c.in-Name.is w) h m.0) _ _ c.name.result c.name.ensures.early.1 m.2;
-    }
+pub returns-in-Err-clause-early : goal.returns-in-Err-clause-early
+returns-in-Err-clause-early g c =
+    let q = c.requires.state in
+    (own-before c.in-Err.outcome (unpermitted-own q.1 c.args.judged.now c.in-Err.outcome (c.in-Err.ensures q.0 q.1 q.2))).0
 
-pub returns-in-Verify-clause-made : goal.returns-in-Verify-clause-made
-returns-in-Verify-clause-made g c = λ (asked : Command) (items : List Bytes) (h : Held) w st.
-    let seen = keeper_view g.K.Keeper.items g.K.Keeper.number g.K.Keeper.faults c.args.store.now in
-    let m = c.verify_text.ensures.made in
-    let x = c.in-Verify.claim in
-    record {
-      all = m.0;
-      told = m.1;
-      says =
-          alone-command (VerifyCase (shape x.filter) x.commit.0 x.path m.0) (claim-alone (shape x.filter) x.commit.0 x.path m.0 (c.verify_text.ensures.lawful m.0)) m.0 items h c.args.state.now st seen
-          asked (case-upon asked (judged.Verify x) (subst (IsJudged asked) c.in-Verify.is w) h m.0) _ _ c.verify_text.result c.verify_text.ensures.early.1 m.2;
-    }
+pub returns-in-Err-clause-read : goal.returns-in-Err-clause-read
+returns-in-Err-clause-read g c =
+    let q = c.requires.state in
+    own-read _ c.in-Err.outcome (unpermitted-own q.1 c.args.judged.now c.in-Err.outcome (c.in-Err.ensures q.0 q.1 q.2))
 
--- ---- nothing is read where no case comes up
+pub returns-in-Err-clause-unread : goal.returns-in-Err-clause-unread
+returns-in-Err-clause-unread g c = λ (asked : Command) w no.
+    let q = c.requires.state in
+    (refl, (own-before c.in-Err.outcome (unpermitted-own q.1 c.args.judged.now c.in-Err.outcome (c.in-Err.ensures q.0 q.1 q.2))).1)
 
-pub returns-in-Import-clause-caseless : goal.returns-in-Import-clause-caseless
-returns-in-Import-clause-caseless g c = λ (asked : Command) (items : List Bytes) (h : Held) w st none.
-    absurd (no-import asked _ (subst (IsJudged asked) c.in-Import.is w) h none)
-
-pub returns-in-Push-clause-caseless : goal.returns-in-Push-clause-caseless
-returns-in-Push-clause-caseless g c = λ (asked : Command) (items : List Bytes) (h : Held) w st none.
-    let s = c.in-Push.subject in
-    c.push.ensures.headless (head-held h c.args.state.now st.spells s.refname ∙ no-head asked s (subst (IsJudged asked) c.in-Push.is w) h none)
-
-pub returns-in-Name-clause-caseless : goal.returns-in-Name-clause-caseless
-returns-in-Name-clause-caseless g c = λ (asked : Command) (items : List Bytes) (h : Held) w st none.
-    absurd (no-name asked _ (subst (IsJudged asked) c.in-Name.is w) h none)
-
-pub returns-in-Verify-clause-caseless : goal.returns-in-Verify-clause-caseless
-returns-in-Verify-clause-caseless g c = λ (asked : Command) (items : List Bytes) (h : Held) w st none.
-    absurd (no-claim asked _ (subst (IsJudged asked) c.in-Verify.is w) h none)
-
--- ---- how much is read
-
-pub returns-in-Import-clause-taken : goal.returns-in-Import-clause-taken
-returns-in-Import-clause-taken g c = λ (asked : Command) (items : List Bytes) (h : Held) w st.
-    takes-by asked (judged.Import _) (subst (IsJudged asked) c.in-Import.is w) h _ _ (c.import.ensures.taken items h st)
-
-pub returns-in-Push-clause-taken : goal.returns-in-Push-clause-taken
-returns-in-Push-clause-taken g c = λ (asked : Command) (items : List Bytes) (h : Held) w st.
-    let s = c.in-Push.subject in
-    takes-by asked (judged.Push s) (subst (IsJudged asked) c.in-Push.is w) h _ _
-    (push-takes h (shape s.filter) s.refname (g.S.Source.left c.args.input.now) (g.S.Source.left c.push.new.input) (λ n at. c.push.ensures.taken items h n st at)
-    (λ none. ap g.S.Source.left (c.push.ensures.headless (head-held h c.args.state.now st.spells s.refname ∙ none))))
-
-pub returns-in-Name-clause-taken : goal.returns-in-Name-clause-taken
-returns-in-Name-clause-taken g c = λ (asked : Command) (items : List Bytes) (h : Held) w st.
-    takes-by asked (judged.Name _) (subst (IsJudged asked) c.in-Name.is w) h _ _ c.name.ensures.taken
-
-pub returns-in-Project-clause-taken : goal.returns-in-Project-clause-taken
-returns-in-Project-clause-taken g c = λ (asked : Command) (items : List Bytes) (h : Held) w st. takes-none (waited_by (case asked (Ok h))) (g.S.Source.left c.args.input.now)
-
-pub returns-in-Export-clause-taken : goal.returns-in-Export-clause-taken
-returns-in-Export-clause-taken g c = λ (asked : Command) (items : List Bytes) (h : Held) w st. takes-none (waited_by (case asked (Ok h))) (g.S.Source.left c.args.input.now)
-
-pub returns-in-Rule-clause-taken : goal.returns-in-Rule-clause-taken
-returns-in-Rule-clause-taken g c = λ (asked : Command) (items : List Bytes) (h : Held) w st. takes-none (waited_by (case asked (Ok h))) (g.S.Source.left c.args.input.now)
-
-pub returns-in-Audit-clause-taken : goal.returns-in-Audit-clause-taken
-returns-in-Audit-clause-taken g c = λ (asked : Command) (items : List Bytes) (h : Held) w st. takes-none (waited_by (case asked (Ok h))) (g.S.Source.left c.args.input.now)
-
-pub returns-in-Verify-clause-taken : goal.returns-in-Verify-clause-taken
-returns-in-Verify-clause-taken g c = λ (asked : Command) (items : List Bytes) (h : Held) w st.
-    takes-by asked (judged.Verify _) (subst (IsJudged asked) c.in-Verify.is w) h _ _ c.verify_text.ensures.taken
+pub returns-in-Err-clause-used : goal.returns-in-Err-clause-used
+returns-in-Err-clause-used g c =
+    let q = c.requires.state in
+    used-not _ _ _ _ c.requires.open.0 (own-counts _ c.in-Err.outcome (unpermitted-own q.1 c.args.judged.now c.in-Err.outcome (c.in-Err.ensures q.0 q.1 q.2)))

@@ -6,20 +6,20 @@ use Rattle.fast_import.specs.Replays.{empty_base, ran}
 use Rattle.proj_io.specs.Stops.{OnlyAdds}
 use Rattle.proj_io.specs.Views.{source_view, sink_view, keeper_view}
 use Rattle.repo_ground.proofs.Stopping.{adds_none}
-use Rattle.proj_words.specs.Words.{Command, Export, Name, loads, reads}
+use Rattle.proj_words.specs.Words.{Command, As, Export, Name, loads, reads}
 use Rattle.proj_words.specs.declared.outcome.Outcome.{Outcome}
 use Rattle.proj_words.specs.declared.outcome.Outcome.TheVariants.{StoreFault}
 use Rattle.proj_cli.specs.Calls.{devices}
 use Rattle.proj_cli.specs.Cases.{Case, NameCase, VerifyCase, loaded}
 use Rattle.proj_cli.specs.Steps.{case}
-use Rattle.proj_cli.specs.Forms.{IsExport, IsMade, exported_case}
+use Rattle.proj_cli.specs.Forms.{IsExport, IsMade, exported_case, user_exported_case}
 use Rattle.proj_cli.specs.Judging.{IsClaimed, IsJudged, IsOf}
 use Rattle.proj_cli.specs.Runs.{IsAnswer, MayLeave}
 use Rattle.proj_cli.specs.Sent.{IsConcluded}
 use Rattle.proj_cli.proofs.AloneForms.{claim-alone, name-alone}
 use Rattle.proj_cli.proofs.Delivering.{after, before}
 use Rattle.proj_cli.proofs.Dispatching.{judged-one, one-adds, one-answer}
-use Rattle.proj_cli.proofs.ExportAnswers.{export-answer}
+use Rattle.proj_cli.proofs.ExportAnswers.{export-answer, export-case, user-export-case}
 use Rattle.proj_cli.proofs.Forming.{adds-nothing}
 use Rattle.proj_cli.proofs.Fronts.{form-grows, grows-self, grows-still}
 use Rattle.proj_cli.proofs.Joining.{concluded}
@@ -42,7 +42,7 @@ returns-in-Export-clause-answer g c = λ (asked : Command) judges.
     let s = c.in-Export.subject in
     let w : IsOf Export asked s = subst (IsJudged asked) c.in-Export.is judges in
     subst (λ (a : Command). IsAnswer a (seen c.args.input.now c.args.out.now c.args.store.now) (seen c.args.input.now c.export_loaded.new.out c.export_loaded.new.store) c.export_loaded.result) (sym w.asked_is)
-    (export-answer s.refname w.text (read c.args.input.now) (shown c.args.out.now) (shown c.export_loaded.new.out) (kept c.args.store.now) (kept c.export_loaded.new.store) c.export_loaded.result
+    (export-answer (Export s.refname w.text) refl refl (export-case s.refname w.text) (read c.args.input.now) (shown c.args.out.now) (shown c.export_loaded.new.out) (kept c.args.store.now) (kept c.export_loaded.new.store) c.export_loaded.result
     (apart-judged (Export s.refname w.text) c.export_loaded.result does.other) does.unread does.write does.cause does.memory (does.kept.number, does.kept.items)
     (λ items all told. subst (λ (r : Result Case Outcome). IsExport r items (shown c.args.out.now) (shown c.export_loaded.new.out) c.export_loaded.result)
     (sym (read-filter w.text (shape s.filter) (λ f. exported_case (loaded items) f s.refname) w.sound_is)) (does.exported items told)))
@@ -52,6 +52,32 @@ returns-in-Export-clause-adds g c = λ (asked : Command) (items : List Bytes) ju
     for-any (g.S.Source.left c.args.input.now)
     (λ all. OnlyAdds (g.K.Keeper.moment c.args.store.now) (g.K.Keeper.moment c.export_loaded.new.store) (g.K.Keeper.left_since c.args.store.now) (g.K.Keeper.left_since c.export_loaded.new.store) (MayLeave asked items all))
     (λ all. adds-nothing (g.K.Keeper.moment c.args.store.now) (g.K.Keeper.moment c.export_loaded.new.store) (g.K.Keeper.left_since c.args.store.now) (g.K.Keeper.left_since c.export_loaded.new.store) (MayLeave asked items all) c.export_loaded.ensures.kept.stops)
+
+pub returns-in-AsExport-clause-fronts : goal.returns-in-AsExport-clause-fronts
+returns-in-AsExport-clause-fronts g c = λ (items : List Bytes) told apart. let kept = c.export_granted.ensures.kept in grows-still items _ _ told kept.items _ _ _ _ kept.stops
+
+pub returns-in-AsExport-clause-answer : goal.returns-in-AsExport-clause-answer
+returns-in-AsExport-clause-answer g c = λ (asked : Command) judges.
+    let seen = devices g.S.Source.left g.S.Source.faults g.O.Sink.written g.O.Sink.faults g.O.Sink.refusals g.K.Keeper.items g.K.Keeper.number g.K.Keeper.faults in
+    let read = source_view g.S.Source.left g.S.Source.faults in
+    let shown = sink_view g.O.Sink.written g.O.Sink.faults g.O.Sink.refusals in
+    let kept = keeper_view g.K.Keeper.items g.K.Keeper.number g.K.Keeper.faults in
+    let does = c.export_granted.ensures in
+    let s = c.in-AsExport.subject in
+    let u : Bytes = c.in-AsExport.user in
+    let w : IsOf (λ refname text. As u (Export refname text)) asked s = subst (IsJudged asked) c.in-AsExport.is judges in
+    subst (λ (a : Command). IsAnswer a (seen c.args.input.now c.args.out.now c.args.store.now) (seen c.args.input.now c.export_granted.new.out c.export_granted.new.store) c.export_granted.result) (sym w.asked_is)
+    (export-answer (As u (Export s.refname w.text)) refl refl (user-export-case u s.refname w.text) (read c.args.input.now) (shown c.args.out.now) (shown c.export_granted.new.out) (kept c.args.store.now)
+    (kept c.export_granted.new.store) c.export_granted.result
+    (apart-judged (As u (Export s.refname w.text)) c.export_granted.result does.other) does.unread does.write does.cause does.memory (does.kept.number, does.kept.items)
+    (λ items all told. subst (λ (r : Result Case Outcome). IsExport r items (shown c.args.out.now) (shown c.export_granted.new.out) c.export_granted.result)
+    (ap (λ (v : Bytes). user_exported_case (loaded items) v (shape s.filter) s.refname) c.bytes.ensures ∙ sym (read-filter w.text (shape s.filter) (λ f. user_exported_case (loaded items) u f s.refname) w.sound_is)) (does.exported items told)))
+
+pub returns-in-AsExport-clause-adds : goal.returns-in-AsExport-clause-adds
+returns-in-AsExport-clause-adds g c = λ (asked : Command) (items : List Bytes) judges told.
+    for-any (g.S.Source.left c.args.input.now)
+    (λ all. OnlyAdds (g.K.Keeper.moment c.args.store.now) (g.K.Keeper.moment c.export_granted.new.store) (g.K.Keeper.left_since c.args.store.now) (g.K.Keeper.left_since c.export_granted.new.store) (MayLeave asked items all))
+    (λ all. adds-nothing (g.K.Keeper.moment c.args.store.now) (g.K.Keeper.moment c.export_granted.new.store) (g.K.Keeper.left_since c.args.store.now) (g.K.Keeper.left_since c.export_granted.new.store) (MayLeave asked items all) c.export_granted.ensures.kept.stops)
 
 pub returns-in-Name : goal.returns-in-Name
 returns-in-Name g c =
