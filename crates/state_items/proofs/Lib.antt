@@ -21,6 +21,8 @@ pub mod TagPlans
 pub mod Kepts
 pub mod TagRuns
 pub mod TagWalks
+pub mod TakenTags
+pub mod TagPlaces
 pub mod TreeParts
 pub mod Twices
 pub mod InHand

@@ -64,7 +64,7 @@ from-first n (u ∷ us) =
     ] refl
 
 -- a name that isn't below and is another is above
-above : (a b : Bytes) → is_lt (bytes_cmp a b) ≡ false → same_bytes a b ≡ false → bytes_cmp b a ≡ Less
+pub above : (a b : Bytes) → is_lt (bytes_cmp a b) ≡ false → same_bytes a b ≡ false → bytes_cmp b a ≡ Less
 above a b e f = nat_list_cmp_total.antisymm b a ∙ ap ordering_reverse (by (bytes_cmp a b) refl)
   where
     no : same_bytes a b ≡ true → ⊥

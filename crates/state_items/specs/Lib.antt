@@ -11,6 +11,7 @@ pub mod Stored
 pub mod Canonical
 pub mod TaggedLaws
 pub mod ChangedTags
+pub mod TagPlaces
 pub mod Examples
 pub mod Stops
 pub mod Arrivals

@@ -10,7 +10,9 @@ mod objects;
 mod reading;
 mod ref_fields;
 mod tag_fields;
+mod tag_places;
 mod tags;
+mod taken;
 mod writing;
 
 pub use commit_map::Rule;
@@ -24,6 +26,7 @@ pub use laws::{
 pub use objects::parent_places;
 pub use reading::{Loaded, Reading};
 pub use tags::{changed_tags, with_tags};
+pub use taken::first_taken;
 pub use writing::{
     add_size, change_heads, change_parts, change_size, count_commits, first_passed, found_objects,
     kept_item, rule_item,

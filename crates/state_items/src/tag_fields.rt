@@ -1,18 +1,20 @@
 // The tags of an item.
-ghost use Rattle.std.specs.Prelude.{◌≡◌, None, Ok, IfOk, MatchResult};
+ghost use Rattle.std.specs.Prelude.{◌≡◌, None, Ok, IfOk, IfSome, MatchResult};
 ghost use Rattle.std.specs.Option.{option_copied};
 ghost use Rattle.state_items.specs.Items.{message_field, name_field, tag_field, tagger_field, tags_field};
 ghost use Rattle.state_items.specs.Steps.{one_tag};
 ghost use Rattle.state_items.specs.Stops.{IsStop};
+ghost use Rattle.state_items.specs.TagPlaces.{IsHighest};
 
 use crate::ItemFault;
 use crate::cursor::Cursor;
 use crate::ref_fields::{head_field, rises};
+use crate::tag_places::put_behind;
 use git_objects::limits::MESSAGE_BYTES;
 use git_objects::{Bytes, Ident, IdentFault};
 use object_store::Incoming;
 use std::alloc::Global;
-use tag_objects::{Tag, TagName, TagNameFault, put_tag};
+use tag_objects::{Tag, TagName, TagNameFault};
 
 // The field of a tag's name, which has to stand above the one before in byte order: the name, and its text in the item.
 fn name_field<'a>(
@@ -97,25 +99,29 @@ fn tag_field<'a>(
     Ok((tag, text))
 }
 
-// Reads a tag and puts it, and answers its name.
+// Reads a tag and puts it, and answers its name and its place. The last place is that of the tag before it in the item.
 fn set_tag<'a>(
     alloc: Global,
     cursor: &mut Cursor<'a>,
     held: &Incoming,
     before: Option<&[u8]>,
+    last: Option<usize>,
     tags: &mut Vec<Tag>,
-) -> Result<&'a [u8], ItemFault>
-    ensures { MatchResult result
-        (λ name. one_tag held.now.objects (option_copied before.entry) tags.old.items cursor.old
-        ≡ Ok ((name.now, tags.new.items), cursor.new))
+) -> Result<(&'a [u8], usize), ItemFault>
+    requires { IfSome last (λ at. IsHighest at tags.old.items) }
+    ensures tags { MatchResult result
+        (λ put. one_tag held.now.objects (option_copied before.entry) tags.old.items cursor.old
+        ≡ Ok ((put.0.now, tags.new.items), cursor.new))
         (λ stop. IsStop stop (one_tag held.now.objects (option_copied before.entry) tags.old.items cursor.old)) }
+    ensures place { IfOk result (λ put. IsHighest put.1 tags.new.items) }
 {
     let (tag, name) = tag_field(alloc, cursor, held, before)?;
-    put_tag(tags, tag)?;
-    Ok(name)
+    let at = put_behind(tags, tag, last)?;
+    Ok((name, at))
 }
 
-/// Puts the tags of an item, so many as the item says.
+/// Puts the tags of an item, so many as the item says. It takes as many steps as there are tags in the item and in the
+/// list together, but for the moving of those that stand behind a new one.
 pub(crate) fn set_tags(
     alloc: Global,
     cursor: &mut Cursor<'_>,
@@ -128,10 +134,14 @@ pub(crate) fn set_tags(
         (λ stop. IsStop stop (tags_field count held.now.objects None tags.old.items cursor.old)) }
 {
     let mut before = None;
+    let mut last = None;
     for i in 0..count {
-        match set_tag(alloc, cursor, held, before, tags) {
+        match set_tag(alloc, cursor, held, before, last, tags) {
             Err(fault) => return Err(fault),
-            Ok(name) => before = Some(name),
+            Ok((name, at)) => {
+                before = Some(name);
+                last = Some(at);
+            }
         }
     }
     Ok(())

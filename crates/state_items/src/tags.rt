@@ -3,11 +3,12 @@ ghost use Rattle.std.specs.Prelude.{◌≡◌, None, true, IfOk};
 ghost use Rattle.state_items.specs.ChangedTags.{from_name, is_new};
 ghost use Rattle.tag_objects.specs.TagLists.{changed, rise, says_same, with_tags};
 
+use crate::tag_places::put_behind;
 use std::alloc::{AllocError, Global};
-use tag_objects::{Tag, TagName, put_tag};
+use tag_objects::{Tag, TagName};
 
 // The tags from the first on whose name isn't below that one.
-fn from_name<'a>(tags: &'a [Tag], name: &TagName) -> &'a [Tag]
+pub(crate) fn from_name<'a>(tags: &'a [Tag], name: &TagName) -> &'a [Tag]
     ensures { result.now ≡ from_name name.now tags.now }
 {
     for i in 0..tags.len() {
@@ -19,7 +20,7 @@ fn from_name<'a>(tags: &'a [Tag], name: &TagName) -> &'a [Tag]
 }
 
 // Whether they have the same commit, tagger and message.
-fn says_same(tag: &Tag, other: &Tag) -> bool
+pub(crate) fn says_same(tag: &Tag, other: &Tag) -> bool
     ensures { result ≡ says_same tag.now other.now }
 {
     tag.target.bytes() == other.target.bytes()
@@ -48,9 +49,10 @@ pub fn changed_tags(alloc: Global, held: &[Tag], tags: Vec<Tag>) -> Result<Vec<T
     let mut rest = held;
     for tag in tags {
         rest = from_name(rest, &tag.name);
-        if is_new(rest, &tag) {
-            news.push(tag)?;
+        if !is_new(rest, &tag) {
+            continue;
         }
+        news.push(tag)?;
     }
     Ok(news)
 }
@@ -76,13 +78,15 @@ fn copy_tags(alloc: Global, tags: &[Tag]) -> Result<Vec<Tag>, AllocError>
     Ok(copy)
 }
 
-/// A copy of the tags in which these are put.
+/// A copy of the tags in which these are put. Where the names of these rise it takes as many steps as there are tags in
+/// both, but for the moving of those that stand behind a new one.
 pub fn with_tags(alloc: Global, tags: &[Tag], news: &[Tag]) -> Result<Vec<Tag>, AllocError>
     ensures { IfOk result (λ after. after.items ≡ with_tags tags.now news.now) }
 {
     let mut after = copy_tags(alloc, tags)?;
+    let mut last = None;
     for tag in news {
-        put_tag(&mut after, copy_tag(alloc, tag)?)?;
+        last = Some(put_behind(&mut after, copy_tag(alloc, tag)?, last)?);
     }
     Ok(after)
 }
