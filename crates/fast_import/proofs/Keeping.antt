@@ -99,10 +99,10 @@ hold-old k t es h n =
 
 -- ---- the last of a list
 
-last-from : (m : Made) (ms : List Made) → slice_get (m ∷ ms) (length ms) ≡ last_or (Some m) ms
+last-from : {A : Type 0} (m : A) (ms : List A) → slice_get (m ∷ ms) (length ms) ≡ last_or (Some m) ms
 last-from m [] = refl
 last-from m (k ∷ ms) = last-from k ms
 
-pub last-is : (ms : List Made) → slice_get ms (length ms - 1) ≡ last_or None ms
+pub last-is : {A : Type 0} (ms : List A) → slice_get ms (length ms - 1) ≡ last_or None ms
 last-is [] = refl
 last-is (m ∷ ms) = let e : suc (length ms) - 1 ≡ length ms = omega arith in ap (slice_get (m ∷ ms)) e ∙ last-from m ms

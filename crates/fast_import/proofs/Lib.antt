@@ -4,6 +4,7 @@ pub mod Resolving
 pub mod Putting
 pub mod Growing
 pub mod Knowing
+pub mod PutTags
 pub mod Stepping
 pub mod Editing
 pub mod Ending

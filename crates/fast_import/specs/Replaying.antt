@@ -1,9 +1,10 @@
 -- How the code keeps a replay: by names of objects that a store has.
-use Rattle.std.specs.Prelude.{◌≡◌, ◌⊎◌, ◌≤◌, ℕ, Bool, cond, List, [], ◌∷◌, map, length, vec_capacity, Option, Some, None, Result, Ok, Err}
+use Rattle.std.specs.Prelude.{◌≡◌, ◌⊎◌, ◌≤◌, ℕ, Bool, true, cond, List, [], ◌∷◌, map, length, vec_capacity, Option, Some, None, Result, Ok, Err}
 use Rattle.std.specs.FinMap.{put}
-use Rattle.std.specs.List.{list_any}
+use Rattle.std.specs.List.{last_or, list_any}
 use Rattle.std.specs.Map.{lookup, remove_entry}
-use Rattle.std.specs.Ordering.{is_eq}
+use Rattle.std.specs.Option.{option_map_or}
+use Rattle.std.specs.Ordering.{is_eq, is_lt}
 use Rattle.std.specs.Global.{Vec}
 use Rattle.git_objects.specs.Paths.{Bytes, same_bytes}
 use Rattle.git_objects.specs.Refs.{Refs, bytes_cmp}
@@ -42,6 +43,10 @@ HasTrees trees made = (n : Name) → lookup (is_named n) trees ≡ tree_made n m
 pub record AreKept (trees : List (Name × Name)) (made : List Made) : Type 0 where
   pub found : HasTrees trees made
   pub few : length made ≤ STREAM_BYTES
+
+-- whether a name is above that of the last of these tags, where there is one
+abbrev pub is_behind : Bytes → List Tag → Bool
+is_behind n ts = option_map_or (λ t. is_lt (bytes_cmp t.name n)) (last_or None ts) true
 
 abbrev pub setting_value : Setting → Bytes × Bytes
 setting_value s = (s.refname, s.head.0)

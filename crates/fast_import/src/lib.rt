@@ -16,6 +16,7 @@ mod puts;
 mod replay;
 mod replayed;
 mod steps;
+mod tags;
 mod whole;
 
 pub use base::{Base, EmptyBase};

@@ -15,6 +15,7 @@ use crate::branches::Branches;
 use crate::commits::Commits;
 use crate::draft::Draft;
 use crate::marks::{Marked, Marks};
+use crate::tags::Tags;
 use crate::{Base, CommitRef, Replayed, TaggedReplay, Target};
 use git_objects::Name;
 use path_names::RefName;
@@ -31,7 +32,7 @@ pub struct Replay {
     pub(crate) branches: Branches,
     pub(crate) marks: Marks,
     pub(crate) draft: Option<Draft>,
-    pub(crate) tags: Vec<Tag>,
+    pub(crate) tags: Tags,
 }
 
 impl Model for Replay {
@@ -45,7 +46,7 @@ impl Model for Replay {
       branches = r.branches;
       marks = r.marks;
       draft = r.draft;
-      tags = r.tags.items;
+      tags = r.tags;
     } };
 }
 
@@ -61,7 +62,7 @@ impl Replay {
             branches: Branches::new(alloc),
             marks: Marks::new(alloc),
             draft: None,
-            tags: Vec::new(alloc),
+            tags: Tags::new(alloc),
         }
     }
 
@@ -94,14 +95,17 @@ impl Replay {
             commits: commits.into_vec(),
             heads: branches.into_settings(),
         };
-        TaggedReplay { replayed, tags }
+        TaggedReplay {
+            replayed,
+            tags: tags.into_vec(),
+        }
     }
 
     /// The tags that were read, the last one of each name, in the byte order of their names. Takes no memory.
     pub fn tags(&self) -> &[Tag]
         ensures { (S : List Object) (r : ReplayOf) → IsReplayOf S self.now r → result.now ≡ r.tags }
     {
-        &self.tags
+        self.tags.as_slice()
     }
 
     /// How many commits the stream has made.

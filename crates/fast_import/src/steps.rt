@@ -15,7 +15,7 @@ use crate::{Base, Command, CommitRef, Placed, Replay, StreamFault, TagHead};
 use git_objects::{Bytes, Kind, Name};
 use object_store::{Store, store_law};
 use path_names::RefName;
-use tag_objects::{Tag, put_tag};
+use tag_objects::Tag;
 
 impl Replay {
     /// Carries out a command that a reader gave behind those before it, none of which was refused. A base gives
@@ -134,7 +134,7 @@ impl Replay {
             tagger,
             message,
         };
-        let Ok(()) = put_tag(&mut self.tags, tag) else {
+        let Ok(()) = self.tags.put(tag) else {
             return Err(StreamFault::OutOfMemory);
         };
         self.mark(mark, Marked::Tag)
