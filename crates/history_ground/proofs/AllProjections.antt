@@ -40,7 +40,7 @@ use Rattle.history_ground.proofs.Waiting.{has-named}
 
 -- ---- what projecting one commit makes, projecting all makes too
 
-nothing-in : {A : Type 0} (x : A) → Contains [] x → ⊥
+pub nothing-in : {A : Type 0} (x : A) → Contains [] x → ⊥
 nothing-in x y = let l : y.0 < 0 = y.1 in absurd (omega (arith, l))
 
 module _ (k : Rule) (s : Flat → Flat) where
@@ -81,7 +81,7 @@ module _ (k : Rule) (s : Flat → Flat) where
           by false e y = behind (is_wanted ws c) (up n y)
 
 -- the commits of a graph that was added to
-added-from : (cs : List Snapshot) (g : Graph) (d : Snapshot) → Contains (add_all g cs) d → Contains g d ⊎ Contains cs d
+pub added-from : (cs : List Snapshot) (g : Graph) (d : Snapshot) → Contains (add_all g cs) d → Contains g d ⊎ Contains cs d
 added-from [] g d h = inl h
 added-from (c ∷ cs) g d h =
     elim (added-from cs (add g c) d h) [

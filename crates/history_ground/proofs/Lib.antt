@@ -11,3 +11,5 @@ pub mod HeadLemmas
 mod TrueHeads
 mod FirstLookups
 mod AllProjections
+mod Standing
+mod Befores

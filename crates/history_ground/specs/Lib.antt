@@ -4,3 +4,4 @@ pub mod Making
 pub mod Heads
 pub mod TrueWalks
 pub mod Origins
+pub mod Before

@@ -1,12 +1,14 @@
 //! Projections of commits and histories, over what a state holds.
 #![tactic(auto)]
 
+mod before;
 mod heads;
 mod histories;
 mod making;
 mod origins;
 mod walking;
 
+pub use before::shown_before;
 pub use heads::{Seen, seen_head};
 pub use histories::{history, put_commit};
 pub use origins::{First, Origins};
