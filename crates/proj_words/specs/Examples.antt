@@ -14,8 +14,9 @@ use Rattle.stream_reader.specs.declared.fault.Feature.TheVariants as features
 use Rattle.stream_reader.specs.declared.fault.StreamFault.TheVariants as streams
 use Rattle.filter_text.specs.declared.filter.FilterFault.TheVariants as texts
 use Rattle.filter_routes.specs.declared.fault.RouteFault.TheVariants as routes
-use Rattle.proj_words.specs.Words.{Import, Project, Push, Export, Name, Batch, Trial, Rule, Audit, Verify, As, Unknown}
-use Rattle.proj_words.specs.Words.{command, line_command, line_words, loads, reads, writes}
+use Rattle.proj_words.specs.Words.{Import, Project, Push, PushMerges, Export, ExportTags, Tags, Name, Batch}
+use Rattle.proj_words.specs.Words.{Trial, Rule, Audit, Verify, As, Unknown}
+use Rattle.proj_words.specs.Words.{command, line_command, loads, reads, writes}
 use Rattle.proj_words.specs.Outcomes.{code_of, text_of, usage}
 use Rattle.proj_words.specs.Entries.{byte_count, entries, reply_text}
 use Rattle.proj_words.specs.TrialTexts.{first_push, third_push, push_stream, trial_commit, trial_stream}
@@ -25,10 +26,10 @@ use Rattle.proj_words.specs.declared.outcome.Outcome.TheVariants.{Done, OutOfMem
 use Rattle.proj_words.specs.declared.outcome.Outcome.TheVariants.{Syntax, Unsupported, Unresolved, BadPath, NoSource}
 use Rattle.proj_words.specs.declared.outcome.Outcome.TheVariants.{FilterFault, Overlap, NotKeeping}
 use Rattle.proj_words.specs.declared.outcome.Outcome.TheVariants.{NotForward, OtherRef, NotAtHead, MergePushed}
-use Rattle.proj_words.specs.declared.outcome.Outcome.TheVariants.{NoChange, NotHeld, Blocked, BadWorkspace, Unseen}
-use Rattle.proj_words.specs.declared.outcome.Outcome.TheVariants.{Limit, Collision, Damaged}
+use Rattle.proj_words.specs.declared.outcome.Outcome.TheVariants.{NoChange, NotHeld, Blocked, BadWorkspace}
+use Rattle.proj_words.specs.declared.outcome.Outcome.TheVariants.{Unseen, RepeatedParent, TagExists, NotProved}
+use Rattle.proj_words.specs.declared.outcome.Outcome.TheVariants.{Limit, Collision, Damaged, Denied, BadPolicy}
 use Rattle.proj_words.specs.declared.outcome.Outcome.TheVariants.{ReadFault, WriteFault, StoreFault}
-use Rattle.proj_words.specs.declared.outcome.Outcome.TheVariants.{RepeatedParent, NotProved, Denied, BadPolicy}
 
 -- ---- words
 
@@ -100,6 +101,102 @@ no_words = refl
 pub a_word_too_many : command (codes "project" ∷ main ∷ codes ":/a" ∷ codes "b" ∷ []) ≡ Unknown
 unfolding path_of
 a_word_too_many = refl
+
+-- ---- pushes with merges
+
+-- the text of a filter is read neither as a filter nor as a path
+pub a_push_with_merges : command (codes "push" ∷ codes "--merges" ∷ main ∷ codes "" ∷ []) ≡ PushMerges main []
+unfolding is_ref_name
+a_push_with_merges = refl
+
+pub another_option_of_a_push : command (codes "push" ∷ codes "--force" ∷ main ∷ codes ":/a" ∷ []) ≡ Unknown
+another_option_of_a_push = refl
+
+pub an_option_of_an_export_on_a_push : command (codes "push" ∷ codes "--tags" ∷ main ∷ codes ":/a" ∷ []) ≡ Unknown
+an_option_of_an_export_on_a_push = refl
+
+pub an_option_of_a_push_on_an_export : command (codes "export" ∷ codes "--merges" ∷ main ∷ codes ":/a" ∷ []) ≡ Unknown
+an_option_of_a_push_on_an_export = refl
+
+pub a_push_with_its_option_last : command (codes "push" ∷ main ∷ codes ":/a" ∷ codes "--merges" ∷ []) ≡ Unknown
+a_push_with_its_option_last = refl
+
+pub a_push_with_merges_of_no_ref : command (codes "push" ∷ codes "--merges" ∷ codes "main" ∷ codes ":/a" ∷ []) ≡ Unknown
+unfolding is_ref_name
+a_push_with_merges_of_no_ref = refl
+
+-- an option is no ref name
+pub a_push_with_merges_without_a_filter : command (codes "push" ∷ codes "--merges" ∷ main ∷ []) ≡ Unknown
+unfolding is_ref_name
+a_push_with_merges_without_a_filter = refl
+
+pub a_push_with_a_word_too_many :
+    command (codes "push" ∷ codes "--merges" ∷ main ∷ codes ":/a" ∷ codes "b" ∷ []) ≡ Unknown
+a_push_with_a_word_too_many = refl
+
+pub a_push_with_two_words_too_many :
+    command (codes "push" ∷ codes "--merges" ∷ main ∷ codes ":/a" ∷ codes "b" ∷ codes "c" ∷ []) ≡ Unknown
+a_push_with_two_words_too_many = refl
+
+-- the second word of a line is the ref, and an option is no ref name
+pub a_push_with_merges_in_a_batch : line_command (codes "push --merges refs/heads/main :/a") ≡ Unknown
+unfolding is_ref_name
+a_push_with_merges_in_a_batch = refl
+
+-- ---- annotated tags
+
+-- the text of a filter is read neither as a filter nor as a path
+pub an_export_with_tags : command (codes "export" ∷ codes "--tags" ∷ main ∷ codes "" ∷ []) ≡ ExportTags main []
+unfolding is_ref_name
+an_export_with_tags = refl
+
+pub another_option_of_an_export : command (codes "export" ∷ codes "--tag" ∷ main ∷ codes ":/a" ∷ []) ≡ Unknown
+another_option_of_an_export = refl
+
+pub an_option_behind_the_ref : command (codes "export" ∷ main ∷ codes "--tags" ∷ codes ":/a" ∷ []) ≡ Unknown
+an_option_behind_the_ref = refl
+
+pub an_export_with_tags_of_no_ref : command (codes "export" ∷ codes "--tags" ∷ codes "v1" ∷ codes ":/a" ∷ []) ≡ Unknown
+unfolding is_ref_name
+an_export_with_tags_of_no_ref = refl
+
+-- an option is no ref name
+pub an_export_with_tags_without_a_filter : command (codes "export" ∷ codes "--tags" ∷ main ∷ []) ≡ Unknown
+unfolding is_ref_name
+an_export_with_tags_without_a_filter = refl
+
+pub an_export_with_a_word_too_many :
+    command (codes "export" ∷ codes "--tags" ∷ main ∷ codes ":/a" ∷ codes "b" ∷ []) ≡ Unknown
+an_export_with_a_word_too_many = refl
+
+pub an_option_of_a_projection : command (codes "project" ∷ codes "--tags" ∷ main ∷ codes "a" ∷ []) ≡ Unknown
+unfolding path_of
+an_option_of_a_projection = refl
+
+pub the_tags : command (codes "tags" ∷ main ∷ codes ":/a" ∷ []) ≡ Tags main (codes ":/a")
+unfolding is_ref_name
+the_tags = refl
+
+pub tags_of_no_ref : command (codes "tags" ∷ codes "v1" ∷ codes ":/a" ∷ []) ≡ Unknown
+unfolding is_ref_name
+tags_of_no_ref = refl
+
+pub tags_without_a_filter : command (codes "tags" ∷ main ∷ []) ≡ Unknown
+tags_without_a_filter = refl
+
+pub tags_with_a_path : command (codes "tags" ∷ main ∷ codes ":/a" ∷ codes "b" ∷ []) ≡ Unknown
+unfolding path_of
+tags_with_a_path = refl
+
+-- the filter is all that is left of a line
+pub tags_in_a_batch : line_command (codes "tags refs/heads/main :/a b") ≡ Tags main (codes ":/a b")
+unfolding is_ref_name
+tags_in_a_batch = refl
+
+-- the second word of a line is the ref, and an option is no ref name
+pub an_export_with_tags_in_a_batch : line_command (codes "export --tags refs/heads/main :/a") ≡ Unknown
+unfolding is_ref_name
+an_export_with_tags_in_a_batch = refl
 
 -- ---- certificates
 
@@ -173,6 +270,19 @@ an_export_of_a_user = refl
 pub a_name_of_a_user : command (codes "as" ∷ ann ∷ codes "name" ∷ main ∷ codes ":/a" ∷ []) ≡ Unknown
 unfolding is_ref_name
 a_name_of_a_user = refl
+
+-- no policy speaks of tags
+pub tags_of_a_user : command (codes "as" ∷ ann ∷ codes "tags" ∷ main ∷ codes ":/a" ∷ []) ≡ Unknown
+unfolding is_ref_name
+tags_of_a_user = refl
+
+pub a_user_who_exports_tags :
+    command (codes "as" ∷ ann ∷ codes "export" ∷ codes "--tags" ∷ main ∷ codes ":/a" ∷ []) ≡ Unknown
+a_user_who_exports_tags = refl
+
+pub a_user_who_pushes_with_merges :
+    command (codes "as" ∷ ann ∷ codes "push" ∷ codes "--merges" ∷ main ∷ codes ":/a" ∷ []) ≡ Unknown
+a_user_who_pushes_with_merges = refl
 
 pub a_user_without_a_command : command (codes "as" ∷ ann ∷ []) ≡ Unknown
 a_user_without_a_command = refl
@@ -353,6 +463,35 @@ an_export_loads = refl
 pub an_export_writes_no_item : writes (Export main []) ≡ false
 an_export_writes_no_item = refl
 
+-- with merges a push reads, loads and writes as without
+pub a_push_with_merges_reads : reads (PushMerges main []) ≡ true
+a_push_with_merges_reads = refl
+
+pub a_push_with_merges_loads : loads (PushMerges main []) ≡ true
+a_push_with_merges_loads = refl
+
+pub a_push_with_merges_may_write : writes (PushMerges main []) ≡ true
+a_push_with_merges_may_write = refl
+
+-- with tags or of them alone it reads, loads and writes as without
+pub an_export_with_tags_reads_nothing : reads (ExportTags main []) ≡ false
+an_export_with_tags_reads_nothing = refl
+
+pub an_export_with_tags_loads : loads (ExportTags main []) ≡ true
+an_export_with_tags_loads = refl
+
+pub an_export_with_tags_writes_no_item : writes (ExportTags main []) ≡ false
+an_export_with_tags_writes_no_item = refl
+
+pub tags_read_nothing : reads (Tags main []) ≡ false
+tags_read_nothing = refl
+
+pub tags_load : loads (Tags main []) ≡ true
+tags_load = refl
+
+pub tags_write_no_item : writes (Tags main []) ≡ false
+tags_write_no_item = refl
+
 pub a_projection_may_write : writes (Project main []) ≡ true
 a_projection_may_write = refl
 
@@ -516,6 +655,10 @@ pub a_repeated_parent : text_of (RepeatedParent 1) ≡ codes "repeated parent: c
 unfolding digits
 a_repeated_parent = refl
 
+-- a name stands as it is, as that of a ref does
+pub a_tag_that_exists : text_of (TagExists (codes "rel/\"1\"")) ≡ codes "tag exists: rel/\"1\"\n"
+a_tag_that_exists = refl
+
 pub not_proved : text_of (NotProved zeros) ≡ codes "not proved: 0000000000000000000000000000000000000000\n"
 unfolding encode_with
 not_proved = refl
@@ -538,6 +681,12 @@ the_number_of_not_held = refl
 
 pub the_number_of_a_bad_workspace : code_of (BadWorkspace 1) ≡ 26
 the_number_of_a_bad_workspace = refl
+
+pub the_number_of_a_repeated_parent : code_of (RepeatedParent 1) ≡ 28
+the_number_of_a_repeated_parent = refl
+
+pub the_number_of_a_tag_that_exists : code_of (TagExists (codes "v1")) ≡ 29
+the_number_of_a_tag_that_exists = refl
 
 -- ---- faults
 

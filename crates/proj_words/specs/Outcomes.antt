@@ -15,10 +15,10 @@ use Rattle.proj_words.specs.declared.outcome.Outcome.TheVariants.{Done, OutOfMem
 use Rattle.proj_words.specs.declared.outcome.Outcome.TheVariants.{Syntax, Unsupported, Unresolved, BadPath, NoSource}
 use Rattle.proj_words.specs.declared.outcome.Outcome.TheVariants.{FilterFault, Overlap, NotKeeping}
 use Rattle.proj_words.specs.declared.outcome.Outcome.TheVariants.{NotForward, OtherRef, NotAtHead, MergePushed}
-use Rattle.proj_words.specs.declared.outcome.Outcome.TheVariants.{NoChange, NotHeld, Blocked, BadWorkspace, Unseen}
-use Rattle.proj_words.specs.declared.outcome.Outcome.TheVariants.{Limit, Collision, Damaged}
+use Rattle.proj_words.specs.declared.outcome.Outcome.TheVariants.{NoChange, NotHeld, Blocked, BadWorkspace}
+use Rattle.proj_words.specs.declared.outcome.Outcome.TheVariants.{Unseen, RepeatedParent, TagExists, NotProved}
+use Rattle.proj_words.specs.declared.outcome.Outcome.TheVariants.{Limit, Collision, Damaged, Denied, BadPolicy}
 use Rattle.proj_words.specs.declared.outcome.Outcome.TheVariants.{ReadFault, WriteFault, StoreFault}
-use Rattle.proj_words.specs.declared.outcome.Outcome.TheVariants.{RepeatedParent, NotProved, Denied, BadPolicy}
 
 -- the number that the program ends with; 17 is never given
 abbrev pub code_of : Outcome → ℕ
@@ -50,6 +50,7 @@ code_of (Damaged item at) = 25
 code_of (BadWorkspace n) = 26
 code_of (Unseen n path) = 27
 code_of (RepeatedParent n) = 28
+code_of (TagExists tag) = 29
 code_of (NotProved n) = 30
 code_of (Denied rule) = 31
 code_of (BadPolicy line) = 32
@@ -110,7 +111,8 @@ path_words p = quote (text p)
 -- the forms of the words
 abbrev pub usage : Bytes
 usage =
-    codes "usage: proj STORE (import [--force] | project REF FILTER | push REF FILTER | export REF FILTER | "
+    codes "usage: proj STORE (import [--force] | project REF FILTER | push [--merges] REF FILTER | "
+    ++ codes "export [--tags] REF FILTER | tags REF FILTER | "
     ++ codes "audit REF FILTER PATH | as USER (project | push | export) REF FILTER | batch | "
     ++ codes "rule (1 | 2)), proj name REF FILTER, proj trial N, proj verify COMMIT FILTER PATH"
 
@@ -148,6 +150,7 @@ words_of (Damaged item at) = codes "damaged: item " ++ decimal item ++ codes " a
 words_of (BadWorkspace n) = codes "bad workspace: commit " ++ decimal n
 words_of (Unseen n path) = codes "unseen: commit " ++ decimal n ++ codes ": " ++ path_words path
 words_of (RepeatedParent n) = codes "repeated parent: commit " ++ decimal n
+words_of (TagExists tag) = codes "tag exists: " ++ tag
 words_of (NotProved n) = codes "not proved: " ++ hex n.0
 words_of (Denied rule) = codes "denied: rule " ++ decimal rule
 words_of (BadPolicy line) = codes "bad policy: line " ++ decimal line

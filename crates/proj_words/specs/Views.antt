@@ -1,7 +1,8 @@
 -- Commands, entries and pushes of a trial, as the definitions have them.
 use Rattle.std.specs.Prelude.{◌≡◌, ℕ, List, ◌∷◌, Some, Result, Ok, Err}
 use Rattle.git_objects.specs.Results.{◌>>=◌}
-use Rattle.proj_words.specs.Words.{Command, Import, Project, Push, Export, Name, Batch, Trial, Rule, Audit, Verify, As, Unknown}
+use Rattle.proj_words.specs.Words.{Command, Import, Project, Push, PushMerges, Export, ExportTags, Tags, Name, Batch}
+use Rattle.proj_words.specs.Words.{Trial, Rule, Audit, Verify, As, Unknown}
 use Rattle.proj_words.specs.Entries.{Entry, Spot, TextLine, entries_by}
 use Rattle.proj_words.specs.TrialTexts.{TrialPush}
 use Rattle.proj_words.specs.declared.words.Command.{Command as ReadCommand}
@@ -15,7 +16,10 @@ abbrev pub command_of : ReadCommand → Command
 command_of (forms.Import force) = Import force
 command_of (forms.Project refname filter) = Project refname.now filter.now
 command_of (forms.Push refname filter) = Push refname.now filter.now
+command_of (forms.PushMerges refname filter) = PushMerges refname.now filter.now
 command_of (forms.Export refname filter) = Export refname.now filter.now
+command_of (forms.ExportTags refname filter) = ExportTags refname.now filter.now
+command_of (forms.Tags refname filter) = Tags refname.now filter.now
 command_of (forms.Name refname filter) = Name refname.now filter.now
 command_of forms.Batch = Batch
 command_of (forms.Trial n) = Trial n

@@ -18,7 +18,13 @@ pub data Command : Type 0 where
   -- each of a ref and the text of a filter
   Project : Bytes → Bytes → Command
   Push : Bytes → Bytes → Command
+  -- a push whose commits may have further parents
+  PushMerges : Bytes → Bytes → Command
   Export : Bytes → Bytes → Command
+  -- an export with its annotated tags
+  ExportTags : Bytes → Bytes → Command
+  -- the annotated tags alone
+  Tags : Bytes → Bytes → Command
   Name : Bytes → Bytes → Command
   Batch : Command
   Trial : ℕ → Command
@@ -64,7 +70,8 @@ three_words w r f =
     if same_bytes w (codes "project") then Project r f else
     (if same_bytes w (codes "push") then Push r f else
     (if same_bytes w (codes "export") then Export r f else
-    (if same_bytes w (codes "name") then Name r f else Unknown)))
+    (if same_bytes w (codes "tags") then Tags r f else
+    (if same_bytes w (codes "name") then Name r f else Unknown))))
 
 -- 40 digits of either case
 abbrev pub is_commit_word : Bytes → Bool
@@ -80,9 +87,20 @@ certificate_words w n f p =
     if same_bytes w (codes "audit") then (if is_ref_name n then Audit n f p else Unknown) else
     (if same_bytes w (codes "verify") then (if is_commit_word n then Verify n f p else Unknown) else Unknown)
 
--- a path must be one that can be read
+-- of an option of the word `export`, a ref, and the text of a filter
+abbrev pub export_words : Bytes → Bytes → Bytes → Command
+export_words o r f = if same_bytes o (codes "--tags") && is_ref_name r then ExportTags r f else Unknown
+
+-- of an option of the word `push`, a ref, and the text of a filter
+abbrev pub push_words : Bytes → Bytes → Bytes → Command
+push_words o r f = if same_bytes o (codes "--merges") && is_ref_name r then PushMerges r f else Unknown
+
+-- the path of a certificate must be one that can be read
 abbrev pub four_words : Bytes → Bytes → Bytes → Bytes → Command
-four_words w n f p = if is_path_word p then certificate_words w n f p else Unknown
+four_words w a b c =
+    if same_bytes w (codes "export") then export_words a b c else
+    (if same_bytes w (codes "push") then push_words a b c else
+    (if is_path_word c then certificate_words w a b c else Unknown))
 
 -- what a policy may let a user do
 abbrev pub user_words : Bytes → Bytes → Bytes → Bytes → Command
@@ -100,16 +118,20 @@ abbrev pub command : List Bytes → Command
 command (w ∷ []) = one_word w
 command (w ∷ v ∷ []) = two_words w v
 command (w ∷ r ∷ f ∷ []) = if is_ref_name r then three_words w r f else Unknown
-command (w ∷ n ∷ f ∷ p ∷ []) = four_words w n f p
+command (w ∷ a ∷ b ∷ c ∷ []) = four_words w a b c
 command (a ∷ u ∷ w ∷ r ∷ f ∷ []) = five_words a u w r f
 command _ = Unknown
 
--- Whether the ref of a command is a ref name, its commit 40 digits, its path one that can be read, the number of a rule 1
--- or 2, and that of a trial from 1 to 100,000; and whether its user can be one, and does what a policy may let him do.
+-- Whether the ref of a command is a ref name, its commit 40 digits, its path one that can be read, the number of a
+-- rule 1 or 2, and that of a trial from 1 to 100,000; and whether its user can be one, and does what a policy may let
+-- him do.
 abbrev pub is_formed : Command → Bool
 is_formed (Project r f) = is_ref_name r
 is_formed (Push r f) = is_ref_name r
+is_formed (PushMerges r f) = is_ref_name r
 is_formed (Export r f) = is_ref_name r
+is_formed (ExportTags r f) = is_ref_name r
+is_formed (Tags r f) = is_ref_name r
 is_formed (Name r f) = is_ref_name r
 is_formed (Trial n) = nat_le 1 n && nat_le n 100000
 is_formed (Rule k) = k == 1 || k == 2
@@ -147,6 +169,7 @@ line_command t = in_batch (command (line_words t))
 abbrev pub reads : Command → Bool
 reads (Import force) = true
 reads (Push r f) = true
+reads (PushMerges r f) = true
 reads (Name r f) = true
 reads Batch = true
 reads (Verify n f p) = true
@@ -165,6 +188,8 @@ loads _ = true
 -- whether it may append an item
 abbrev pub writes : Command → Bool
 writes (Export r f) = false
+writes (ExportTags r f) = false
+writes (Tags r f) = false
 writes (Audit r f p) = false
 writes (As u c) = writes c
 writes c = loads c

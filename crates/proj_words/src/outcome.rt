@@ -5,6 +5,7 @@ ghost use Rattle.proj_words.specs.Outcomes.{code_of};
 use git_objects::{Name, Quantity};
 use path_names::{Path, RefName};
 use stream_reader::Feature;
+use tag_objects::TagName;
 
 /// What is wrong with the text of a filter.
 #[derive(Clone, Copy, Debug, PartialEq, Eq)]
@@ -136,6 +137,11 @@ pub enum Outcome {
     RepeatedParent {
         n: u32,
     },
+    /// The state has an annotated tag of this name, and the input one of another commit, tagger or message. It is
+    /// the first such name in byte order.
+    TagExists {
+        tag: TagName,
+    },
     /// A certificate has no object of this name that is needed.
     NotProved {
         name: Name,
@@ -183,6 +189,7 @@ pub fn outcome_code(outcome: &Outcome) -> u8
         Outcome::BadWorkspace { .. } => 26,
         Outcome::Unseen { .. } => 27,
         Outcome::RepeatedParent { .. } => 28,
+        Outcome::TagExists { .. } => 29,
         Outcome::NotProved { .. } => 30,
         Outcome::Denied { .. } => 31,
         Outcome::BadPolicy { .. } => 32,

@@ -12,7 +12,8 @@ use std::alloc::{AllocError, Global};
 use stream_reader::Feature;
 
 const USAGE: &[u8] =
-    b"usage: proj STORE (import [--force] | project REF FILTER | push REF FILTER | export REF FILTER | \
+    b"usage: proj STORE (import [--force] | project REF FILTER | push [--merges] REF FILTER | \
+    export [--tags] REF FILTER | tags REF FILTER | \
     audit REF FILTER PATH | as USER (project | push | export) REF FILTER | batch | \
     rule (1 | 2)), proj name REF FILTER, proj trial N, proj verify COMMIT FILTER PATH\n";
 
@@ -261,6 +262,7 @@ fn cause_words(alloc: Global, outcome: &Outcome) -> Result<Vec<u8>, AllocError>
             b"repeated parent: commit ",
             u64::from(*n),
         ),
+        Outcome::TagExists { tag } => joined(alloc, b"tag exists: ", tag.text()),
         Outcome::NotProved { name } => joined(alloc, b"not proved: ", &name.hex()),
         Outcome::Denied { rule } => numbered(alloc, b"denied: rule ", u64::from(*rule)),
         Outcome::BadPolicy { line } => numbered(alloc, b"bad policy: line ", u64::from(*line)),

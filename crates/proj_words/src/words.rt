@@ -4,8 +4,8 @@ ghost use Rattle.path_names.specs.RefNames.{is_ref_name};
 ghost use Rattle.path_names.specs.UserNames.{is_user};
 ghost use Rattle.proj_words.specs.Views.{command_of};
 ghost use Rattle.proj_words.specs.Words.{command, is_formed, one_word, rule_word, two_words, three_words, trial_number};
-ghost use Rattle.proj_words.specs.Words.{Trial, certificate_words, five_words, four_words, is_path_word, user_words};
-ghost use Rattle.proj_words.specs.Words.{in_batch, line_command, line_words};
+ghost use Rattle.proj_words.specs.Words.{Trial, certificate_words, export_words, five_words, four_words, is_path_word};
+ghost use Rattle.proj_words.specs.Words.{in_batch, line_command, line_words, push_words, user_words};
 
 use crate::cut::cut;
 use git_objects::Name;
@@ -21,7 +21,13 @@ pub enum Command<'a> {
     Import(bool),
     Project(&'a [u8], &'a [u8]),
     Push(&'a [u8], &'a [u8]),
+    /// A push whose commits may have further parents.
+    PushMerges(&'a [u8], &'a [u8]),
     Export(&'a [u8], &'a [u8]),
+    /// An export with its annotated tags.
+    ExportTags(&'a [u8], &'a [u8]),
+    /// The annotated tags alone.
+    Tags(&'a [u8], &'a [u8]),
     Name(&'a [u8], &'a [u8]),
     Batch,
     /// How many commits, from 1 to 100,000.
@@ -114,6 +120,9 @@ fn three_words<'a>(word: &[u8], refname: &'a [u8], filter: &'a [u8]) -> Command<
     if word == b"export".as_slice() {
         return Command::Export(refname, filter);
     }
+    if word == b"tags".as_slice() {
+        return Command::Tags(refname, filter);
+    }
     if word == b"name".as_slice() {
         return Command::Name(refname, filter);
     }
@@ -146,12 +155,46 @@ fn certificate_words<'a>(
     Command::Unknown
 }
 
-fn four_words<'a>(word: &[u8], name: &'a [u8], filter: &'a [u8], path: &'a [u8]) -> Command<'a>
-    ensures command { command_of result ≡ four_words word.now name.now filter.now path.now }
+// The one option of an export is to have the annotated tags with it.
+fn export_words<'a>(option: &[u8], refname: &'a [u8], filter: &'a [u8]) -> Command<'a>
+    ensures command { command_of result ≡ export_words option.now refname.now filter.now }
     ensures formed { is_formed (command_of result) ≡ true }
 {
-    if is_path_text(path) {
-        certificate_words(word, name, filter, path)
+    if option != b"--tags".as_slice() {
+        return Command::Unknown;
+    }
+    if !is_ref_name(refname) {
+        return Command::Unknown;
+    }
+    Command::ExportTags(refname, filter)
+}
+
+// The one option of a push is that its commits may have further parents.
+fn push_words<'a>(option: &[u8], refname: &'a [u8], filter: &'a [u8]) -> Command<'a>
+    ensures command { command_of result ≡ push_words option.now refname.now filter.now }
+    ensures formed { is_formed (command_of result) ≡ true }
+{
+    if option != b"--merges".as_slice() {
+        return Command::Unknown;
+    }
+    if !is_ref_name(refname) {
+        return Command::Unknown;
+    }
+    Command::PushMerges(refname, filter)
+}
+
+fn four_words<'a>(word: &[u8], second: &'a [u8], third: &'a [u8], last: &'a [u8]) -> Command<'a>
+    ensures command { command_of result ≡ four_words word.now second.now third.now last.now }
+    ensures formed { is_formed (command_of result) ≡ true }
+{
+    if word == b"export".as_slice() {
+        return export_words(second, third, last);
+    }
+    if word == b"push".as_slice() {
+        return push_words(second, third, last);
+    }
+    if is_path_text(last) {
+        certificate_words(word, second, third, last)
     } else {
         Command::Unknown
     }
@@ -209,11 +252,11 @@ pub fn read_command<'a>(words: &'a [String]) -> Command<'a>
         [word, refname, filter] if is_ref_name(refname.as_bytes()) => {
             three_words(word.as_bytes(), refname.as_bytes(), filter.as_bytes())
         }
-        [word, name, filter, path] => four_words(
+        [word, second, third, last] => four_words(
             word.as_bytes(),
-            name.as_bytes(),
-            filter.as_bytes(),
-            path.as_bytes(),
+            second.as_bytes(),
+            third.as_bytes(),
+            last.as_bytes(),
         ),
         [first, user, word, refname, filter] => five_words(
             first.as_bytes(),
