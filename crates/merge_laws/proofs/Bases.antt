@@ -298,7 +298,7 @@ module _ (refname : Bytes) (from : Option Bytes) (seen : Flat) where
     edited-same r at t (changes.Copy p q) = refl
     edited-same r at t changes.DeleteAll = refl
 
-    command-same : (r : Replay) (at : ℕ) (c : Command) → merge_step (base es) refname from r (record { at = at; command = c }) ≡ merge_step (base fs) refname from r (record { at = at; command = c })
+    pub command-same : (r : Replay) (at : ℕ) (c : Command) → merge_step (base es) refname from r (record { at = at; command = c }) ≡ merge_step (base fs) refname from r (record { at = at; command = c })
     command-same r at (commands.Commit h) =
         λ i. must (OtherRef at) (same_bytes h.refname refname) >>= λ u. refused_by Faulty (parent-same r h h.from i) >>= λ first. at-head r h first (is_same_name (chain_end from r) first) refl i
     command-same r at (commands.Reset name target) =

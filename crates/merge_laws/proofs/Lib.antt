@@ -1,11 +1,11 @@
 mod Binding
-mod ChoiceLemmas
+pub mod ChoiceLemmas
 pub mod Parents
 pub mod Merging
 mod Chains
-mod Joining
+pub mod Joining
 pub mod Bases
 mod Plain
-mod Bringing
+pub mod Bringing
 mod Untagged
 mod Usual

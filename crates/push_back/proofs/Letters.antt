@@ -17,16 +17,16 @@ digit-quiet [] h d = refl
 digit-quiet (x ∷ xs) h zero = first_so _ _ h
 digit-quiet (x ∷ xs) h (suc d) = digit-quiet xs (second_so _ _ h) d
 
-hex-quiet : (n : Bytes) → avoids 10 (hex n) ≡ true
+pub hex-quiet : (n : Bytes) → avoids 10 (hex n) ≡ true
 unfolding encode_with
 hex-quiet [] = refl
 hex-quiet (x ∷ n) = and_both (digit-quiet lower_digits refl (x / 16)) (and_both (digit-quiet lower_digits refl (x % 16)) (hex-quiet n))
 
 -- what follows a line
-behind : (w v r u s : Bytes) → avoids 10 v ≡ true → avoids 10 u ≡ true → field w v r ≡ field w u s → r ≡ s
+pub behind : (w v r u s : Bytes) → avoids 10 v ≡ true → avoids 10 u ≡ true → field w v r ≡ field w u s → r ≡ s
 behind w v r u s h g e = ap (λ (p : Bytes × Bytes). p.1) (same_Some (v, r) (u, s) (sym (field-read w v r h) ∙ ap (field_from w) e ∙ field-read w u s g))
 
-abbrev first : Bytes → ℕ
+abbrev pub first : Bytes → ℕ
 first [] = 0
 first (x ∷ xs) = x
 

@@ -1,6 +1,6 @@
 mod TreeSizes
 pub mod LaidTrees
-mod Letters
+pub mod Letters
 mod NextFilters
 pub mod OneOriginal
 mod Runs

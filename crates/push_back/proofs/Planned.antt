@@ -59,7 +59,7 @@ use Rattle.push_back.specs.declared.refusal.TreeRefusal.TheVariants as trees
 
 -- ---- what a fault of a call tells
 
-apply-fault : (refusal : Option PushRefusal) (made more : Object → Type 0) (S : List Object) → ((o : Object) → made o → more o) → (e : ApplyError) → IsApplyFault made S e → IsPushFault refusal more S (of_apply e)
+pub apply-fault : (refusal : Option PushRefusal) (made more : Object → Type 0) (S : List Object) → ((o : Object) → made o → more o) → (e : ApplyError) → IsApplyFault made S e → IsPushFault refusal more S (of_apply e)
 apply-fault refusal made more S f (apply.Collision n) x = clash_as made more S n.0 f x
 apply-fault refusal made more S f apply.OutOfMemory x = tt
 
@@ -70,7 +70,7 @@ module _ (fault : Option StreamRefusal) (later : Option PushRefusal) where
   tells : (e : PushError) (r : StreamRefusal) → Tells fault e → told e ≡ Some r → refused ≡ Some (StreamRefused r)
   tells e r t q = ap (λ (o : Option StreamRefusal). option_or (option_map StreamRefused o) later) (t.there ∙ sym t.same ∙ q)
 
-  stream-fault : (made more : Object → Type 0) (S : List Object) → ((o : Object) → made o → more o) → (e : PushError) → IsPushError fault made S e → IsPushFault refused more S (of_stream e)
+  pub stream-fault : (made more : Object → Type 0) (S : List Object) → ((o : Object) → made o → more o) → (e : PushError) → IsPushError fault made S e → IsPushFault refused more S (of_stream e)
   stream-fault made more S g errors.ReadFault x = tt
   stream-fault made more S g (errors.OtherRef at) (inl t) = tells (errors.OtherRef at) (replays.OtherRef at) t refl
   stream-fault made more S g (errors.OtherRef at) (inr t) = absurd t
@@ -82,7 +82,7 @@ module _ (fault : Option StreamRefusal) (later : Option PushRefusal) where
   stream-fault made more S g (errors.Stream f) (inr t) = inr (fault_as made more S f g t)
 
 module _ (refusal : Option PushRefusal) (v : Verdict) (same : refusal ≡ refusal_of v) (made more : Object → Type 0) (S : List Object) (f : (o : Object) → made o → more o) (n : ℕ) where
-  original-fault : (y : TreeRefusal) → IsRefusedBy (λ r. v ≡ Err (n, r)) made S y → IsPushFault refusal more S (of_original n y)
+  pub original-fault : (y : TreeRefusal) → IsRefusedBy (λ r. v ≡ Err (n, r)) made S y → IsPushFault refusal more S (of_original n y)
   original-fault trees.NoChange x = same ∙ ap refusal_of x
   original-fault trees.BadWorkspace x = same ∙ ap refusal_of x
   original-fault (trees.Unseen p) x = same ∙ ap refusal_of x
@@ -151,13 +151,13 @@ plan-taken waited (Some all) p (Err e) k v q x = absurd cc
 
 -- ---- how many there are
 
-commits-length : (S : List Object) (ms : List Made) (cs : List Snapshot) → AreCommitsIn S ms cs → length ms ≡ length cs
+pub commits-length : (S : List Object) (ms : List Made) (cs : List Snapshot) → AreCommitsIn S ms cs → length ms ≡ length cs
 commits-length S [] [] h = refl
 commits-length S [] (c ∷ cs) h = absurd h
 commits-length S (m ∷ ms) [] h = absurd h
 commits-length S (m ∷ ms) (c ∷ cs) h = ap suc (commits-length S ms cs h.1)
 
-named-length : (S : List Object) (ns : List Name) (cs : List Snapshot) → AreNamedIn S ns cs → length ns ≡ length cs
+pub named-length : (S : List Object) (ns : List Name) (cs : List Snapshot) → AreNamedIn S ns cs → length ns ≡ length cs
 named-length S [] [] h = refl
 named-length S [] (c ∷ cs) h = absurd h
 named-length S (n ∷ ns) [] h = absurd h
@@ -179,19 +179,19 @@ accepted-length f n h t seen (c ∷ cs) e = by (original_tree f t seen c.tree) e
     by (Ok u) q ih = ap suc (ih u (accepted-before (record { pushed = c; original = original_of h c u }) (verdict_from f (n + 1) (snapshot_name (original_of h c u)) u c.tree cs) q))
     by (Err x) q ih = absurd cc
 
-none-refused : (v : Verdict) → result_err v ≡ None → refusal_of v ≡ None
+pub none-refused : (v : Verdict) → result_err v ≡ None → refusal_of v ≡ None
 none-refused (Ok ps) e = refl
 none-refused (Err x) e = cc
 
 -- ---- names
 
-commit-names : (S : List Object) (ms : List Made) (cs : List Snapshot) → AreCommitsIn S ms cs → map name_bytes (map (λ (m : Made). m.name) ms) ≡ map snapshot_name cs
+pub commit-names : (S : List Object) (ms : List Made) (cs : List Snapshot) → AreCommitsIn S ms cs → map name_bytes (map (λ (m : Made). m.name) ms) ≡ map snapshot_name cs
 commit-names S [] [] h = refl
 commit-names S [] (c ∷ cs) h = absurd h
 commit-names S (m ∷ ms) [] h = absurd h
 commit-names S (m ∷ ms) (c ∷ cs) h = λ i. sym h.0.named i ∷ commit-names S ms cs h.1 i
 
-pushed-names : (ps : List Pair) → map (λ (p : Pair). p.pushed.0) ps ≡ map name_bytes (map (λ (p : Pair). p.pushed) ps)
+pub pushed-names : (ps : List Pair) → map (λ (p : Pair). p.pushed.0) ps ≡ map name_bytes (map (λ (p : Pair). p.pushed) ps)
 pushed-names [] = refl
 pushed-names (p ∷ ps) = ap (λ (ns : List Bytes). p.pushed.0 ∷ ns) (pushed-names ps)
 
