@@ -1,0 +1,9 @@
+pub mod Grounds
+pub mod Replaying
+pub mod Waited
+pub mod Places
+pub mod Originals
+pub mod Progressing
+pub mod Bringing
+pub mod Faults
+pub mod Planning
