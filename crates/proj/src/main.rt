@@ -24,10 +24,13 @@ const HELP: &[u8] = b"proj shows parts of a monorepo as Git repositories of thei
 \n\
 \x20 proj STORE import [--force]     put the commits of a stream into the store\n\
 \x20 proj STORE project REF FILTER   print the name of what the filter shows of a ref\n\
-\x20 proj STORE export REF FILTER    print the history of what it shows, as a stream\n\
+\x20 proj STORE export [--tags] REF FILTER\n\
+\x20                                 print the history of what it shows, as a stream\n\
+\x20 proj STORE tags REF FILTER      print the annotated tags beside that history\n\
 \x20 proj STORE audit REF FILTER PATH\n\
 \x20                                 print a certificate of what it shows at a path\n\
-\x20 proj STORE push REF FILTER      take pushed commits back into the ref's history\n\
+\x20 proj STORE push [--merges] REF FILTER\n\
+\x20                                 take pushed commits back into the ref's history\n\
 \x20 proj STORE as USER COMMAND ..   project, export or push where the store's policy allows it\n\
 \x20 proj STORE rule (1 | 2)         set the rule by which merges are shown\n\
 \x20 proj STORE batch                answer commands one after another, each with its input\n\
@@ -38,8 +41,8 @@ const HELP: &[u8] = b"proj shows parts of a monorepo as Git repositories of thei
 STORE is a file. It is made where there is none, whatever the words behind it are. One\n\
 process at a time has it: another one is told `store fault`, with status 24. A stream is\n\
 read from the standard input, in the form of git fast-export; what export prints is one\n\
-for git fast-import. With --force a ref may move anywhere. A store named --help or\n\
-verify is given as ./--help or ./verify.\n";
+for git fast-import. With --force a ref may move anywhere, and a tag may be another one.\n\
+A store named --help or verify is given as ./--help or ./verify.\n";
 
 const VERSION: &[u8] = b"proj 0.1\n";
 

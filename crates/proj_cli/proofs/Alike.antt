@@ -1,5 +1,5 @@
 -- What a user is told of a step, by the policy, the head and what is shown.
-use Rattle.std.proofs.Common.{◌≡◌, ℕ, true, inl, inr, List, [], ◌∷◌, ◌++◌, map, refl, sym, ap, subst, ◌∙◌, Option, Some, None, true≢false}
+use Rattle.std.proofs.Common.{◌≡◌, ℕ, true, false, inl, inr, List, [], ◌∷◌, ◌++◌, map, refl, sym, ap, subst, ◌∙◌, Option, Some, None, true≢false}
 use Rattle.std.specs.Prelude.{Result, Ok, Err, zip}
 use Rattle.std.specs.List.{flat_map, last_or}
 use Rattle.std.specs.Option.{option_map, option_or}
@@ -45,6 +45,7 @@ use Rattle.proj_cli.specs.Steps.{made, step}
 use Rattle.proj_cli.specs.declared.lines.Telling.TheVariants.{PushedAlone}
 use Rattle.proj_cli.proofs.PushedLaws.{IsAccepted, accepted, head-tree}
 use Rattle.proj_cli.proofs.SoundTexts.{sound-usable}
+use Rattle.proj_cli.specs.declared.pushing.Manner.TheVariants.{InLine}
 
 abbrev Told : Type 0
 Told = Result Bytes Outcome
@@ -88,7 +89,7 @@ abbrev push_tells : PushRefusal → Type 0
 push_tells (StreamRefused e) = ⊥
 push_tells (CommitRefused n e) = refusal_tells e ≡ true
 
-tells-refusal : (r : PushRefusal) → push_tells r → tells_unshown (push_outcome r) ≡ true
+tells-refusal : (r : PushRefusal) → push_tells r → tells_unshown (push_outcome InLine r) ≡ true
 tells-refusal (StreamRefused e) h = absurd h
 tells-refusal (CommitRefused n verdicts.NoChange) h = absurd (true≢false (sym h))
 tells-refusal (CommitRefused n verdicts.BadWorkspace) h = absurd (true≢false (sym h))
@@ -99,10 +100,10 @@ tells-refusal (CommitRefused n (verdicts.TreeLimit q)) h = refl
 
 -- by its refusal, the limit that it passes, and what is written of it
 abbrev pushed_told : Option PushRefusal → Option Quantity → Bytes → Told
-pushed_told a l b = no_refusal a >>= λ u. no_limit l >>= λ v. Ok b
+pushed_told a l b = no_refusal InLine a >>= λ u. no_limit l >>= λ v. Ok b
 
 told-push : (g : Held) (a : Option PushRefusal) (l : Option Quantity) (b : Bytes) (q : Plan) →
-    told (no_refusal a >>= λ u. no_limit l >>= λ v. Ok (record { output = b; before = g; plan = q })) ≡ pushed_told a l b
+    told (no_refusal InLine a >>= λ u. no_limit l >>= λ v. Ok (record { output = b; before = g; plan = q })) ≡ pushed_told a l b
 told-push g (Some r) l b q = refl
 told-push g None (Some l) b q = refl
 told-push g None None b q = refl
@@ -118,7 +119,7 @@ pushed-same None (Err x) w l k b d (inl h) e = inl (tells-refusal (CommitRefused
 pushed-same None (Ok ps) w l k b d (inl h) e = absurd (true≢false (sym h))
 pushed-same None v (Err x) l k b d (inr (inl h)) e = inr (inl (tells-refusal (CommitRefused x.0 x.1) h))
 pushed-same None v (Ok ps) l k b d (inr (inl h)) e = absurd (true≢false (sym h))
-pushed-same None (Err x) (Err y) l k b d (inr (inr h)) e = let same : x ≡ y = cc in inr (inr (ap (λ (z : ℕ × verdicts.Refusal). Err (push_outcome (CommitRefused z.0 z.1))) same))
+pushed-same None (Err x) (Err y) l k b d (inr (inr h)) e = let same : x ≡ y = cc in inr (inr (ap (λ (z : ℕ × verdicts.Refusal). Err (push_outcome InLine (CommitRefused z.0 z.1))) same))
 pushed-same None (Err x) (Ok rs) l k b d (inr (inr h)) e = cc
 pushed-same None (Ok ps) (Err y) l k b d (inr (inr h)) e = cc
 pushed-same None (Ok ps) (Ok rs) (Some q) k b d (inr (inr h)) e = inl refl
@@ -184,21 +185,21 @@ module _ (user refname text : Bytes) (f : Filter) (e : sound text ≡ Ok f) wher
       told (step (As user (Export refname text)) I a) ≡ told_at (gate g See) (head refname g) (λ n. Ok (export_text (history g.rule f (repo g).commits n) refname))
   told-export I g a r =
       (λ i. told ((e i >>= λ f. refused_by break_outcome (r i) >>= λ h. granted h user See refname f >>= λ u.
-      head_of refname h.refs >>= λ n. Ok (ExportCase h f refname n)) >>= made (room_of I)))
-      ∙ in-parts (room_of I) (gate g See) (head refname g) (ExportCase g f refname)
+      head_of refname h.refs >>= λ n. Ok (ExportCase false h f refname n)) >>= made (room_of I)))
+      ∙ in-parts (room_of I) (gate g See) (head refname g) (ExportCase false g f refname)
 
   module _ (input : Bytes) where
     abbrev push_of : Held → Bytes → Pushing
     push_of g n = pushing (rule_by g.rule) f (repo g).commits n refname input
 
     abbrev pushed_at : Room → Held → Bytes → Told
-    pushed_at room g n = told (made room (PushCase PushedAlone g f refname n (push_of g n)))
+    pushed_at room g n = told (made room (PushCase InLine PushedAlone g f refname n (push_of g n)))
 
     told-pushed : (I : List Bytes) (g : Held) → read_items I ≡ Ok g → told (step (As user (Push refname text)) I input) ≡ told_at (gate g PushAct) (head refname g) (pushed_at (room_of I) g)
     told-pushed I g r =
         (λ i. told ((e i >>= λ f. refused_by break_outcome (r i) >>= λ h. granted h user PushAct refname f >>= λ u.
-        head_of refname h.refs >>= λ n. Ok (PushCase PushedAlone h f refname n (pushing (rule_by h.rule) f (repo h).commits n refname input))) >>= made (room_of I)))
-        ∙ in-parts (room_of I) (gate g PushAct) (head refname g) (λ n. PushCase PushedAlone g f refname n (push_of g n))
+        head_of refname h.refs >>= λ n. Ok (PushCase InLine PushedAlone h f refname n (pushing (rule_by h.rule) f (repo h).commits n refname input))) >>= made (room_of I)))
+        ∙ in-parts (room_of I) (gate g PushAct) (head refname g) (λ n. PushCase InLine PushedAlone g f refname n (push_of g n))
 
     abbrev plan_of : Held → Bytes → Plan
     plan_of g n = push_plan g refname (push_of g n) (last_or None (push_of g n).originals)

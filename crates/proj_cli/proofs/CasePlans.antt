@@ -11,7 +11,7 @@ use Rattle.filter_text.specs.Filters.{Filter}
 use Rattle.filter_text.specs.Printing.{printed}
 use Rattle.commit_map.specs.Shown.{Entries, Shown}
 use Rattle.stream_reader.specs.declared.fault.StreamFault.{StreamFault}
-use Rattle.fast_import.specs.Replays.{Ran, empty_base, ran}
+use Rattle.fast_import.specs.Replays.{Ran, empty_base}
 use Rattle.push_laws.specs.Pushes.{pushing}
 use Rattle.proj_audit.specs.Certificates.{found_text, verify}
 use Rattle.state_items.specs.Items.{Break, Held, nothing, read_items}
@@ -20,12 +20,12 @@ use Rattle.state_items.specs.Changes.{KeepPlan, NoPlan, Plan, Room, fresh, held_
 use Rattle.state_items.proofs.ReadObjects.{ok-same, value-of}
 use Rattle.import_laws.specs.Bases.{base_of}
 use Rattle.proj_gate.specs.Policies.{See, Push as PushAct}
-use Rattle.proj_words.specs.Words.{Command, As, Import, Project, Push, Export, Name, Batch, Trial, Rule, Audit, Verify, Unknown, writes}
+use Rattle.proj_words.specs.Words.{Command, As, Import, Project, Push, Export, ExportTags, Tags, Name, Batch, Trial, Rule, Audit, Verify, Unknown, writes, PushMerges}
 use Rattle.proj_words.specs.declared.outcome.Outcome.{Outcome}
 use Rattle.proj_words.specs.declared.outcome.Outcome.TheVariants as outcomes
 use Rattle.proj_cli.specs.Audit.{path_by}
 use Rattle.proj_cli.specs.Answers.{ArePlanned, IsRecalledLine, IsSameState, changes_state}
-use Rattle.proj_cli.specs.Cases.{Case, ImportCase, ProjectCase, ExportCase, PushCase, NameCase, RuleCase, AuditCase, VerifyCase, Made, break_outcome, head_of, loaded, no_limit, streamed, unchanged}
+use Rattle.proj_cli.specs.Cases.{Case, ImportCase, ProjectCase, TagsCase, ExportCase, PushCase, NameCase, RuleCase, AuditCase, VerifyCase, Made, break_outcome, head_of, loaded, no_limit, streamed, unchanged}
 use Rattle.proj_cli.specs.Steps.{case, made, hand, IsLawful, IsPlanOf}
 use Rattle.proj_cli.specs.Project.{name_line, IsKeepPlan}
 use Rattle.proj_cli.specs.Filters.{entries_of, projected, projection, recalled, rule_by, sound}
@@ -36,6 +36,9 @@ use Rattle.proj_cli.specs.Push.{push_case}
 use Rattle.proj_cli.specs.Verify.{name_by, verify_outcome}
 use Rattle.proj_cli.specs.declared.lines.Telling.TheVariants.{Both, PushedAlone}
 use Rattle.proj_cli.proofs.RecalledTexts.{recalled-same}
+use Rattle.proj_cli.specs.Import.{tagged_ran}
+use Rattle.proj_cli.specs.declared.pushing.Manner.TheVariants.{InLine, Merging}
+use Rattle.merge_laws.specs.Merges.{merging}
 
 -- ---- where a case comes from
 
@@ -50,8 +53,9 @@ pub record IsProject (asked : Command) (items : List Bytes) (h : Held) (f : Filt
 abbrev pub IsFrom : Command → List Bytes → Case → Type 0
 IsFrom asked items (ProjectCase h f n) = IsProject asked items h f
 IsFrom asked items (ImportCase force h x) = changes_state asked ≡ true
-IsFrom asked items (ExportCase h f refname n) = Unit {0}
-IsFrom asked items (PushCase telling h f refname n p) = changes_state asked ≡ true
+IsFrom asked items (TagsCase h f n) = Unit {0}
+IsFrom asked items (ExportCase tagged h f refname n) = Unit {0}
+IsFrom asked items (PushCase manner telling h f refname n p) = changes_state asked ≡ true
 IsFrom asked items (NameCase f refname x) = Unit {0}
 IsFrom asked items (RuleCase h k) = changes_state asked ≡ true
 IsFrom asked items (AuditCase h f n q) = Unit {0}
@@ -69,8 +73,8 @@ no-case asked items x c g = absurd (let no : ⊥ = cc in no)
 
 pub from : (asked : Command) (items : List Bytes) (all : Bytes) (c : Case) → case asked (loaded items) all ≡ Ok c → IsFrom asked items c
 from (Import force) items all c g =
-    let h = value-of (loaded items) (λ h. Ok (ImportCase force h (ran (base_of h) all))) c g in
-    subst (IsFrom (Import force) items) (ok-same (ImportCase force h.value (ran (base_of h.value) all)) c h.rest) refl
+    let h = value-of (loaded items) (λ h. Ok (ImportCase force h (tagged_ran (base_of h) all))) c g in
+    subst (IsFrom (Import force) items) (ok-same (ImportCase force h.value (tagged_ran (base_of h.value) all)) c h.rest) refl
 from (Project r t) items all c g =
     let f = value-of (sound t) (λ f. loaded items >>= λ h. head_of r h.refs >>= λ n. Ok (ProjectCase h f n)) c g in
     let h = value-of (loaded items) (λ h. head_of r h.refs >>= λ n. Ok (ProjectCase h f.value n)) c f.rest in
@@ -78,18 +82,33 @@ from (Project r t) items all c g =
     subst (IsFrom (Project r t) items) (ok-same (ProjectCase h.value f.value n.value) c n.rest)
     (record { text = t; takes_kept = refl; may_append = refl; read = read-from items h.value h.was; sound_is = f.was })
 from (Export r t) items all c g =
-    let f = value-of (sound t) (λ f. loaded items >>= λ h. head_of r h.refs >>= λ n. Ok (ExportCase h f r n)) c g in
-    let h = value-of (loaded items) (λ h. head_of r h.refs >>= λ n. Ok (ExportCase h f.value r n)) c f.rest in
-    let n = value-of (head_of r h.value.refs) (λ n. Ok (ExportCase h.value f.value r n)) c h.rest in
-    subst (IsFrom (Export r t) items) (ok-same (ExportCase h.value f.value r n.value) c n.rest) tt
+    let f = value-of (sound t) (λ f. loaded items >>= λ h. head_of r h.refs >>= λ n. Ok (ExportCase false h f r n)) c g in
+    let h = value-of (loaded items) (λ h. head_of r h.refs >>= λ n. Ok (ExportCase false h f.value r n)) c f.rest in
+    let n = value-of (head_of r h.value.refs) (λ n. Ok (ExportCase false h.value f.value r n)) c h.rest in
+    subst (IsFrom (Export r t) items) (ok-same (ExportCase false h.value f.value r n.value) c n.rest) tt
+from (ExportTags r t) items all c g =
+    let f = value-of (sound t) (λ f. loaded items >>= λ h. head_of r h.refs >>= λ n. Ok (ExportCase true h f r n)) c g in
+    let h = value-of (loaded items) (λ h. head_of r h.refs >>= λ n. Ok (ExportCase true h f.value r n)) c f.rest in
+    let n = value-of (head_of r h.value.refs) (λ n. Ok (ExportCase true h.value f.value r n)) c h.rest in
+    subst (IsFrom (ExportTags r t) items) (ok-same (ExportCase true h.value f.value r n.value) c n.rest) tt
+from (Tags r t) items all c g =
+    let f = value-of (sound t) (λ f. loaded items >>= λ h. head_of r h.refs >>= λ n. Ok (TagsCase h f n)) c g in
+    let h = value-of (loaded items) (λ h. head_of r h.refs >>= λ n. Ok (TagsCase h f.value n)) c f.rest in
+    let n = value-of (head_of r h.value.refs) (λ n. Ok (TagsCase h.value f.value n)) c h.rest in
+    subst (IsFrom (Tags r t) items) (ok-same (TagsCase h.value f.value n.value) c n.rest) tt
 from (Push r t) items all c g =
-    let f = value-of (sound t) (λ f. loaded items >>= λ h. head_of r h.refs >>= λ n. Ok (PushCase Both h f r n (pushing (rule_by h.rule) f (repo h).commits n r all))) c g in
-    let h = value-of (loaded items) (λ h. head_of r h.refs >>= λ n. Ok (PushCase Both h f.value r n (pushing (rule_by h.rule) f.value (repo h).commits n r all))) c f.rest in
-    let n = value-of (head_of r h.value.refs) (λ n. Ok (PushCase Both h.value f.value r n (pushing (rule_by h.value.rule) f.value (repo h.value).commits n r all))) c h.rest in
-    subst (IsFrom (Push r t) items) (ok-same (PushCase Both h.value f.value r n.value (pushing (rule_by h.value.rule) f.value (repo h.value).commits n.value r all)) c n.rest) refl
+    let f = value-of (sound t) (λ f. loaded items >>= λ h. head_of r h.refs >>= λ n. Ok (PushCase InLine Both h f r n (pushing (rule_by h.rule) f (repo h).commits n r all))) c g in
+    let h = value-of (loaded items) (λ h. head_of r h.refs >>= λ n. Ok (PushCase InLine Both h f.value r n (pushing (rule_by h.rule) f.value (repo h).commits n r all))) c f.rest in
+    let n = value-of (head_of r h.value.refs) (λ n. Ok (PushCase InLine Both h.value f.value r n (pushing (rule_by h.value.rule) f.value (repo h.value).commits n r all))) c h.rest in
+    subst (IsFrom (Push r t) items) (ok-same (PushCase InLine Both h.value f.value r n.value (pushing (rule_by h.value.rule) f.value (repo h.value).commits n.value r all)) c n.rest) refl
+from (PushMerges r t) items all c g =
+    let f = value-of (sound t) (λ f. loaded items >>= λ h. head_of r h.refs >>= λ n. Ok (PushCase Merging Both h f r n (merging (rule_by h.rule) f (repo h).commits n r all))) c g in
+    let h = value-of (loaded items) (λ h. head_of r h.refs >>= λ n. Ok (PushCase Merging Both h f.value r n (merging (rule_by h.rule) f.value (repo h).commits n r all))) c f.rest in
+    let n = value-of (head_of r h.value.refs) (λ n. Ok (PushCase Merging Both h.value f.value r n (merging (rule_by h.value.rule) f.value (repo h.value).commits n r all))) c h.rest in
+    subst (IsFrom (PushMerges r t) items) (ok-same (PushCase Merging Both h.value f.value r n.value (merging (rule_by h.value.rule) f.value (repo h.value).commits n.value r all)) c n.rest) refl
 from (Name r t) items all c g =
-    let f = value-of (sound t) (λ f. Ok (NameCase f r (ran empty_base all))) c g in
-    subst (IsFrom (Name r t) items) (ok-same (NameCase f.value r (ran empty_base all)) c f.rest) tt
+    let f = value-of (sound t) (λ f. Ok (NameCase f r (tagged_ran empty_base all))) c g in
+    subst (IsFrom (Name r t) items) (ok-same (NameCase f.value r (tagged_ran empty_base all)) c f.rest) tt
 from (Rule k) items all c g =
     let h = value-of (loaded items) (λ h. Ok (RuleCase h k)) c g in
     subst (IsFrom (Rule k) items) (ok-same (RuleCase h.value k) c h.rest) refl
@@ -109,17 +128,17 @@ from (As u (Project r t)) items all c g =
     subst (IsFrom (As u (Project r t)) items) (ok-same (ProjectCase h.value f.value n.value) c n.rest)
     (record { text = t; takes_kept = refl; may_append = refl; read = read-from items h.value h.was; sound_is = f.was })
 from (As u (Export r t)) items all c g =
-    let f = value-of (sound t) (λ f. loaded items >>= λ h. granted h u See r f >>= λ _. head_of r h.refs >>= λ n. Ok (ExportCase h f r n)) c g in
-    let h = value-of (loaded items) (λ h. granted h u See r f.value >>= λ _. head_of r h.refs >>= λ n. Ok (ExportCase h f.value r n)) c f.rest in
-    let p = value-of (granted h.value u See r f.value) (λ _. head_of r h.value.refs >>= λ n. Ok (ExportCase h.value f.value r n)) c h.rest in
-    let n = value-of (head_of r h.value.refs) (λ n. Ok (ExportCase h.value f.value r n)) c p.rest in
-    subst (IsFrom (As u (Export r t)) items) (ok-same (ExportCase h.value f.value r n.value) c n.rest) tt
+    let f = value-of (sound t) (λ f. loaded items >>= λ h. granted h u See r f >>= λ _. head_of r h.refs >>= λ n. Ok (ExportCase false h f r n)) c g in
+    let h = value-of (loaded items) (λ h. granted h u See r f.value >>= λ _. head_of r h.refs >>= λ n. Ok (ExportCase false h f.value r n)) c f.rest in
+    let p = value-of (granted h.value u See r f.value) (λ _. head_of r h.value.refs >>= λ n. Ok (ExportCase false h.value f.value r n)) c h.rest in
+    let n = value-of (head_of r h.value.refs) (λ n. Ok (ExportCase false h.value f.value r n)) c p.rest in
+    subst (IsFrom (As u (Export r t)) items) (ok-same (ExportCase false h.value f.value r n.value) c n.rest) tt
 from (As u (Push r t)) items all c g =
-    let f = value-of (sound t) (λ f. loaded items >>= λ h. granted h u PushAct r f >>= λ _. push_case PushedAlone h f r all) c g in
-    let h = value-of (loaded items) (λ h. granted h u PushAct r f.value >>= λ _. push_case PushedAlone h f.value r all) c f.rest in
-    let p = value-of (granted h.value u PushAct r f.value) (λ _. push_case PushedAlone h.value f.value r all) c h.rest in
-    let n = value-of (head_of r h.value.refs) (λ n. Ok (PushCase PushedAlone h.value f.value r n (pushing (rule_by h.value.rule) f.value (repo h.value).commits n r all))) c p.rest in
-    subst (IsFrom (As u (Push r t)) items) (ok-same (PushCase PushedAlone h.value f.value r n.value (pushing (rule_by h.value.rule) f.value (repo h.value).commits n.value r all)) c n.rest) refl
+    let f = value-of (sound t) (λ f. loaded items >>= λ h. granted h u PushAct r f >>= λ _. push_case InLine PushedAlone h f r all) c g in
+    let h = value-of (loaded items) (λ h. granted h u PushAct r f.value >>= λ _. push_case InLine PushedAlone h f.value r all) c f.rest in
+    let p = value-of (granted h.value u PushAct r f.value) (λ _. push_case InLine PushedAlone h.value f.value r all) c h.rest in
+    let n = value-of (head_of r h.value.refs) (λ n. Ok (PushCase InLine PushedAlone h.value f.value r n (pushing (rule_by h.value.rule) f.value (repo h.value).commits n r all))) c p.rest in
+    subst (IsFrom (As u (Push r t)) items) (ok-same (PushCase InLine PushedAlone h.value f.value r n.value (pushing (rule_by h.value.rule) f.value (repo h.value).commits n.value r all)) c n.rest) refl
 from (As u asked) items all c g = no-case (As u asked) items _ c g
 from Batch items all c g = no-case Batch items _ c g
 from (Trial n) items all c g = no-case (Trial n) items _ c g
@@ -174,16 +193,16 @@ module _ (law : RecallLaw) (asked : Command) (items : List Bytes) (kept : HoldWh
 
   pub kept-plan : (c : Case) (m : Made) (p : Plan) → IsFrom asked items c → IsStore (hand c).held → IsPlanIn (room_of items) c m p → IsPlanOf items c m p
   kept-plan (ProjectCase h f n) m p w store k = keep-plan h f n p w store k
-  kept-plan (ExportCase h f refname n) m p w store k = k.0
-  kept-plan (PushCase telling h f refname n x) m p w store k = k.0
+  kept-plan (ExportCase tagged h f refname n) m p w store k = k.0
+  kept-plan (PushCase manner telling h f refname n x) m p w store k = k.0
   kept-plan (AuditCase h f n q) m p w store k = k.0
   kept-plan (VerifyCase f n q text) m p w store k = k.0
   kept-plan _ m p w store k = k
 
 pub lawful-plan : (items : List Bytes) (c : Case) (m : Made) (p : Plan) → IsPlanIn (room_of items) c m p → IsLawful items p c
 lawful-plan items (ProjectCase h f n) m p k = k.holds
-lawful-plan items (ExportCase h f refname n) m p k = k.1
-lawful-plan items (PushCase telling h f refname n x) m p k = k.1
+lawful-plan items (ExportCase tagged h f refname n) m p k = k.1
+lawful-plan items (PushCase manner telling h f refname n x) m p k = k.1
 lawful-plan items (AuditCase h f n q) m p k = k.1
 lawful-plan items (VerifyCase f n q text) m p k = k.1
 lawful-plan items _ m p k = tt
@@ -191,14 +210,14 @@ lawful-plan items _ m p k = tt
 -- ---- forms that leave the state
 
 same-none : (h : Held) (p : Plan) → p ≡ NoPlan → IsSameState h (held_after h p)
-same-none h p e = subst (λ (q : Plan). IsSameState h (held_after h q)) (sym e) (record { objects = refl; refs = refl; rule = refl })
+same-none h p e = subst (λ (q : Plan). IsSameState h (held_after h q)) (sym e) (record { objects = refl; refs = refl; rule = refl; tags = refl })
 
 same-kept : (g h : Held) (f : Filter) (n : Bytes) (room : Room) (p : Plan) → IsKeepPlanOf g f n room p → IsSameState h (held_after h p)
 same-kept g h f n room p k = by k.plan
   where
     by : (p ≡ NoPlan) ⊎ ((es : Entries) × (p ≡ KeepPlan g.rule (printed f) es) × IsKeepOf g f room es) → IsSameState h (held_after h p)
     by (inl e) = same-none h p e
-    by (inr x) = subst (λ (q : Plan). IsSameState h (held_after h q)) (sym x.1) (record { objects = refl; refs = refl; rule = refl })
+    by (inr x) = subst (λ (q : Plan). IsSameState h (held_after h q)) (sym x.1) (record { objects = refl; refs = refl; rule = refl; tags = refl })
 
 no-change : {A : Type 0} (asked : Command) → changes_state asked ≡ true → changes_state asked ≡ false → A
 no-change asked t f = absurd (true≢false (sym t ∙ f))
@@ -207,8 +226,9 @@ pub stays-plan : (asked : Command) (items : List Bytes) (room : Room) (c : Case)
     → changes_state asked ≡ false → (h : Held) → IsSameState h (held_after h p)
 stays-plan asked items room (ProjectCase g f n) m p w done k leaves h = same-kept g h f n room p k
 stays-plan asked items room (ImportCase force g x) m p w done k leaves h = no-change asked w leaves
-stays-plan asked items room (ExportCase g f refname n) m p w done k leaves h = same-none h p (k.0 ∙ sym (ap (λ (y : Made). y.plan) (ok-same _ m done)))
-stays-plan asked items room (PushCase telling g f refname n x) m p w done k leaves h = no-change asked w leaves
+stays-plan asked items room (TagsCase g f n) m p w done k leaves h = same-none h p (k ∙ sym (ap (λ (y : Made). y.plan) (ok-same _ m done)))
+stays-plan asked items room (ExportCase tagged g f refname n) m p w done k leaves h = same-none h p (k.0 ∙ sym (ap (λ (y : Made). y.plan) (ok-same _ m done)))
+stays-plan asked items room (PushCase manner telling g f refname n x) m p w done k leaves h = no-change asked w leaves
 stays-plan asked items room (NameCase f refname x) m p w done k leaves h = same-none h p (k ∙ name-plan room f refname x m done)
 stays-plan asked items room (RuleCase g j) m p w done k leaves h = no-change asked w leaves
 stays-plan asked items room (AuditCase g f n q) m p w done k leaves h = same-none h p (k.0 ∙ sym (ap (λ (y : Made). y.plan) (ok-same _ m done)))
@@ -229,8 +249,9 @@ pub unwritten-plan : (asked : Command) (items : List Bytes) (room : Room) (c : C
     → writes asked ≡ false → p ≡ NoPlan
 unwritten-plan asked items room (ProjectCase g f n) m p w done k none = no-write asked w.may_append none
 unwritten-plan asked items room (ImportCase force g x) m p w done k none = no-write asked (may-write asked w) none
-unwritten-plan asked items room (ExportCase g f refname n) m p w done k none = k.0 ∙ sym (ap (λ (y : Made). y.plan) (ok-same _ m done))
-unwritten-plan asked items room (PushCase telling g f refname n x) m p w done k none = no-write asked (may-write asked w) none
+unwritten-plan asked items room (TagsCase g f n) m p w done k none = k ∙ sym (ap (λ (y : Made). y.plan) (ok-same _ m done))
+unwritten-plan asked items room (ExportCase tagged g f refname n) m p w done k none = k.0 ∙ sym (ap (λ (y : Made). y.plan) (ok-same _ m done))
+unwritten-plan asked items room (PushCase manner telling g f refname n x) m p w done k none = no-write asked (may-write asked w) none
 unwritten-plan asked items room (NameCase f refname x) m p w done k none = k ∙ name-plan room f refname x m done
 unwritten-plan asked items room (RuleCase g j) m p w done k none = no-write asked (may-write asked w) none
 unwritten-plan asked items room (AuditCase g f n q) m p w done k none = k.0 ∙ sym (ap (λ (y : Made). y.plan) (ok-same _ m done))
@@ -258,8 +279,9 @@ own-in items c f (Err e) = tt
 pub own-planned : (items : List Bytes) (room : Room) (c : Case) → ArePlanned items (c ∷ []) (made room c) (own_plan (made room c))
 own-planned items room (ProjectCase h f n) = all-one (λ d. IsPlanOf items d (unchanged h (name_line (projected h f n))) NoPlan) (ProjectCase h f n) tt
 own-planned items room (ImportCase force h x) = own-in items (ImportCase force h x) (λ m. refl) (made room (ImportCase force h x))
-own-planned items room (ExportCase h f refname n) = own-in items (ExportCase h f refname n) (λ m. refl) (made room (ExportCase h f refname n))
-own-planned items room (PushCase telling h f refname n p) = own-in items (PushCase telling h f refname n p) (λ m. refl) (made room (PushCase telling h f refname n p))
+own-planned items room (TagsCase h f n) = own-in items (TagsCase h f n) (λ m. refl) (made room (TagsCase h f n))
+own-planned items room (ExportCase tagged h f refname n) = own-in items (ExportCase tagged h f refname n) (λ m. refl) (made room (ExportCase tagged h f refname n))
+own-planned items room (PushCase manner telling h f refname n p) = own-in items (PushCase manner telling h f refname n p) (λ m. refl) (made room (PushCase manner telling h f refname n p))
 own-planned items room (NameCase f refname x) = own-in items (NameCase f refname x) (λ m. refl) (made room (NameCase f refname x))
 own-planned items room (RuleCase h k) = own-in items (RuleCase h k) (λ m. refl) (made room (RuleCase h k))
 own-planned items room (AuditCase h f n q) = own-in items (AuditCase h f n q) (λ m. refl) (made room (AuditCase h f n q))

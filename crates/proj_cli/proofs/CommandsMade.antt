@@ -1,5 +1,5 @@
 -- What a command makes of a state: of its case, or of the refusal before one.
-use Rattle.std.proofs.Common.{◌≡◌, ◌≢◌, inl, inr, ℕ, true, false, List, [], ◌++◌, All, Option, Some, Result, Ok, Err, append-nil, refl, sym, ap, subst, subst₂, ◌∙◌, true≢false, arith}
+use Rattle.std.proofs.Common.{◌≡◌, ◌≢◌, inl, inr, ℕ, Bool, true, false, List, [], ◌++◌, All, Option, Some, Result, Ok, Err, append-nil, refl, sym, ap, subst, subst₂, ◌∙◌, true≢false, arith}
 use Rattle.std.proofs.lemmas.List.Elements.{All-head}
 use Rattle.std.proofs.lemmas.Option.{same_Some}
 use Rattle.std.specs.Io.KnownBytes.{Appends}
@@ -11,14 +11,12 @@ use Rattle.object_store.specs.Growth.{IsGrownBy}
 use Rattle.object_store.specs.Objects.{Object}
 use Rattle.object_store.proofs.Growth.{grown_self}
 use Rattle.filter_text.specs.Filters.{Filter}
-use Rattle.fast_export.specs.ExportTexts.{export_text}
 use Rattle.proj_io.specs.Counts.{Counts}
 use Rattle.proj_io.specs.HeldBytes.{held_bytes}
 use Rattle.proj_io.specs.Stops.{OnlyAdds, adds_as}
 use Rattle.proj_io.specs.Views.{SinkView, KeeperView}
 use Rattle.state_items.specs.Changes.{NoPlan, Plan, Room, plan_items, room_of}
 use Rattle.state_items.specs.Items.{Held}
-use Rattle.state_items.specs.Repos.{repo}
 use Rattle.repo_ground.specs.Changes.{GetsItems, IsStopOf, KeepsItems}
 use Rattle.repo_ground.specs.Contents.{Contents, room_in}
 use Rattle.repo_ground.specs.Selecting.{IsPutAway}
@@ -29,8 +27,7 @@ use Rattle.proj_words.specs.declared.outcome.Outcome.{Outcome}
 use Rattle.proj_words.specs.declared.outcome.Outcome.TheVariants.{Done, OutOfMemory, ReadFault, StoreFault, WriteFault}
 use Rattle.proj_cli.specs.Cases.{Case, ExportCase, Made, head_of, loaded, unchanged}
 use Rattle.proj_cli.specs.Steps.{case, IsLawful}
-use Rattle.proj_cli.specs.Export.{export_case}
-use Rattle.proj_cli.specs.Filters.{history}
+use Rattle.proj_cli.specs.Export.{export_case, export_output}
 use Rattle.proj_cli.specs.Forms.{FormPlan, IsFormMade}
 use Rattle.proj_cli.specs.Hands.{IsInHands}
 use Rattle.proj_cli.specs.Judging.{IsJudged, IsOwn, IsUnjudged}
@@ -214,21 +211,21 @@ flowed-report H o q (Ok m) report empty whole h =
     sym (subst₂ (λ (a b : Option Bytes). Appends a b m.output) empty whole h)
 flowed-report H o q (Err x) report empty whole h = h.0
 
-module _ (h : Held) (f : Filter) (refname : Bytes) (o q : SinkView) where
-  export-planned : (H : Object → Type 0) (items : List Bytes) (room : Room) (head : Result Bytes Outcome) → IsFlowed H (step_in room (head >>= λ n. Ok (ExportCase h f refname n))) o q Done
-      → All (IsLawful items NoPlan) (option_to_list (result_ok (head >>= λ n. Ok (ExportCase h f refname n)))) → IsPlanned room (head >>= λ n. Ok (ExportCase h f refname n)) NoPlan
+module _ (tagged : Bool) (h : Held) (f : Filter) (refname : Bytes) (o q : SinkView) where
+  export-planned : (H : Object → Type 0) (items : List Bytes) (room : Room) (head : Result Bytes Outcome) → IsFlowed H (step_in room (head >>= λ n. Ok (ExportCase tagged h f refname n))) o q Done
+      → All (IsLawful items NoPlan) (option_to_list (result_ok (head >>= λ n. Ok (ExportCase tagged h f refname n)))) → IsPlanned room (head >>= λ n. Ok (ExportCase tagged h f refname n)) NoPlan
   export-planned H items room (Ok n) flowed lawful = record {
-    case = ExportCase h f refname n;
+    case = ExportCase tagged h f refname n;
     came_up = refl;
-    step = unchanged h (export_text (history h.rule f (repo h).commits n) refname);
+    step = unchanged h (export_output tagged h f refname n);
     done = refl;
-    planned = (refl, All-head (IsLawful items NoPlan) (ExportCase h f refname n) [] lawful);
+    planned = (refl, All-head (IsLawful items NoPlan) (ExportCase tagged h f refname n) [] lawful);
   }
   export-planned H items room (Err e) flowed lawful = absurd flowed.0
 
   module _ (items : List Bytes) (s s' : Contents) (k : KeeperView) where
     abbrev sent : Result Case Outcome
-    sent = export_case h f refname
+    sent = export_case tagged h f refname
 
     pub export-done : (report : Bytes) → o.written ≡ Some [] → q.written ≡ Some report → IsExported sent items h s s' o q Done → IsMadeOf sent items h s s' k k NoPlan (Ok report)
     export-done report empty whole made = record {

@@ -49,7 +49,10 @@ pub judged-one : (asked : Command) (j : Judged) → IsJudged asked j → is_one 
 judged-one asked (judged.Import force) w = ap is_one w
 judged-one asked (judged.Project s) w = ap is_one w.asked_is
 judged-one asked (judged.Push s) w = ap is_one w.asked_is
+judged-one asked (judged.PushMerges s) w = ap is_one w.asked_is
 judged-one asked (judged.Export s) w = ap is_one w.asked_is
+judged-one asked (judged.ExportTags s) w = ap is_one w.asked_is
+judged-one asked (judged.Tags s) w = ap is_one w.asked_is
 judged-one asked (judged.Name s) w = ap is_one w.asked_is
 judged-one asked (judged.Rule r) w = ap is_one w
 judged-one asked (judged.Audit s q) w = ap is_one w.of_subject.asked_is

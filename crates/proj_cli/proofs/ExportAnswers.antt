@@ -1,5 +1,5 @@
 -- An export, and what it wrote, is an answer.
-use Rattle.std.proofs.Common.{◌≡◌, ◌≢◌, ◌⊎◌, inl, inr, ◌≤◌, ℕ, List, [], Some, Result, Ok, Err, refl, sym, ap, subst, ◌∙◌, true, true≢false, arith}
+use Rattle.std.proofs.Common.{◌≡◌, ◌≢◌, ◌⊎◌, inl, inr, ◌≤◌, ℕ, List, [], Some, Result, Ok, Err, refl, sym, ap, subst, ◌∙◌, Bool, true, false, true≢false, arith}
 use Rattle.std.specs.Option.{option_to_list}
 use Rattle.std.specs.Result.{result_ok}
 use Rattle.std.proofs.KnownBytes.{Keeps-refl}
@@ -7,21 +7,20 @@ use Rattle.git_objects.specs.Paths.{Bytes}
 use Rattle.git_objects.specs.Results.{◌>>=◌}
 use Rattle.object_store.specs.Objects.{Object}
 use Rattle.filter_text.specs.Filters.{Filter}
-use Rattle.fast_export.specs.ExportTexts.{export_text}
-use Rattle.state_items.specs.Repos.{repo}
 use Rattle.proj_gate.specs.Policies.{See}
 use Rattle.proj_io.specs.Counts.{Counts}
 use Rattle.proj_io.specs.Views.{SourceView, SinkView, KeeperView}
 use Rattle.state_items.specs.Items.{Held}
 use Rattle.state_items.specs.Changes.{NoPlan, Room, room_of}
 use Rattle.repo_ground.specs.Changes.{KeepsItems}
-use Rattle.proj_words.specs.Words.{Command, As, Export, loads}
+use Rattle.proj_words.specs.Words.{Command, As, Export, ExportTags, loads}
 use Rattle.proj_words.specs.declared.outcome.Outcome.{Outcome}
 use Rattle.proj_words.specs.declared.outcome.Outcome.TheVariants.{Done, OutOfMemory, ReadFault, WriteFault, StoreFault}
 use Rattle.proj_cli.specs.Answers.{ArePlanned, Devices, Follows, IsCommandAnswer, IsAnswered, IsDelivered, IsLonger, IsOutcome, IsRecalledCase, IsSafe, IsStepDelivered, flows}
 use Rattle.proj_cli.specs.Cases.{Case, ExportCase, IsJudgedRightly, Made, head_of, loaded, unchanged}
 use Rattle.proj_cli.specs.Steps.{case, made, IsPlanOf, step}
-use Rattle.proj_cli.specs.Filters.{history, sound}
+use Rattle.proj_cli.specs.Export.{export_output}
+use Rattle.proj_cli.specs.Filters.{sound}
 use Rattle.proj_cli.specs.Policy.{granted}
 use Rattle.proj_cli.specs.Forms.{IsEarly, IsExport, IsFormFlowed}
 use Rattle.proj_cli.specs.Hands.{IsInHands}
@@ -39,29 +38,32 @@ use Rattle.std.specs.Prelude.{unwrap_or}
 
 -- it is the case of an export, or none came up
 abbrev pub IsExportCase : Result Case Outcome → Type 0
-IsExportCase (Ok (ExportCase h f refname n)) = Unit {0}
+IsExportCase (Ok (ExportCase tagged h f refname n)) = Unit {0}
 IsExportCase (Ok _) = ⊥
 IsExportCase (Err e) = Unit {0}
 
-at-head : (refname : Bytes) (h : Held) (f : Filter) (n : Result Bytes Outcome) → IsExportCase (n >>= λ m. Ok (ExportCase h f refname m))
-at-head refname h f (Ok n) = tt
-at-head refname h f (Err e) = tt
+at-head : (tagged : Bool) (refname : Bytes) (h : Held) (f : Filter) (n : Result Bytes Outcome) → IsExportCase (n >>= λ m. Ok (ExportCase tagged h f refname m))
+at-head tagged refname h f (Ok n) = tt
+at-head tagged refname h f (Err e) = tt
 
-of-both : (refname : Bytes) (s : Result Filter Outcome) (l : Result Held Outcome) → IsExportCase (s >>= λ f. l >>= λ h. head_of refname h.refs >>= λ n. Ok (ExportCase h f refname n))
-of-both refname (Ok f) (Ok h) = at-head refname h f (head_of refname h.refs)
-of-both refname (Ok f) (Err e) = tt
-of-both refname (Err e) l = tt
+of-both : (tagged : Bool) (refname : Bytes) (s : Result Filter Outcome) (l : Result Held Outcome) → IsExportCase (s >>= λ f. l >>= λ h. head_of refname h.refs >>= λ n. Ok (ExportCase tagged h f refname n))
+of-both tagged refname (Ok f) (Ok h) = at-head tagged refname h f (head_of refname h.refs)
+of-both tagged refname (Ok f) (Err e) = tt
+of-both tagged refname (Err e) l = tt
 
 pub export-case : (r t : Bytes) (items : List Bytes) (all : Bytes) → IsExportCase (case (Export r t) (loaded items) all)
-export-case r t items all = of-both r (sound t) (loaded items)
+export-case r t items all = of-both false r (sound t) (loaded items)
+
+pub tagged-export-case : (r t : Bytes) (items : List Bytes) (all : Bytes) → IsExportCase (case (ExportTags r t) (loaded items) all)
+tagged-export-case r t items all = of-both true r (sound t) (loaded items)
 
 -- and so is one of a user
-let-through : (refname : Bytes) (h : Held) (f : Filter) (p : Result (Unit {0}) Outcome) → IsExportCase (p >>= λ _. head_of refname h.refs >>= λ n. Ok (ExportCase h f refname n))
-let-through refname h f (Ok u) = at-head refname h f (head_of refname h.refs)
+let-through : (refname : Bytes) (h : Held) (f : Filter) (p : Result (Unit {0}) Outcome) → IsExportCase (p >>= λ _. head_of refname h.refs >>= λ n. Ok (ExportCase false h f refname n))
+let-through refname h f (Ok u) = at-head false refname h f (head_of refname h.refs)
 let-through refname h f (Err e) = tt
 
 of-user : (user refname : Bytes) (s : Result Filter Outcome) (l : Result Held Outcome)
-    → IsExportCase (s >>= λ f. l >>= λ h. granted h user See refname f >>= λ _. head_of refname h.refs >>= λ n. Ok (ExportCase h f refname n))
+    → IsExportCase (s >>= λ f. l >>= λ h. granted h user See refname f >>= λ _. head_of refname h.refs >>= λ n. Ok (ExportCase false h f refname n))
 of-user user refname (Ok f) (Ok h) = let-through refname h f (granted h user See refname f)
 of-user user refname (Ok f) (Err e) = tt
 of-user user refname (Err e) l = tt
@@ -70,18 +72,18 @@ pub user-export-case : (u r t : Bytes) (items : List Bytes) (all : Bytes) → Is
 user-export-case u r t items all = of-user u r (sound t) (loaded items)
 
 step-same : (room : Room) (r : Result Case Outcome) → IsExportCase r → step_in room r ≡ (r >>= made room)
-step-same room (Ok (ExportCase h f refname n)) w = refl
+step-same room (Ok (ExportCase tagged h f refname n)) w = refl
 step-same room (Ok _) w = absurd w
 step-same room (Err e) w = refl
 
 none-planned : (items : List Bytes) (room : Room) (r : Result Case Outcome) → IsExportCase r → ArePlanned items (option_to_list (result_ok r)) (r >>= made room) NoPlan
-none-planned items room (Ok (ExportCase h f refname n)) w =
-    all-one (λ c. IsPlanOf items c (unchanged h (export_text (history h.rule f (repo h).commits n) refname)) NoPlan) (ExportCase h f refname n) refl
+none-planned items room (Ok (ExportCase tagged h f refname n)) w =
+    all-one (λ c. IsPlanOf items c (unchanged h (export_output tagged h f refname n)) NoPlan) (ExportCase tagged h f refname n) refl
 none-planned items room (Ok _) w = absurd w
 none-planned items room (Err e) w = tt
 
 none-recalled : (b a : Devices) (r : Result Case Outcome) → IsExportCase r → IsRecalledCase r b a
-none-recalled b a (Ok (ExportCase h f refname n)) w = tt
+none-recalled b a (Ok (ExportCase tagged h f refname n)) w = tt
 none-recalled b a (Ok _) w = absurd w
 none-recalled b a (Err e) w = tt
 

@@ -1,5 +1,5 @@
 -- What the policy says of a judged command.
-use Rattle.std.proofs.Common.{◌≡◌, ◌⊎◌, inl, inr, List, Result, Ok, Err, sym, ap, subst, ◌∙◌}
+use Rattle.std.proofs.Common.{◌≡◌, ◌⊎◌, inl, inr, false, List, Result, Ok, Err, sym, ap, subst, ◌∙◌}
 use Rattle.git_objects.specs.Paths.{Bytes}
 use Rattle.git_objects.specs.Results.{◌>>=◌}
 use Rattle.object_store.specs.Objects.{Object}
@@ -29,6 +29,7 @@ use Rattle.proj_cli.specs.declared.lines.Telling.TheVariants.{PushedAlone}
 use Rattle.proj_cli.proofs.ExportAnswers.{refused-export}
 use Rattle.proj_cli.proofs.Judged.{case-upon, upon}
 use Rattle.proj_cli.proofs.Refusing.{early-refusal, granted-own, memory-own}
+use Rattle.proj_cli.specs.declared.pushing.Manner.TheVariants.{InLine}
 
 -- ---- it lets a command be done
 
@@ -53,8 +54,8 @@ unpermitted-own h j e (inr g) = permission-own h j e g
 -- no case comes up
 unpermitted-case : (h : Held) (j : Judged) (all : Bytes) (e : Outcome) → permission h j ≡ Err e → upon j h all ≡ Err e
 unpermitted-case h (judged.AsProject u s) all e g = ap (λ (p : Result (Unit {0}) Outcome). p >>= λ _. project_case h (shape s.filter) s.refname) g
-unpermitted-case h (judged.AsPush u s) all e g = ap (λ (p : Result (Unit {0}) Outcome). p >>= λ _. push_case PushedAlone h (shape s.filter) s.refname all) g
-unpermitted-case h (judged.AsExport u s) all e g = ap (λ (p : Result (Unit {0}) Outcome). p >>= λ _. export_case h (shape s.filter) s.refname) g
+unpermitted-case h (judged.AsPush u s) all e g = ap (λ (p : Result (Unit {0}) Outcome). p >>= λ _. push_case InLine PushedAlone h (shape s.filter) s.refname all) g
+unpermitted-case h (judged.AsExport u s) all e g = ap (λ (p : Result (Unit {0}) Outcome). p >>= λ _. export_case false h (shape s.filter) s.refname) g
 unpermitted-case h _ all e g = cc
 
 -- a refusal, or want of memory
@@ -81,7 +82,7 @@ denied-export h user refname f e why items read o =
     r = user_exported_case (loaded items) user f refname
 
     none : granted h user See refname f ≡ Err e → r ≡ Err e
-    none g = ap (λ (l : Result Held Outcome). user_exported_case l user f refname) read ∙ ap (λ (p : Result (Unit {0}) Outcome). p >>= λ _. export_case h f refname) g
+    none g = ap (λ (l : Result Held Outcome). user_exported_case l user f refname) read ∙ ap (λ (p : Result (Unit {0}) Outcome). p >>= λ _. export_case false h f refname) g
 
 pub let-exported : (p : Result (Unit {0}) Outcome) (r : Result Case Outcome) → p ≡ Ok tt → (items : List Bytes) (h : Held) (s s' : Contents) (o q : SinkView) (outcome : Outcome)
     → IsExported r items h s s' o q outcome → IsExported (p >>= λ _. r) items h s s' o q outcome

@@ -27,6 +27,8 @@ use Rattle.proj_cli.specs.declared.judging.Judged.{Judged}
 use Rattle.proj_cli.specs.declared.judging.Judged.TheVariants as judged
 use Rattle.proj_cli.specs.declared.judging.Subject.{Subject}
 use Rattle.proj_cli.proofs.Judged.{case-upon, upon}
+use Rattle.proj_cli.specs.declared.pushing.Manner.TheVariants.{InLine, Merging}
+use Rattle.merge_laws.specs.Merges.{merging}
 
 no-case : (asked : Command) (j : Judged) → IsJudged asked j → (h : Held) (all : Bytes) → IsErr (case asked (Ok h) all) → IsErr (upon j h all)
 no-case asked j w h all none = subst (λ (r : Result Case Outcome). IsErr r) (case-upon asked j w h all) none
@@ -46,15 +48,20 @@ none-at (Some n) K e = absurd (true≢false (sym e))
 
 pub no-head : (asked : Command) (s : Subject) → IsJudged asked (judged.Push s) → (h : Held) → ((all : Bytes) → IsErr (case asked (Ok h) all)) → find bytes_cmp s.refname h.refs ≡ None
 no-head asked s w h none =
-    none-at (find bytes_cmp s.refname h.refs) (λ n. PushCase Both h (shape s.filter) s.refname n (pushing (rule_by h.rule) (shape s.filter) (repo h).commits n s.refname []))
+    none-at (find bytes_cmp s.refname h.refs) (λ n. PushCase InLine Both h (shape s.filter) s.refname n (pushing (rule_by h.rule) (shape s.filter) (repo h).commits n s.refname []))
     (no-case asked (judged.Push s) w h [] (none []))
+
+pub no-merge-head : (asked : Command) (s : Subject) → IsJudged asked (judged.PushMerges s) → (h : Held) → ((all : Bytes) → IsErr (case asked (Ok h) all)) → find bytes_cmp s.refname h.refs ≡ None
+no-merge-head asked s w h none =
+    none-at (find bytes_cmp s.refname h.refs) (λ n. PushCase Merging Both h (shape s.filter) s.refname n (merging (rule_by h.rule) (shape s.filter) (repo h).commits n s.refname []))
+    (no-case asked (judged.PushMerges s) w h [] (none []))
 
 -- of a push of a user whom the policy lets push
 pub no-user-head : (asked : Command) (u : Bytes) (s : Subject) → IsJudged asked (judged.AsPush u s) → (h : Held) → granted h u PushAct s.refname (shape s.filter) ≡ Ok tt → ((all : Bytes) → IsErr (case asked (Ok h) all))
     → find bytes_cmp s.refname h.refs ≡ None
 no-user-head asked u s w h may none =
-    none-at (find bytes_cmp s.refname h.refs) (λ n. PushCase PushedAlone h (shape s.filter) s.refname n (pushing (rule_by h.rule) (shape s.filter) (repo h).commits n s.refname []))
-    (subst (λ (p : Result (Unit {0}) Outcome). IsErr (p >>= λ _. push_case PushedAlone h (shape s.filter) s.refname [])) may (no-case asked (judged.AsPush u s) w h [] (none [])))
+    none-at (find bytes_cmp s.refname h.refs) (λ n. PushCase InLine PushedAlone h (shape s.filter) s.refname n (pushing (rule_by h.rule) (shape s.filter) (repo h).commits n s.refname []))
+    (subst (λ (p : Result (Unit {0}) Outcome). IsErr (p >>= λ _. push_case InLine PushedAlone h (shape s.filter) s.refname [])) may (no-case asked (judged.AsPush u s) w h [] (none [])))
 
 -- the commit of a ref of a state is that of what is held
 pub head-held : (h : Held) (s : Contents) → Spells h s → (refname : Bytes) → head_of s.refs refname ≡ find bytes_cmp refname h.refs

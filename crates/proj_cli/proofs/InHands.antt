@@ -1,11 +1,11 @@
 -- What a projection and a history make is in hand.
-use Rattle.std.proofs.Common.{◌≡◌, inl, inr, zero, List, [], ◌∷◌, ◌++◌, map, reverse, flat_map, Contains, refl, sym, subst, arith}
+use Rattle.std.proofs.Common.{◌≡◌, inl, inr, ⊎_elim, zero, Bool, true, false, cond, List, [], ◌∷◌, ◌++◌, map, reverse, flat_map, Contains, refl, sym, subst, arith}
 use Rattle.std.specs.Prelude.{◌⊎◌}
 use Rattle.std.proofs.lemmas.List.{reverse-append}
-use Rattle.std.proofs.lemmas.List.Elements.{Contains-append_cases, Contains-append_left, Contains-append_right}
+use Rattle.std.proofs.lemmas.List.Elements.{Contains-append_cases, Contains-append_left, Contains-append_right, Contains-push, Contains-push_cases}
 use Rattle.git_objects.specs.Paths.{Bytes}
 use Rattle.git_objects.specs.Trees.{Leaf}
-use Rattle.git_objects.specs.Snapshots.{Snapshot}
+use Rattle.git_objects.specs.Snapshots.{Graph, Snapshot, add, add_all, has, snapshot_name}
 use Rattle.object_store.specs.Growth.{IsClash, IsGrownBy}
 use Rattle.object_store.specs.Hands.{IsLeafOf}
 use Rattle.object_store.specs.Objects.{Object}
@@ -33,6 +33,31 @@ contains-reverse {A = A} (y ∷ xs) x m =
 
 pub in-reverse : {A : Type 0} (xs : List A) (x : A) → Contains xs x → Contains (reverse xs) x
 in-reverse xs x m = contains-reverse xs x m
+
+-- ---- lists
+
+pub none-in : {A : Type 0} (x : A) → Contains [] x → ⊥
+none-in x h = let within = h.1 in omega arith
+
+in-cons : {A : Type 0} (y : A) (xs : List A) (x : A) → Contains (y ∷ xs) x → (y ≡ x) ⊎ Contains xs x
+in-cons y xs x h =
+    ⊎_elim (λ e. ⊎_elim (λ q. absurd (none-in x q)) (λ q. inl q) (Contains-push_cases [] y x e)) (λ w. inr w) (Contains-append_cases (y ∷ []) xs x h)
+
+pub here : {A : Type 0} (x : A) (xs : List A) → Contains (x ∷ xs) x
+here x xs = Contains-append_left (x ∷ []) xs x (Contains-push [] x)
+
+pub there : {A : Type 0} (x : A) (xs : List A) (y : A) → Contains xs y → Contains (x ∷ xs) y
+there x xs y m = Contains-append_right (x ∷ []) xs y m
+
+-- a graph to which these are added has these and its own
+pub added-in : (cs : List Snapshot) (g : Graph) (c : Snapshot) → Contains (add_all g cs) c → Contains g c ⊎ Contains cs c
+added-in [] g c m = inl m
+added-in (d ∷ cs) g c m = by (has g (snapshot_name d)) (added-in cs (add g d) c m)
+  where
+    by : (b : Bool) → Contains (cond b g (d ∷ g)) c ⊎ Contains cs c → Contains g c ⊎ Contains (d ∷ cs) c
+    by b (inr k) = inr (there d cs c k)
+    by true (inl k) = inl k
+    by false (inl k) = ⊎_elim (λ e. inr (subst (λ (x : Snapshot). Contains (d ∷ cs) x) e (here d cs))) (λ w. inl w) (in-cons d g c k)
 
 -- ---- what a filter shows of the commits that are held, and commits that are made
 

@@ -9,7 +9,7 @@ use Rattle.proj_io.specs.Views.{SourceView, SinkView, KeeperView}
 use Rattle.state_items.specs.Items.{Held, read_items}
 use Rattle.state_items.specs.Changes.{Plan, Room, plan_items, room_of}
 use Rattle.state_items.specs.Hands.{IsTwice}
-use Rattle.proj_words.specs.Words.{Command, As, Import, Project, Push, Export, Name, Batch, Trial, Rule, Audit, Verify, Unknown}
+use Rattle.proj_words.specs.Words.{Command, As, Import, Project, Push, PushMerges, Export, ExportTags, Tags, Name, Batch, Trial, Rule, Audit, Verify, Unknown}
 use Rattle.proj_words.specs.declared.outcome.Outcome.{Outcome}
 use Rattle.proj_words.specs.declared.outcome.Outcome.TheVariants.{Done, OutOfMemory, Collision, ReadFault, WriteFault, StoreFault}
 use Rattle.proj_cli.specs.Answers.{AreItems, Devices, IsCommandAnswer, IsCollision, IsCommandComplete, IsDelivered, IsOutcome, IsRecalled, IsRecalledCase, IsSafe, IsStepDelivered, HasAnswer, outcome_of}
@@ -74,7 +74,10 @@ module _ (items : List Bytes) (all : Bytes) (i j : SourceView) (o q : SinkView) 
   recalled-of (As u _) e = tt
   recalled-of (Import force) e = other (Import force) refl
   recalled-of (Export x y) e = other (Export x y) refl
+  recalled-of (ExportTags x y) e = other (ExportTags x y) refl
+  recalled-of (Tags x y) e = other (Tags x y) refl
   recalled-of (Push x y) e = other (Push x y) refl
+  recalled-of (PushMerges x y) e = other (PushMerges x y) refl
   recalled-of (Name x y) e = other (Name x y) refl
   recalled-of (Rule n) e = other (Rule n) refl
   recalled-of (Audit x y z) e = other (Audit x y z) refl

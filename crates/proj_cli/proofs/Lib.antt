@@ -7,6 +7,11 @@ mod RulesSet
 mod InHands
 mod StatesShown
 mod Exports
+mod ShownTags
+mod SeenHands
+mod WrittenTags
+mod Retargeting
+mod TagsMade
 mod Heads
 mod Audits
 mod PolicyTexts
@@ -17,6 +22,7 @@ mod Projects
 pub mod StreamHands
 pub mod StreamBatches
 pub mod StateBases
+mod StreamTags
 mod Intaking
 mod Imports
 pub mod RecalledTexts
@@ -42,6 +48,7 @@ mod NamesGiven
 pub mod ListLengths
 pub mod DiskLists
 pub mod Lifting
+mod OwnOfAll
 mod PushHands
 mod PushedLaws
 mod PushPlans

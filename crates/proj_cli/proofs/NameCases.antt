@@ -33,12 +33,12 @@ use Rattle.filter_apply.specs.Hands.{IsNamedIn, parts_in}
 use Rattle.filter_apply.specs.declared.fault.ApplyError.{ApplyError}
 use Rattle.filter_apply.specs.declared.fault.ApplyError.TheVariants as shows
 use Rattle.workspace.specs.Workspaces.{resolve, shown}
-use Rattle.stream_reader.specs.Verdicts.{start, verdict}
+use Rattle.stream_reader.specs.Verdicts.{tagged_start, verdict}
 use Rattle.stream_reader.specs.declared.fault.StreamFault.{StreamFault}
 use Rattle.stream_reader.specs.declared.fault.StreamFault.TheVariants as faults
-use Rattle.fast_import.specs.Replays.{Ran, Replayed, empty_base, given_by, heads_of, ran, replay}
+use Rattle.fast_import.specs.Replays.{Ran, Replayed, empty_base, given_by, heads_of, replay_in}
 use Rattle.fast_import.specs.Standing.{IsReplayedOf}
-use Rattle.fast_import.specs.Whole.{IsMadeOfStream, IsStreamError}
+use Rattle.fast_import.specs.Whole.{IsMadeOfStreamIn, IsStreamErrorIn}
 use Rattle.fast_import.specs.declared.replayed.Replayed.{Replayed as ReplayedNames}
 use Rattle.fast_import.specs.declared.whole.ReplayError.{ReplayError}
 use Rattle.fast_import.specs.declared.whole.ReplayError.TheVariants as replays
@@ -76,6 +76,7 @@ use Rattle.repo_ground.proofs.RepeatedCommits.{AreBehind, repeated-same}
 use Rattle.proj_cli.proofs.Staying.{among-has, with-added}
 use Rattle.proj_cli.proofs.StreamBatches.{once-named, stream-brought, stream-replayed, whole-trees}
 use Rattle.proj_cli.proofs.StreamHands.{component-in-hand, contains-flat, leaf-in-hand, stream-in-hand, tree-as}
+use Rattle.proj_cli.specs.Import.{tagged_ran}
 
 -- ---- refusals
 
@@ -170,7 +171,7 @@ objects-with h (o ∷ fs) = refl
 
 module _ (f : Filter) (refname all : Bytes) where
   abbrev x : Ran StreamFault
-  x = ran empty_base all
+  x = tagged_ran empty_base all
 
   abbrev k : Case
   k = NameCase f refname x
@@ -200,22 +201,22 @@ module _ (f : Filter) (refname all : Bytes) where
     trees : Each (λ c. IsTree c.tree) x.state.commits
     trees = whole-trees [] x.state.commits (stream-replayed nothing all tt bytes).commits
 
-    in-hand : (o : Object) → IsMadeOfStream empty_base all o → at_hand o
+    in-hand : (o : Object) → IsMadeOfStreamIn tagged_start empty_base all o → at_hand o
     in-hand o m =
         in-one (hand k) o
-        (stream-in-hand [] (history_at f (reverse x.state.commits) (find_entry bytes_cmp refname (heads_of x.state))) empty_base (verdict start all).commands (verdict start all).fault (components_for f x.state.commits) o trees m)
+        (stream-in-hand [] (history_at f (reverse x.state.commits) (find_entry bytes_cmp refname (heads_of x.state))) empty_base (verdict tagged_start all).commands (verdict tagged_start all).fault (components_for f x.state.commits) o trees m)
 
-    module _ (S : List Object) (grown : IsGrownBy (IsMadeOfStream empty_base all) [] S) where
+    module _ (S : List Object) (grown : IsGrownBy (IsMadeOfStreamIn tagged_start empty_base all) [] S) where
       stored-in-hand : (o : Object) → Contains S o → at_hand o
-      stored-in-hand o m = in-hand o (grown-all (IsMadeOfStream empty_base all) S o grown m)
+      stored-in-hand o m = in-hand o (grown-all (IsMadeOfStreamIn tagged_start empty_base all) S o grown m)
 
-      clash : (n : Bytes) → IsClash (IsMadeOfStream empty_base all) S n → IsTwice at_hand n
+      clash : (n : Bytes) → IsClash (IsMadeOfStreamIn tagged_start empty_base all) S n → IsTwice at_hand n
       clash n c =
-          twice-as (λ o. Contains [] o ⊎ IsMadeOfStream empty_base all o) at_hand n (λ o m. ⊎_elim (λ a. absurd (omega (arith, a.1))) (in-hand o) m)
-          (clash-twice (IsMadeOfStream empty_base all) [] S n grown c)
+          twice-as (λ o. Contains [] o ⊎ IsMadeOfStreamIn tagged_start empty_base all o) at_hand n (λ o m. ⊎_elim (λ a. absurd (omega (arith, a.1))) (in-hand o) m)
+          (clash-twice (IsMadeOfStreamIn tagged_start empty_base all) [] S n grown c)
 
       -- why the stream isn't replayed
-      pub stream-refused : (e : ReplayError) → IsStreamError empty_base S all e → IsReportOf (Ok k) (Err (replay_outcome e))
+      pub stream-refused : (e : ReplayError) → IsStreamErrorIn tagged_start empty_base S all e → IsReportOf (Ok k) (Err (replay_outcome e))
       stream-refused replays.ReadFault h = told-refusal at_hand step outcomes.ReadFault tt
       stream-refused (replays.Stream fault) h =
           told-refusal at_hand step (stream_outcome fault)
@@ -247,7 +248,7 @@ module _ (f : Filter) (refname all : Bytes) where
 
   -- ---- where the stream has no fault
 
-  module _ (given : replay empty_base all ≡ Ok (given_by x.state)) where
+  module _ (given : replay_in tagged_start empty_base all ≡ Ok (given_by x.state)) where
     step-is : step ≡ given_step (given_by x.state)
     step-is = ap (λ (o : Result Replayed StreamFault). refused_by stream_outcome o >>= given_step) given
 

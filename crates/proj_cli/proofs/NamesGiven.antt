@@ -14,10 +14,10 @@ use Rattle.filter_apply.specs.Faults.{IsApplyFault}
 use Rattle.filter_apply.specs.declared.fault.ApplyError.{ApplyError}
 use Rattle.workspace.specs.Workspaces.{shown}
 use Rattle.fast_import.specs.Replaying.{setting_value}
-use Rattle.fast_import.specs.Replays.{empty_base, ran}
-use Rattle.fast_import.specs.Whole.{IsWhole}
-use Rattle.fast_import.specs.declared.replayed.Replayed.{Replayed}
+use Rattle.fast_import.specs.Replays.{empty_base}
+use Rattle.fast_import.specs.Whole.{IsTaggedWhole}
 use Rattle.fast_import.specs.declared.replayed.Setting.{Setting}
+use Rattle.fast_import.specs.declared.replayed.TaggedReplay.{TaggedReplay}
 use Rattle.fast_import.specs.declared.whole.ReplayError.{ReplayError}
 use Rattle.projection_laws.specs.Projections.{projection_by}
 use Rattle.projection_ground.specs.Grounds.{IsGround, IsShownOf, commits_of}
@@ -39,8 +39,10 @@ use Rattle.proj_cli.specs.Makes.{IsReportOf}
 use Rattle.proj_cli.specs.Refusals.{apply_outcome, commit_outcome, replay_outcome}
 use Rattle.proj_cli.specs.StreamsGiven.{IsGiven, IsUnnamed}
 use Rattle.proj_cli.proofs.NameCases.{no-memory}
-use Rattle.proj_cli.proofs.NamesTold.{head-told, is-given, projection-told, ref-told, replay-told, show-told, store-ground, stored-batch, take-told, with_store}
+use Rattle.proj_cli.proofs.NamesTold.{head-told, projection-told, ref-told, replay-told, show-told, store-ground, stored-batch, take-told, with_store}
 use Rattle.proj_cli.proofs.Outcomes.{IsQuiet, commit-store}
+use Rattle.proj_cli.proofs.StreamTags.{is-given}
+use Rattle.proj_cli.specs.Import.{tagged_ran}
 
 -- ---- the input
 
@@ -106,27 +108,27 @@ counts-by a b P Q w f = record { later = w.later; rose = λ q. w.rose (f q) }
 
 -- why nothing is told of any ref
 abbrev pub IsUntold : Bytes → Outcome → Type 0
-IsUntold all e = (f : Filter) (refname : Bytes) → IsReportOf (Ok (NameCase f refname (ran empty_base all))) (Err e)
+IsUntold all e = (f : Filter) (refname : Bytes) → IsReportOf (Ok (NameCase f refname (tagged_ran empty_base all))) (Err e)
 
 pub untold-memory : (all : Bytes) → IsUntold all outcomes.OutOfMemory
 untold-memory all = λ f refname. no-memory f refname all (Err outcomes.OutOfMemory) refl
 
 module _ (all : Bytes) (bytes : is_bytes all ≡ true) (s : Contents) (empty : IsEmpty s) (S : List Object) where
-  pub unreplayed : (e : ReplayError) (o : Outcome) → o ≡ replay_outcome e → IsWhole empty_base s.basis.store S all (Err e) → IsUntold all o
-  unreplayed e o is w = λ f refname. subst (λ (x : Outcome). IsReportOf (Ok (NameCase f refname (ran empty_base all))) (Err x)) (sym is) (replay-told f refname all bytes s empty S e w)
+  pub unreplayed : (e : ReplayError) (o : Outcome) → o ≡ replay_outcome e → IsTaggedWhole empty_base s.basis.store S all (Err e) → IsUntold all o
+  unreplayed e o is w = λ f refname. subst (λ (x : Outcome). IsReportOf (Ok (NameCase f refname (tagged_ran empty_base all))) (Err x)) (sym is) (replay-told f refname all bytes s empty S e w)
 
-  module _ (g : Replayed) (w : IsWhole empty_base s.basis.store S all (Ok g)) where
+  module _ (g : TaggedReplay) (w : IsTaggedWhole empty_base s.basis.store S all (Ok g)) where
     pub ground-given : IsGround (with_store s S).basis
     ground-given = store-ground all s empty S w.grown
 
-    pub untaken : (e : CommitError) (o : Outcome) → o ≡ commit_outcome e → IsNotTaken nothing (fresh [] (objects_of (ran empty_base all).state.blobs (ran empty_base all).state.commits)) e → IsUntold all o
-    untaken e o is h = λ f refname. subst (λ (x : Outcome). IsReportOf (Ok (NameCase f refname (ran empty_base all))) (Err x)) (sym is) (take-told f refname all bytes s empty S g w e h)
+    pub untaken : (e : CommitError) (o : Outcome) → o ≡ commit_outcome e → IsNotTaken nothing (fresh [] (objects_of (tagged_ran empty_base all).state.blobs (tagged_ran empty_base all).state.commits)) e → IsUntold all o
+    untaken e o is h = λ f refname. subst (λ (x : Outcome). IsReportOf (Ok (NameCase f refname (tagged_ran empty_base all))) (Err x)) (sym is) (take-told f refname all bytes s empty S g w e h)
 
-    module _ (b : Batch) (heads : List Setting) (u : IsUnnamed g b heads) where
-      pub batch-given : IsBatchOf nothing (with_store s S) b (ran empty_base all).state.blobs (ran empty_base all).state.commits
-      batch-given = stored-batch all s empty S w.grown g b bytes (is-given all S g w.given) u.blobs u.commits u.refs
+    module _ (b : Batch) (heads : List Setting) (u : IsUnnamed g.replayed b heads) where
+      pub batch-given : IsBatchOf nothing (with_store s S) b (tagged_ran empty_base all).state.blobs (tagged_ran empty_base all).state.commits
+      batch-given = stored-batch all s empty S w.grown g b bytes (is-given empty_base all S g w.given) u.blobs u.commits u.refs
 
-      pub state-given : (after : Contents) → IsTaken nothing (fresh [] (objects_of (ran empty_base all).state.blobs (ran empty_base all).state.commits)) (with_store s S) after → IsGiven all after heads
+      pub state-given : (after : Contents) → IsTaken nothing (fresh [] (objects_of (tagged_ran empty_base all).state.blobs (tagged_ran empty_base all).state.commits)) (with_store s S) after → IsGiven all after heads
       state-given after taken = record { before = s; empty = empty; names = g; store = S; whole = w; taken = taken; settings = u.settings }
 
 -- a batch that isn't taken in is no fault of the store
@@ -142,20 +144,20 @@ module _ (f : Filter) (refname all : Bytes) (bytes : is_bytes all ≡ true) (s :
   abbrev Found : Option Bytes → Type 0
   Found o = o ≡ find_entry bytes_cmp refname (map setting_value heads)
 
-  by-names : (o : Option Bytes) → Found o → find_entry bytes_cmp refname (map setting_value w.names.heads.items) ≡ o
+  by-names : (o : Option Bytes) → Found o → find_entry bytes_cmp refname (map setting_value w.names.replayed.heads.items) ≡ o
   by-names o e = sym (e ∙ ap (λ (xs : List Setting). find_entry bytes_cmp refname (map setting_value xs)) w.settings)
 
-  pub unknown-told : Found None → IsReportOf (Ok (NameCase f refname (ran empty_base all))) (Err outcomes.UnknownRef)
+  pub unknown-told : Found None → IsReportOf (Ok (NameCase f refname (tagged_ran empty_base all))) (Err outcomes.UnknownRef)
   unknown-told e = ref-told f refname all bytes w.before w.empty w.store w.names w.whole s w.taken (by-names None e)
 
   pub known-head : (n : Bytes) → Found (Some n) → IsSome (place_of n s.basis.graph)
   known-head n e = head-told f refname all bytes w.before w.empty w.store w.names w.whole s w.taken n (by-names (Some n) e)
 
   pub line-given : (n report : Bytes) (o : Option Shown) → Found (Some n) → o ≡ projection_by s.basis.rule (shown f) s.basis.map (commits_of s.basis) n → report ≡ name_line o
-      → IsReportOf (Ok (NameCase f refname (ran empty_base all))) (Ok report)
+      → IsReportOf (Ok (NameCase f refname (tagged_ran empty_base all))) (Ok report)
   line-given n report o e p q = projection-told f refname all bytes w.before w.empty w.store w.names w.whole s w.taken n report o (by-names (Some n) e) p q
 
   pub unshown-told : (S' : List Object) (e : ApplyError) (o : Outcome) → o ≡ apply_outcome e → IsGrownBy (IsShownOf f (commits_of s.basis)) s.basis.store S' → IsApplyFault (IsShownOf f (commits_of s.basis)) S' e
-      → IsReportOf (Ok (NameCase f refname (ran empty_base all))) (Err o)
+      → IsReportOf (Ok (NameCase f refname (tagged_ran empty_base all))) (Err o)
   unshown-told S' e o is grown h =
-      subst (λ (x : Outcome). IsReportOf (Ok (NameCase f refname (ran empty_base all))) (Err x)) (sym is) (show-told f refname all bytes w.before w.empty w.store w.names w.whole s w.taken S' e grown h)
+      subst (λ (x : Outcome). IsReportOf (Ok (NameCase f refname (tagged_ran empty_base all))) (Err x)) (sym is) (show-told f refname all bytes w.before w.empty w.store w.names w.whole s w.taken S' e grown h)

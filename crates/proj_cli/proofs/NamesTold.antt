@@ -1,18 +1,15 @@
 -- A stream that is replayed upon a new state, and what is told of it.
 use Rattle.std.proofs.Common.{◌≡◌, true, T, List, [], map, Contains, IsSome, Option, None, Some, Ok, Err, refl, sym, ap, subst, ◌∙◌, arith}
-use Rattle.std.specs.Result.{IsOkAnd}
 use Rattle.std.specs.FinMap.{find as find_entry, is_sorted}
 use Rattle.git_objects.specs.Paths.{Bytes, is_bytes}
 use Rattle.git_objects.specs.Refs.{Refs, bytes_cmp}
 use Rattle.object_store.specs.Growth.{IsGrownBy}
 use Rattle.object_store.specs.Objects.{Object}
 use Rattle.filter_text.specs.Filters.{Filter}
-use Rattle.stream_reader.specs.declared.fault.StreamFault.{StreamFault}
-use Rattle.fast_import.specs.Replays.{Replay, Replayed, empty_base, given_by, outcome_of, ran, replay}
+use Rattle.fast_import.specs.Replays.{empty_base}
 use Rattle.fast_import.specs.Replaying.{setting_value}
-use Rattle.fast_import.specs.Standing.{IsReplayedOf}
-use Rattle.fast_import.specs.Whole.{IsMadeOfStream, IsWhole}
-use Rattle.fast_import.specs.declared.replayed.Replayed.{Replayed as ReplayedNames}
+use Rattle.fast_import.specs.Whole.{IsMadeOfStreamIn, IsTaggedWhole}
+use Rattle.fast_import.specs.declared.replayed.TaggedReplay.{TaggedReplay as TaggedNames}
 use Rattle.projection_laws.specs.Projections.{projection_by}
 use Rattle.projection_ground.specs.Grounds.{IsGround}
 use Rattle.state_items.specs.Imported.{AreRefsTo, with_commits}
@@ -42,28 +39,17 @@ use Rattle.proj_cli.specs.Makes.{IsReportOf}
 use Rattle.proj_cli.specs.Refusals.{apply_outcome, commit_outcome, replay_outcome}
 use Rattle.proj_cli.proofs.NameCases.{ground-commits, head-placed, limit-refused, line-told, no-memory, projection-is, ref-refused, show-refused, stream-refused, with-from}
 use Rattle.proj_cli.proofs.StreamBatches.{stream-batch}
+use Rattle.proj_cli.proofs.StreamTags.{IsGivenNames, is-given}
+use Rattle.proj_cli.specs.Import.{tagged_ran}
+use Rattle.stream_reader.specs.Verdicts.{tagged_start}
 
 -- the same state upon another store
 abbrev pub with_store : Contents → List Object → Contents
 with_store s S = record s { basis = record s.basis { store = S } }
 
--- what the names stand for, where the stream has no fault
-pub record IsGivenNames (all : Bytes) (S : List Object) (g : ReplayedNames) : Type 0 where
-  pub given : replay empty_base all ≡ Ok (given_by (ran empty_base all).state)
-  pub stand : IsReplayedOf S g (given_by (ran empty_base all).state)
-
-ok-given : (r : Replay) (fault : Option StreamFault) (P : Replayed → Type 0) → IsOkAnd (outcome_of r fault) P → (outcome_of r fault ≡ Ok (given_by r)) × P (given_by r)
-ok-given r None P h = (refl, h)
-ok-given r (Some f) P h = absurd h
-
-pub is-given : (all : Bytes) (S : List Object) (g : ReplayedNames) → IsOkAnd (replay empty_base all) (IsReplayedOf S g) → IsGivenNames all S g
-is-given all S g h =
-    let w = ok-given (ran empty_base all).state (ran empty_base all).fault (IsReplayedOf S g) h in
-    record { given = w.0; stand = w.1 }
-
-module _ (all : Bytes) (s : Contents) (empty : IsEmpty s) (S : List Object) (grown : IsGrownBy (IsMadeOfStream empty_base all) s.basis.store S) where
-  pub from-nothing : IsGrownBy (IsMadeOfStream empty_base all) [] S
-  from-nothing = subst (λ (X : List Object). IsGrownBy (IsMadeOfStream empty_base all) X S) empty.store grown
+module _ (all : Bytes) (s : Contents) (empty : IsEmpty s) (S : List Object) (grown : IsGrownBy (IsMadeOfStreamIn tagged_start empty_base all) s.basis.store S) where
+  pub from-nothing : IsGrownBy (IsMadeOfStreamIn tagged_start empty_base all) [] S
+  from-nothing = subst (λ (X : List Object). IsGrownBy (IsMadeOfStreamIn tagged_start empty_base all) X S) empty.store grown
 
   -- a state with nothing held has nothing held whatever is in its store
   pub store-spelled : Spells nothing (with_store s S)
@@ -89,30 +75,30 @@ module _ (all : Bytes) (s : Contents) (empty : IsEmpty s) (S : List Object) (gro
   pub store-ground : IsGround (with_store s S).basis
   store-ground = ground-grown s.basis grown.newer S empty.ground grown.store grown.above
 
-  pub stored-batch : (g : ReplayedNames) (b : Batch) → is_bytes all ≡ true → IsGivenNames all S g → b.blobs.items ≡ g.blobs.items → b.commits.items ≡ map (λ m. m.name) g.commits.items → b.refs.items ≡ []
-      → IsBatchOf nothing (with_store s S) b (ran empty_base all).state.blobs (ran empty_base all).state.commits
+  pub stored-batch : (g : TaggedNames) (b : Batch) → is_bytes all ≡ true → IsGivenNames empty_base all S g → b.blobs.items ≡ g.replayed.blobs.items → b.commits.items ≡ map (λ m. m.name) g.replayed.commits.items → b.refs.items ≡ []
+      → IsBatchOf nothing (with_store s S) b (tagged_ran empty_base all).state.blobs (tagged_ran empty_base all).state.commits
   stored-batch g b bytes w blobs commits refs =
       let none : settings_of b ≡ [] = ap (map setting_value) refs in
-      stream-batch nothing all tt bytes (with_store s S) g b store-spelled grown.store refl w.stand blobs commits (subst (λ (es : Refs). T (is_sorted bytes_cmp es)) (sym none) tt)
-      (subst (λ (es : Refs). AreRefsTo (with_commits [] (ran empty_base all).state.commits) es) (sym none) (record { names = refl; heads = refl }))
+      stream-batch nothing all tt bytes (with_store s S) g.replayed b store-spelled grown.store refl w.stand blobs commits (subst (λ (es : Refs). T (is_sorted bytes_cmp es)) (sym none) tt)
+      (subst (λ (es : Refs). AreRefsTo (with_commits [] (tagged_ran empty_base all).state.commits) es) (sym none) (record { names = refl; heads = refl }))
 
 -- ---- what is told
 
 module _ (f : Filter) (refname all : Bytes) where
   abbrev k : Case
-  k = NameCase f refname (ran empty_base all)
+  k = NameCase f refname (tagged_ran empty_base all)
 
   abbrev fs : List Object
-  fs = fresh [] (objects_of (ran empty_base all).state.blobs (ran empty_base all).state.commits)
+  fs = fresh [] (objects_of (tagged_ran empty_base all).state.blobs (tagged_ran empty_base all).state.commits)
 
   module _ (bytes : is_bytes all ≡ true) (s : Contents) (empty : IsEmpty s) (S : List Object) where
     -- why the stream isn't replayed
-    pub replay-told : (e : ReplayError) → IsWhole empty_base s.basis.store S all (Err e) → IsReportOf (Ok k) (Err (replay_outcome e))
+    pub replay-told : (e : ReplayError) → IsTaggedWhole empty_base s.basis.store S all (Err e) → IsReportOf (Ok k) (Err (replay_outcome e))
     replay-told e w = stream-refused f refname all bytes S (from-nothing all s empty S w.grown) e w.refused
 
-    module _ (g : ReplayedNames) (w : IsWhole empty_base s.basis.store S all (Ok g)) where
-      abbrev given-names : IsGivenNames all S g
-      given-names = is-given all S g w.given
+    module _ (g : TaggedNames) (w : IsTaggedWhole empty_base s.basis.store S all (Ok g)) where
+      abbrev given-names : IsGivenNames empty_base all S g
+      given-names = is-given empty_base all S g w.given
 
       -- why it isn't taken in
       pub take-told : (e : CommitError) → IsNotTaken nothing fs e → IsReportOf (Ok k) (Err (commit_outcome e))
@@ -122,26 +108,26 @@ module _ (f : Filter) (refname all : Bytes) where
 
       module _ (after : Contents) (taken : IsTaken nothing fs (with_store s S) after) where
         -- the ref's commit, by the settings
-        pub ref-told : find_entry bytes_cmp refname (map setting_value g.heads.items) ≡ None → IsReportOf (Ok k) (Err outcomes.UnknownRef)
+        pub ref-told : find_entry bytes_cmp refname (map setting_value g.replayed.heads.items) ≡ None → IsReportOf (Ok k) (Err outcomes.UnknownRef)
         ref-told e = ref-refused f refname all given-names.given taken.within (ap (find_entry bytes_cmp refname) (sym given-names.stand.settings) ∙ e)
 
-        pub head-told : (n : Bytes) → find_entry bytes_cmp refname (map setting_value g.heads.items) ≡ Some n → IsSome (place_of n after.basis.graph)
-        head-told n e = head-placed f refname all bytes (with_store s S) after taken S g n w.grown.store given-names.stand (ap (find_entry bytes_cmp refname) (sym given-names.stand.settings) ∙ e)
+        pub head-told : (n : Bytes) → find_entry bytes_cmp refname (map setting_value g.replayed.heads.items) ≡ Some n → IsSome (place_of n after.basis.graph)
+        head-told n e = head-placed f refname all bytes (with_store s S) after taken S g.replayed n w.grown.store given-names.stand (ap (find_entry bytes_cmp refname) (sym given-names.stand.settings) ∙ e)
 
         -- the projection's line
-        pub projection-told : (n report : Bytes) (o : Option Shown) → find_entry bytes_cmp refname (map setting_value g.heads.items) ≡ Some n
+        pub projection-told : (n report : Bytes) (o : Option Shown) → find_entry bytes_cmp refname (map setting_value g.replayed.heads.items) ≡ Some n
             → o ≡ projection_by after.basis.rule (shown f) after.basis.map (commits_of after.basis) n → report ≡ name_line o → IsReportOf (Ok k) (Ok report)
         projection-told n report o e p q =
             let rule : rule_number after.basis.rule ≡ 1 = ap (λ (x : Contents). rule_number x.basis.rule) taken.same ∙ empty.spells.rule in
             let none : after.basis.map ≡ [] = ap (λ (x : Contents). x.basis.map) taken.same ∙ empty.map in
             line-told f refname all given-names.given taken.within n report (ap (find_entry bytes_cmp refname) (sym given-names.stand.settings) ∙ e)
-            (ap name_line (sym (p ∙ projection-is f refname all bytes (with_store s S) after taken S g n w.grown.store given-names.stand rule none)) ∙ sym q)
+            (ap name_line (sym (p ∙ projection-is f refname all bytes (with_store s S) after taken S g.replayed n w.grown.store given-names.stand rule none)) ∙ sym q)
 
         -- why nothing is shown
         pub show-told : (S' : List Object) (e : ApplyError) → IsGrownBy (IsShownOf f (commits_of after.basis)) after.basis.store S' → IsApplyFault (IsShownOf f (commits_of after.basis)) S' e
             → IsReportOf (Ok k) (Err (apply_outcome e))
         show-told S' e grown h =
-            let from : (c : Snapshot) → Contains (commits_of after.basis) c → Contains (ran empty_base all).state.commits c =
-            λ c m. with-from (ran empty_base all).state.commits c (subst (λ (cs : List Snapshot). Contains cs c) (ground-commits f refname all bytes (with_store s S) after taken S g w.grown.store given-names.stand) m) in
+            let from : (c : Snapshot) → Contains (commits_of after.basis) c → Contains (tagged_ran empty_base all).state.commits c =
+            λ c m. with-from (tagged_ran empty_base all).state.commits c (subst (λ (cs : List Snapshot). Contains cs c) (ground-commits f refname all bytes (with_store s S) after taken S g.replayed w.grown.store given-names.stand) m) in
             let upon : IsGrownBy (IsShownOf f (commits_of after.basis)) S S' = subst (λ (X : List Object). IsGrownBy (IsShownOf f (commits_of after.basis)) X S') (ap (λ (x : Contents). x.basis.store) taken.same) grown in
             show-refused f refname all bytes S (from-nothing all s empty S w.grown) (commits_of after.basis) S' e from upon h

@@ -1,5 +1,5 @@
 -- What a push makes is in hand.
-use Rattle.std.proofs.Common.{◌≡◌, ◌⊎◌, inl, inr, ℕ, Bool, true, false, cond, List, [], ◌∷◌, ◌++◌, Contains, Option, None, Some, Result, Ok, Err, ⊎_elim, sym, subst, arith}
+use Rattle.std.proofs.Common.{◌≡◌, ◌⊎◌, inl, inr, ℕ, Bool, true, false, cond, List, [], ◌∷◌, ◌++◌, Contains, Option, None, Some, Result, Ok, Err, ⊎_elim, refl, sym, subst, ◌∙◌, arith}
 use Rattle.std.specs.List.{flat_map}
 use Rattle.std.specs.Option.{option_map, option_map_or}
 use Rattle.std.proofs.lemmas.List.Elements.{Contains-append_cases, Contains-append_left, Contains-append_right, Contains-push, Contains-push_cases}
@@ -18,19 +18,27 @@ use Rattle.filter_apply.proofs.Members.{in-flat_map}
 use Rattle.filter_apply.proofs.Overs.{made_as}
 use Rattle.filter_unapply.specs.Hands.{IsComponentOfTwo, IsLaidMade, IsLeafOfTwo, IsNamedIn, IsNamedInAny}
 use Rattle.workspace.specs.Workspaces.{next, resolve, shown}
-use Rattle.projection_laws.specs.Projections.{history_graph, projection}
+use Rattle.commit_map.specs.declared.rule.Rule.{Rule}
+use Rattle.projection_laws.specs.Projections.{history_graph, projection, projections}
+use Rattle.projection_ground.specs.Grounds.{IsShownOf}
 use Rattle.stream_reader.specs.declared.command.Command.{Command}
 use Rattle.stream_reader.specs.declared.command.Command.TheVariants as commands
 use Rattle.stream_reader.specs.declared.command.Placed.{Placed}
 use Rattle.stream_reader.specs.declared.fault.StreamFault.TheVariants.{Syntax}
 use Rattle.stream_reader.specs.Verdicts.{start, verdict}
 use Rattle.fast_import.specs.Made.{IsMadeAt, IsMadeBy, IsMadeOf}
-use Rattle.fast_import.specs.Replays.{Base, Draft, Replay, committed, nothing_yet, ran_by}
+use Rattle.fast_import.specs.Replays.{Base, Draft, Replay, committed, nothing_yet, ran_by, step}
 use Rattle.push_back.specs.Originals.{IsMadeFor, IsMadeUpon}
 use Rattle.push_laws.specs.PushReplays.{StreamRefusal, Faulty, push_base, push_step}
 use Rattle.push_laws.specs.PushVerdicts.{Refusal, original_of, original_tree}
-use Rattle.push_laws.specs.Pushes.{Pushing, made_from, made_upon, pushing}
+use Rattle.push_laws.specs.Pushes.{Pushing, made_from, made_upon}
 use Rattle.push_laws.proofs.PushSteps.{goes-on}
+use Rattle.merge_laws.specs.MergeReplays.{merge_base, merge_step}
+use Rattle.merge_laws.specs.MergeVerdicts.{Progress, after, begun, original}
+use Rattle.merge_laws.specs.MergeVerdicts as merges
+use Rattle.merge_laws.specs.Merges.{shown_trees}
+use Rattle.merge_laws.proofs.Bases.{goes-on-law}
+use Rattle.merge_push.specs.Originals as merged
 use Rattle.state_items.specs.Items.{Held}
 use Rattle.state_items.specs.Repos.{repo}
 use Rattle.proj_cli.specs.Cases.{PushCase}
@@ -38,35 +46,13 @@ use Rattle.proj_cli.specs.declared.lines.Telling.TheVariants.{Both}
 use Rattle.proj_cli.specs.Filters.{rule_by}
 use Rattle.proj_cli.specs.Hands.{CommitMade, Hand, IsInHand, IsInHands, TreeMade, all_components, all_leaves, blobs_read, command_components, components_for, own}
 use Rattle.proj_cli.specs.Steps.{hand}
-use Rattle.proj_cli.specs.Push.{laid_parts, parts_upon}
-use Rattle.proj_cli.specs.Pushing.{IsMadeOver, IsSeenOver}
-use Rattle.proj_cli.proofs.InHands.{in-hands}
+use Rattle.proj_cli.specs.Push.{laid_parts, merged_parts, own_for, parts_behind, parts_pushed, parts_upon, pushed_upon}
+use Rattle.proj_cli.specs.Pushing.{AreSeenOver, IsMadeOver, IsSeenOver}
+use Rattle.proj_cli.specs.declared.pushing.Manner.{Manner}
+use Rattle.proj_cli.specs.declared.pushing.Manner.TheVariants.{InLine, Merging}
+use Rattle.proj_cli.proofs.InHands.{added-in, here, in-hands, none-in, there}
+use Rattle.proj_cli.proofs.OwnOfAll.{own-of-all}
 use Rattle.proj_cli.proofs.StreamHands.{IsBrought, brought-in-hand, component-in-hand, leaf-in-hand, run-brought}
-
--- ---- lists
-
-none-in : {A : Type 0} (x : A) → Contains [] x → ⊥
-none-in x h = let within = h.1 in omega arith
-
-in-cons : {A : Type 0} (y : A) (xs : List A) (x : A) → Contains (y ∷ xs) x → (y ≡ x) ⊎ Contains xs x
-in-cons y xs x h =
-    ⊎_elim (λ e. ⊎_elim (λ q. absurd (none-in x q)) (λ q. inl q) (Contains-push_cases [] y x e)) (λ w. inr w) (Contains-append_cases (y ∷ []) xs x h)
-
-here : {A : Type 0} (x : A) (xs : List A) → Contains (x ∷ xs) x
-here x xs = Contains-append_left (x ∷ []) xs x (Contains-push [] x)
-
-there : {A : Type 0} (x : A) (xs : List A) (y : A) → Contains xs y → Contains (x ∷ xs) y
-there x xs y m = Contains-append_right (x ∷ []) xs y m
-
--- a graph to which these are added has these and its own
-added-in : (cs : List Snapshot) (g : Graph) (c : Snapshot) → Contains (add_all g cs) c → Contains g c ⊎ Contains cs c
-added-in [] g c m = inl m
-added-in (d ∷ cs) g c m = by (has g (snapshot_name d)) (added-in cs (add g d) c m)
-  where
-    by : (b : Bool) → Contains (cond b g (d ∷ g)) c ⊎ Contains cs c → Contains g c ⊎ Contains (d ∷ cs) c
-    by b (inr k) = inr (there d cs c k)
-    by true (inl k) = inl k
-    by false (inl k) = ⊎_elim (λ e. inr (subst (λ (x : Snapshot). Contains (d ∷ cs) x) e (here d cs))) (λ w. inl w) (in-cons d g c k)
 
 -- ---- parts of filters
 
@@ -89,13 +75,9 @@ mutual
 
 -- ---- the stream
 
-module _ (refname : Bytes) (from : Option Bytes) (seen : Flat) where
-  abbrev base : Base
-  base = push_base refname from seen
-
-  abbrev one : Replay → Placed → Result Replay StreamRefusal
-  one r p = push_step base refname from r p
-
+-- By what a push makes of one command, where it makes what any replay does, and ends a commit as that does.
+module _ (base : Base) (one : Replay → Placed → Result Replay StreamRefusal) (done : (r q : Replay) (p : Placed) → one r p ≡ Ok q → step base r p ≡ Ok q)
+    (ends : (r : Replay) (at : ℕ) → one r (record { at = at; command = commands.CommitEnd }) ≡ refused_by Faulty (or_refuse (Syntax at) r.draft >>= λ d. Ok (committed r d))) where
   -- a commit that is ended is never refused
   none-ended : (r : Replay) (at : ℕ) (f : StreamRefusal) (o : Object) (d : Option Draft) → refused_by Faulty (or_refuse (Syntax at) d >>= λ d. Ok (committed r d)) ≡ Err f → IsMadeOf d o → ⊥
   none-ended r at f o None e made = made
@@ -105,18 +87,18 @@ module _ (refname : Bytes) (from : Option Bytes) (seen : Flat) where
   refused-one : (r : Replay) (p : Placed) (f : StreamRefusal) (o : Object) → one r p ≡ Err f → IsMadeAt r p.command o → IsBrought (blobs_read p.command) r.commits o
   refused-one r p f o e made = by p.command e made
     where
-      by : (c : Command) → push_step base refname from r (record { at = p.at; command = c }) ≡ Err f → IsMadeAt r c o → IsBrought (blobs_read c) r.commits o
+      by : (c : Command) → one r (record { at = p.at; command = c }) ≡ Err f → IsMadeAt r c o → IsBrought (blobs_read c) r.commits o
       by (commands.Blob m b) q w = inl (b, Contains-push [] b, w)
       by (commands.Commit h) q w = absurd w
       by (commands.Change c) q w = inl w
-      by commands.CommitEnd q w = absurd (none-ended r p.at f o r.draft q w)
+      by commands.CommitEnd q w = absurd (none-ended r p.at f o r.draft (sym (ends r p.at) ∙ q) w)
       by (commands.Reset name target) q w = absurd w
       by (commands.Tag h) q w = absurd w
       by commands.Done q w = absurd w
 
-  pub stream-brought : (end : Option StreamRefusal) (ps : List Placed) (o : Object) → IsMadeBy base nothing_yet (ran_by one end nothing_yet ps).tried o
+  stream-brought : (end : Option StreamRefusal) (ps : List Placed) (o : Object) → IsMadeBy base nothing_yet (ran_by one end nothing_yet ps).tried o
       → IsBrought (flat_map (λ p. blobs_read p.command) (ran_by one end nothing_yet ps).tried) (ran_by one end nothing_yet ps).state.commits o
-  stream-brought end ps o made = run-brought base one (λ r q p e. goes-on refname from seen r q p e) refused-one end ps nothing_yet o made
+  stream-brought end ps o made = run-brought base one done refused-one end ps nothing_yet o made
 
 -- ---- trees in hand
 
@@ -166,7 +148,7 @@ module _ (k : Hand) where
   upon-in h c o later originals parts next (Ok u) made ps (inr w) =
       next u (made (original_of h c u) (here (original_of h c u) (originals u))) (λ d m. made d (there (original_of h c u) (originals u) d m)) ps w
 
-  pub made-for-in : (f : Filter) (h : Bytes) (t seen : Flat) (cs : List Snapshot) (o : Object) → IsTreeIn k t → Made cs → Made (made_from f h t seen cs) → Parts (laid_parts f t seen cs)
+  made-for-in : (f : Filter) (h : Bytes) (t seen : Flat) (cs : List Snapshot) (o : Object) → IsTreeIn k t → Made cs → Made (made_from f h t seen cs) → Parts (laid_parts f t seen cs)
       → IsMadeFor f h t seen cs o → IsInHand k o
   made-for-in f h t seen [] o a pushed made parts w = absurd w
   made-for-in f h t seen (c ∷ cs) o a pushed made parts (inl w) =
@@ -179,6 +161,26 @@ module _ (k : Hand) where
       (original_tree f t seen c.tree) made
       (λ b m. parts b (Contains-append_right (parts_in (next f t c.tree)) (parts_upon (original_tree f t seen c.tree) (λ u. laid_parts f u c.tree cs)) b m)) w
 
+  -- the same where commits may merge
+  behind-in : (o : Object) (later : Snapshot → Type 0) (originals : Snapshot → List Snapshot) (parts : Snapshot → List Bytes)
+      → ((u : Snapshot) → Contains k.commits u → Made (originals u) → Parts (parts u) → later u → IsInHand k o)
+      → (x : Result Snapshot Refusal) → Made (merges.made_upon x originals) → Parts (parts_behind x parts) → merged.IsMadeUpon x later o → IsInHand k o
+  behind-in o later originals parts next (Err e) made ps w = absurd w
+  behind-in o later originals parts next (Ok u) made ps (inl e) = CommitMade u (made u (here u (originals u))) e
+  behind-in o later originals parts next (Ok u) made ps (inr w) = next u (made u (here u (originals u))) (λ d m. made d (there u (originals u) d m)) ps w
+
+  merged-in : (r : Rule) (f : Filter) (s : Progress) (cs : List Snapshot) (o : Object) → IsTreeIn k s.tree → Made cs → Made (merges.made_from r f s cs) → Parts (merged_parts r f s cs)
+      → merged.IsMadeFor r f s cs o → IsInHand k o
+  merged-in r f s [] o a pushed made parts w = absurd w
+  merged-in r f s (c ∷ cs) o a pushed made parts (inl w) =
+      laid-in (next f s.tree c.tree) s.tree c.tree o a (commit-tree-in k c (pushed c (here c cs)))
+      (λ b m. parts b (Contains-append_left (parts_in (next f s.tree c.tree)) (parts_behind (original r f s c) (λ u. merged_parts r f (after s c u) cs)) b m)) w
+  merged-in r f s (c ∷ cs) o a pushed made parts (inr w) =
+      behind-in o (λ u. merged.IsMadeFor r f (after s c u) cs o) (λ u. merges.made_from r f (after s c u) cs) (λ u. merged_parts r f (after s c u) cs)
+      (λ u there_is made' parts' v. merged-in r f (after s c u) cs o (commit-tree-in k u there_is) (λ d m. pushed d (there c cs d m)) made' parts' v)
+      (original r f s c) made
+      (λ b m. parts b (Contains-append_right (parts_in (next f s.tree c.tree)) (parts_behind (original r f s c) (λ u. merged_parts r f (after s c u) cs)) b m)) w
+
   -- ---- what is shown
 
   pub shown-in-hand : (g : Filter) (t : Flat) (o : Object) → IsTreeIn k t → Parts (parts_in g) → shows.IsShownObject g t o → IsInHand k o
@@ -190,18 +192,18 @@ module _ (k : Hand) where
 
 -- ---- a push
 
-module _ (h : Held) (f : Filter) (refname n all : Bytes) where
+module _ (m : Manner) (h : Held) (f : Filter) (refname n all : Bytes) where
   abbrev G : Graph
   G = (repo h).commits
 
   abbrev pub push_here : Pushing
-  push_here = pushing (rule_by h.rule) f G n refname all
+  push_here = pushed_upon m h f n refname all
 
   abbrev pub push_hand : Hand
-  push_hand = hand (PushCase Both h f refname n push_here)
+  push_hand = hand (PushCase m Both h f refname n push_here)
 
   abbrev owned : List Snapshot
-  owned = own h.rule f G n
+  owned = own_for m h f n
 
   abbrev streamed : List Snapshot
   streamed = push_here.stream.state.commits
@@ -210,22 +212,22 @@ module _ (h : Held) (f : Filter) (refname n all : Bytes) where
   before = G ++ push_here.originals ++ owned
 
   held-in : (c : Snapshot) → Contains G c → Contains push_hand.commits c
-  held-in c m = Contains-append_left before streamed c (Contains-append_left (G ++ push_here.originals) owned c (Contains-append_left G push_here.originals c m))
+  held-in c q = Contains-append_left before streamed c (Contains-append_left (G ++ push_here.originals) owned c (Contains-append_left G push_here.originals c q))
 
   original-in : (c : Snapshot) → Contains push_here.originals c → Contains push_hand.commits c
-  original-in c m = Contains-append_left before streamed c (Contains-append_left (G ++ push_here.originals) owned c (Contains-append_right G push_here.originals c m))
+  original-in c q = Contains-append_left before streamed c (Contains-append_left (G ++ push_here.originals) owned c (Contains-append_right G push_here.originals c q))
 
   own-in : (c : Snapshot) → Contains owned c → Contains push_hand.commits c
-  own-in c m = Contains-append_left before streamed c (Contains-append_right (G ++ push_here.originals) owned c m)
+  own-in c q = Contains-append_left before streamed c (Contains-append_right (G ++ push_here.originals) owned c q)
 
   streamed-in : (c : Snapshot) → Contains streamed c → Contains push_hand.commits c
-  streamed-in c m = Contains-append_right before streamed c m
+  streamed-in c q = Contains-append_right before streamed c q
 
   abbrev given : List Bytes
   given = flat_map (λ p. command_components p.command) push_here.stream.tried
 
   abbrev laid : List Bytes
-  laid = laid_parts f (tree_at G n) (shown f (tree_at G n)) streamed
+  laid = parts_pushed m h f n streamed
 
   components_of : Snapshot → List Bytes
   components_of c = flat_map (λ e. e.0) c.tree
@@ -235,37 +237,78 @@ module _ (h : Held) (f : Filter) (refname n all : Bytes) where
 
   named-in : (b : Bytes) → Contains push_hand.components b → Contains (all_components push_hand) b
   unfolding components_of
-  named-in b m = Contains-append_left push_hand.components (flat_map components_of push_hand.commits) b m
+  named-in b q = Contains-append_left push_hand.components (flat_map components_of push_hand.commits) b q
 
   laid-part : (b : Bytes) → Contains laid b → Contains (all_components push_hand) b
-  laid-part b m = named-in b (Contains-append_right given (components_for f G ++ laid) b (Contains-append_right (components_for f G) laid b m))
+  laid-part b q = named-in b (Contains-append_right given (components_for f G ++ laid) b (Contains-append_right (components_for f G) laid b q))
 
   resolved-part : (c : Snapshot) → Contains G c → (b : Bytes) → Contains (parts_in (resolve f c.tree)) b → Contains (all_components push_hand) b
   unfolding parts_for
-  resolved-part c there_is b m =
+  resolved-part c there_is b q =
       named-in b
       (Contains-append_right given (components_for f G ++ laid) b
-      (Contains-append_left (components_for f G) laid b (Contains-append_right (parts_in f) (flat_map parts_for G) b (in-flat_map parts_for G c b there_is m))))
+      (Contains-append_left (components_for f G) laid b (Contains-append_right (parts_in f) (flat_map parts_for G) b (in-flat_map parts_for G c b there_is q))))
 
   commit-in : (c : Snapshot) (o : Object) → Contains push_hand.commits c → snapshot_object c ≡ o → IsInHand push_hand o
-  commit-in c o m e = CommitMade c m (sym e)
+  commit-in c o q e = CommitMade c q (sym e)
 
-  from-history : (c : Snapshot) → Contains (history_graph (rule_by h.rule) (shown f) G n) c → Contains owned c
-  from-history c m = ⊎_elim (λ q. absurd (none-in c q)) (λ q. q) (added-in owned [] c m)
+  from-history : (c : Snapshot) → Contains (history_graph (rule_by h.rule) (shown f) G n) c → Contains (own h.rule f G n) c
+  from-history c q = ⊎_elim (λ x. absurd (none-in c x)) (λ x. x) (added-in (own h.rule f G n) [] c q)
 
-  -- what projecting the commit makes is in hand
-  pub seen-in : (o : Object) → IsSeenOver f n (rule_by h.rule) G o → IsInHand push_hand o
-  seen-in o (inl (inl m)) = shown-in-hand push_hand (resolve f m.0.tree) m.0.tree o (commit-tree-in push_hand m.0 (held-in m.0 m.1)) (resolved-part m.0 m.1) m.2
-  seen-in o (inl (inr m)) = commit-in m.0 o (own-in m.0 (from-history m.0 m.1)) m.2
-  seen-in o (inr m) = commit-in m.0 o (own-in m.0 m.1) m.2
+  shown-over : (o : Object) → IsShownOf f G o → IsInHand push_hand o
+  shown-over o q = shown-in-hand push_hand (resolve f q.0.tree) q.0.tree o (commit-tree-in push_hand q.0 (held-in q.0 q.1)) (resolved-part q.0 q.1) q.2
+
+  -- What projecting the commit makes is in hand, where the commits of their own are that it and its ancestors become.
+  pub seen-in : ((c : Snapshot) → Contains (own h.rule f G n) c → Contains (own_for m h f n) c) → (o : Object) → IsSeenOver f n (rule_by h.rule) G o → IsInHand push_hand o
+  seen-in owns o (inl (inl q)) = shown-over o q
+  seen-in owns o (inl (inr q)) = commit-in q.0 o (own-in q.0 (owns q.0 (from-history q.0 q.1))) q.2
+  seen-in owns o (inr q) = commit-in q.0 o (own-in q.0 (owns q.0 q.1)) q.2
+
+module _ (h : Held) (f : Filter) (refname n all : Bytes) where
+  -- the projection of the head
+  abbrev from : Option Bytes
+  from = option_map (λ s. s.commit) (projection (rule_by h.rule) (shown f) (repo h).commits n)
+
+  abbrev seen : Flat
+  seen = shown f (tree_at (repo h).commits n)
+
+  in-line : Each (λ c. IsTree c.tree) (push_here InLine h f refname n all).stream.state.commits → (o : Object) → IsMadeOver InLine f refname n all (rule_by h.rule) (repo h).commits o
+      → IsInHand (push_hand InLine h f refname n all) o
+  in-line trees o (inl q) = seen-in InLine h f refname n all (λ c x. x) o q
+  in-line trees o (inr (inl q)) =
+      let k : Hand = push_hand InLine h f refname n all in
+      let base : Base = push_base refname from seen in
+      brought-in-hand k k.blobs (push_here InLine h f refname n all).stream.state.commits o (λ b x. x) (streamed-in InLine h f refname n all) trees
+      (stream-brought base (push_step base refname from) (λ r s p e. goes-on refname from seen r s p e) (λ r at. refl) (option_map Faulty (verdict start all).fault) (verdict start all).commands o q)
+  in-line trees o (inr (inr q)) =
+      let k : Hand = push_hand InLine h f refname n all in
+      made-for-in k f n (tree_at (repo h).commits n) seen (push_here InLine h f refname n all).stream.state.commits o (head-tree-in k (repo h).commits n (held-in InLine h f refname n all))
+      (streamed-in InLine h f refname n all) (original-in InLine h f refname n all) (laid-part InLine h f refname n all) q
+
+  -- the projections of all commits
+  abbrev projected : List (Bytes × Flat)
+  projected = shown_trees f (repo h).commits (projections (rule_by h.rule) (shown f) [] (repo h).commits)
+
+  all-seen : (o : Object) → AreSeenOver f (rule_by h.rule) (repo h).commits o → IsInHand (push_hand Merging h f refname n all) o
+  all-seen o (inl q) = shown-over Merging h f refname n all o q
+  all-seen o (inr q) = commit-in Merging h f refname n all q.0 o (own-in Merging h f refname n all q.0 q.1) q.2
+
+  merging : has (repo h).commits n ≡ true → Each (λ c. IsTree c.tree) (push_here Merging h f refname n all).stream.state.commits → (o : Object)
+      → IsMadeOver Merging f refname n all (rule_by h.rule) (repo h).commits o → IsInHand (push_hand Merging h f refname n all) o
+  merging placed trees o (inl (inl q)) = seen-in Merging h f refname n all (own-of-all (rule_by h.rule) (shown f) (repo h).commits n placed) o q
+  merging placed trees o (inl (inr q)) = all-seen o q
+  merging placed trees o (inr (inl q)) =
+      let k : Hand = push_hand Merging h f refname n all in
+      let base : Base = merge_base refname from seen projected in
+      brought-in-hand k k.blobs (push_here Merging h f refname n all).stream.state.commits o (λ b x. x) (streamed-in Merging h f refname n all) trees
+      (stream-brought base (merge_step base refname from) (λ r s p e. goes-on-law refname from seen projected r s p e) (λ r at. refl) (option_map Faulty (verdict start all).fault) (verdict start all).commands o q)
+  merging placed trees o (inr (inr q)) =
+      let k : Hand = push_hand Merging h f refname n all in
+      merged-in k (rule_by h.rule) f (begun (rule_by h.rule) f (repo h).commits n) (push_here Merging h f refname n all).stream.state.commits o
+      (head-tree-in k (repo h).commits n (held-in Merging h f refname n all)) (streamed-in Merging h f refname n all) (original-in Merging h f refname n all) (laid-part Merging h f refname n all) q
 
   -- what is made is in hand, where the trees of the pushed commits are such
-  pub made-in-hand : Each (λ c. IsTree c.tree) streamed → (o : Object) → IsMadeOver f refname n all (rule_by h.rule) G o → IsInHands (push_hand ∷ []) o
-  made-in-hand trees o w = in-hands push_hand o (by w)
-    where
-      by : IsMadeOver f refname n all (rule_by h.rule) G o → IsInHand push_hand o
-      by (inl m) = seen-in o m
-      by (inr (inl m)) =
-          brought-in-hand push_hand push_hand.blobs streamed o (λ b q. q) streamed-in trees
-          (stream-brought refname (option_map (λ s. s.commit) (projection (rule_by h.rule) (shown f) G n)) (shown f (tree_at G n)) (option_map Faulty (verdict start all).fault) (verdict start all).commands o m)
-      by (inr (inr m)) = made-for-in push_hand f n (tree_at G n) (shown f (tree_at G n)) streamed o (head-tree-in push_hand G n held-in) streamed-in original-in laid-part m
+  pub made-in-hand : (m : Manner) → has (repo h).commits n ≡ true → Each (λ c. IsTree c.tree) (push_here m h f refname n all).stream.state.commits → (o : Object)
+      → IsMadeOver m f refname n all (rule_by h.rule) (repo h).commits o → IsInHands (push_hand m h f refname n all ∷ []) o
+  made-in-hand InLine placed trees o w = in-hands (push_hand InLine h f refname n all) o (in-line trees o w)
+  made-in-hand Merging placed trees o w = in-hands (push_hand Merging h f refname n all) o (merging placed trees o w)

@@ -1,14 +1,14 @@
 -- What a push that is committed has done.
-use Rattle.std.proofs.Common.{◌≡◌, ◌+◌, ◌≤◌, ℕ, zero, suc, Bool, true, false, cond, ◌||◌, List, [], ◌∷◌, map, length, Option, None, Some, Result, Ok, Err, refl, sym, ap, ap₂, subst, ◌∙◌, true≢false, arith}
+use Rattle.std.proofs.Common.{◌≡◌, ◌+◌, ◌≤◌, ℕ, zero, suc, Bool, true, false, cond, ◌||◌, List, [], ◌∷◌, ◌++◌, map, length, Option, None, Some, Result, Ok, Err, refl, sym, ap, ap₂, subst, ◌∙◌, true≢false, arith}
 use Rattle.std.specs.Prelude.{unwrap_or}
 use Rattle.std.specs.Cmp.Lexicographic.{bytes_decides, texts_ties}
 use Rattle.std.specs.FinMap.{find}
-use Rattle.std.specs.List.{last_or}
+use Rattle.std.specs.List.{last_or, list_all}
 use Rattle.std.specs.Option.{option_and_then, option_map, option_map_or, option_or}
 use Rattle.std.specs.Ordering.{is_eq}
 use Rattle.std.proofs.lemmas.Option.{none-some}
 use Rattle.git_objects.specs.Lists.{Each}
-use Rattle.git_objects.specs.Paths.{Bytes, Path, same_bytes}
+use Rattle.git_objects.specs.Paths.{Bytes, Path, is_bytes, same_bytes}
 use Rattle.git_objects.specs.Refs.{Refs, bytes_cmp}
 use Rattle.git_objects.specs.Snapshots.{Graph, Snapshot, add, add_all, commit_at, has, has_name, is_graph, snapshot_name, tree_at}
 use Rattle.git_objects.specs.Trees.{Flat, IsTree, at}
@@ -19,16 +19,25 @@ use Rattle.workspace.specs.Laws.{IsUsable}
 use Rattle.workspace.specs.Workspaces.{place, shown}
 use Rattle.commit_graph.specs.Graphs.{Row}
 use Rattle.commit_map.specs.declared.rule.Rule.{Rule}
-use Rattle.projection_laws.specs.Projections.{projection, shown_of}
+use Rattle.projection_laws.specs.Projections.{projection, projections, shown_of}
 use Rattle.projection_laws.specs.StoredGraphs.{IsGraphIn, graph_of, snapshot_named}
 use Rattle.projection_laws.proofs.GraphLemmas.{has-newer, has-self}
 use Rattle.projection_laws.proofs.StoredGraphs.{at-row, older, older-all, older-suc, row-at}
-use Rattle.push_laws.specs.PushLaws.{Agrees, AreFound, AreTrees, EachStep, IsChain, IsPush, IsStep, Returns, commit_of, last_of, originals}
+use Rattle.push_laws.specs.PushLaws.{Agrees, AreFound, AreTrees, EachStep, IsChain, IsStep, Returns, commit_of, last_of, originals}
 use Rattle.push_laws.specs.PushReplays.{StreamRefusal}
 use Rattle.push_laws.specs.PushVerdicts.{Pair, Refusal, Verdict, original_of, original_tree, upon, verdict, verdict_from, with_pair}
-use Rattle.push_laws.specs.Pushes.{Pushing, StreamRefused, CommitRefused, pushing, refusal_of}
+use Rattle.push_laws.specs.Pushes.{Pushing, StreamRefused, CommitRefused, refusal_of}
 use Rattle.push_laws.proofs.Chains.{chain-law}
 use Rattle.push_laws.proofs.Pushing.{back-law, elsewhere-law, made-law, projected-law, pushed-law, steps-law}
+use Rattle.push_laws.specs.Given.{AreBrought, IsGiven, IsGivenCommit, blobs_in}
+use Rattle.push_laws.proofs.BroughtOriginals.{brought-law}
+use Rattle.push_laws.proofs.GivenStreams.{given-law}
+use Rattle.merge_laws.specs.MergeLaws.{AreTied}
+use Rattle.merge_laws.specs.MergeVerdicts.{merge_verdict}
+use Rattle.merge_laws.specs.Merges.{shown_trees}
+use Rattle.merge_laws.proofs.Bringing as merge_bringing
+use Rattle.merge_laws.proofs.Joining.{pushed-joined-law}
+use Rattle.merge_laws.proofs.Merging as merge_laws
 use Rattle.state_items.specs.Changes.{held_after, with_refs}
 use Rattle.state_items.specs.Imported.{IsBrought, has_leaves}
 use Rattle.state_items.specs.Items.{Held}
@@ -36,8 +45,10 @@ use Rattle.state_items.specs.Repos.{repo}
 use Rattle.state_items.proofs.Imports.{imported-law}
 use Rattle.state_items.proofs.ReadObjects.{ok-same}
 use Rattle.import_laws.proofs.EditLeaves.{held-trees}
-use Rattle.proj_cli.specs.Push.{push_plan, ArePairs, GiveBack, IsPushed}
+use Rattle.proj_cli.specs.Push.{push_plan, pushed_by, AreParents, ArePairs, GiveBack, IsPushed}
 use Rattle.proj_cli.specs.Filters.{projected, rule_by}
+use Rattle.proj_cli.specs.declared.pushing.Manner.{Manner}
+use Rattle.proj_cli.specs.declared.pushing.Manner.TheVariants.{InLine, Merging}
 use Rattle.repo_ground.proofs.CommitGraphs.{stored-graph}
 use Rattle.proj_cli.proofs.Staying.{with-added}
 
@@ -54,36 +65,44 @@ accepted None (Err x) e = absurd (none-some (CommitRefused x.0 x.1) (sym e))
 accepted (Some y) v e = absurd (none-some (StreamRefused y) (sym e))
 
 -- a pair whose original stands upon a commit, with the pushed commit's letter
-record IsLine (before : Bytes) (p : Pair) : Type 0 where
-  parents : p.original.parents ≡ before ∷ []
+record IsLine (m : Manner) (before : Bytes) (p : Pair) : Type 0 where
+  parents : AreParents m before p.original.parents
   letter : p.original.letter ≡ p.pushed.letter
 
-abbrev AreLines : Bytes → List Pair → Type 0
-AreLines b [] = Unit {0}
-AreLines b (p ∷ ps) = IsLine b p × AreLines (snapshot_name p.original) ps
+abbrev AreLines : Manner → Bytes → List Pair → Type 0
+AreLines m b [] = Unit {0}
+AreLines m b (p ∷ ps) = IsLine m b p × AreLines m (snapshot_name p.original) ps
+
+-- ---- pairs in line
 
 abbrev pair_of : Bytes → Snapshot → Flat → Pair
 pair_of h c u = record { pushed = c; original = original_of h c u }
 
-line-first : (h : Bytes) (c : Snapshot) (u : Flat) (ps : List Pair) (v : Verdict) → ((qs : List Pair) → v ≡ Ok qs → AreLines (snapshot_name (original_of h c u)) qs)
-    → with_pair (pair_of h c u) v ≡ Ok ps → AreLines h ps
-line-first h c u ps (Ok qs) later e = subst (AreLines h) (ok-same (pair_of h c u ∷ qs) ps e) (record { parents = refl; letter = refl }, later qs refl)
+line-first : (h : Bytes) (c : Snapshot) (u : Flat) (ps : List Pair) (v : Verdict) → ((qs : List Pair) → v ≡ Ok qs → AreLines InLine (snapshot_name (original_of h c u)) qs)
+    → with_pair (pair_of h c u) v ≡ Ok ps → AreLines InLine h ps
+line-first h c u ps (Ok qs) later e = subst (AreLines InLine h) (ok-same (pair_of h c u ∷ qs) ps e) (record { parents = refl; letter = refl }, later qs refl)
 line-first h c u ps (Err x) later e = let no : Err x ≡ Ok ps = e in cc
 
-line-one : (k : ℕ) (h : Bytes) (c : Snapshot) (ps : List Pair) (next : Flat → Verdict) (r : Result Flat Refusal) → ((u : Flat) (qs : List Pair) → next u ≡ Ok qs → AreLines (snapshot_name (original_of h c u)) qs)
-    → upon k r (λ u. with_pair (pair_of h c u) (next u)) ≡ Ok ps → AreLines h ps
+line-one : (k : ℕ) (h : Bytes) (c : Snapshot) (ps : List Pair) (next : Flat → Verdict) (r : Result Flat Refusal) → ((u : Flat) (qs : List Pair) → next u ≡ Ok qs → AreLines InLine (snapshot_name (original_of h c u)) qs)
+    → upon k r (λ u. with_pair (pair_of h c u) (next u)) ≡ Ok ps → AreLines InLine h ps
 line-one k h c ps next (Ok u) later e = line-first h c u ps (next u) (later u) e
-line-one k h c ps next (Err x) later e = let no : Err (k, x) ≡ Ok ps = e in cc
+line-one k h c ps next (Err x) later e = let v : Verdict = Err (k, x) in let no : v ≡ Ok ps = e in cc
 
-lines-of : (f : Filter) (cs : List Snapshot) (k : ℕ) (h : Bytes) (t seen : Flat) (ps : List Pair) → verdict_from f k h t seen cs ≡ Ok ps → AreLines h ps
-lines-of f [] k h t seen ps e = subst (AreLines h) (ok-same [] ps e) tt
+lines-of : (f : Filter) (cs : List Snapshot) (k : ℕ) (h : Bytes) (t seen : Flat) (ps : List Pair) → verdict_from f k h t seen cs ≡ Ok ps → AreLines InLine h ps
+lines-of f [] k h t seen ps e = subst (AreLines InLine h) (ok-same [] ps e) tt
 lines-of f (c ∷ cs) k h t seen ps e =
     line-one k h c ps (λ u. verdict_from f (k + 1) (snapshot_name (original_of h c u)) u c.tree cs) (original_tree f t seen c.tree)
     (λ u qs q. lines-of f cs (k + 1) (snapshot_name (original_of h c u)) u c.tree qs q) e
 
-in-line : (h : Bytes) (ps : List Pair) → AreLines h ps → IsChain (Some h) (originals ps)
+in-line : (h : Bytes) (ps : List Pair) → AreLines InLine h ps → IsChain (Some h) (originals ps)
 in-line h [] w = tt
 in-line h (p ∷ ps) w = (w.0.parents, in-line (snapshot_name p.original) ps w.1)
+
+-- ---- pairs that may merge
+
+tied-lines : (b : Bytes) (ps : List Pair) → AreTied b ps → AreLines Merging b ps
+tied-lines b [] w = tt
+tied-lines b (p ∷ ps) w = (record { parents = (w.0.others, w.0.parents); letter = w.0.letter }, tied-lines (snapshot_name p.original) ps w.1)
 
 -- ---- there and back
 
@@ -201,7 +220,99 @@ head-tree h n s = head-good (repo h).blobs (repo h).commits n (held-trees h.obje
 tied : (q k : Bytes) → q ≡ k → is_eq (bytes_cmp q k) ≡ true
 tied q k e = sym (texts_ties q k) ∙ same_bytes-back q k ∙ ap (λ (x : Bytes). same_bytes k x) e ∙ same_bytes-self k
 
-module _ (h : Held) (f : Filter) (refname n all : Bytes) where
+-- the verdict on pushed commits, by their manner
+abbrev pub verdict_by : Manner → Rule → Filter → Graph → Bytes → List Snapshot → Verdict
+verdict_by InLine k f g h cs = verdict f g h cs
+verdict_by Merging k f g h cs = merge_verdict k f g h cs
+
+-- ---- what holds of a push by its manner
+
+module _ (k : Rule) (f : Filter) (G : Graph) (refname n all : Bytes) where
+  abbrev by : Manner → Pushing
+  by m = pushed_by m k f G n refname all
+
+  -- the commits of its stream
+  abbrev cs : Manner → List Snapshot
+  cs m = (by m).stream.state.commits
+
+  abbrev from : Option Bytes
+  from = commit_of (projection k (shown f) G n)
+
+  abbrev seen : Flat
+  seen = shown f (tree_at G n)
+
+  taken : (m : Manner) → (by m).refusal ≡ None → IsAccepted (by m).stream.fault (verdict_by m k f G n (cs m))
+  taken InLine e = accepted (by InLine).stream.fault (verdict f G n (cs InLine)) e
+  taken Merging e = accepted (by Merging).stream.fault (merge_verdict k f G n (cs Merging)) e
+
+  -- what its stream gives
+  pub given-by : (m : Manner) → IsTree seen → list_all is_bytes (blobs_in seen) ≡ true → is_bytes all ≡ true → IsGiven (blobs_in seen) (by m).stream.state
+  given-by InLine t b e = given-law refname from seen all t b e
+  given-by Merging t b e = merge_bringing.given-law refname from seen (shown_trees f G (projections k (shown f) [] G)) all t b e
+
+  module _ (ps : List Pair) where
+    abbrev IsVerdict : Manner → Type 0
+    IsVerdict m = verdict_by m k f G n (cs m) ≡ Ok ps
+
+    made-by : (m : Manner) → IsVerdict m → (by m).originals ≡ originals ps
+    made-by InLine e = made-law f G n refname from (by InLine).stream ps e
+    made-by Merging e = merge_laws.made-law k f G n (cs Merging) ps e
+
+    pushed-for : (m : Manner) → IsVerdict m → map (λ p. p.pushed) ps ≡ cs m
+    pushed-for InLine e = pushed-law f G n (cs InLine) ps e
+    pushed-for Merging e = merge_laws.pushed-law k f G n (cs Merging) ps e
+
+    lines-by : (m : Manner) → IsVerdict m → AreLines m n ps
+    lines-by InLine e = lines-of f (cs InLine) 1 n (tree_at G n) seen ps e
+    lines-by Merging e = tied-lines n ps (merge_laws.tied-law k f G n (cs Merging) ps e)
+
+    steps-by : (m : Manner) → IsVerdict m → IsUsable f → AreTrees G → AreTrees (cs m) → EachStep (λ t p. IsStep f t p.pushed.tree p.original.tree) (tree_at G n) ps
+    steps-by InLine e u t w = steps-law f G n (cs InLine) ps u t w e
+    steps-by Merging e u t w = merge_laws.steps-law k f G n (cs Merging) ps u t w e
+
+    -- its originals may be brought
+    brought-for : (m : Manner) → IsVerdict m → (known : List Bytes) → IsUsable f → is_graph G ≡ true → AreTrees G → has G n ≡ true → has_leaves known (tree_at G n) ≡ true
+        → Each (IsGivenCommit ((by m).stream.state.blobs ++ blobs_in seen)) (cs m) → AreBrought G ((by m).stream.state.blobs ++ known) (originals ps)
+    brought-for InLine e known u g t h b w = brought-law f G n (by InLine).stream.state.blobs known (cs InLine) ps u t h b w e
+    brought-for Merging e known u g t h b w = merge_bringing.brought-law k f G n (by Merging).stream.state.blobs known (cs Merging) ps u g t h b w e
+
+    -- where the graph is one of trees, and has the originals by their names
+    module _ (u : IsUsable f) (g : is_graph G ≡ true) (t : AreTrees G) (h : has G n ≡ true) (found : AreFound (add_all G (originals ps)) (originals ps)) where
+      projected-by : (m : Manner) → IsVerdict m → AreTrees (cs m) → Each (λ p. projection k (shown f) (add_all G (originals ps)) (snapshot_name p.original) ≡ Some (shown_of p.pushed)) ps
+      projected-by InLine e w = projected-law k f G n (cs InLine) ps (record {
+        usable = u;
+        graph = g;
+        trees = t;
+        head = h;
+        pushed = w;
+        upon = chain-law refname from seen all;
+        accepted = e;
+        found = found;
+      })
+      projected-by Merging e w = merge_laws.merged-law k f G n (cs Merging) ps (record {
+        usable = u;
+        graph = g;
+        trees = t;
+        head = h;
+        pushed = w;
+        upon = pushed-joined-law k f G n refname all;
+        accepted = e;
+        found = found;
+      })
+
+    -- ---- of commits in line alone
+
+    chain-by : (m : Manner) → m ≡ InLine → IsVerdict m → IsChain (Some n) (originals ps)
+    chain-by InLine i e = in-line n ps (lines-by InLine e)
+    chain-by Merging i e = let no : Merging ≡ InLine = i in cc
+
+    back-by : (m : Manner) → m ≡ InLine → IsVerdict m → IsUsable f → AreTrees G → AreTrees (cs m) → GiveBack f (tree_at G n) (map (λ p. p.pushed) ps) (originals ps)
+    back-by InLine i e u t w = back-from f (tree_at G n) ps (back-law f G n (cs InLine) ps u t w e)
+    back-by Merging i e u t w = let no : Merging ≡ InLine = i in cc
+
+-- ---- a push upon a state
+
+module _ (m : Manner) (h : Held) (f : Filter) (refname n all : Bytes) where
   abbrev G : Graph
   G = (repo h).commits
 
@@ -209,7 +320,15 @@ module _ (h : Held) (f : Filter) (refname n all : Bytes) where
   k = rule_by h.rule
 
   abbrev x : Pushing
-  x = pushing k f G n refname all
+  x = pushed_by m k f G n refname all
+
+  -- its originals may be brought, where it isn't refused
+  pub brought-by : IsUsable f → IsStore h.objects → has G n ≡ true → x.refusal ≡ None → Each (IsGivenCommit (x.stream.state.blobs ++ blobs_in (shown f (tree_at G n)))) x.stream.state.commits
+      → AreBrought G (x.stream.state.blobs ++ (repo h).blobs) x.originals
+  brought-by u s placed e w =
+      let v = taken k f G refname n all m e in
+      subst (AreBrought G (x.stream.state.blobs ++ (repo h).blobs)) (sym (made-by k f G refname n all v.pairs m v.verdict_is))
+      (brought-for k f G refname n all v.pairs m v.verdict_is (repo h).blobs u (stored-graph h.objects s) (held-are-trees h s) placed (head-tree h n s).1 w)
 
   -- a push that isn't refused, whose originals and the commits before are those of a store by their names
   pub record IsTaken (S : List Object) : Type 0 where
@@ -229,13 +348,13 @@ module _ (h : Held) (f : Filter) (refname n all : Bytes) where
     head : find bytes_cmp refname g.refs ≡ option_or (option_map snapshot_name (last_or None x.originals)) (Some n)
 
   module _ (S : List Object) (w : IsTaken S) where
-    given : IsAccepted x.stream.fault (verdict f G n x.stream.state.commits)
-    given = accepted x.stream.fault (verdict f G n x.stream.state.commits) w.accepted
+    given : IsAccepted x.stream.fault (verdict_by m k f G n x.stream.state.commits)
+    given = taken k f G refname n all m w.accepted
 
     ps : List Pair
     ps = given.pairs
 
-    verdict-is : verdict f G n x.stream.state.commits ≡ Ok ps
+    verdict-is : verdict_by m k f G n x.stream.state.commits ≡ Ok ps
     unfolding ps
     verdict-is = given.verdict_is
 
@@ -246,29 +365,17 @@ module _ (h : Held) (f : Filter) (refname n all : Bytes) where
     graph-trees = held-are-trees h w.store
 
     made : x.originals ≡ originals ps
-    made = made-law f G n refname (commit_of (projection k (shown f) G n)) x.stream ps verdict-is
+    made = made-by k f G refname n all ps m verdict-is
 
     found : AreFound (add_all G (originals ps)) (originals ps)
     found = subst (λ (os : List Snapshot). AreFound (add_all G os) os) made (are-found S G x.originals w.named w.own)
-
-    push : IsPush k f G n x.stream.state.commits ps
-    push = record {
-      usable = w.usable;
-      graph = graph;
-      trees = graph-trees;
-      head = w.placed;
-      pushed = w.trees;
-      upon = chain-law refname (commit_of (projection k (shown f) G n)) (shown f (tree_at G n)) all;
-      accepted = verdict-is;
-      found = found;
-    }
 
     abbrev IsProjectedIn : Graph → Pair → Type 0
     IsProjectedIn g p = projection k (shown f) g (snapshot_name p.original) ≡ Some (shown_of p.pushed)
 
     -- pairs one by one
-    pairs-from : (g : Held) (b : Bytes) (t : Flat) (qs : List Pair) → AreLines b qs → EachStep (λ t p. IsStep f t p.pushed.tree p.original.tree) t qs
-        → Each (λ p. projected g f (snapshot_name p.original) ≡ Some (shown_of p.pushed)) qs → ArePairs g f b t (map (λ p. p.pushed) qs) (map (λ p. p.original) qs)
+    pairs-from : (g : Held) (b : Bytes) (t : Flat) (qs : List Pair) → AreLines m b qs → EachStep (λ t p. IsStep f t p.pushed.tree p.original.tree) t qs
+        → Each (λ p. projected g f (snapshot_name p.original) ≡ Some (shown_of p.pushed)) qs → ArePairs m g f b t (map (λ p. p.pushed) qs) (map (λ p. p.original) qs)
     pairs-from g b t [] l s p = tt
     pairs-from g b t (q ∷ qs) l s p =
         (record { parents = l.0.parents; letter = l.0.letter; step = s.0; projected = p.0 }, pairs-from g (snapshot_name q.original) q.original.tree qs l.1 s.1 p.1)
@@ -282,30 +389,28 @@ module _ (h : Held) (f : Filter) (refname n all : Bytes) where
       projected-each [] e = tt
       projected-each (p ∷ qs) e = (projected-over f (snapshot_name p.original) ∙ e.0, projected-each qs e.1)
 
-      pairs : ArePairs g f n (tree_at G n) x.stream.state.commits x.originals
+      pairs : ArePairs m g f n (tree_at G n) x.stream.state.commits x.originals
       pairs =
-          subst (ArePairs g f n (tree_at G n) x.stream.state.commits) (sym made)
-          (subst (λ (cs : List Snapshot). ArePairs g f n (tree_at G n) cs (originals ps)) (pushed-law f G n x.stream.state.commits ps verdict-is)
-          (pairs-from g n (tree_at G n) ps (lines-of f x.stream.state.commits 1 n (tree_at G n) (shown f (tree_at G n)) ps verdict-is)
-          (steps-law f G n x.stream.state.commits ps w.usable graph-trees w.trees verdict-is)
-          (projected-each ps (projected-law k f G n x.stream.state.commits ps push))))
+          subst (ArePairs m g f n (tree_at G n) x.stream.state.commits) (sym made)
+          (subst (λ (cs : List Snapshot). ArePairs m g f n (tree_at G n) cs (originals ps)) (pushed-for k f G refname n all ps m verdict-is)
+          (pairs-from g n (tree_at G n) ps (lines-by k f G refname n all ps m verdict-is) (steps-by k f G refname n all ps m verdict-is w.usable graph-trees w.trees)
+          (projected-each ps (projected-by k f G refname n all ps w.usable graph graph-trees w.placed found m verdict-is w.trees))))
 
-      back : GiveBack f (tree_at G n) x.stream.state.commits x.originals
-      back =
+      back : m ≡ InLine → GiveBack f (tree_at G n) x.stream.state.commits x.originals
+      back i =
           subst (GiveBack f (tree_at G n) x.stream.state.commits) (sym made)
-          (subst (λ (cs : List Snapshot). GiveBack f (tree_at G n) cs (originals ps)) (pushed-law f G n x.stream.state.commits ps verdict-is)
-          (back-from f (tree_at G n) ps (back-law f G n x.stream.state.commits ps w.usable graph-trees w.trees verdict-is)))
+          (subst (λ (cs : List Snapshot). GiveBack f (tree_at G n) cs (originals ps)) (pushed-for k f G refname n all ps m verdict-is)
+          (back-by k f G refname n all ps m i verdict-is w.usable graph-trees w.trees))
 
-      others : (q : Filter) → IsUsable q → Each (λ o. Agrees q (tree_at G n) o.tree) x.originals → projected g q (unwrap_or (find bytes_cmp refname g.refs) []) ≡ projected h q n
-      others q u e =
+      others : m ≡ InLine → (q : Filter) → IsUsable q → Each (λ o. Agrees q (tree_at G n) o.tree) x.originals → projected g q (unwrap_or (find bytes_cmp refname g.refs) []) ≡ projected h q n
+      others i q u e =
           ap (λ (o : Option Bytes). projected g q (unwrap_or o [])) a.head
           ∙ ap (projected g q) (last-name n x.originals ∙ ap (last_of n) made)
           ∙ projected-over q (last_of n (originals ps))
-          ∙ elsewhere-law k q G n (originals ps) u graph graph-trees w.placed
-          (in-line n ps (lines-of f x.stream.state.commits 1 n (tree_at G n) (shown f (tree_at G n)) ps verdict-is))
+          ∙ elsewhere-law k q G n (originals ps) u graph graph-trees w.placed (chain-by k f G refname n all ps m i verdict-is)
           (subst (Each (λ o. Agrees q (tree_at G n) o.tree)) made e) found
 
-      pushed-after : IsPushed h g f refname n x
+      pushed-after : IsPushed m h g f refname n x
       pushed-after = record { head = a.head; pairs = pairs; back = back; others = others }
 
     -- the ref's new commit is found
@@ -325,5 +430,5 @@ module _ (h : Held) (f : Filter) (refname n all : Bytes) where
         }
 
     -- it is done
-    pub pushed : IsBrought h x.stream.state.blobs x.originals → IsPushed h (held_after h (push_plan h refname x (last_or None x.originals))) f refname n x
+    pub pushed : IsBrought h x.stream.state.blobs x.originals → IsPushed m h (held_after h (push_plan h refname x (last_or None x.originals))) f refname n x
     pushed b = pushed-after (held_after h (push_plan h refname x (last_or None x.originals))) (after (last_or None x.originals) refl b)

@@ -27,7 +27,6 @@ use Rattle.workspace.specs.Laws.{IsUsable}
 use Rattle.workspace.specs.Workspaces.{shown}
 use Rattle.stream_reader.specs.declared.fault.StreamFault.{StreamFault}
 use Rattle.stream_reader.specs.declared.fault.StreamFault.TheVariants as streams
-use Rattle.projection_laws.specs.Projections.{projection}
 use Rattle.projection_ground.specs.Grounds.{IsGround}
 use Rattle.fast_import.specs.Made.{IsPutFault}
 use Rattle.fast_import.specs.Standing.{AreBlobsIn, AreCommitsIn}
@@ -36,15 +35,12 @@ use Rattle.push_back.specs.Faults.{IsPushFault}
 use Rattle.push_laws.specs.Given.{AreBrought, IsGiven, IsGivenCommit, IsSeenTree, blobs_in}
 use Rattle.push_back.specs.Originals as pushed_names
 use Rattle.push_laws.specs.PushReplays.{OtherRef as OnOtherRef, NotAtHead as IsNotAtHead, FurtherParents as IsMerge, Faulty}
-use Rattle.push_laws.specs.PushLaws.{AreTrees, originals}
-use Rattle.push_laws.specs.PushVerdicts.{verdict}
 use Rattle.push_laws.specs.PushVerdicts as verdicts
-use Rattle.push_laws.specs.Pushes.{PushRefusal, StreamRefused, CommitRefused, Pushing, pushing}
+use Rattle.push_laws.specs.Pushes.{PushRefusal, StreamRefused, CommitRefused, Pushing}
 use Rattle.push_back.specs.declared.fault.PushFault.{PushFault}
 use Rattle.push_back.specs.declared.fault.PushFault.TheVariants as faults
 use Rattle.push_back.specs.declared.brought.Pair.{Pair}
 use Rattle.push_back.specs.declared.brought.Plan.{Plan as Planned}
-use Rattle.push_laws.proofs.Pushing.{made-law}
 use Rattle.proj_io.specs.Stops.{IsPresent, OnlyAdds, adds_as}
 use Rattle.proj_io.specs.Views.{KeeperView}
 use Rattle.state_items.specs.Changes.{NoPlan, Plan, change_plan, held_after, objects_of}
@@ -68,20 +64,20 @@ use Rattle.proj_words.specs.declared.outcome.Outcome.{Outcome}
 use Rattle.proj_words.specs.declared.outcome.Outcome.TheVariants as outcomes
 use Rattle.proj_cli.specs.Cases.{Case, PushCase, Made, unchanged, within}
 use Rattle.proj_cli.specs.Steps.{made}
-use Rattle.proj_cli.specs.Push.{name_or_none, no_refusal, push_case, push_outcome, push_plan, told_digits, told_line, IsPushed}
+use Rattle.proj_cli.specs.Push.{name_or_none, no_refusal, parents_refusal, push_case, push_outcome, push_plan, pushed_upon, told_digits, told_line, IsPushed}
 use Rattle.proj_cli.specs.Filters.{project_by, rule_by}
 use Rattle.proj_cli.specs.Hands.{IsInHands}
 use Rattle.proj_cli.specs.Makes.{IsAtHand, IsMadeOf, IsRefusal, IsStateOf, hands_of}
 use Rattle.proj_cli.specs.Pushing.{IsMadeOver, IsPlannedUpon, IsPushPrepared, fault_outcome}
 use Rattle.proj_cli.specs.declared.lines.Telling.{Telling}
+use Rattle.proj_cli.specs.declared.pushing.Manner.{Manner}
+use Rattle.proj_cli.specs.declared.pushing.Manner.TheVariants.{InLine, Merging}
 use Rattle.proj_cli.specs.Refusals.{commit_outcome}
 use Rattle.proj_cli.proofs.Committing.{IsCase, good-none, keeps-self, made-done, made-refused, made-untouched, made-without, planned_by, stop-as, stops-by, told-report}
 use Rattle.proj_cli.proofs.InHands.{twice-at}
-use Rattle.push_laws.proofs.BroughtOriginals.{brought-law}
-use Rattle.push_laws.proofs.GivenStreams.{given-law}
 use Rattle.push_laws.proofs.SeenTrees.{seen-tree}
 use Rattle.proj_cli.proofs.PushHands.{made-in-hand}
-use Rattle.proj_cli.proofs.PushedLaws.{IsAccepted, IsNamedIn, accepted, graph-named, has-added, head-tree, held-are-trees, pushed}
+use Rattle.proj_cli.proofs.PushedLaws.{IsNamedIn, brought-by, given-by, graph-named, has-added, head-tree, pushed}
 use Rattle.proj_cli.proofs.StatesAfter.{passed-same}
 use Rattle.proj_cli.proofs.StatesShown.{commits-are, head-there}
 use Rattle.proj_cli.proofs.Staying.{among-has, stay, with-added}
@@ -229,36 +225,41 @@ put-refusal : (made P : Object → Type 0) (T : List Object) (f : StreamFault) (
 put-refusal made P T f r twice (inl e) = subst (λ x. IsRefusal P (stream_outcome x) r) (sym e) tt
 put-refusal made P T f r twice (inr (m, e, c)) = subst (λ x. IsRefusal P (stream_outcome x) r) (sym e) (inr (twice m.0 c))
 
+-- further parents, or the same parent twice
+parents-refusal : (P : Object → Type 0) (m : Manner) (n : ℕ) (r : Result Made Outcome) → r ≡ Err (parents_refusal m n) → IsRefusal P (parents_refusal m n) r
+parents-refusal P InLine n r e = e
+parents-refusal P Merging n r e = e
+
 -- why a push brings nothing is why there is no report
-push-refusal : (made P : Object → Type 0) (T : List Object) (refusal : Option PushRefusal) (w : PushFault) (r : Result Made Outcome) → ((n : Bytes) → IsClash made T n → IsTwice P n)
-    → ((e : PushRefusal) → refusal ≡ Some e → r ≡ Err (push_outcome e)) → IsPushFault refusal made T w → IsRefusal P (fault_outcome w) r
-push-refusal made P T refusal faults.ReadFault r twice by i = tt
-push-refusal made P T refusal (faults.Stream f) r twice by (inl e) = own-refusal P f r (by (StreamRefused (Faulty f)) e)
-push-refusal made P T refusal (faults.Stream f) r twice by (inr p) = put-refusal made P T f r twice p
-push-refusal made P T refusal (faults.OtherRef at) r twice by i = by (StreamRefused (OnOtherRef at)) i
-push-refusal made P T refusal (faults.NotAtHead m n) r twice by i =
-    by (StreamRefused (IsNotAtHead (option_map name_bytes m) (option_map name_bytes n))) i ∙ (λ j. Err (outcomes.NotAtHead (name-back m j) (name-back n j)))
-push-refusal made P T refusal (faults.MergePushed n) r twice by i = by (StreamRefused (IsMerge n)) i
-push-refusal made P T refusal (faults.NoChange n) r twice by i = by (CommitRefused n verdicts.NoChange) i
-push-refusal made P T refusal (faults.BadWorkspace n) r twice by i = by (CommitRefused n verdicts.BadWorkspace) i
-push-refusal made P T refusal (faults.Unseen n p) r twice by i = by (CommitRefused n (verdicts.Unseen p)) i
-push-refusal made P T refusal (faults.NotHeld n q) r twice by i = by (CommitRefused n (verdicts.NotHeld q)) i
-push-refusal made P T refusal (faults.Blocked n p q) r twice by i = by (CommitRefused n (verdicts.Blocked p q)) i
-push-refusal made P T refusal (faults.TreeLimit n q) r twice by i = by (CommitRefused n (verdicts.TreeLimit q)) i
-push-refusal made P T refusal (faults.Collision n) r twice by i = inr (twice n.0 i)
-push-refusal made P T refusal faults.OutOfMemory r twice by i = tt
+push-refusal : (m : Manner) (made P : Object → Type 0) (T : List Object) (refusal : Option PushRefusal) (w : PushFault) (r : Result Made Outcome) → ((n : Bytes) → IsClash made T n → IsTwice P n)
+    → ((e : PushRefusal) → refusal ≡ Some e → r ≡ Err (push_outcome m e)) → IsPushFault refusal made T w → IsRefusal P (fault_outcome m w) r
+push-refusal m made P T refusal faults.ReadFault r twice by i = tt
+push-refusal m made P T refusal (faults.Stream f) r twice by (inl e) = own-refusal P f r (by (StreamRefused (Faulty f)) e)
+push-refusal m made P T refusal (faults.Stream f) r twice by (inr p) = put-refusal made P T f r twice p
+push-refusal m made P T refusal (faults.OtherRef at) r twice by i = by (StreamRefused (OnOtherRef at)) i
+push-refusal m made P T refusal (faults.NotAtHead a b) r twice by i =
+    by (StreamRefused (IsNotAtHead (option_map name_bytes a) (option_map name_bytes b))) i ∙ (λ j. Err (outcomes.NotAtHead (name-back a j) (name-back b j)))
+push-refusal m made P T refusal (faults.MergePushed n) r twice by i = parents-refusal P m n r (by (StreamRefused (IsMerge n)) i)
+push-refusal m made P T refusal (faults.NoChange n) r twice by i = by (CommitRefused n verdicts.NoChange) i
+push-refusal m made P T refusal (faults.BadWorkspace n) r twice by i = by (CommitRefused n verdicts.BadWorkspace) i
+push-refusal m made P T refusal (faults.Unseen n p) r twice by i = by (CommitRefused n (verdicts.Unseen p)) i
+push-refusal m made P T refusal (faults.NotHeld n q) r twice by i = by (CommitRefused n (verdicts.NotHeld q)) i
+push-refusal m made P T refusal (faults.Blocked n p q) r twice by i = by (CommitRefused n (verdicts.Blocked p q)) i
+push-refusal m made P T refusal (faults.TreeLimit n q) r twice by i = by (CommitRefused n (verdicts.TreeLimit q)) i
+push-refusal m made P T refusal (faults.Collision n) r twice by i = inr (twice n.0 i)
+push-refusal m made P T refusal faults.OutOfMemory r twice by i = tt
 
 -- ---- a push to a ref that isn't there
 
-module _ (telling : Telling) (items : List Bytes) (h : Held) (f : Filter) (refname all : Bytes) (s : Contents) (st : IsStateOf items h s) where
+module _ (m : Manner) (telling : Telling) (items : List Bytes) (h : Held) (f : Filter) (refname all : Bytes) (s : Contents) (st : IsStateOf items h s) where
   abbrev pub IsPushMade : Contents → KeeperView → KeeperView → ℕ → ℕ → (ℕ → List Bytes → Type 0) → (ℕ → List Bytes → Type 0) → Result Bytes Outcome → Type 0
   IsPushMade after before now a b y z result =
-      (p : Plan) × IsMadeOf (push_case telling h f refname all) items h s after before now p result × OnlyAdds a b y z (IsStopOf h s p before.items)
+      (p : Plan) × IsMadeOf (push_case m telling h f refname all) items h s after before now p result × OnlyAdds a b y z (IsStopOf h s p before.items)
 
   pub no-ref : find bytes_cmp refname h.refs ≡ None → (before : KeeperView) (a : ℕ) (y : ℕ → List Bytes → Type 0) → IsPushMade s before before a a y y (Err outcomes.UnknownRef)
   no-ref e before a y = (
     NoPlan,
-    subst (λ (o : Option Bytes). IsMadeOf (or_refuse outcomes.UnknownRef o >>= λ n. Ok (PushCase telling h f refname n (pushing (rule_by h.rule) f (repo h).commits n refname all))) items h s s before before NoPlan (Err outcomes.UnknownRef)) (sym e)
+    subst (λ (o : Option Bytes). IsMadeOf (or_refuse outcomes.UnknownRef o >>= λ n. Ok (PushCase m telling h f refname n (pushed_upon m h f n refname all))) items h s s before before NoPlan (Err outcomes.UnknownRef)) (sym e)
         (record {
           reported = refl;
           planned = refl;
@@ -272,22 +273,22 @@ module _ (telling : Telling) (items : List Bytes) (h : Held) (f : Filter) (refna
 
 -- ---- a push to a ref
 
-module _ (telling : Telling) (items : List Bytes) (h : Held) (f : Filter) (refname n all : Bytes) (bytes : is_bytes all ≡ true) (s : Contents) (st : IsStateOf items h s) (usable : IsUsable f)
+module _ (m : Manner) (telling : Telling) (items : List Bytes) (h : Held) (f : Filter) (refname n all : Bytes) (bytes : is_bytes all ≡ true) (s : Contents) (st : IsStateOf items h s) (usable : IsUsable f)
     (at_ref : find bytes_cmp refname h.refs ≡ Some n) where
   abbrev G : Graph
   G = (repo h).commits
 
   abbrev x : Pushing
-  x = pushing (rule_by h.rule) f G n refname all
+  x = pushed_upon m h f n refname all
 
   abbrev asked : Case
-  asked = PushCase telling h f refname n x
+  asked = PushCase m telling h f refname n x
 
   abbrev S : List Object
   S = s.basis.store
 
   abbrev IsMadeHere : Object → Type 0
-  IsMadeHere o = IsMadeOver f refname n all (rule_by h.rule) G o
+  IsMadeHere o = IsMadeOver m f refname n all (rule_by h.rule) G o
 
   placed : has G n ≡ true
   placed = head-there h s refname n st.spells at_ref
@@ -298,7 +299,7 @@ module _ (telling : Telling) (items : List Bytes) (h : Held) (f : Filter) (refna
       seen-tree f (tree_at G n) (repo h).blobs usable t.0 t.1 (held-bytes h.objects st.spells.store)
 
   given : IsGiven (blobs_in (shown f (tree_at G n))) x.stream.state
-  given = given-law refname (option_map (λ p. p.commit) (projection (rule_by h.rule) (shown f) G n)) (shown f (tree_at G n)) all seen.tree seen.bytes bytes
+  given = given-by (rule_by h.rule) f G refname n all m seen.tree seen.bytes bytes
 
   trees-of : (bs : List Bytes) (cs : List Snapshot) → Each (IsGivenCommit bs) cs → Each (λ c. IsTree c.tree) cs
   trees-of bs [] w = tt
@@ -308,42 +309,42 @@ module _ (telling : Telling) (items : List Bytes) (h : Held) (f : Filter) (refna
   pushed-trees = trees-of (x.stream.state.blobs ++ blobs_in (shown f (tree_at G n))) x.stream.state.commits given.commits
 
   in-hand : (o : Object) → IsMadeHere o → IsInHands (hands_of (Ok asked)) o
-  in-hand o w = made-in-hand h f refname n all pushed-trees o w
+  in-hand o w = made-in-hand h f refname n all m placed pushed-trees o w
 
   hand-grown : (T : List Object) → IsGrownBy IsMadeHere S T → IsGrownBy (IsInHands (hands_of (Ok asked))) S T
   hand-grown T g = grown_as IsMadeHere (IsInHands (hands_of (Ok asked))) S T in-hand g
 
   -- what is said of the case is said of the push
   came-up : (after : Contents) (before now : KeeperView) (a b : ℕ) (y z : ℕ → List Bytes → Type 0) (result : Result Bytes Outcome) (p : Plan) → IsMadeOf (Ok asked) items h s after before now p result
-      → OnlyAdds a b y z (IsStopOf h s p before.items) → IsPushMade telling items h f refname all s st after before now a b y z result
-  came-up after before now a b y z result p m o = (
+      → OnlyAdds a b y z (IsStopOf h s p before.items) → IsPushMade m telling items h f refname all s st after before now a b y z result
+  came-up after before now a b y z result p came o = (
     p,
-    subst (λ (q : Option Bytes). IsMadeOf (or_refuse outcomes.UnknownRef q >>= λ m. Ok (PushCase telling h f refname m (pushing (rule_by h.rule) f G m refname all))) items h s after before now p result) (sym at_ref) m,
+    subst (λ (q : Option Bytes). IsMadeOf (or_refuse outcomes.UnknownRef q >>= λ l. Ok (PushCase m telling h f refname l (pushed_upon m h f l refname all))) items h s after before now p result) (sym at_ref) came,
     o,
   )
 
-  made-refusal : (e : PushRefusal) → x.refusal ≡ Some e → made (room_in s) asked ≡ Err (push_outcome e)
-  made-refusal e q = ap (λ (o : Option PushRefusal). no_refusal o >>= λ _. within (room_in s) h (flat_map (told_line telling) (zip x.stream.state.commits x.originals)) (push_plan h refname x (last_or None x.originals))) q
+  made-refusal : (e : PushRefusal) → x.refusal ≡ Some e → made (room_in s) asked ≡ Err (push_outcome m e)
+  made-refusal e q = ap (λ (o : Option PushRefusal). no_refusal m o >>= λ _. within (room_in s) h (flat_map (told_line telling) (zip x.stream.state.commits x.originals)) (push_plan h refname x (last_or None x.originals))) q
 
   module _ (s1 : Contents) (before : KeeperView) (a : ℕ) (y : ℕ → List Bytes → Type 0) where
     -- the push brings nothing
-    pub unplanned : (e : Outcome) (result : Result Bytes Outcome) → result ≡ Err e → IsPlannedUpon items h f refname n all s s1 (Err e) → e ≢ outcomes.StoreFault
-        → IsPushMade telling items h f refname all s st s1 before before a a y y result
+    pub unplanned : (e : Outcome) (result : Result Bytes Outcome) → result ≡ Err e → IsPlannedUpon m items h f refname n all s s1 (Err e) → e ≢ outcomes.StoreFault
+        → IsPushMade m telling items h f refname all s st s1 before before a a y y result
     unplanned e result q u quiet =
         let w = u.refused in
         let twice : (k : Bytes) → IsClash IsMadeHere s1.basis.store k → IsTwice (IsAtHand S (Ok asked)) k = λ k c. twice-at IsMadeHere (IsInHands (hands_of (Ok asked))) S s1.basis.store k in-hand u.grown c in
         let why : IsRefusal (IsAtHand S (Ok asked)) e (made (room_in s) asked) =
         subst (λ (o : Outcome). IsRefusal (IsAtHand S (Ok asked)) o (made (room_in s) asked)) (sym w.1)
-        (push-refusal IsMadeHere (IsAtHand S (Ok asked)) s1.basis.store x.refusal w.0 (made (room_in s) asked) twice made-refusal w.2) in
-        subst (IsPushMade telling items h f refname all s st s1 before before a a y y) (sym q)
+        (push-refusal m IsMadeHere (IsAtHand S (Ok asked)) s1.basis.store x.refusal w.0 (made (room_in s) asked) twice made-refusal w.2) in
+        subst (IsPushMade m telling items h f refname all s st s1 before before a a y y) (sym q)
         (came-up s1 before before a a y y (Err e) NoPlan (made-untouched asked items h s s1 before e why quiet u.state (hand-grown s1.basis.store u.grown)) (adds_none a y (IsStopOf h s NoPlan before.items)))
 
     -- there was no memory behind it
-    pub no-memory : (g : Planned) → IsPlannedUpon items h f refname n all s s1 (Ok g) → IsPushMade telling items h f refname all s st s1 before before a a y y (Err outcomes.OutOfMemory)
+    pub no-memory : (g : Planned) → IsPlannedUpon m items h f refname n all s s1 (Ok g) → IsPushMade m telling items h f refname all s st s1 before before a a y y (Err outcomes.OutOfMemory)
     no-memory g u =
         came-up s1 before before a a y y (Err outcomes.OutOfMemory) NoPlan (made-without asked items h s s1 before (hand-grown s1.basis.store u.grown)) (adds_none a y (IsStopOf h s NoPlan before.items))
 
-  module _ (s1 : Contents) (g : Planned) (u : IsPlannedUpon items h f refname n all s s1 (Ok g)) where
+  module _ (s1 : Contents) (g : Planned) (u : IsPlannedUpon m items h f refname n all s s1 (Ok g)) where
     room-same : room_in s1 ≡ room_in s
     room-same = ap room_in u.same
 
@@ -353,19 +354,8 @@ module _ (telling : Telling) (items : List Bytes) (h : Held) (f : Filter) (refna
     s1-store : IsStore S1
     s1-store = u.state.ground.graph.store
 
-    taken : IsAccepted x.stream.fault (verdict f G n x.stream.state.commits)
-    taken = accepted x.stream.fault (verdict f G n x.stream.state.commits) u.given.accepted
-
-    originals-are : x.originals ≡ originals taken.pairs
-    originals-are = made-law f G n refname (option_map (λ p. p.commit) (projection (rule_by h.rule) (shown f) G n)) x.stream taken.pairs taken.verdict_is
-
-    graph-trees : AreTrees G
-    graph-trees = held-are-trees h st.spells.store
-
     brought-all : AreBrought G (x.stream.state.blobs ++ (repo h).blobs) x.originals
-    brought-all =
-        subst (AreBrought G (x.stream.state.blobs ++ (repo h).blobs)) (sym originals-are)
-        (brought-law f G n x.stream.state.blobs (repo h).blobs x.stream.state.commits taken.pairs usable graph-trees placed (head-tree h n st.spells.store).1 given.commits taken.verdict_is)
+    brought-all = brought-by m h f refname n all usable st.spells.store placed u.given.accepted given.commits
 
     abbrev names : List Name
     names = originals_of g.commits.items
@@ -396,8 +386,8 @@ module _ (telling : Telling) (items : List Bytes) (h : Held) (f : Filter) (refna
     graph-own = subst (Each (IsNamedIn S1)) (commits-are items h s1 f n u.state) (graph-named S1 s1.basis.graph u.state.ground.graph)
 
     -- what is done by it
-    is-pushed : IsPushed h (held_after h (push_plan h refname x (last_or None x.originals))) f refname n x
-    is-pushed = pushed h f refname n all S1 (record {
+    is-pushed : IsPushed m h (held_after h (push_plan h refname x (last_or None x.originals))) f refname n x
+    is-pushed = pushed m h f refname n all S1 (record {
       usable = usable;
       store = st.spells.store;
       at_ref = at_ref;
@@ -410,7 +400,7 @@ module _ (telling : Telling) (items : List Bytes) (h : Held) (f : Filter) (refna
 
     made-so : made (room_in s) asked ≡ within (room_in s) h (flat_map (told_line telling) (zip x.stream.state.commits x.originals)) (push_plan h refname x (last_or None x.originals))
     made-so =
-        ap (λ (o : Option PushRefusal). no_refusal o >>= λ _. within (room_in s) h (flat_map (told_line telling) (zip x.stream.state.commits x.originals)) (push_plan h refname x (last_or None x.originals))) u.given.accepted
+        ap (λ (o : Option PushRefusal). no_refusal m o >>= λ _. within (room_in s) h (flat_map (told_line telling) (zip x.stream.state.commits x.originals)) (push_plan h refname x (last_or None x.originals))) u.given.accepted
 
     output-is : flat_map (told_line telling) (zip x.stream.state.commits x.originals) ≡ flat_map (λ (c : Pair). told_digits telling c.pushed.0 c.original.0) g.commits.items
     output-is = lines-are telling S1 g.commits.items x.stream.state.commits x.originals u.given.pushed u.given.originals
@@ -426,12 +416,12 @@ module _ (telling : Telling) (items : List Bytes) (h : Held) (f : Filter) (refna
     none-made : last_or None g.commits.items ≡ None → made (room_in s) asked ≡ Ok (unchanged h [])
     none-made e = made-so ∙ (λ i. within (room_in s) h (none-output e i) (push_plan h refname x (last_or None (none-here e i))))
 
-    none-pushed-so : last_or None g.commits.items ≡ None → IsPushed h h f refname n x
-    none-pushed-so e = subst (λ (os : List Snapshot). IsPushed h (held_after h (push_plan h refname x (last_or None os))) f refname n x) (none-here e) is-pushed
+    none-pushed-so : last_or None g.commits.items ≡ None → IsPushed m h h f refname n x
+    none-pushed-so e = subst (λ (os : List Snapshot). IsPushed m h (held_after h (push_plan h refname x (last_or None os))) f refname n x) (none-here e) is-pushed
 
-    pub none-pushed : (e : last_or None g.commits.items ≡ None) (before : KeeperView) (a : ℕ) (y : ℕ → List Bytes → Type 0) (report : Bytes) → report ≡ [] → IsPushMade telling items h f refname all s st s1 before before a a y y (Ok report)
+    pub none-pushed : (e : last_or None g.commits.items ≡ None) (before : KeeperView) (a : ℕ) (y : ℕ → List Bytes → Type 0) (report : Bytes) → report ≡ [] → IsPushMade m telling items h f refname all s st s1 before before a a y y (Ok report)
     none-pushed e before a y report q =
-        subst (λ (r : Bytes). IsPushMade telling items h f refname all s st s1 before before a a y y (Ok r)) (sym q)
+        subst (λ (r : Bytes). IsPushMade m telling items h f refname all s st s1 before before a a y y (Ok r)) (sym q)
         (came-up s1 before before a a y y (Ok []) NoPlan (record {
           reported = told-report (IsAtHand S (Ok asked)) (made (room_in s) asked) (unchanged h []) [] (none-made e) refl;
           planned = record { case = asked; came_up = refl; step = unchanged h []; done = none-made e; planned = (refl, none-pushed-so e) };
@@ -481,7 +471,7 @@ module _ (telling : Telling) (items : List Bytes) (h : Held) (f : Filter) (refna
       plan-same : plan ≡ push_plan h refname x (last_or None x.originals)
       plan-same =
           ap (change_plan h (objects_of x.stream.state.blobs x.originals)) p.refs
-          ∙ ap (λ (m : Bytes). change_plan h (objects_of x.stream.state.blobs x.originals) ((refname, m) ∷ [])) (sym l.named)
+          ∙ ap (λ (q : Bytes). change_plan h (objects_of x.stream.state.blobs x.originals) ((refname, q) ∷ [])) (sym l.named)
           ∙ sym (ap (push_plan h refname x) l.last)
 
       of-case : IsCase asked items h s s1 (flat_map (told_line telling) (zip x.stream.state.commits x.originals)) plan
@@ -489,7 +479,7 @@ module _ (telling : Telling) (items : List Bytes) (h : Held) (f : Filter) (refna
         state = u.state;
         room = room-same;
         step = made-so ∙ ap (within (room_in s) h (flat_map (told_line telling) (zip x.stream.state.commits x.originals))) (sym plan-same);
-        plan = λ w. (refl, subst (λ (q : Plan). IsPushed h (held_after h q) f refname n x) (sym plan-same) is-pushed);
+        plan = λ w. (refl, subst (λ (q : Plan). IsPushed m h (held_after h q) f refname n x) (sym plan-same) is-pushed);
         addition = change-law h x.stream.state.blobs x.originals (settings_of b) brought small refs;
         kept = λ w k. (kept-law project_by).change items h x.stream.state.blobs x.originals (settings_of b) stay k brought small refs (passed-same items h plan s st.current w);
         grown = hand-grown S1 u.grown;
@@ -502,16 +492,16 @@ module _ (telling : Telling) (items : List Bytes) (h : Held) (f : Filter) (refna
 
         pub commit-refused : (d : CommitError) (o : Outcome) → o ≡ commit_outcome d → ForBatch (λ blobs cs. IsRefused h (batch_plan h b blobs cs) s1 after d) → after.basis.store ≡ s1.basis.store
             → ForBatch (λ blobs cs. Appends (batch_plan h b blobs cs) before now (Err d)) → (IsRefusedBy (Err d) → OnlyAdds a c y z (IsPresent before.items))
-            → IsPushMade telling items h f refname all s st after before now a c y z (Err o)
+            → IsPushMade m telling items h f refname all s st after before now a c y z (Err o)
         commit-refused d o q why same got refused =
-            subst (λ (w : Outcome). IsPushMade telling items h f refname all s st after before now a c y z (Err w)) (sym q)
+            subst (λ (w : Outcome). IsPushMade m telling items h f refname all s st after before now a c y z (Err w)) (sym q)
             (came-up after before now a c y z (Err (commit_outcome d)) (planned_by plan (Err d))
             (made-refused asked items h s s1 (flat_map (told_line telling) (zip x.stream.state.commits x.originals)) plan of-case after before now d (why x.stream.state.blobs x.originals batch) same
             (got x.stream.state.blobs x.originals batch))
             (stops-as (planned_by plan (Err d)) (stops-by h s1 plan before.items a c y z (Err d) (stops x.stream.state.blobs x.originals batch) refused)))
 
         pub commit-done : (w : Unit {0}) → ForBatch (λ blobs cs. IsCommitted h (batch_plan h b blobs cs) s1 after × IsGround after.basis)
-            → ForBatch (λ blobs cs. Appends (batch_plan h b blobs cs) before now (Ok w)) → IsPushMade telling items h f refname all s st after before now a c y z (Ok report)
+            → ForBatch (λ blobs cs. Appends (batch_plan h b blobs cs) before now (Ok w)) → IsPushMade m telling items h f refname all s st after before now a c y z (Ok report)
         commit-done w done got =
             came-up after before now a c y z (Ok report) plan
             (made-done asked items h s s1 (flat_map (told_line telling) (zip x.stream.state.commits x.originals)) plan of-case after w before now report (output-is ∙ sym p.lines)

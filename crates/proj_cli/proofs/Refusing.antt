@@ -1,5 +1,5 @@
 -- What is refused before a case comes up.
-use Rattle.std.proofs.Common.{◌≡◌, ◌≢◌, ◌⊎◌, inl, inr, ℕ, List, Option, None, Some, Result, Ok, Err, refl, sym, ap, subst, ◌∙◌, append-nil, arith}
+use Rattle.std.proofs.Common.{◌≡◌, ◌≢◌, ◌⊎◌, inl, inr, ℕ, true, false, List, Option, None, Some, Result, Ok, Err, refl, sym, ap, subst, ◌∙◌, append-nil, arith}
 use Rattle.git_objects.specs.Paths.{Bytes}
 use Rattle.git_objects.specs.Results.{◌>>=◌, refused_by}
 use Rattle.object_store.specs.Objects.{Object}
@@ -7,7 +7,7 @@ use Rattle.filter_text.specs.Filters.{Filter}
 use Rattle.filter_text.specs.Limits.{read}
 use Rattle.filter_text.specs.declared.filter.FilterFault.{FilterFault}
 use Rattle.filter_text.specs.declared.filter.FilterFault.TheVariants as texts
-use Rattle.fast_import.specs.Replays.{empty_base, ran}
+use Rattle.fast_import.specs.Replays.{empty_base}
 use Rattle.filter_routes.specs.FaultTests.{fault}
 use Rattle.filter_routes.specs.declared.fault.RouteFault.{RouteFault}
 use Rattle.filter_routes.specs.declared.fault.RouteFault.TheVariants as routes
@@ -23,7 +23,7 @@ use Rattle.repo_ground.specs.Loads.{IsLoadFault}
 use Rattle.repo_ground.specs.declared.state.LoadError.{LoadError}
 use Rattle.repo_ground.specs.declared.state.LoadError.TheVariants as load
 use Rattle.proj_words.specs.Faults.{filter_outcome, route_outcome}
-use Rattle.proj_words.specs.Words.{Command, As, Import, Project, Push, Export, Name, Rule, Audit, Verify}
+use Rattle.proj_words.specs.Words.{Command, As, Import, Project, Push, Export, ExportTags, Tags, Name, Rule, Audit, Verify, PushMerges}
 use Rattle.proj_words.specs.declared.outcome.Outcome.{Outcome}
 use Rattle.proj_words.specs.declared.outcome.Outcome.TheVariants.{Done, OutOfMemory, Collision, ReadFault, WriteFault, StoreFault, Usage}
 use Rattle.proj_words.specs.declared.outcome.Outcome.TheVariants as outcomes
@@ -39,10 +39,13 @@ use Rattle.proj_cli.specs.Hands.{IsInHands}
 use Rattle.proj_cli.specs.Judging.{IsOwn, IsUnjudged}
 use Rattle.proj_cli.specs.Makes.{IsGoodPlan, IsRefusal, IsReported, IsStored, hands_of, step_in}
 use Rattle.proj_cli.specs.Plans.{AreKept}
+use Rattle.proj_cli.specs.Tags.{tags_case}
 use Rattle.proj_cli.specs.Policy.{allowed, granted, policy_text}
 use Rattle.proj_cli.specs.Verify.{name_by}
 use Rattle.proj_cli.specs.declared.lines.Telling.TheVariants.{Both, PushedAlone}
 use Rattle.proj_cli.proofs.Forming.{adds-nothing}
+use Rattle.proj_cli.specs.Import.{tagged_ran}
+use Rattle.proj_cli.specs.declared.pushing.Manner.TheVariants.{InLine, Merging}
 
 -- ---- outcomes that no device tells, and that aren't the last
 
@@ -238,13 +241,16 @@ verdict-case (Audit r t p) e g loading all = of-text (sound t) (λ f. loading >>
 verdict-case (Verify n t p) e g loading all = of-text (sound t) (λ f. Ok (VerifyCase f (name_by n) (path_by p) all)) e g
 verdict-case (Import force) e g loading all = cc
 verdict-case (Project r t) e g loading all = of-text (sound t) (λ f. loading >>= λ h. project_case h f r) e g
-verdict-case (Push r t) e g loading all = of-text (sound t) (λ f. loading >>= λ h. push_case Both h f r all) e g
-verdict-case (Export r t) e g loading all = of-text (sound t) (λ f. loading >>= λ h. export_case h f r) e g
-verdict-case (Name r t) e g loading all = of-text (sound t) (λ f. Ok (NameCase f r (ran empty_base all))) e g
+verdict-case (Push r t) e g loading all = of-text (sound t) (λ f. loading >>= λ h. push_case InLine Both h f r all) e g
+verdict-case (PushMerges r t) e g loading all = of-text (sound t) (λ f. loading >>= λ h. push_case Merging Both h f r all) e g
+verdict-case (Export r t) e g loading all = of-text (sound t) (λ f. loading >>= λ h. export_case false h f r) e g
+verdict-case (ExportTags r t) e g loading all = of-text (sound t) (λ f. loading >>= λ h. export_case true h f r) e g
+verdict-case (Tags r t) e g loading all = of-text (sound t) (λ f. loading >>= λ h. tags_case h f r) e g
+verdict-case (Name r t) e g loading all = of-text (sound t) (λ f. Ok (NameCase f r (tagged_ran empty_base all))) e g
 verdict-case (Rule k) e g loading all = cc
 verdict-case (As u (Project r t)) e g loading all = of-text (sound t) (λ f. loading >>= λ h. granted h u See r f >>= λ _. project_case h f r) e g
-verdict-case (As u (Push r t)) e g loading all = of-text (sound t) (λ f. loading >>= λ h. granted h u PushAct r f >>= λ _. push_case PushedAlone h f r all) e g
-verdict-case (As u (Export r t)) e g loading all = of-text (sound t) (λ f. loading >>= λ h. granted h u See r f >>= λ _. export_case h f r) e g
+verdict-case (As u (Push r t)) e g loading all = of-text (sound t) (λ f. loading >>= λ h. granted h u PushAct r f >>= λ _. push_case InLine PushedAlone h f r all) e g
+verdict-case (As u (Export r t)) e g loading all = of-text (sound t) (λ f. loading >>= λ h. granted h u See r f >>= λ _. export_case false h f r) e g
 verdict-case _ e g loading all = ap Err (err-same {A = Unit {0}} Usage e g)
 
 pub unjudged-refusal : (H : Object → Type 0) (room : Room) (asked : Command) (loading : Result Held Outcome) (all : Bytes) (e : Outcome) → IsUnjudged asked e → IsRefusal H e (step_in room (case asked loading all))

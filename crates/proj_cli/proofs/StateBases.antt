@@ -20,8 +20,8 @@ use Rattle.object_store.proofs.Parts.{AreIn, found-has}
 use Rattle.commit_graph.specs.Graphs.{Row}
 use Rattle.fast_import.specs.Bases.{IsBaseIn, base_in}
 use Rattle.fast_import.specs.Replays.{Base, value_at}
-use Rattle.fast_import.specs.Whole.{IsMadeOfStream, IsWhole}
-use Rattle.fast_import.specs.declared.replayed.Replayed.{Replayed}
+use Rattle.fast_import.specs.Whole.{IsMadeOfStreamIn, IsTaggedWhole}
+use Rattle.fast_import.specs.declared.replayed.TaggedReplay.{TaggedReplay}
 use Rattle.fast_import.specs.declared.whole.ReplayError.{ReplayError}
 use Rattle.projection_laws.specs.StoredGraphs.{IsRowIn}
 use Rattle.projection_ground.specs.Grounds.{IsGround}
@@ -40,6 +40,7 @@ use Rattle.proj_words.specs.declared.outcome.Outcome.{Outcome}
 use Rattle.proj_cli.specs.Makes.{IsStateOf}
 use Rattle.proj_cli.specs.Refusals.{replay_outcome}
 use Rattle.proj_cli.specs.Replaying.{IsReplayedUpon}
+use Rattle.stream_reader.specs.Verdicts.{tagged_start}
 
 -- ---- lists
 
@@ -165,46 +166,46 @@ module _ (items : List Bytes) (h : Held) (s : Contents) (cs : List (Bytes × Byt
   named-is : named ≡ base_of h
   named-is = (λ i. base_in s.basis.store (c i) (r i) (b i)) ∙ state-base-is h s w.spells w.ground
 
-  over-held : (x : Result Replayed ReplayError) → IsWhole named s.basis.store S all x → IsWhole (base_of h) s.basis.store S all x
-  over-held x y = subst (λ (base : Base). IsWhole base s.basis.store S all x) named-is y
+  over-held : (x : Result TaggedReplay ReplayError) → IsTaggedWhole named s.basis.store S all x → IsTaggedWhole (base_of h) s.basis.store S all x
+  over-held x y = subst (λ (base : Base). IsTaggedWhole base s.basis.store S all x) named-is y
 
-  replayed : (g : Replayed) (result : Result Replayed Outcome) → result ≡ Ok g → IsWhole named s.basis.store S all (Ok g) → IsReplayedUpon items h all s (with_store s S) result
+  replayed : (g : TaggedReplay) (result : Result TaggedReplay Outcome) → result ≡ Ok g → IsTaggedWhole named s.basis.store S all (Ok g) → IsReplayedUpon items h all s (with_store s S) result
   replayed g result e x =
       let y = over-held (Ok g) x in
       subst (IsReplayedUpon items h all s (with_store s S)) (sym e) (record {
         given = y.given;
         refused = tt;
-        state = store-grown (IsMadeOfStream (base_of h) all) items h s S w y.grown;
+        state = store-grown (IsMadeOfStreamIn tagged_start (base_of h) all) items h s S w y.grown;
         grown = y.grown;
         same = refl;
       })
 
-  not-replayed : (f : ReplayError) (o : Outcome) (result : Result Replayed Outcome) → result ≡ Err o → o ≡ replay_outcome f → IsWhole named s.basis.store S all (Err f)
+  not-replayed : (f : ReplayError) (o : Outcome) (result : Result TaggedReplay Outcome) → result ≡ Err o → o ≡ replay_outcome f → IsTaggedWhole named s.basis.store S all (Err f)
       → IsReplayedUpon items h all s (with_store s S) result
   not-replayed f o result e q x =
       let y = over-held (Err f) x in
       subst (IsReplayedUpon items h all s (with_store s S)) (sym e) (record {
         given = tt;
         refused = (f, q, y.refused);
-        state = store-grown (IsMadeOfStream (base_of h) all) items h s S w y.grown;
+        state = store-grown (IsMadeOfStreamIn tagged_start (base_of h) all) items h s S w y.grown;
         grown = y.grown;
         same = refl;
       })
 
 -- what is answered
-abbrev pub answered : Result Replayed ReplayError → Result Replayed Outcome
+abbrev pub answered : Result TaggedReplay ReplayError → Result TaggedReplay Outcome
 answered (Ok g) = Ok g
 answered (Err f) = Err (replay_outcome f)
 
 -- what became of a stream over what a state has: the same is replayed upon the state
 pub replayed-upon : (items : List Bytes) (h : Held) (old v : Contents) → v ≡ old → IsStateOf items h old → (cs : List (Bytes × Bytes)) (rs : Refs) (bs : List Bytes) (S : List Object)
-    → cs ≡ trees_of v.basis.graph → rs ≡ with_refs [] v.refs → bs ≡ reverse v.blobs → (left : Option Bytes) (x : Result Replayed ReplayError)
-    → ((all : Bytes) × (is_bytes all ≡ true) × IfSome left (λ l. l ≡ all) × IsWhole (base_in v.basis.store cs rs bs) v.basis.store S all x)
+    → cs ≡ trees_of v.basis.graph → rs ≡ with_refs [] v.refs → bs ≡ reverse v.blobs → (left : Option Bytes) (x : Result TaggedReplay ReplayError)
+    → ((all : Bytes) × (is_bytes all ≡ true) × IfSome left (λ l. l ≡ all) × IsTaggedWhole (base_in v.basis.store cs rs bs) v.basis.store S all x)
     → (all : Bytes) × (is_bytes all ≡ true) × IfSome left (λ l. all ≡ l) × IsReplayedUpon items h all old (with_store v S) (answered x)
 replayed-upon items h old v e w cs rs bs S c r b left x k =
     let st = subst (IsStateOf items h) (sym e) w in
     (k.0, k.1, same-bytes left k.0 k.2, subst (λ (y : Contents). IsReplayedUpon items h k.0 y (with_store v S) (answered x)) e (by st x k.3))
   where
-    by : IsStateOf items h v → (y : Result Replayed ReplayError) → IsWhole (base_in v.basis.store cs rs bs) v.basis.store S k.0 y → IsReplayedUpon items h k.0 v (with_store v S) (answered y)
+    by : IsStateOf items h v → (y : Result TaggedReplay ReplayError) → IsTaggedWhole (base_in v.basis.store cs rs bs) v.basis.store S k.0 y → IsReplayedUpon items h k.0 v (with_store v S) (answered y)
     by st (Ok g) z = replayed items h v cs rs bs S k.0 st c r b g (Ok g) refl z
     by st (Err f) z = not-replayed items h v cs rs bs S k.0 st c r b f (replay_outcome f) (Err (replay_outcome f)) refl refl z

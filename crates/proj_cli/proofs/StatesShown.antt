@@ -1,5 +1,5 @@
 -- What is shown upon a state is of what is held, and the state is one of these items still.
-use Rattle.std.proofs.Common.{◌≡◌, Bool, true, false, cond, inl, inr, List, ◌++◌, [], ◌∷◌, Contains, Some, IsSome, refl, ap, subst, ◌∙◌}
+use Rattle.std.proofs.Common.{◌≡◌, Bool, true, false, cond, inl, inr, List, ◌++◌, [], ◌∷◌, Contains, Some, IsSome, append-nil, refl, sym, ap, subst, ◌∙◌}
 use Rattle.std.specs.Cmp.{first_so, second_so}
 use Rattle.std.specs.FinMap.{find}
 use Rattle.std.specs.Option.{is_some}
@@ -91,3 +91,11 @@ module _ (items : List Bytes) (h : Held) (s : Contents) (f : Filter) (n : Bytes)
     spells = spells-grown h s g x.store.newer added w.spells x.store.store x.store.above e x.graph x.rule;
     ground = x.ground;
   }
+
+-- a state that differs in its basis alone, but for the map of it
+basis-alone : (s t : Contents) → t ≡ record s { basis = record t.basis { map = s.basis.map } } → record s { basis = t.basis } ≡ t
+basis-alone s t rest = ap (λ (g : Ground). record s { basis = g }) (ap (λ (x : Contents). x.basis) rest) ∙ sym rest
+
+pub state-upon : (items : List Bytes) (h : Held) (s t : Contents) (f : Filter) (n : Bytes) (made : Object → Type 0) → IsStateOf items h s → t ≡ record s { basis = record t.basis { map = s.basis.map } } → Extends made s.basis t.basis → IsStateOf items h t
+state-upon items h s t f n made w rest x =
+    subst (IsStateOf items h) (basis-alone s t rest) (state-grown items h s f n w made t.basis [] x (append-nil s.basis.map ∙ sym (ap (λ (y : Contents). y.basis.map) rest)))

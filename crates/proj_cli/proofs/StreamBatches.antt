@@ -20,9 +20,9 @@ use Rattle.object_store.specs.StoredSnapshots.{snapshot_object, snapshot_of}
 use Rattle.object_store.specs.Unfolding.{flat}
 use Rattle.object_store.proofs.Parts.{found-has}
 use Rattle.object_store.proofs.Unfolding.{unfolding_law}
-use Rattle.stream_reader.specs.Verdicts.{start, verdict}
+use Rattle.stream_reader.specs.Verdicts.{tagged_start, verdict}
 use Rattle.stream_reader.specs.declared.command.Placed.{Placed}
-use Rattle.fast_import.specs.Replays.{Replay, given_by, ran}
+use Rattle.fast_import.specs.Replays.{Replay, given_by}
 use Rattle.fast_import.specs.Standing.{AreBlobsIn, AreCommitsIn, IsCommitIn, IsReplayedOf}
 use Rattle.fast_import.specs.declared.replayed.Made.{Made}
 use Rattle.fast_import.specs.declared.replayed.Replayed.{Replayed as ReplayedNames}
@@ -43,6 +43,7 @@ use Rattle.repo_ground.specs.Changes.{AreNamedIn, IsBatchOf, settings_of}
 use Rattle.repo_ground.specs.Contents.{Contents, Spells}
 use Rattle.import_laws.specs.Bases.{base_of}
 use Rattle.repo_ground.specs.declared.commit.Batch.{Batch}
+use Rattle.proj_cli.specs.Import.{tagged_ran}
 
 -- ---- commits by their names
 
@@ -78,14 +79,14 @@ whole-trees known (c ∷ cs) w = (w.0.tree, whole-trees (c ∷ known) cs w.2)
 
 module _ (h : Held) (all : Bytes) (store : IsStore h.objects) (bytes : is_bytes all ≡ true) where
   abbrev ps : List Placed
-  ps = (verdict start all).commands
+  ps = (verdict tagged_start all).commands
 
   -- what it gives, up to its first fault or to its end
   abbrev pub given : Replay
-  given = (ran (base_of h) all).state
+  given = (tagged_ran (base_of h) all).state
 
   all-read : Each (λ p. IsRead p.command) ps
-  all-read = each-all (λ p. IsRead p.command) ps (reader-law start all bytes)
+  all-read = each-all (λ p. IsRead p.command) ps (reader-law tagged_start all bytes)
 
   sound : All (λ p. IsSound p.command) ps
   sound = all-each (λ p. IsSound p.command) ps (each-map (λ p. IsRead p.command) (λ p. IsSound p.command) ps (λ p r. r.sound) all-read)
@@ -94,10 +95,10 @@ module _ (h : Held) (all : Bytes) (store : IsStore h.objects) (bytes : is_bytes 
   small = all-each (λ p. IsSmall p.command) ps (each-map (λ p. IsRead p.command) (λ p. IsSmall p.command) ps (λ p r. r.small) all-read)
 
   pub stream-replayed : IsReplayed h given
-  stream-replayed = replayed-law h ps (verdict start all).fault store sound
+  stream-replayed = replayed-law h ps (verdict tagged_start all).fault store sound
 
   pub stream-small : list_all (λ c. tree_fits c.tree) (repo h).commits ≡ true → AreSmall given.blobs given.commits
-  stream-small fits = small-law h ps (verdict start all).fault fits small
+  stream-small fits = small-law h ps (verdict tagged_start all).fault fits small
 
   -- In a store that has what is held, what it gives may be brought.
   pub stream-brought : (S : List Object) (g : ReplayedNames) → IsStore S → ((o : Object) → Contains h.objects o → find_named S (object_name o) ≡ Some o) → IsReplayedOf S g (given_by given)

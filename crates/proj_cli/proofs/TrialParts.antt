@@ -1,5 +1,5 @@
 -- What a trial shows of a ref's commit: its projection, and its history.
-use Rattle.std.proofs.Common.{◌≡◌, inl, inr, List, [], ◌∷◌, ◌++◌, ℕ, length, map, reverse, Contains, Option, Some, None, Result, Ok, Err, append-nil, sym, ap, subst, ◌∙◌}
+use Rattle.std.proofs.Common.{◌≡◌, inl, inr, false, List, [], ◌∷◌, ◌++◌, ℕ, length, map, reverse, Contains, Option, Some, None, Result, Ok, Err, append-nil, sym, ap, subst, ◌∙◌}
 use Rattle.std.specs.FinMap.{find}
 use Rattle.std.specs.Option.{option_map}
 use Rattle.std.specs.Prelude.{◌⊎◌, decimal}
@@ -51,6 +51,7 @@ use Rattle.proj_cli.proofs.InHands.{in-hands, twice-at}
 use Rattle.proj_cli.proofs.PushHands.{push_hand, seen-in}
 use Rattle.proj_cli.proofs.StatesShown.{commits-are, history-at, history-is, rule-is, state-grown}
 use Rattle.proj_cli.proofs.TrialSteps.{brought-on, ended-on, hands-left, hands-right, twice-as, unsound-ended}
+use Rattle.proj_cli.specs.declared.pushing.Manner.TheVariants.{InLine}
 
 -- ---- a ground that has grown
 
@@ -78,13 +79,13 @@ no-head ks h f refname e = ap (λ (o : Option Bytes). or_refuse UnknownRef o >>=
 
 module _ (items : List Bytes) (h : Held) (hands : List Hand) (s : Contents) (f : Filter) (refname n all : Bytes) (w : IsTried items h hands s)
     (e : find bytes_cmp refname h.refs ≡ Some n) where
-  came-push : push_case Both h f refname all ≡ Ok (PushCase Both h f refname n (pushing (rule_by h.rule) f (repo h).commits n refname all))
-  came-push = ap (λ (o : Option Bytes). or_refuse UnknownRef o >>= λ m. Ok (PushCase Both h f refname m (pushing (rule_by h.rule) f (repo h).commits m refname all))) e
+  came-push : push_case InLine Both h f refname all ≡ Ok (PushCase InLine Both h f refname n (pushing (rule_by h.rule) f (repo h).commits n refname all))
+  came-push = ap (λ (o : Option Bytes). or_refuse UnknownRef o >>= λ m. Ok (PushCase InLine Both h f refname m (pushing (rule_by h.rule) f (repo h).commits m refname all))) e
 
-  pub seen-at : (o : Object) → IsSeenObject f s.basis n o → IsInHands (hands_of (push_case Both h f refname all)) o
+  pub seen-at : (o : Object) → IsSeenObject f s.basis n o → IsInHands (hands_of (push_case InLine Both h f refname all)) o
   seen-at o q =
       let over = subst (λ (r : Rule). IsSeenOver f n r (repo h).commits o) (rule-is h s w.state.spells) (subst (λ (cs : Graph). IsSeenOver f n s.basis.rule cs o) (commits-are items h s f n w.state) q) in
-      subst (λ (r : Result Case Outcome). IsInHands (hands_of r) o) (sym came-push) (in-hands (push_hand h f refname n all) o (seen-in h f refname n all o over))
+      subst (λ (r : Result Case Outcome). IsInHands (hands_of r) o) (sym came-push) (in-hands (push_hand InLine h f refname n all) o (seen-in InLine h f refname n all (λ c q. q) o over))
 
   from-is : (S : List Object) (seen : Seen) → IsSeen f s.basis n S seen → from_of h f refname ≡ Ok (option_map name_bytes seen.from)
   from-is S seen p =
@@ -94,11 +95,11 @@ module _ (items : List Bytes) (h : Held) (hands : List Hand) (s : Contents) (f :
 
   module _ (g : Ground) (x : Extends (IsSeenObject f s.basis n) s.basis g) where
     pub head-seen : (seen : Seen) → IsSeen f s.basis n g.store seen → g.map ≡ s.basis.map
-        → IsFrom items h (hands ++ hands_of (push_case Both h f refname all)) (from_of h f refname) (record s { basis = g }) (Ok seen.from)
-    head-seen seen p m = (from-is g.store seen p, shown-tried items h hands (hands_of (push_case Both h f refname all)) s f n w (IsSeenObject f s.basis n) seen-at g x m)
+        → IsFrom items h (hands ++ hands_of (push_case InLine Both h f refname all)) (from_of h f refname) (record s { basis = g }) (Ok seen.from)
+    head-seen seen p m = (from-is g.store seen p, shown-tried items h hands (hands_of (push_case InLine Both h f refname all)) s f n w (IsSeenObject f s.basis n) seen-at g x m)
 
-    pub head-unseen : (a : ApplyError) → IsApplyFault (IsSeenObject f s.basis n) g.store a → IsEnded (hands ++ hands_of (push_case Both h f refname all)) (from_of h f refname) (apply_outcome a)
-    head-unseen a q = shown-ended items h hands (hands_of (push_case Both h f refname all)) s f n w (IsSeenObject f s.basis n) seen-at g x (from_of h f refname) a q
+    pub head-unseen : (a : ApplyError) → IsApplyFault (IsSeenObject f s.basis n) g.store a → IsEnded (hands ++ hands_of (push_case InLine Both h f refname all)) (from_of h f refname) (apply_outcome a)
+    head-unseen a q = shown-ended items h hands (hands_of (push_case InLine Both h f refname all)) s f n w (IsSeenObject f s.basis n) seen-at g x (from_of h f refname) a q
 
 -- ---- the line of a history
 
@@ -119,11 +120,11 @@ module _ (items : List Bytes) (h : Held) (hands : List Hand) (s : Contents) (f :
   abbrev came : Result Case Outcome
   came = case (Export refname text) (loaded items) []
 
-  came-export : came ≡ Ok (ExportCase h f refname n)
+  came-export : came ≡ Ok (ExportCase false h f refname n)
   came-export =
-      ap (λ (r : Result Filter Outcome). r >>= λ k. loaded items >>= λ l. head_of refname l.refs >>= λ m. Ok (ExportCase l k refname m)) judged
-      ∙ ap (λ (r : Result Held Outcome). r >>= λ l. head_of refname l.refs >>= λ m. Ok (ExportCase l f refname m)) (ap (refused_by break_outcome) w.state.current.read)
-      ∙ ap (λ (o : Option Bytes). or_refuse UnknownRef o >>= λ m. Ok (ExportCase h f refname m)) e
+      ap (λ (r : Result Filter Outcome). r >>= λ k. loaded items >>= λ l. head_of refname l.refs >>= λ m. Ok (ExportCase false l k refname m)) judged
+      ∙ ap (λ (r : Result Held Outcome). r >>= λ l. head_of refname l.refs >>= λ m. Ok (ExportCase false l f refname m)) (ap (refused_by break_outcome) w.state.current.read)
+      ∙ ap (λ (o : Option Bytes). or_refuse UnknownRef o >>= λ m. Ok (ExportCase false h f refname m)) e
 
   pub of-history : (o : Object) → IsOfHistory f s.basis n o → IsInHands (hands_of came) o
   of-history o q = subst (λ (r : Result Case Outcome). IsInHands (hands_of r) o) (sym came-export) (history-at items h s f n w.state o q)

@@ -6,7 +6,6 @@ use Rattle.git_objects.specs.Results.{◌>>=◌, refused_by}
 use Rattle.object_store.specs.Objects.{Object}
 use Rattle.commit_map.specs.Shown.{Shown}
 use Rattle.filter_text.specs.Filters.{Filter}
-use Rattle.fast_import.specs.Replays.{ran}
 use Rattle.path_names.specs.RefNames.{is_ref_name}
 use Rattle.proj_io.specs.Views.{KeeperView}
 use Rattle.push_laws.specs.Pushes.{pushing}
@@ -26,10 +25,12 @@ use Rattle.proj_cli.specs.Push.{push_case}
 use Rattle.proj_cli.specs.declared.lines.Telling.TheVariants.{Both}
 use Rattle.proj_cli.specs.Filters.{projected, rule_by, sound}
 use Rattle.proj_cli.specs.Hands.{Hand, IsInHands}
+use Rattle.proj_cli.specs.Import.{tagged_ran}
 use Rattle.proj_cli.specs.Makes.{IsMadeOf, IsStateOf, hands_of}
 use Rattle.proj_cli.specs.Trials.{first_hands, first_left, hands_on, import_hands, import_left, left_by, push_hands, push_input, push_left, second_hands, second_left, third_hands, third_left}
 use Rattle.proj_cli.specs.Trying.{IsEnded, IsLeft, IsTried, from_of}
 use Rattle.proj_cli.proofs.TrialSteps.{command-counted, command-done, command-ended, ended-as, ended-left, ended-on, hands-both, hands-left, hands-right, import-plain, left-on, push-plain, unsound-ended}
+use Rattle.proj_cli.specs.declared.pushing.Manner.TheVariants.{InLine}
 
 -- ---- the ref
 
@@ -59,7 +60,7 @@ unsound-left ks p seconds items e bad =
 
 module _ (h : Held) (f : Filter) (seconds : ℕ) (p : TrialPush) where
   abbrev pushed : Bytes → Bytes → Case
-  pushed input n = PushCase Both h f main n (pushing (rule_by h.rule) f (repo h).commits n main input)
+  pushed input n = PushCase InLine Both h f main n (pushing (rule_by h.rule) f (repo h).commits n main input)
 
   abbrev name_of : Bytes → Option Bytes
   name_of n = option_map (λ (s : Shown). s.commit) (projected h f n)
@@ -89,22 +90,22 @@ module _ (p : TrialPush) (seconds : ℕ) (items : List Bytes) (h : Held) (hands 
       ∙ ap (λ (r : Result Held Outcome). r >>= λ l. head_of main l.refs >>= λ n. Ok (push_stream seconds p (option_map (λ (s : Shown). s.commit) (projected l f n)))) (ap (refused_by break_outcome) read)
       ∙ input-by h f seconds p (head_of main h.refs)
 
-  case-is : (input : Bytes) → case (Push main p.filter) (loaded items) input ≡ push_case Both h f main input
+  case-is : (input : Bytes) → case (Push main p.filter) (loaded items) input ≡ push_case InLine Both h f main input
   case-is input =
-      ap (λ (r : Result Filter Outcome). r >>= λ k. loaded items >>= λ l. head_of main l.refs >>= λ n. Ok (PushCase Both l k main n (pushing (rule_by l.rule) k (repo l).commits n main input))) judged
-      ∙ ap (λ (r : Result Held Outcome). r >>= λ l. head_of main l.refs >>= λ n. Ok (PushCase Both l f main n (pushing (rule_by l.rule) f (repo l).commits n main input))) (ap (refused_by break_outcome) read)
+      ap (λ (r : Result Filter Outcome). r >>= λ k. loaded items >>= λ l. head_of main l.refs >>= λ n. Ok (PushCase InLine Both l k main n (pushing (rule_by l.rule) k (repo l).commits n main input))) judged
+      ∙ ap (λ (r : Result Held Outcome). r >>= λ l. head_of main l.refs >>= λ n. Ok (PushCase InLine Both l f main n (pushing (rule_by l.rule) f (repo l).commits n main input))) (ap (refused_by break_outcome) read)
 
-  hands-are : hands_of (push_case Both h f main (text_of h f seconds p (from_of h f main))) ≡ more
+  hands-are : hands_of (push_case InLine Both h f main (text_of h f seconds p (from_of h f main))) ≡ more
   hands-are =
       hands-by h f seconds p (λ input. case (Push main p.filter) (loaded items) input) (head_of main h.refs) case-is
       ∙ ap (λ (r : Result Bytes Outcome). hands_on r (λ input. hands_of (case (Push main p.filter) (loaded items) input))) (sym input-is)
 
   -- there is no projection to push upon
-  pub from-ended : (refname : Bytes) (e : Outcome) → refname ≡ main → ((all : Bytes) → IsEnded (hands ++ hands_of (push_case Both h f refname all)) (from_of h f refname) e)
+  pub from-ended : (refname : Bytes) (e : Outcome) → refname ≡ main → ((all : Bytes) → IsEnded (hands ++ hands_of (push_case InLine Both h f refname all)) (from_of h f refname) e)
       → IsEnded (hands ++ more) (push_left p seconds items) e
   from-ended refname e named w =
       let all = text_of h f seconds p (from_of h f main) in
-      let here = subst (λ (r : Bytes). IsEnded (hands ++ hands_of (push_case Both h f r all)) (from_of h f r) e) named (w all) in
+      let here = subst (λ (r : Bytes). IsEnded (hands ++ hands_of (push_case InLine Both h f r all)) (from_of h f r) e) named (w all) in
       ended-on (hands ++ more) (push_input p seconds items) (λ input. left_by (Push main p.filter) items input) e
       (subst (λ (r : Result Bytes Outcome). IsEnded (hands ++ more) r e) (sym input-is)
       (ended-on (hands ++ more) (from_of h f main) (λ from. Ok (push_stream seconds p from)) e
@@ -112,7 +113,7 @@ module _ (p : TrialPush) (seconds : ℕ) (items : List Bytes) (h : Held) (hands 
 
   -- and where there is one
   module _ (refname : Bytes) (named : refname ≡ main) (from : Option Bytes) (is : from_of h f refname ≡ Ok from) (s s' : Contents)
-      (w : (all : Bytes) → IsTried items h (hands ++ hands_of (push_case Both h f refname all)) s) (all : Bytes) (told : all ≡ push_stream seconds p from)
+      (w : (all : Bytes) → IsTried items h (hands ++ hands_of (push_case InLine Both h f refname all)) s) (all : Bytes) (told : all ≡ push_stream seconds p from)
       (before after : KeeperView) (q : Plan) where
     abbrev input : Bytes
     input = push_stream seconds p from
@@ -120,13 +121,13 @@ module _ (p : TrialPush) (seconds : ℕ) (items : List Bytes) (h : Held) (hands 
     given : push_input p seconds items ≡ Ok input
     given = input-is ∙ ap (λ (r : Result (Option Bytes) Outcome). r >>= λ x. Ok (push_stream seconds p x)) (subst (λ (r : Bytes). from_of h f r ≡ Ok from) named is)
 
-    here : IsTried items h (hands ++ hands_of (push_case Both h f main input)) s
-    here = subst (λ (r : Bytes). IsTried items h (hands ++ hands_of (push_case Both h f r input)) s) named (w input)
+    here : IsTried items h (hands ++ hands_of (push_case InLine Both h f main input)) s
+    here = subst (λ (r : Bytes). IsTried items h (hands ++ hands_of (push_case InLine Both h f r input)) s) named (w input)
 
-    made-here : (result : Result Bytes Outcome) → IsMadeOf (push_case Both h f refname all) items h s s' before after q result → IsMadeOf (push_case Both h f main input) items h s s' before after q result
+    made-here : (result : Result Bytes Outcome) → IsMadeOf (push_case InLine Both h f refname all) items h s s' before after q result → IsMadeOf (push_case InLine Both h f main input) items h s s' before after q result
     made-here result m =
-        subst (λ (r : Bytes). IsMadeOf (push_case Both h f r input) items h s s' before after q result) named
-        (subst (λ (a : Bytes). IsMadeOf (push_case Both h f refname a) items h s s' before after q result) told m)
+        subst (λ (r : Bytes). IsMadeOf (push_case InLine Both h f r input) items h s s' before after q result) named
+        (subst (λ (a : Bytes). IsMadeOf (push_case InLine Both h f refname a) items h s s' before after q result) told m)
 
     abbrev asked : Command
     asked = Push main p.filter
@@ -135,30 +136,30 @@ module _ (p : TrialPush) (seconds : ℕ) (items : List Bytes) (h : Held) (hands 
     there = hands_of (case asked (loaded items) input)
 
     abbrev before_it : List Hand
-    before_it = hands ++ hands_of (push_case Both h f main input)
+    before_it = hands ++ hands_of (push_case InLine Both h f main input)
 
     again : (o : Object) → IsInHands (before_it ++ there) o → IsInHands (hands ++ there) o
     again =
         hands-both before_it there (hands ++ there)
-        (hands-both hands (hands_of (push_case Both h f main input)) (hands ++ there) (hands-left hands there)
+        (hands-both hands (hands_of (push_case InLine Both h f main input)) (hands ++ there) (hands-left hands there)
         (λ o m. hands-right hands there o (subst (λ (r : Result Case Outcome). IsInHands (hands_of r) o) (sym (case-is input)) m)))
         (hands-right hands there)
 
-    pub push-done : (report : Bytes) (u : Unit {0}) → IsMadeOf (push_case Both h f refname all) items h s s' before after q (Ok report) → IsLeft (hands ++ more) (push_left p seconds items) s' (Ok u)
+    pub push-done : (report : Bytes) (u : Unit {0}) → IsMadeOf (push_case InLine Both h f refname all) items h s s' before after q (Ok report) → IsLeft (hands ++ more) (push_left p seconds items) s' (Ok u)
     push-done report u m =
         subst (λ (r : Result Bytes Outcome). IsLeft (hands ++ hands_on r (λ a. hands_of (case asked (loaded items) a))) (r >>= λ a. left_by asked items a) s' (Ok u)) (sym given)
         (left-as (before_it ++ there) (hands ++ there) (left_by asked items input) s' (Ok u) again
-        (command-done asked input items h before_it s s' here (push_case Both h f main input) (push-plain h f main input) (case-is input) before after q report u (made-here (Ok report) m)))
+        (command-done asked input items h before_it s s' here (push_case InLine Both h f main input) (push-plain h f main input) (case-is input) before after q report u (made-here (Ok report) m)))
 
-    pub push-counted : (report : Bytes) → s.number ≡ before.number → IsMadeOf (push_case Both h f refname all) items h s s' before after q (Ok report) → s'.number ≡ after.number
+    pub push-counted : (report : Bytes) → s.number ≡ before.number → IsMadeOf (push_case InLine Both h f refname all) items h s s' before after q (Ok report) → s'.number ≡ after.number
     push-counted report k m =
-        command-counted asked input items h before_it s s' here (push_case Both h f main input) (push-plain h f main input) (case-is input) before after q report k (made-here (Ok report) m)
+        command-counted asked input items h before_it s s' here (push_case InLine Both h f main input) (push-plain h f main input) (case-is input) before after q report k (made-here (Ok report) m)
 
-    pub push-ended : (e : Outcome) → e ≢ ReadFault → e ≢ StoreFault → IsMadeOf (push_case Both h f refname all) items h s s' before after q (Err e) → IsEnded (hands ++ more) (push_left p seconds items) e
+    pub push-ended : (e : Outcome) → e ≢ ReadFault → e ≢ StoreFault → IsMadeOf (push_case InLine Both h f refname all) items h s s' before after q (Err e) → IsEnded (hands ++ more) (push_left p seconds items) e
     push-ended e a b m =
         subst (λ (r : Result Bytes Outcome). IsEnded (hands ++ hands_on r (λ x. hands_of (case asked (loaded items) x))) (r >>= λ x. left_by asked items x) e) (sym given)
         (ended-as (before_it ++ there) (hands ++ there) (left_by asked items input) e again
-        (command-ended asked input items h before_it s s' here (push_case Both h f main input) (push-plain h f main input) (case-is input) before after q e a b (made-here (Err e) m)))
+        (command-ended asked input items h before_it s s' here (push_case InLine Both h f main input) (push-plain h f main input) (case-is input) before after q e a b (made-here (Err e) m)))
 
 -- ---- the import
 
@@ -177,7 +178,7 @@ empty-tried s w = record { state = empty-state s w; brought = λ o m. none o (su
 
 module _ (n : ℕ) (s s' : Contents) (w : IsEmpty s) (all : Bytes) (told : all ≡ trial_stream n) (before after : KeeperView) (q : Plan) where
   abbrev imported : Bytes → Result Case Outcome
-  imported a = Ok (ImportCase false nothing (ran (base_of nothing) a))
+  imported a = Ok (ImportCase false nothing (tagged_ran (base_of nothing) a))
 
   case-import : case (Import false) (loaded []) (trial_stream n) ≡ imported (trial_stream n)
   case-import = ap (λ (r : Result Held Break). case (Import false) (refused_by break_outcome r) (trial_stream n)) none-read

@@ -5,7 +5,6 @@ use Rattle.git_objects.specs.Paths.{Bytes}
 use Rattle.git_objects.specs.Results.{◌>>=◌}
 use Rattle.object_store.specs.Growth.{IsGrownBy}
 use Rattle.object_store.specs.Objects.{Object}
-use Rattle.fast_import.specs.Replays.{ran}
 use Rattle.filter_text.specs.Filters.{Filter}
 use Rattle.proj_io.specs.Counts.{Counts}
 use Rattle.proj_io.specs.Views.{KeeperView}
@@ -32,6 +31,8 @@ use Rattle.proj_cli.proofs.Delivering.{got}
 use Rattle.proj_cli.specs.Judging.{IsOwn}
 use Rattle.proj_cli.proofs.Refusing.{unsound-own}
 use Rattle.proj_cli.proofs.StatesAfter.{room-same}
+use Rattle.proj_cli.specs.Import.{tagged_ran}
+use Rattle.proj_cli.specs.declared.pushing.Manner.TheVariants.{InLine}
 
 -- ---- hands
 
@@ -154,16 +155,16 @@ pub record IsPlain (r : Result Case Outcome) : Type 0 where
 ok-same : {A : Type 0} (x y : A) → ◌≡◌ {A = Result A Outcome} (Ok x) (Ok y) → x ≡ y
 ok-same x y e = cc
 
-pub import-plain : (h : Held) (all : Bytes) → IsPlain (Ok (ImportCase false h (ran (base_of h) all)))
+pub import-plain : (h : Held) (all : Bytes) → IsPlain (Ok (ImportCase false h (tagged_ran (base_of h) all)))
 import-plain h all = record {
   same = λ room. refl;
   planned = λ room c m p e w.
-      subst (λ (d : Case). IsPlanIn room d m p → p ≡ m.plan) (ok-same (ImportCase false h (ran (base_of h) all)) c e) (λ q. q) w;
+      subst (λ (d : Case). IsPlanIn room d m p → p ≡ m.plan) (ok-same (ImportCase false h (tagged_ran (base_of h) all)) c e) (λ q. q) w;
 }
 
 module _ (h : Held) (f : Filter) (refname all : Bytes) where
   abbrev pushed : Bytes → Case
-  pushed n = PushCase Both h f refname n (pushing (rule_by h.rule) f (repo h).commits n refname all)
+  pushed n = PushCase InLine Both h f refname n (pushing (rule_by h.rule) f (repo h).commits n refname all)
 
   push-same : (room : Room) (x : Result Bytes Outcome) → ((x >>= λ n. Ok (pushed n)) >>= made room) ≡ step_in room (x >>= λ n. Ok (pushed n))
   push-same room (Ok n) = refl
@@ -173,7 +174,7 @@ module _ (h : Held) (f : Filter) (refname all : Bytes) where
   push-planned room c m p (Ok n) e w = subst (λ (d : Case). IsPlanIn room d m p → p ≡ m.plan) (ok-same (pushed n) c e) (λ q. q.0) w
   push-planned room c m p (Err x) e w = absurd (let no : Err x ≡ Ok c = e in cc)
 
-  pub push-plain : IsPlain (push_case Both h f refname all)
+  pub push-plain : IsPlain (push_case InLine Both h f refname all)
   push-plain = record { same = λ room. push-same room (head_of refname h.refs); planned = λ room c m p e w. push-planned room c m p (head_of refname h.refs) e w }
 
 module _ (asked : Command) (input : Bytes) (items : List Bytes) (h : Held) (hands : List Hand) (s s' : Contents) (w : IsTried items h hands s)

@@ -102,7 +102,7 @@ module _ (law : RecallLaw) (items : List Bytes) (ts : List Turn) (e : Entry) (h 
     unwritten = λ no. refl;
     held = h;
     spelled = read;
-    longer = record { behind = refl; state = h; spelled = spelled-still now h read; stays = λ no. record { objects = refl; refs = refl; rule = refl } };
+    longer = record { behind = refl; state = h; spelled = spelled-still now h read; stays = λ no. record { objects = refl; refs = refl; rule = refl; tags = refl } };
     kept = λ g kept. (g, subst (λ (xs : List Bytes). AreKept xs g) (sym (append-nil now)) kept);
     recalled = λ is. absurd (refused is);
   }

@@ -14,6 +14,8 @@ use Rattle.object_store.specs.Objects.{Object}
 use Rattle.filter_text.specs.Filters.{Filter}
 use Rattle.stream_reader.specs.declared.fault.StreamFault.{StreamFault}
 use Rattle.stream_reader.specs.declared.fault.StreamFault.TheVariants as streams
+use Rattle.tag_objects.specs.TagLists.{first_taken}
+use Rattle.tag_objects.specs.declared.tag.Tag.{Tag}
 use Rattle.fast_import.specs.Replays.{Ran, outcome_of}
 use Rattle.push_laws.specs.Pushes.{PushRefusal, StreamRefused, CommitRefused}
 use Rattle.push_laws.specs.PushReplays.{StreamRefusal, OtherRef, NotAtHead, FurtherParents, Faulty}
@@ -30,14 +32,14 @@ use Rattle.repo_ground.specs.Moves.{Move, first_backward}
 use Rattle.repo_ground.specs.declared.state.LoadError.{LoadError}
 use Rattle.repo_ground.specs.declared.state.LoadError.TheVariants as load
 use Rattle.proj_words.specs.Faults.{stream_outcome}
-use Rattle.proj_words.specs.Words.{Command, As, Import, Project, Push, Export, Name, Batch, Trial, Rule, Audit, Verify, Unknown}
+use Rattle.proj_words.specs.Words.{Command, As, Import, Project, Push, Export, ExportTags, Tags, Name, Batch, Trial, Rule, Audit, Verify, Unknown, PushMerges}
 use Rattle.proj_words.specs.declared.outcome.Outcome.{Outcome}
 use Rattle.proj_words.specs.declared.outcome.Outcome.TheVariants.{Done, Limit, OutOfMemory, UnknownRef, Collision, ReadFault, WriteFault, StoreFault}
 use Rattle.proj_words.specs.declared.outcome.Outcome.TheVariants as outcomes
-use Rattle.proj_cli.specs.Cases.{Case, ImportCase, ProjectCase, ExportCase, PushCase, NameCase, RuleCase, AuditCase, VerifyCase, IsJudgedRightly, Made, break_outcome, head_of, is_verdict, loaded, no_limit, streamed, verdict, within}
-use Rattle.proj_cli.specs.Import.{all_forward, import_plan, no_backward, ref_line}
+use Rattle.proj_cli.specs.Cases.{Case, ImportCase, ProjectCase, TagsCase, ExportCase, PushCase, NameCase, RuleCase, AuditCase, VerifyCase, IsJudgedRightly, Made, break_outcome, head_of, is_verdict, loaded, no_limit, streamed, verdict, within}
+use Rattle.proj_cli.specs.Import.{all_forward, all_free, import_plan, no_backward, no_taken, ref_line}
 use Rattle.proj_cli.specs.Steps.{case}
-use Rattle.proj_cli.specs.Push.{commit_refusal, no_refusal, push_outcome, push_plan, stream_refusal, told_line}
+use Rattle.proj_cli.specs.Push.{commit_refusal, no_refusal, push_outcome, push_plan, stream_refusal, told_line, parents_refusal}
 use Rattle.proj_cli.specs.Export.{export_case}
 use Rattle.proj_cli.specs.Policy.{allowed, granted, policy_text}
 use Rattle.proj_cli.specs.Rule.{rule_line}
@@ -47,6 +49,8 @@ use Rattle.proj_cli.specs.Forms.{load_outcome}
 use Rattle.proj_cli.specs.Judging.{IsUnjudged}
 use Rattle.proj_cli.specs.Makes.{IsAtHand, IsExported, IsFlowed, IsRefusal, IsReported, recalled_made, step_in}
 use Rattle.proj_cli.proofs.Refusing.{refusal-of}
+use Rattle.proj_cli.specs.declared.pushing.Manner.{Manner}
+use Rattle.proj_cli.specs.declared.pushing.Manner.TheVariants.{InLine, Merging}
 
 -- ---- results whose refusals are neither of words nor of a filter
 
@@ -110,11 +114,23 @@ forward-other : (force : Bool) (cs : List Snapshot) (refs es : Refs) → IsOther
 forward-other true cs refs es = tt
 forward-other false cs refs es = backward-other (first_backward cs refs es)
 
-replay-other : (e : StreamRefusal) → is_verdict (stream_refusal e) ≡ false
-replay-other (OtherRef at) = refl
-replay-other (NotAtHead expected got) = refl
-replay-other (FurtherParents n) = refl
-replay-other (Faulty e) = stream-other e
+taken-other : (o : Option Bytes) → IsOther (no_taken o)
+taken-other None = tt
+taken-other (Some n) = refl
+
+free-other : (force : Bool) (tags ts : List Tag) → IsOther (all_free force tags ts)
+free-other true tags ts = tt
+free-other false tags ts = taken-other (first_taken tags ts)
+
+parents-other : (m : Manner) (n : ℕ) → is_verdict (parents_refusal m n) ≡ false
+parents-other InLine n = refl
+parents-other Merging n = refl
+
+replay-other : (m : Manner) (e : StreamRefusal) → is_verdict (stream_refusal m e) ≡ false
+replay-other m (OtherRef at) = refl
+replay-other m (NotAtHead expected got) = refl
+replay-other m (FurtherParents n) = parents-other m n
+replay-other m (Faulty e) = stream-other e
 
 commit-other : (n : ℕ) (e : Refusal) → is_verdict (commit_refusal n e) ≡ false
 commit-other n NoChange = refl
@@ -124,13 +140,13 @@ commit-other n (NotHeld p) = refl
 commit-other n (Blocked p q) = refl
 commit-other n (TreeLimit q) = refl
 
-push-other : (e : PushRefusal) → is_verdict (push_outcome e) ≡ false
-push-other (StreamRefused e) = replay-other e
-push-other (CommitRefused n e) = commit-other n e
+push-other : (m : Manner) (e : PushRefusal) → is_verdict (push_outcome m e) ≡ false
+push-other m (StreamRefused e) = replay-other m e
+push-other m (CommitRefused n e) = commit-other n e
 
-pushed-other : (o : Option PushRefusal) → IsOther (no_refusal o)
-pushed-other None = tt
-pushed-other (Some e) = push-other e
+pushed-other : (m : Manner) (o : Option PushRefusal) → IsOther (no_refusal m o)
+pushed-other m None = tt
+pushed-other m (Some e) = push-other m e
 
 must-other : (e : Outcome) (b : Bool) → is_verdict e ≡ false → IsOther (must e b)
 must-other e true w = tt
@@ -143,11 +159,13 @@ certificate-other (NotProved n) = refl
 pub made-other : (room : Room) (c : Case) → IsOther (recalled_made room c)
 made-other room (ImportCase force h x) =
     other-on (streamed x) _ (streamed-other x) (λ r. other-on (all_forward force (reverse r.commits ++ (repo h).commits) h.refs r.heads) _
-    (forward-other force (reverse r.commits ++ (repo h).commits) h.refs r.heads) (λ _. within-other room h (flat_map ref_line r.heads) (import_plan h r)))
+    (forward-other force (reverse r.commits ++ (repo h).commits) h.refs r.heads) (λ _. other-on (all_free force h.tags x.state.tags) _
+    (free-other force h.tags x.state.tags) (λ _. within-other room h (flat_map ref_line r.heads) (import_plan h r x.state.tags))))
 made-other room (ProjectCase h f n) = tt
-made-other room (ExportCase h f refname n) = tt
-made-other room (PushCase telling h f refname n p) =
-    other-on (no_refusal p.refusal) _ (pushed-other p.refusal)
+made-other room (TagsCase h f n) = tt
+made-other room (ExportCase tagged h f refname n) = tt
+made-other room (PushCase manner telling h f refname n p) =
+    other-on (no_refusal manner p.refusal) _ (pushed-other manner p.refusal)
     (λ _. within-other room h (flat_map (told_line telling) (zip p.stream.state.commits p.originals)) (push_plan h refname p (last_or None p.originals)))
 made-other room (NameCase f refname x) =
     other-on (streamed x) _ (streamed-other x) (λ r. other-on (no_limit (passed_by_objects (fresh [] (objects_of r.blobs r.commits)) None)) _
@@ -190,8 +208,14 @@ case-judged (Project r t) loading input w =
     of-sound (Project r t) (sound t) _ (λ f. other-on loading _ w (λ h. other-on (head_of r h.refs) _ (other-found (find_entry bytes_cmp r h.refs)) (λ n. tt))) refl
 case-judged (Export r t) loading input w =
     of-sound (Export r t) (sound t) _ (λ f. other-on loading _ w (λ h. other-on (head_of r h.refs) _ (other-found (find_entry bytes_cmp r h.refs)) (λ n. tt))) refl
+case-judged (ExportTags r t) loading input w =
+    of-sound (ExportTags r t) (sound t) _ (λ f. other-on loading _ w (λ h. other-on (head_of r h.refs) _ (other-found (find_entry bytes_cmp r h.refs)) (λ n. tt))) refl
+case-judged (Tags r t) loading input w =
+    of-sound (Tags r t) (sound t) _ (λ f. other-on loading _ w (λ h. other-on (head_of r h.refs) _ (other-found (find_entry bytes_cmp r h.refs)) (λ n. tt))) refl
 case-judged (Push r t) loading input w =
     of-sound (Push r t) (sound t) _ (λ f. other-on loading _ w (λ h. other-on (head_of r h.refs) _ (other-found (find_entry bytes_cmp r h.refs)) (λ n. tt))) refl
+case-judged (PushMerges r t) loading input w =
+    of-sound (PushMerges r t) (sound t) _ (λ f. other-on loading _ w (λ h. other-on (head_of r h.refs) _ (other-found (find_entry bytes_cmp r h.refs)) (λ n. tt))) refl
 case-judged (Name r t) loading input w = of-sound (Name r t) (sound t) _ (λ f. tt) refl
 case-judged (Rule k) loading input w = other-judged (Rule k) (case (Rule k) loading input) (other-on loading _ w (λ h. tt))
 case-judged (Audit r t p) loading input w =
@@ -262,9 +286,9 @@ flowed-other H (Err x) o q OutOfMemory w h = refl
 flowed-other H (Err x) o q e w h = refusal-other H e (Err x) w h.0
 
 -- upon a state
-pub exported-other : (h : Held) (f : Filter) (refname : Bytes) (items : List Bytes) (g : Held) (s s' : Contents) (o q : SinkView) (e : Outcome) → IsExported (export_case h f refname) items g s s' o q e
+pub exported-other : (tagged : Bool) (h : Held) (f : Filter) (refname : Bytes) (items : List Bytes) (g : Held) (s s' : Contents) (o q : SinkView) (e : Outcome) → IsExported (export_case tagged h f refname) items g s s' o q e
     → is_verdict e ≡ false
-exported-other h f refname items g s s' o q e made =
-    flowed-other (IsAtHand s.basis.store (export_case h f refname)) (step_in (room_in s) (export_case h f refname)) o q e
-    (other-on (export_case h f refname) (recalled_made (room_in s)) (other-on (head_of refname h.refs) _ (other-found (find_entry bytes_cmp refname h.refs)) (λ n. tt)) (made-other (room_in s)))
+exported-other tagged h f refname items g s s' o q e made =
+    flowed-other (IsAtHand s.basis.store (export_case tagged h f refname)) (step_in (room_in s) (export_case tagged h f refname)) o q e
+    (other-on (export_case tagged h f refname) (recalled_made (room_in s)) (other-on (head_of refname h.refs) _ (other-found (find_entry bytes_cmp refname h.refs)) (λ n. tt)) (made-other (room_in s)))
     made.flowed

@@ -10,7 +10,7 @@ use Rattle.state_items.specs.Repos.{repo}
 use Rattle.state_items.specs.Changes.{Plan, held_after, plan_items}
 use Rattle.state_items.specs.Hands.{IsTwice}
 use Rattle.repo_ground.specs.Changes.{KeepsItems}
-use Rattle.proj_words.specs.Words.{Command, As, Export, Project, loads, reads, writes}
+use Rattle.proj_words.specs.Words.{Command, As, Export, ExportTags, Project, loads, reads, writes}
 use Rattle.proj_words.specs.declared.outcome.Outcome.{Outcome}
 use Rattle.proj_words.specs.declared.outcome.Outcome.TheVariants.{Done, OutOfMemory, Collision, ReadFault, WriteFault, StoreFault}
 use Rattle.proj_cli.specs.Cases.{Case, ProjectCase, IsJudgedRightly, Made, loaded}
@@ -90,6 +90,7 @@ IsOutcome hand outcome r = r ≡ Err outcome
 -- whether a form writes its report while it is made
 abbrev pub flows : Command → Bool
 flows (Export r f) = true
+flows (ExportTags r f) = true
 flows (As u c) = flows c
 flows asked = false
 
@@ -151,6 +152,7 @@ pub record IsSameState (h g : Held) : Type 0 where
   pub objects : g.objects ≡ h.objects
   pub refs : g.refs ≡ h.refs
   pub rule : g.rule ≡ h.rule
+  pub tags : g.tags ≡ h.tags
 
 -- items that have more behind them spell a state, which a form that doesn't change it has left
 pub record IsLonger (asked : Command) (items more : List Bytes) (h : Held) (now : List Bytes) : Type 0 where

@@ -13,11 +13,12 @@ use Rattle.state_items.specs.Fields.{BrokenAt, Clash}
 use Rattle.state_items.specs.Items.{Break, Held, read_items, nothing}
 use Rattle.push_laws.specs.Pushes.{Pushing}
 use Rattle.proj_words.specs.Faults.{stream_outcome}
-use Rattle.proj_words.specs.Words.{Command, Import, Project, Push, Export, Name, Rule, Audit, Verify, As, Batch, Trial}
+use Rattle.proj_words.specs.Words.{Command, Import, Project, Push, PushMerges, Export, ExportTags, Tags, Name, Rule, Audit, Verify, As, Batch, Trial}
 use Rattle.proj_words.specs.declared.outcome.Outcome.TheVariants.{Usage, FilterFault, Overlap, NotKeeping, Collision, Damaged, UnknownRef, Limit}
 use Rattle.proj_words.specs.declared.outcome.Outcome.{Outcome}
 use Rattle.proj_cli.specs.Filters.{sound}
 use Rattle.proj_cli.specs.declared.lines.Telling.{Telling}
+use Rattle.proj_cli.specs.declared.pushing.Manner.{Manner}
 
 -- ---- judging
 
@@ -26,7 +27,10 @@ use Rattle.proj_cli.specs.declared.lines.Telling.{Telling}
 abbrev pub verdict : Command → Result (Unit {0}) Outcome
 verdict (Project refname text) = sound text >>= λ _. Ok tt
 verdict (Push refname text) = sound text >>= λ _. Ok tt
+verdict (PushMerges refname text) = sound text >>= λ _. Ok tt
 verdict (Export refname text) = sound text >>= λ _. Ok tt
+verdict (ExportTags refname text) = sound text >>= λ _. Ok tt
+verdict (Tags refname text) = sound text >>= λ _. Ok tt
 verdict (Name refname text) = sound text >>= λ _. Ok tt
 verdict (Audit refname text path) = sound text >>= λ _. Ok tt
 verdict (Verify digits text path) = sound text >>= λ _. Ok tt
@@ -77,10 +81,12 @@ pub data Case : Type 0 where
   ImportCase : Bool → Held → Ran StreamFault → Case
   -- of the commit of the ref
   ProjectCase : Held → Filter → Bytes → Case
-  -- of the ref and its commit
-  ExportCase : Held → Filter → Bytes → Bytes → Case
-  -- and of what is told of each pushed commit
-  PushCase : Telling → Held → Filter → Bytes → Bytes → Pushing → Case
+  -- of the ref's commit
+  TagsCase : Held → Filter → Bytes → Case
+  -- whether with tags; of the ref and its commit
+  ExportCase : Bool → Held → Filter → Bytes → Bytes → Case
+  -- and of how commits may stand, and of what is told of each pushed commit
+  PushCase : Manner → Telling → Held → Filter → Bytes → Bytes → Pushing → Case
   -- of the ref, and the stream upon nothing
   NameCase : Filter → Bytes → Ran StreamFault → Case
   RuleCase : Held → ℕ → Case
@@ -93,8 +99,9 @@ pub data Case : Type 0 where
 abbrev pub held_in : Case → Held
 held_in (ImportCase force h x) = h
 held_in (ProjectCase h f n) = h
-held_in (ExportCase h f refname n) = h
-held_in (PushCase w h f refname n p) = h
+held_in (TagsCase h f n) = h
+held_in (ExportCase w h f refname n) = h
+held_in (PushCase m w h f refname n p) = h
 held_in (NameCase f refname x) = nothing
 held_in (RuleCase h k) = h
 held_in (AuditCase h f n q) = h

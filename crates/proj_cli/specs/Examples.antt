@@ -21,13 +21,16 @@ use Rattle.filter_text.specs.Filters.{sub}
 use Rattle.filter_text.specs.Limits.{read}
 use Rattle.filter_routes.specs.FaultTests.{fault}
 use Rattle.fast_export.specs.ExportTexts.{export_text}
-use Rattle.state_items.specs.Items.{change_text, is_canonical, kept_text, read_item, read_items, rule_text}
+use Rattle.state_items.specs.Items.{change_text, is_canonical, kept_text, read_item, read_items, rule_text, tagged_change_text}
 use Rattle.state_items.specs.Changes.{fresh, plan_items, room_of}
 use Rattle.push_laws.specs.Examples.{commit, naming, reading, showing}
 use Rattle.push_laws.specs.StreamExamples.{replaying}
+use Rattle.stream_reader.specs.Blocks.{tag_data}
+use Rattle.stream_reader.specs.Heads.{tag}
+use Rattle.tag_objects.specs.Tags.{tag_body, tag_object_name}
 use Rattle.proj_gate.specs.Policies.{decide, rules}
 use Rattle.proj_words.specs.Entries.{Entry, entries}
-use Rattle.proj_words.specs.Words.{As, Import, Project, Export, Push, Name, Rule, Trial, Batch, Unknown}
+use Rattle.proj_words.specs.Words.{As, Import, Project, Export, ExportTags, Tags, Push, Name, Rule, Trial, Batch, Unknown}
 use Rattle.proj_words.specs.declared.outcome.Outcome.{Outcome}
 use Rattle.proj_words.specs.declared.outcome.Outcome.TheVariants.{Done, Usage, UnknownRef, NotForward, NotAtHead, Limit, FilterFault, Overlap, Damaged, Syntax, Denied, BadPolicy}
 use Rattle.proj_words.specs.declared.outcome.FilterWhat.TheVariants as filters
@@ -36,6 +39,7 @@ use Rattle.proj_cli.specs.Push.{name_or_none}
 use Rattle.proj_cli.specs.Makes.{recalled_made}
 use Rattle.proj_cli.specs.Filters.{sound}
 use Rattle.proj_cli.specs.Steps.{step}
+use Rattle.proj_cli.specs.Tags.{shown_tags}
 use Rattle.proj_cli.specs.Trials.{trial_made}
 use Rattle.proj_cli.specs.Turns.{Turn, begun, items_after, turn_step, turn_text}
 
@@ -294,6 +298,46 @@ pub not_at_the_head : step (Push main (codes ":/a")) after_the_push pushed
     ≡ Err (NotAtHead (name_or_none (digits_name (codes "603e327e45d6237f0ea929264b187f78ba56c8de"))) (name_or_none (digits_name (codes "6a27ff6de5d45a65cc66723c6ae6227ea6004aa6"))))
 unfolding judging showing loading holding replaying reading naming digits
 not_at_the_head = refl
+
+-- ---- annotated tags
+
+-- what a theorem about annotated tags unfolds beside that, so that it computes
+unfoldable tagging : Option Path
+unfolding tag tag_data tagged_change_text tag_object_name
+tagging = None
+
+-- a commit of a/f and b/g with the tag v1, and another root with the tag v2
+abbrev tagged : List Bytes
+tagged = items_or_none (items_of (step (Import false) [] (stream
+    ++ codes "M 100644 inline b/g\ndata 6\nhello\ntag v1\nfrom refs/heads/main\ntagger A <a@x> 1700000000 +0000\ndata 3\nv1\n"
+    ++ codes "commit refs/heads/other\ncommitter A <a@x> 1700000000 +0000\ndata 5\nside\nM 100644 inline a/f\ndata 6\nhello\n"
+    ++ codes "tag v2\nfrom refs/heads/other\ntagger A <a@x> 1700000000 +0000\ndata 3\nv2\n")))
+
+-- of the projected commit, which is no ancestor of the other one
+pub a_tag_is_shown : output_of (step (Tags main (codes ":/a")) tagged []) ≡ Ok (codes "v1 d88c050478c5950055596d4c1e52f78a773f00eb\n")
+unfolding judging showing loading holding replaying reading naming digits tagging
+a_tag_is_shown = refl
+
+pub the_body_of_its_object : (loaded tagged >>= λ h. head_of main h.refs >>= λ n. Ok (map (λ t. length (tag_body t)) (shown_tags h (sub (codes "a" ∷ [])) n))) ≡ Ok (103 ∷ [])
+unfolding judging showing loading holding replaying reading naming digits tagging
+the_body_of_its_object = refl
+
+pub no_tag_is_shown : output_of (step (Tags main (codes ":/c")) tagged []) ≡ Ok []
+unfolding judging showing loading holding replaying reading naming digits tagging
+no_tag_is_shown = refl
+
+pub tags_of_no_ref : step (Tags (codes "refs/heads/none") (codes ":/a")) tagged [] ≡ Err UnknownRef
+unfolding judging showing loading holding replaying reading naming digits tagging
+tags_of_no_ref = refl
+
+pub a_tag_is_exported : output_of (step (ExportTags main (codes ":/a")) tagged [])
+    ≡ Ok (codes "blob\nmark :1\ndata 6\nhello\n\nreset refs/heads/main\ncommit refs/heads/main\nmark :2\nauthor A <a@x> 1700000000 +0000\ncommitter A <a@x> 1700000000 +0000\ndata 5\ninit\n\ndeleteall\nM 100644 :1 f\n\nreset refs/heads/main\nfrom :2\n\ntag v1\nfrom 6a27ff6de5d45a65cc66723c6ae6227ea6004aa6\ntagger A <a@x> 1700000000 +0000\ndata 3\nv1\n\n")
+unfolding judging showing loading holding replaying reading naming digits tagging export_text quote quoted_byte
+a_tag_is_exported = refl
+
+pub nothing_is_exported : output_of (step (ExportTags main (codes ":/c")) tagged []) ≡ Ok []
+unfolding judging showing loading holding replaying reading naming digits tagging export_text
+nothing_is_exported = refl
 
 -- ---- commands of users
 

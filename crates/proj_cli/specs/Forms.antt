@@ -1,5 +1,5 @@
 -- What is made of a form of the words, before anything is written to the output.
-use Rattle.std.specs.Prelude.{◌≡◌, ◌≢◌, ◌⊎◌, ◌++◌, true, false, List, Some, Result, Ok, Err, IsErr, All}
+use Rattle.std.specs.Prelude.{◌≡◌, ◌≢◌, ◌⊎◌, ◌++◌, Bool, true, false, List, Some, Result, Ok, Err, IsErr, All}
 use Rattle.std.specs.Io.KnownBytes.{Keeps}
 use Rattle.std.specs.Option.{option_to_list}
 use Rattle.std.specs.Result.{result_ok}
@@ -99,13 +99,13 @@ pub record IsMade (asked : Command) (input input_now : SourceView) (store store_
 abbrev pub IsFormFlowed : (Object → Type 0) → Result Made Outcome → SinkView → SinkView → Outcome → Type 0
 IsFormFlowed hand r before after outcome = (IsRefusal hand outcome r × Keeps before.written after.written) ⊎ IsFlowed hand r before after outcome
 
--- the case of an export of what is loaded
-abbrev pub exported_case : Result Held Outcome → Filter → Bytes → Result Case Outcome
-exported_case loading f refname = loading >>= λ h. export_case h f refname
+-- the case of an export of what is loaded, with tags or without
+abbrev pub exported_case : Bool → Result Held Outcome → Filter → Bytes → Result Case Outcome
+exported_case tagged loading f refname = loading >>= λ h. export_case tagged h f refname
 
 -- that of a user, whom the policy has to let see it
 abbrev pub user_exported_case : Result Held Outcome → Bytes → Filter → Bytes → Result Case Outcome
-user_exported_case loading user f refname = loading >>= λ h. granted h user See refname f >>= λ _. export_case h f refname
+user_exported_case loading user f refname = loading >>= λ h. granted h user See refname f >>= λ _. export_case false h f refname
 
 -- What became of an export for these items. It is lawful where it is done.
 pub record IsExport (r : Result Case Outcome) (items : List Bytes) (before after : SinkView) (outcome : Outcome) : Type 0 where

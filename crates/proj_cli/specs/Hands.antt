@@ -132,6 +132,10 @@ components_for f cs = parts_in f ++ flat_map (λ c. parts_in (resolve f c.tree))
 abbrev pub own : ℕ → Filter → List Snapshot → Bytes → List Snapshot
 own k f cs n = own_commits (rule_by k) (shown f) cs (n ∷ [])
 
+-- of projections, each by itself: what is held, with the commits of their own that a commit and its ancestors become
+abbrev pub seen_hand : Held → Filter → Bytes → Hand
+seen_hand h f n = still_hand h.objects ((repo h).commits ++ own h.rule f (repo h).commits n) (components_for f (repo h).commits)
+
 -- of a history: what is held, with the projections
 abbrev pub history_hand : Held → Filter → Bytes → Hand
 history_hand h f n = still_hand h.objects ((repo h).commits ++ history h.rule f (repo h).commits n) (components_for f (repo h).commits)

@@ -6,7 +6,7 @@ use Rattle.commit_map.specs.Rules.{rule_number}
 use Rattle.workspace.specs.Laws.{IsUsable}
 use Rattle.proj_gate.specs.Policies.{See, Push as PushAct}
 use Rattle.state_items.specs.Items.{Held}
-use Rattle.proj_words.specs.Words.{Command, Import, Project, Push, Export, Name, Rule, Audit, Verify, As}
+use Rattle.proj_words.specs.Words.{Command, Import, Project, Push, PushMerges, Export, ExportTags, Tags, Name, Rule, Audit, Verify, As}
 use Rattle.proj_words.specs.declared.outcome.Outcome.{Outcome}
 use Rattle.proj_words.specs.declared.outcome.Outcome.TheVariants.{Done, OutOfMemory, ReadFault, WriteFault, StoreFault}
 use Rattle.proj_cli.specs.Audit.{path_by}
@@ -50,7 +50,10 @@ abbrev pub IsJudged : Command → Judged → Type 0
 IsJudged asked (judged.Import force) = asked ≡ Import force
 IsJudged asked (judged.Project s) = IsOf Project asked s
 IsJudged asked (judged.Push s) = IsOf Push asked s
+IsJudged asked (judged.PushMerges s) = IsOf PushMerges asked s
 IsJudged asked (judged.Export s) = IsOf Export asked s
+IsJudged asked (judged.ExportTags s) = IsOf ExportTags asked s
+IsJudged asked (judged.Tags s) = IsOf Tags asked s
 IsJudged asked (judged.Name s) = IsOf Name asked s
 IsJudged asked (judged.Rule r) = asked ≡ Rule (rule_number r)
 IsJudged asked (judged.Audit s q) = IsAuditOf asked s q

@@ -6,6 +6,7 @@ pub mod Import
 pub mod Policy
 pub mod Project
 pub mod Export
+pub mod Tags
 pub mod Push
 pub mod Name
 pub mod Rule

@@ -29,7 +29,7 @@ use Rattle.proj_cli.specs.Steps.{made, hand, IsLawful}
 use Rattle.proj_cli.specs.Project.{name_line, in_order_of}
 use Rattle.proj_cli.specs.Filters.{entries_of, recalled}
 use Rattle.proj_cli.specs.Hands.{Hand, IsInHands}
-use Rattle.proj_cli.specs.Export.{EndsAtProjection}
+use Rattle.proj_cli.specs.Export.{IsExportOf}
 use Rattle.proj_cli.specs.Push.{IsPushed}
 use Rattle.proj_cli.specs.Verify.{IsVerified}
 use Rattle.proj_cli.specs.Plans.{AreKept}
@@ -117,10 +117,10 @@ pub record IsKeepPlanOf (h : Held) (f : Filter) (n : Bytes) (room : Room) (p : P
 -- what a case appends: its step's plan, but for projections that are kept; and the law of its command
 abbrev pub IsPlanIn : Room → Case → Made → Plan → Type 0
 IsPlanIn room (ProjectCase h f n) m p = IsKeepPlanOf h f n room p
-IsPlanIn room (ExportCase h f refname n) m p = (p ≡ m.plan) × EndsAtProjection h f n
+IsPlanIn room (ExportCase tagged h f refname n) m p = (p ≡ m.plan) × IsExportOf tagged h f refname n
 IsPlanIn room (AuditCase h f n q) m p = (p ≡ m.plan) × IsAudited h f n q
 IsPlanIn room (VerifyCase f n q text) m p = (p ≡ m.plan) × IsVerified f n q text
-IsPlanIn room (PushCase w h f refname n x) m p = (p ≡ m.plan) × IsPushed h (held_after h p) f refname n x
+IsPlanIn room (PushCase k w h f refname n x) m p = (p ≡ m.plan) × IsPushed k h (held_after h p) f refname n x
 IsPlanIn room other m p = p ≡ m.plan
 
 -- A plan comes of the case that came up.

@@ -1,61 +1,67 @@
 -- What the words, the items and the input ask for. Each definition has a line for each command; what the line stands for is said in the
 -- command's own file.
 use Rattle.std.specs.Option.{option_to_list}
-use Rattle.std.specs.Prelude.{List, Result, Ok, Err, [], ◌≡◌, ⊤}
+use Rattle.std.specs.Prelude.{List, Result, Ok, Err, [], ◌≡◌, ⊤, true, false}
 use Rattle.std.specs.Result.{result_ok}
 use Rattle.git_objects.specs.Paths.{Bytes}
 use Rattle.git_objects.specs.Results.{◌>>=◌}
-use Rattle.fast_import.specs.Replays.{empty_base, ran}
+use Rattle.fast_import.specs.Replays.{empty_base}
 use Rattle.state_items.specs.Changes.{room_of, Room, rule_plan, Plan, held_after}
 use Rattle.state_items.specs.Items.{Held}
 use Rattle.import_laws.specs.Bases.{base_of}
 use Rattle.proj_gate.specs.Policies.{See, Push as PushAct}
-use Rattle.proj_words.specs.Words.{Command, Import, Project, Push, Export, Name, Rule, Audit, Verify, As}
+use Rattle.proj_words.specs.Words.{Command, Import, Project, Push, PushMerges, Export, ExportTags, Tags, Name, Rule, Audit, Verify, As}
 use Rattle.proj_words.specs.declared.outcome.Outcome.TheVariants.{Usage}
 use Rattle.proj_words.specs.declared.outcome.Outcome.{Outcome}
 use Rattle.proj_cli.specs.Audit.{IsAudited, audit_case, audit_made, path_by}
-use Rattle.proj_cli.specs.Cases.{Case, loaded, Made, ImportCase, ProjectCase, ExportCase, PushCase, NameCase, RuleCase, AuditCase, VerifyCase, within, held_in}
-use Rattle.proj_cli.specs.Export.{EndsAtProjection, export_case, export_made}
+use Rattle.proj_cli.specs.Cases.{Case, loaded, Made, ImportCase, ProjectCase, TagsCase, ExportCase, PushCase, NameCase, RuleCase, AuditCase, VerifyCase, within, held_in}
+use Rattle.proj_cli.specs.Export.{IsExportOf, export_case, export_hand, export_made}
 use Rattle.proj_cli.specs.Filters.{sound}
-use Rattle.proj_cli.specs.Hands.{Hand, still_hand, history_hand}
-use Rattle.proj_cli.specs.Import.{import_made, import_hand}
+use Rattle.proj_cli.specs.Hands.{Hand, history_hand, seen_hand, still_hand}
+use Rattle.proj_cli.specs.Import.{import_made, import_hand, tagged_ran}
 use Rattle.proj_cli.specs.Name.{name_hand, name_made}
 use Rattle.proj_cli.specs.Policy.{granted}
 use Rattle.proj_cli.specs.Project.{IsKeepPlan, HoldsHead, project_case, project_made}
 use Rattle.proj_cli.specs.Push.{IsPushed, push_case, push_hand, push_made}
 use Rattle.proj_cli.specs.Rule.{rule_line}
+use Rattle.proj_cli.specs.Tags.{tags_case, tags_made}
 use Rattle.proj_cli.specs.Verify.{IsVerified, name_by, verify_made}
 use Rattle.proj_cli.specs.declared.lines.Telling.TheVariants.{Both, PushedAlone}
+use Rattle.proj_cli.specs.declared.pushing.Manner.TheVariants.{InLine, Merging}
 
 -- The case of a command for what is loaded and an input, or the first refusal: of the filter, of loading, of the policy where a user asks,
 -- and of the ref. A batch and a trial are made of several commands, and are none in a batch.
 abbrev pub case : Command → Result Held Outcome → Bytes → Result Case Outcome
-case (Import force) loading input = loading >>= λ h. Ok (ImportCase force h (ran (base_of h) input))
+case (Import force) loading input = loading >>= λ h. Ok (ImportCase force h (tagged_ran (base_of h) input))
 case (Project refname text) loading input = sound text >>= λ f. loading >>= λ h. project_case h f refname
-case (Export refname text) loading input = sound text >>= λ f. loading >>= λ h. export_case h f refname
-case (Push refname text) loading input = sound text >>= λ f. loading >>= λ h. push_case Both h f refname input
-case (Name refname text) loading input = sound text >>= λ f. Ok (NameCase f refname (ran empty_base input))
+case (Export refname text) loading input = sound text >>= λ f. loading >>= λ h. export_case false h f refname
+case (ExportTags refname text) loading input = sound text >>= λ f. loading >>= λ h. export_case true h f refname
+case (Tags refname text) loading input = sound text >>= λ f. loading >>= λ h. tags_case h f refname
+case (Push refname text) loading input = sound text >>= λ f. loading >>= λ h. push_case InLine Both h f refname input
+case (PushMerges refname text) loading input = sound text >>= λ f. loading >>= λ h. push_case Merging Both h f refname input
+case (Name refname text) loading input = sound text >>= λ f. Ok (NameCase f refname (tagged_ran empty_base input))
 case (Rule k) loading input = loading >>= λ h. Ok (RuleCase h k)
 case (Audit refname text path) loading input = sound text >>= λ f. loading >>= λ h. audit_case h f refname (path_by path)
 case (Verify digits text path) loading input = sound text >>= λ f. Ok (VerifyCase f (name_by digits) (path_by path) input)
 case (As user (Project refname text)) loading input =
     sound text >>= λ f. loading >>= λ h. granted h user See refname f >>= λ _. project_case h f refname
 case (As user (Export refname text)) loading input =
-    sound text >>= λ f. loading >>= λ h. granted h user See refname f >>= λ _. export_case h f refname
+    sound text >>= λ f. loading >>= λ h. granted h user See refname f >>= λ _. export_case false h f refname
 case (As user (Push refname text)) loading input =
-    sound text >>= λ f. loading >>= λ h. granted h user PushAct refname f >>= λ _. push_case PushedAlone h f refname input
+    sound text >>= λ f. loading >>= λ h. granted h user PushAct refname f >>= λ _. push_case InLine PushedAlone h f refname input
 case (As user asked) loading input = Err Usage
 case Rattle.proj_words.specs.Words.Batch loading input = Err Usage
 case (Rattle.proj_words.specs.Words.Trial n) loading input = Err Usage
 case Rattle.proj_words.specs.Words.Unknown loading input = Err Usage
 
--- What comes of a case, or the first refusal: of the stream, of the push, of refs that don't move forward, and of the limits of the
--- state; for a name the ref comes last.
+-- What comes of a case, or the first refusal: of the stream, of the push, of refs that don't move forward, of tags that are taken,
+-- and of the limits of the state; for a name the ref comes last.
 abbrev pub made : Room → Case → Result Made Outcome
 made room (ImportCase force h x) = import_made room force h x
 made room (ProjectCase h f n) = project_made h f n
-made room (ExportCase h f refname n) = export_made h f refname n
-made room (PushCase w h f refname n p) = push_made w room h refname p
+made room (TagsCase h f n) = tags_made h f n
+made room (ExportCase tagged h f refname n) = export_made tagged h f refname n
+made room (PushCase m w h f refname n p) = push_made m w room h refname p
 made room (NameCase f refname x) = name_made f refname x
 made room (RuleCase h k) = within room h (rule_line k) (rule_plan h k)
 made room (AuditCase h f n q) = audit_made h f n q
@@ -73,8 +79,9 @@ step asked items input = case asked (loaded items) input >>= made (room_of items
 abbrev pub hand : Case → Hand
 hand (ImportCase force h x) = import_hand h x
 hand (ProjectCase h f n) = history_hand h f n
-hand (ExportCase h f refname n) = history_hand h f n
-hand (PushCase w h f refname n p) = push_hand h f n p
+hand (TagsCase h f n) = seen_hand h f n
+hand (ExportCase tagged h f refname n) = export_hand tagged h f n
+hand (PushCase m w h f refname n p) = push_hand m h f n p
 hand (NameCase f refname x) = name_hand f refname x
 hand other = still_hand (held_in other).objects [] []
 
@@ -85,9 +92,9 @@ IsPlanOf items other m p = p ≡ m.plan
 
 -- What a command has done that is done, with this in the state then.
 abbrev pub IsLawful : List Bytes → Plan → Case → Type 0
-IsLawful items plan (PushCase w h f refname n p) = IsPushed h (held_after h plan) f refname n p
+IsLawful items plan (PushCase m w h f refname n p) = IsPushed m h (held_after h plan) f refname n p
 IsLawful items plan (ProjectCase h f n) = HoldsHead h f n items plan
-IsLawful items plan (ExportCase h f refname n) = EndsAtProjection h f n
+IsLawful items plan (ExportCase tagged h f refname n) = IsExportOf tagged h f refname n
 IsLawful items plan (AuditCase h f n q) = IsAudited h f n q
 IsLawful items plan (VerifyCase f n q text) = IsVerified f n q text
 IsLawful items plan other = ⊤

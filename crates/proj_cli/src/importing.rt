@@ -1,10 +1,8 @@
 // What a stream brings to the store.
-ghost use Rattle.std.specs.Prelude.{◌≡◌, ◌≢◌, ◌⊎◌, ◌++◌, List, Err};
+ghost use Rattle.std.specs.Prelude.{◌≡◌, ◌≢◌, ◌⊎◌, ◌++◌, List, Err, None};
 ghost use Rattle.std.specs.Prelude.{Ok, reverse, true, IfOk, IfSome, MatchResult};
 ghost use Rattle.git_objects.specs.Paths.{Bytes};
 ghost use Rattle.git_objects.specs.Snapshots.{Snapshot};
-ghost use Rattle.fast_import.specs.Replays.{ran};
-ghost use Rattle.fast_import.specs.Waited.{waited};
 ghost use Rattle.projection_ground.specs.Grounds.{IsGround};
 ghost use Rattle.proj_io.specs.Counts.{Counts};
 ghost use Rattle.proj_io.specs.Stops.{OnlyAdds};
@@ -15,21 +13,25 @@ ghost use Rattle.import_laws.specs.Bases.{base_of};
 ghost use Rattle.state_items.specs.Changes.{Plan};
 ghost use Rattle.state_items.specs.Items.{Held};
 ghost use Rattle.state_items.specs.Repos.{repo};
+ghost use Rattle.repo_ground.specs.Contents.{Spells};
+ghost use Rattle.tag_objects.specs.TagLists.{rise};
 ghost use Rattle.proj_cli.specs.Cases.{ImportCase};
-ghost use Rattle.proj_cli.specs.Import.{all_forward};
-ghost use Rattle.proj_cli.specs.Intake.{TakesUpTo};
+ghost use Rattle.proj_cli.specs.Import.{all_forward, all_free, tagged_ran};
+ghost use Rattle.proj_cli.specs.Intake.{TakesUpTo, tagged_waited};
 ghost use Rattle.proj_cli.specs.Makes.{IsMadeOf, IsState, IsStateOf};
 ghost use Rattle.proj_cli.specs.Replaying.{IsPrepared};
 
 use crate::lines::refs_report;
 use crate::naming::commit_names;
 use crate::refusals::{commit_outcome, replay_outcome};
-use fast_import::{Replayed, replay_all};
+use fast_import::{Replayed, TaggedReplay, replay_tagged, replayed_tags_law};
 use git_objects::Bytes;
 use proj_io::{Keeper, Source};
 use proj_words::Outcome;
 use repo_ground::{Backward, Batch, State, StateView};
+use state_items::first_taken;
 use std::alloc::{AllocError, Global};
+use tag_objects::Tag;
 
 // The report of what a stream gives, and what is to be committed.
 fn prepared(alloc: Global, replayed: Replayed) -> Result<(Bytes, Batch), AllocError>
@@ -84,8 +86,29 @@ fn all_forward(state: &mut State, batch: &Batch, force: bool) -> Result<(), Outc
     }
 }
 
-/// Replays a stream upon the state and commits what it brings. The report has a line for each ref that it sets, in byte
-/// order. Unless `force`, a ref that is there may only move forward.
+// Unless `force`, no tag that is read has the name of another one of the state.
+fn all_free(alloc: Global, state: &State, tags: &[Tag], force: bool) -> Result<(), Outcome>
+    requires held { rise None state.now.tags ≡ true }
+    requires tags { rise None tags.now ≡ true }
+    ensures free { (h : Held) → Spells h state.now → let asked = all_free force h.tags tags.now in
+        MatchResult result (λ _. asked ≡ Ok tt) (λ e. (e ≡ Outcome.OutOfMemory) ⊎ (asked ≡ Err e)) }
+    ensures early { (result ≢ Err Outcome.ReadFault) × (result ≢ Err Outcome.WriteFault) ×
+        (result ≢ Err Outcome.StoreFault) }
+{
+    if force {
+        return Ok(());
+    }
+    match first_taken(state.tags(), tags) {
+        None => Ok(()),
+        Some(tag) => match tag.name.copy(alloc) {
+            Ok(tag) => Err(Outcome::TagExists { tag }),
+            Err(_) => Err(Outcome::OutOfMemory),
+        },
+    }
+}
+
+/// Replays a stream upon the state and commits what it brings, with its tags. The report has a line for each ref that
+/// it sets, in byte order. Unless `force`, a ref that is there may only move forward, and a tag that is there stays.
 pub fn import<S: Source, K: Keeper>(
     alloc: Global,
     state: &mut State,
@@ -98,26 +121,29 @@ pub fn import<S: Source, K: Keeper>(
     ensures made { let seen = keeper_view K.items K.number K.faults in
         (items : List Bytes) (h : Held) → IsStateOf items h state.old →
         (all : Bytes) × IfSome (S.left input.old) (λ l. all ≡ l) × (p : Plan) ×
-        IsMadeOf (Ok (ImportCase force h (ran (base_of h) all))) items h
+        IsMadeOf (Ok (ImportCase force h (tagged_ran (base_of h) all))) items h
         state.old state.new (seen store.old) (seen store.new) p result ×
         OnlyAdds (K.moment store.old) (K.moment store.new) (K.left_since store.old) (K.left_since store.new)
         (IsStopOf h state.old p (K.items store.old)) }
     ensures taken { (items : List Bytes) (h : Held) → IsStateOf items h state.old →
-        TakesUpTo (waited (base_of h)) (S.left input.old) (S.left input.new) }
+        TakesUpTo (tagged_waited (base_of h)) (S.left input.old) (S.left input.new) }
     ensures early { result ≢ Err Outcome.WriteFault }
     ensures read { Counts (S.faults input.old) (S.faults input.new) (result ≡ Err Outcome.ReadFault) }
     ensures used { IsUsed K.faults K.is_open K.tells store.old store.new (result ≡ Err Outcome.StoreFault) }
 {
+    replayed_tags_law();
     let view = StateView::of(&state.ground.graph, &state.refs, &state.blobs);
-    let replayed = match replay_all(alloc, input, &view, &mut state.ground.store) {
+    let given = match replay_tagged(alloc, input, &view, &mut state.ground.store) {
         Err(error) => return Err(replay_outcome(error)),
-        Ok(replayed) => replayed,
+        Ok(given) => given,
     };
+    let TaggedReplay { replayed, tags } = given;
     let Ok((report, batch)) = prepared(alloc, replayed) else {
         return Err(Outcome::OutOfMemory);
     };
     all_forward(state, &batch, force)?;
-    match state.commit(store, batch) {
+    all_free(alloc, state, &tags, force)?;
+    match state.commit_tagged(store, batch, tags) {
         Ok(()) => Ok(report),
         Err(error) => Err(commit_outcome(error)),
     }

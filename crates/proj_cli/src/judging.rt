@@ -41,7 +41,10 @@ pub(crate) enum Judged {
     Import(bool),
     Project(Subject),
     Push(Subject),
+    PushMerges(Subject),
     Export(Subject),
+    ExportTags(Subject),
+    Tags(Subject),
     Name(Subject),
     Rule(Rule),
     /// At a path.
@@ -120,9 +123,21 @@ pub(crate) fn judge(alloc: Global, asked: Command<'_>) -> Result<Judged, Outcome
             let subject = read_subject(alloc, refname, filter)?;
             Ok(Judged::Push(subject))
         }
+        Command::PushMerges(refname, filter) => {
+            let subject = read_subject(alloc, refname, filter)?;
+            Ok(Judged::PushMerges(subject))
+        }
         Command::Export(refname, filter) => {
             let subject = read_subject(alloc, refname, filter)?;
             Ok(Judged::Export(subject))
+        }
+        Command::ExportTags(refname, filter) => {
+            let subject = read_subject(alloc, refname, filter)?;
+            Ok(Judged::ExportTags(subject))
+        }
+        Command::Tags(refname, filter) => {
+            let subject = read_subject(alloc, refname, filter)?;
+            Ok(Judged::Tags(subject))
         }
         Command::Name(refname, filter) => {
             let subject = read_subject(alloc, refname, filter)?;

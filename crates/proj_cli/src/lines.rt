@@ -12,6 +12,7 @@ ghost use Rattle.proj_cli.specs.Project.{name_line};
 ghost use Rattle.proj_cli.specs.Import.{ref_line};
 ghost use Rattle.proj_cli.specs.Rule.{rule_line};
 ghost use Rattle.proj_cli.specs.Push.{told_digits};
+ghost use Rattle.proj_cli.specs.Tags.{tag_line};
 
 use commit_map::{Rule, Shown};
 use fast_import::Setting;
@@ -19,6 +20,7 @@ use git_objects::Mode;
 use path_trees::Leaf;
 use push_back::Pair;
 use std::alloc::{AllocError, Global};
+use tag_objects::{Tag, tag_object_name};
 
 // Adds the line of a ref and its commit.
 fn add_ref_line(report: &mut Vec<u8>, set: &Setting) -> Result<(), AllocError>
@@ -38,6 +40,29 @@ pub fn refs_report(alloc: Global, refs: &[Setting]) -> Result<Vec<u8>, AllocErro
     let mut report = Vec::new(alloc);
     for set in refs {
         add_ref_line(&mut report, set)?;
+    }
+    Ok(report)
+}
+
+// Adds the line of a tag and its object.
+fn add_tag_line(alloc: Global, report: &mut Vec<u8>, tag: &Tag) -> Result<(), AllocError>
+    ensures { OnOk result (report.new.items ≡ report.old.items ++ tag_line tag.now) }
+{
+    let object = tag_object_name(alloc, tag)?;
+    report.extend_from_slice(tag.name.text())?;
+    report.push(b' ')?;
+    report.extend_from_slice(&object.hex())?;
+    report.push(b'\n')?;
+    Ok(())
+}
+
+/// The lines of tags with their objects.
+pub fn tags_report(alloc: Global, tags: &[Tag]) -> Result<Vec<u8>, AllocError>
+    ensures { IfOk result (λ report. report.items ≡ flat_map tag_line tags.now) }
+{
+    let mut report = Vec::new(alloc);
+    for tag in tags {
+        add_tag_line(alloc, &mut report, tag)?;
     }
     Ok(report)
 }

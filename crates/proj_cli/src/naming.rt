@@ -8,8 +8,7 @@ ghost use Rattle.git_objects.specs.Refs.{bytes_cmp};
 ghost use Rattle.commit_graph.specs.Graphs.{place_of};
 ghost use Rattle.commit_map.specs.Shown.{shown_value};
 ghost use Rattle.fast_import.specs.Replaying.{setting_value};
-ghost use Rattle.fast_import.specs.Replays.{empty_base, ran};
-ghost use Rattle.fast_import.specs.Waited.{waited};
+ghost use Rattle.fast_import.specs.Replays.{empty_base};
 ghost use Rattle.filter_apply.specs.Faults.{IsApplyFault};
 ghost use Rattle.filter_text.specs.Filters.{Filter as FilterValue};
 ghost use Rattle.filter_text.specs.Shapes.{shape};
@@ -24,7 +23,8 @@ ghost use Rattle.workspace.specs.Workspaces.{shown};
 ghost use Rattle.proj_cli.specs.Cases.{NameCase, loaded};
 ghost use Rattle.proj_cli.specs.Steps.{case};
 ghost use Rattle.proj_cli.specs.Forms.{IsFormMade};
-ghost use Rattle.proj_cli.specs.Intake.{TakesUpTo};
+ghost use Rattle.proj_cli.specs.Import.{tagged_ran};
+ghost use Rattle.proj_cli.specs.Intake.{TakesUpTo, tagged_waited};
 ghost use Rattle.proj_cli.specs.Makes.{IsReportOf};
 ghost use Rattle.proj_cli.specs.Stopped.{ForInput};
 ghost use Rattle.proj_cli.specs.StreamsGiven.{IsGiven, IsUnnamed};
@@ -32,7 +32,7 @@ ghost use Rattle.proj_cli.specs.StreamsGiven.{IsGiven, IsUnnamed};
 use crate::lines::projection_report;
 use crate::refusals::{apply_outcome, commit_outcome, replay_outcome};
 use commit_map::Shown;
-use fast_import::{EmptyBase, Made, Replayed, Setting, replay_all};
+use fast_import::{EmptyBase, Made, Setting, TaggedReplay, replay_tagged};
 use filter_apply::ApplyError;
 use filter_text::Filter;
 use git_objects::{Bytes, Name, Steps};
@@ -91,22 +91,18 @@ fn projected<L: Ledger>(
     project_to(alloc, ground, filter, head, &mut steps)
 }
 
-// What a stream gives, to be taken in without refs, and its heads.
-fn unnamed(alloc: Global, replayed: Replayed) -> Result<(Batch, Vec<Setting>), AllocError>
-    ensures { IfOk result (λ x. IsUnnamed replayed x.0 x.1.items) }
+// What a stream gives, to be taken in without refs and tags, and its heads.
+fn unnamed(alloc: Global, given: TaggedReplay) -> Result<(Batch, Vec<Setting>), AllocError>
+    ensures { IfOk result (λ x. IsUnnamed given.replayed x.0 x.1.items) }
 {
-    let names = commit_names(alloc, &replayed.commits)?;
-    let Replayed {
-        blobs,
-        commits: _,
-        heads,
-    } = replayed;
+    let names = commit_names(alloc, &given.replayed.commits)?;
+    let TaggedReplay { replayed, tags: _ } = given;
     let batch = Batch {
-        blobs,
+        blobs: replayed.blobs,
         commits: names,
         refs: Vec::new(alloc),
     };
-    Ok((batch, heads))
+    Ok((batch, replayed.heads))
 }
 
 // Takes a stream's commits into a state that has nothing, and gives the stream's heads.
@@ -119,17 +115,17 @@ fn take_stream<S: Source>(
     ensures given { (all : Bytes) × (is_bytes all ≡ true) × IfSome (S.left input.old) (λ l. all ≡ l) ×
         IfOk result (λ heads. IsGiven all state.new heads.items) ×
         IfErr result (λ e. (f : FilterValue) (refname : Bytes) →
-        IsReportOf (Ok (NameCase f refname (ran empty_base all))) (Err e)) }
+        IsReportOf (Ok (NameCase f refname (tagged_ran empty_base all))) (Err e)) }
     ensures early { (result ≢ Err Outcome.WriteFault) × (result ≢ Err Outcome.StoreFault) }
-    ensures taken { TakesUpTo (waited empty_base) (S.left input.old) (S.left input.new) }
+    ensures taken { TakesUpTo (tagged_waited empty_base) (S.left input.old) (S.left input.new) }
     ensures told { S.tells input.new ↔ S.tells input.old }
     ensures read { Counts (S.faults input.old) (S.faults input.new) (result ≡ Err Outcome.ReadFault) }
 {
-    let replayed = match replay_all(alloc, input, &EmptyBase, &mut state.ground.store) {
+    let given = match replay_tagged(alloc, input, &EmptyBase, &mut state.ground.store) {
         Err(error) => return Err(replay_outcome(error)),
-        Ok(replayed) => replayed,
+        Ok(given) => given,
     };
-    let (batch, heads) = unnamed(alloc, replayed)?;
+    let (batch, heads) = unnamed(alloc, given)?;
     match state.take(&batch) {
         Err(error) => Err(commit_outcome(error)),
         Ok(()) => Ok(heads),
@@ -147,7 +143,7 @@ fn head_line(
     requires usable { IsUsable (shape filter.now) }
     requires given { (all : Bytes) × (is_bytes all ≡ true) × IsGiven all state.old heads.now }
     ensures made { (all : Bytes) → is_bytes all ≡ true → IsGiven all state.old heads.now →
-        IsReportOf (Ok (NameCase (shape filter.now) refname.now (ran empty_base all))) result }
+        IsReportOf (Ok (NameCase (shape filter.now) refname.now (tagged_ran empty_base all))) result }
     ensures early { (result ≢ Err Outcome.ReadFault) × (result ≢ Err Outcome.WriteFault) ×
         (result ≢ Err Outcome.StoreFault) }
 {
@@ -173,9 +169,9 @@ fn name_upon<S: Source>(
     requires usable { IsUsable (shape filter.now) }
     requires empty { IsEmpty state.old }
     ensures made { (all : Bytes) × IfSome (S.left input.old) (λ l. all ≡ l) ×
-        IsReportOf (Ok (NameCase (shape filter.now) refname.now (ran empty_base all))) result }
+        IsReportOf (Ok (NameCase (shape filter.now) refname.now (tagged_ran empty_base all))) result }
     ensures early { (result ≢ Err Outcome.WriteFault) × (result ≢ Err Outcome.StoreFault) }
-    ensures taken { TakesUpTo (waited empty_base) (S.left input.old) (S.left input.new) }
+    ensures taken { TakesUpTo (tagged_waited empty_base) (S.left input.old) (S.left input.new) }
     ensures told { S.tells input.new ↔ S.tells input.old }
     ensures read { Counts (S.faults input.old) (S.faults input.new) (result ≡ Err Outcome.ReadFault) }
 {
@@ -192,9 +188,9 @@ pub fn name<S: Source>(
 ) -> Result<Bytes, Outcome>
     requires usable { IsUsable (shape filter.now) }
     ensures made { (all : Bytes) × IfSome (S.left input.old) (λ l. all ≡ l) ×
-        IsReportOf (Ok (NameCase (shape filter.now) refname.now (ran empty_base all))) result }
+        IsReportOf (Ok (NameCase (shape filter.now) refname.now (tagged_ran empty_base all))) result }
     ensures early { (result ≢ Err Outcome.WriteFault) × (result ≢ Err Outcome.StoreFault) }
-    ensures taken { TakesUpTo (waited empty_base) (S.left input.old) (S.left input.new) }
+    ensures taken { TakesUpTo (tagged_waited empty_base) (S.left input.old) (S.left input.new) }
     ensures told { S.tells input.new ↔ S.tells input.old }
     ensures read { Counts (S.faults input.old) (S.faults input.new) (result ≡ Err Outcome.ReadFault) }
 {

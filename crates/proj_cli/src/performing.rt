@@ -23,8 +23,9 @@ use crate::judging::{Judged, judge};
 use crate::lines::Telling;
 use crate::naming::name;
 use crate::projecting::project_upon;
-use crate::pushing::push;
+use crate::pushing::{Manner, push};
 use crate::rule::set_rule;
+use crate::tagging::tags_upon;
 use crate::verifying::verify_text;
 use git_objects::Bytes;
 use memory_devices::SliceSource;
@@ -109,9 +110,22 @@ fn perform_permitted<S: Source, K: Keeper>(
             store,
             &subject.filter,
             &subject.refname,
+            Manner::InLine,
             Telling::Both,
         ),
-        Judged::Export(subject) => exported(alloc, subject, state),
+        Judged::PushMerges(subject) => push(
+            alloc,
+            state,
+            input,
+            store,
+            &subject.filter,
+            &subject.refname,
+            Manner::Merging,
+            Telling::Both,
+        ),
+        Judged::Export(subject) => exported(alloc, subject, state, false),
+        Judged::ExportTags(subject) => exported(alloc, subject, state, true),
+        Judged::Tags(subject) => tags_upon(alloc, subject, state),
         Judged::Name(subject) => name(alloc, &subject.filter, &subject.refname, input),
         Judged::Rule(rule) => set_rule(alloc, state, store, *rule),
         Judged::Audit(subject, path) => audited(alloc, subject, path, state),
@@ -126,9 +140,10 @@ fn perform_permitted<S: Source, K: Keeper>(
             store,
             &subject.filter,
             &subject.refname,
+            Manner::InLine,
             Telling::PushedAlone,
         ),
-        Judged::AsExport(_, subject) => exported(alloc, subject, state),
+        Judged::AsExport(_, subject) => exported(alloc, subject, state, false),
     }
 }
 

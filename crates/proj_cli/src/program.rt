@@ -84,7 +84,8 @@ fn perform_judged<S: Source, O: Sink, K: Keeper>(
 {
     recall_law();
     match judged {
-        Judged::Export(subject) => export_loaded(alloc, subject, out, store),
+        Judged::Export(subject) => export_loaded(alloc, subject, false, out, store),
+        Judged::ExportTags(subject) => export_loaded(alloc, subject, true, out, store),
         Judged::AsExport(user, subject) => {
             export_granted(alloc, user.bytes(), subject, out, store)
         }

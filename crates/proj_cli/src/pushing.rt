@@ -20,10 +20,11 @@ ghost use Rattle.proj_cli.specs.Makes.{IsMadeOf, IsState, IsStateOf};
 ghost use Rattle.proj_cli.specs.Pushing.{IsPlannedUpon, IsPushPrepared};
 
 use crate::lines::{Telling, pairs_report};
-use crate::refusals::{commit_outcome, fault_outcome};
+use crate::refusals::{commit_outcome, fault_outcome, merge_outcome};
 use fast_import::Setting;
 use filter_text::Filter;
 use git_objects::{Bytes, Name};
+use merge_push::plan_merges;
 use path_names::RefName;
 use proj_io::{Keeper, Source};
 use proj_words::Outcome;
@@ -31,8 +32,17 @@ use push_back::{Pair, Plan as Pushed, plan};
 use repo_ground::{Batch, State};
 use std::alloc::{AllocError, Global};
 
-// Works out what a push brings to a state, in its store.
-fn planned_upon<S: Source>(
+/// How the commits of a push may stand.
+#[derive(Clone, Copy)]
+pub enum Manner {
+    /// Each upon the one before it, the first upon the projection of the ref's commit.
+    InLine,
+    /// So, and behind that parent others: projections of commits that are held, and commits that were pushed before.
+    Merging,
+}
+
+// Works out what a push of commits in line brings to a state, in its store.
+fn planned_in_line<S: Source>(
     alloc: Global,
     state: &mut State,
     input: &mut S,
@@ -45,9 +55,10 @@ fn planned_upon<S: Source>(
     requires head { IsSome (place_of head.now.0 state.old.basis.graph) }
     ensures planned { (items : List Bytes) (h : Held) → IsStateOf items h state.old →
         (all : Bytes) × (is_bytes all ≡ true) × IfSome (S.left input.old) (λ l. all ≡ l) ×
-        IsPlannedUpon items h (shape filter.now) refname.now head.now.0 all state.old state.new result }
+        IsPlannedUpon Manner.InLine items h (shape filter.now) refname.now head.now.0 all state.old state.new result }
     ensures taken { (items : List Bytes) (h : Held) → IsStateOf items h state.old →
-        TakesUpTo (pushed_to h (shape filter.now) refname.now head.now.0) (S.left input.old) (S.left input.new) }
+        TakesUpTo (pushed_to Manner.InLine h (shape filter.now) refname.now head.now.0) (S.left input.old)
+        (S.left input.new) }
     ensures early { (result ≢ Err Outcome.WriteFault) × (result ≢ Err Outcome.StoreFault) }
     ensures told { S.tells input.new ↔ S.tells input.old }
     ensures read { Counts (S.faults input.old) (S.faults input.new) (result ≡ Err Outcome.ReadFault) }
@@ -55,6 +66,63 @@ fn planned_upon<S: Source>(
     match plan(alloc, &mut state.ground, filter, refname, head, input) {
         Ok(plan) => Ok(plan),
         Err(fault) => Err(fault_outcome(fault)),
+    }
+}
+
+// Works out what a push that may merge brings to a state, in its store.
+fn planned_merging<S: Source>(
+    alloc: Global,
+    state: &mut State,
+    input: &mut S,
+    filter: &Filter,
+    refname: &RefName,
+    head: &Name,
+) -> Result<Pushed, Outcome>
+    requires usable { IsUsable (shape filter.now) }
+    requires state { IsState state.old }
+    requires head { IsSome (place_of head.now.0 state.old.basis.graph) }
+    ensures planned { (items : List Bytes) (h : Held) → IsStateOf items h state.old →
+        (all : Bytes) × (is_bytes all ≡ true) × IfSome (S.left input.old) (λ l. all ≡ l) ×
+        IsPlannedUpon Manner.Merging items h (shape filter.now) refname.now head.now.0 all state.old state.new result }
+    ensures taken { (items : List Bytes) (h : Held) → IsStateOf items h state.old →
+        TakesUpTo (pushed_to Manner.Merging h (shape filter.now) refname.now head.now.0) (S.left input.old)
+        (S.left input.new) }
+    ensures early { (result ≢ Err Outcome.WriteFault) × (result ≢ Err Outcome.StoreFault) }
+    ensures told { S.tells input.new ↔ S.tells input.old }
+    ensures read { Counts (S.faults input.old) (S.faults input.new) (result ≡ Err Outcome.ReadFault) }
+{
+    match plan_merges(alloc, &mut state.ground, filter, refname, head, input) {
+        Ok(plan) => Ok(plan),
+        Err(fault) => Err(merge_outcome(fault)),
+    }
+}
+
+// Works out what a push brings to a state, in its store.
+fn planned_upon<S: Source>(
+    alloc: Global,
+    state: &mut State,
+    input: &mut S,
+    filter: &Filter,
+    refname: &RefName,
+    head: &Name,
+    manner: Manner,
+) -> Result<Pushed, Outcome>
+    requires usable { IsUsable (shape filter.now) }
+    requires state { IsState state.old }
+    requires head { IsSome (place_of head.now.0 state.old.basis.graph) }
+    ensures planned { (items : List Bytes) (h : Held) → IsStateOf items h state.old →
+        (all : Bytes) × (is_bytes all ≡ true) × IfSome (S.left input.old) (λ l. all ≡ l) ×
+        IsPlannedUpon manner items h (shape filter.now) refname.now head.now.0 all state.old state.new result }
+    ensures taken { (items : List Bytes) (h : Held) → IsStateOf items h state.old →
+        TakesUpTo (pushed_to manner h (shape filter.now) refname.now head.now.0) (S.left input.old)
+        (S.left input.new) }
+    ensures early { (result ≢ Err Outcome.WriteFault) × (result ≢ Err Outcome.StoreFault) }
+    ensures told { S.tells input.new ↔ S.tells input.old }
+    ensures read { Counts (S.faults input.old) (S.faults input.new) (result ≡ Err Outcome.ReadFault) }
+{
+    match manner {
+        Manner::InLine => planned_in_line(alloc, state, input, filter, refname, head),
+        Manner::Merging => planned_merging(alloc, state, input, filter, refname, head),
     }
 }
 
@@ -95,8 +163,9 @@ fn push_prepared(
     Ok((Bytes::of(report), batch))
 }
 
-/// Replays a stream upon the projection of a ref's commit, and commits the originals of its commits, with the ref at
-/// the last. The report has the name of each pushed commit, and its original's where that is told.
+/// Replays a stream of commits, which stand in this manner, upon the projection of a ref's commit, and commits their
+/// originals, with the ref at the last. The report has the name of each pushed commit, and its original's where that
+/// is told.
 pub fn push<S: Source, K: Keeper>(
     alloc: Global,
     state: &mut State,
@@ -104,6 +173,7 @@ pub fn push<S: Source, K: Keeper>(
     store: &mut K,
     filter: &Filter,
     refname: &RefName,
+    manner: Manner,
     telling: Telling,
 ) -> Result<Bytes, Outcome>
     requires open { K.is_open store.old × (state.old.number ≡ K.number store.old) }
@@ -112,13 +182,13 @@ pub fn push<S: Source, K: Keeper>(
     ensures made { let seen = keeper_view K.items K.number K.faults in
         (items : List Bytes) (h : Held) → IsStateOf items h state.old →
         (all : Bytes) × IfSome (S.left input.old) (λ l. all ≡ l) × (p : Plan) ×
-        IsMadeOf (push_case telling h (shape filter.now) refname.now all) items h
+        IsMadeOf (push_case manner telling h (shape filter.now) refname.now all) items h
         state.old state.new (seen store.old) (seen store.new) p result ×
         OnlyAdds (K.moment store.old) (K.moment store.new) (K.left_since store.old) (K.left_since store.new)
         (IsStopOf h state.old p (K.items store.old)) }
     ensures taken { (items : List Bytes) (h : Held) (n : Bytes) → IsStateOf items h state.old →
         find bytes_cmp refname.now h.refs ≡ Some n →
-        TakesUpTo (pushed_to h (shape filter.now) refname.now n) (S.left input.old) (S.left input.new) }
+        TakesUpTo (pushed_to manner h (shape filter.now) refname.now n) (S.left input.old) (S.left input.new) }
     // Where there is no such ref nothing is read.
     ensures headless { head_of state.old.refs refname.now ≡ None → input.new ≡ input.old }
     ensures early { result ≢ Err Outcome.WriteFault }
@@ -128,7 +198,7 @@ pub fn push<S: Source, K: Keeper>(
     let Some(head) = state.head(refname) else {
         return Err(Outcome::UnknownRef);
     };
-    let plan = planned_upon(alloc, state, input, filter, refname, &head)?;
+    let plan = planned_upon(alloc, state, input, filter, refname, &head, manner)?;
     let Some(last) = plan.commits.last().copied() else {
         // Nothing was pushed.
         return Ok(Bytes::of(Vec::new(alloc)));

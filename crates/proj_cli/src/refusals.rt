@@ -1,10 +1,12 @@
 // The outcomes of what lower crates refuse.
 ghost use Rattle.std.specs.Prelude.{◌≡◌};
-ghost use Rattle.proj_cli.specs.Pushing.{fault_outcome};
+ghost use Rattle.proj_cli.specs.Pushing.{fault_outcome, merge_outcome};
+ghost use Rattle.proj_cli.specs.declared.pushing.Manner.TheVariants.{InLine};
 ghost use Rattle.proj_cli.specs.Refusals.{apply_outcome, certificate_outcome, commit_outcome, replay_outcome};
 
 use fast_import::ReplayError;
 use filter_apply::ApplyError;
+use merge_push::MergeFault;
 use proj_audit::VerifyFault;
 use proj_words::Outcome;
 use push_back::PushFault;
@@ -54,7 +56,7 @@ pub(crate) fn replay_outcome(error: ReplayError) -> Outcome
 
 /// Why a push brings nothing.
 pub(crate) fn fault_outcome(fault: PushFault) -> Outcome
-    ensures { result ≡ fault_outcome fault }
+    ensures { result ≡ fault_outcome InLine fault }
 {
     match fault {
         PushFault::ReadFault => Outcome::ReadFault,
@@ -70,5 +72,26 @@ pub(crate) fn fault_outcome(fault: PushFault) -> Outcome
         PushFault::TreeLimit { n: _, which } => Outcome::Limit { which, at: None },
         PushFault::Collision { name } => Outcome::Collision { name },
         PushFault::OutOfMemory => Outcome::OutOfMemory,
+    }
+}
+
+/// Why a push that may merge brings nothing.
+pub(crate) fn merge_outcome(fault: MergeFault) -> Outcome
+    ensures { result ≡ merge_outcome fault }
+{
+    match fault {
+        MergeFault::ReadFault => Outcome::ReadFault,
+        MergeFault::Stream(fault) => Outcome::from(fault),
+        MergeFault::OtherRef { at } => Outcome::OtherRef { at },
+        MergeFault::NotAtHead { expected, got } => Outcome::NotAtHead { expected, got },
+        MergeFault::RepeatedParent { n } => Outcome::RepeatedParent { n },
+        MergeFault::NoChange { n } => Outcome::NoChange { n },
+        MergeFault::BadWorkspace { n } => Outcome::BadWorkspace { n },
+        MergeFault::Unseen { n, path } => Outcome::Unseen { n, path },
+        MergeFault::NotHeld { n, path } => Outcome::NotHeld { n, path },
+        MergeFault::Blocked { n, path, by } => Outcome::Blocked { n, path, by },
+        MergeFault::TreeLimit { n: _, which } => Outcome::Limit { which, at: None },
+        MergeFault::Collision { name } => Outcome::Collision { name },
+        MergeFault::OutOfMemory => Outcome::OutOfMemory,
     }
 }

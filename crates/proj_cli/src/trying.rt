@@ -21,7 +21,7 @@ use crate::filters::sound_filter;
 use crate::importing::import;
 use crate::judging::{read_subject, ref_name};
 use crate::lines::Telling;
-use crate::pushing::push;
+use crate::pushing::{Manner, push};
 use crate::refusals::apply_outcome;
 use filter_text::{Filter, print};
 use git_objects::{Bytes, Name};
@@ -51,7 +51,7 @@ fn head_projection(
     requires state { IsTriedState state.old }
     ensures { (items : List Bytes) (h : Held) (hands : List Hand) (all : Bytes) →
         IsTried items h hands state.old →
-        IsFrom items h (hands ++ hands_of (push_case Telling.Both h (shape filter.now) refname.now all))
+        IsFrom items h (hands ++ hands_of (push_case Manner.InLine Telling.Both h (shape filter.now) refname.now all))
         (from_of h (shape filter.now) refname.now) state.new result }
 {
     let Some(head) = state.head(refname) else {
@@ -90,6 +90,7 @@ fn try_push(
         store,
         &subject.filter,
         &subject.refname,
+        Manner::InLine,
         Telling::Both,
     )?;
     Ok(())

@@ -1,5 +1,5 @@
 -- Proves what src/exporting.rt needs of `export_granted`.
-use Rattle.std.proofs.Common.{List, Result, refl, ap}
+use Rattle.std.proofs.Common.{false, List, Result, refl, ap}
 use Rattle.git_objects.specs.Paths.{Bytes}
 use Rattle.git_objects.specs.Results.{◌>>=◌, refused_by}
 use Rattle.filter_text.specs.Shapes.{shape}
@@ -73,17 +73,17 @@ returns-clause-exported g c = λ (items : List Bytes) told.
     let same : KeepsItems (kept then) (kept mid) = (does.kept.number, does.kept.items) in
     let st = loaded-state items (kept then) (kept mid) (g.K.Keeper.number then) s told same does.ok in
     let may = c.in-Ok-granted.ensures items does.ok.held st in
-    export-of items (kept then) (kept mid) (g.K.Keeper.number then) s told same does.ok (λ (h : Held). granted h u See r f >>= λ _. export_case h f r)
+    export-of items (kept then) (kept mid) (g.K.Keeper.number then) s told same does.ok (λ (h : Held). granted h u See r f >>= λ _. export_case false h f r)
     (λ (l : Result Held Outcome). user_exported_case l u f r) (λ h. user-export-holds u f r h) (λ h. refl)
     c.export.new.state (shown c.args.out.now) (shown c.export.new.out) c.export.result
-    (let-exported (granted does.ok.held u See r f) (export_case does.ok.held f r) may items does.ok.held s c.export.new.state (shown c.args.out.now) (shown c.export.new.out) c.export.result
+    (let-exported (granted does.ok.held u See r f) (export_case false does.ok.held f r) may items does.ok.held s c.export.new.state (shown c.args.out.now) (shown c.export.new.out) c.export.result
     (c.export.ensures.exported items does.ok.held st))
 
 pub returns-clause-other : goal.returns-clause-other
 returns-clause-other g c =
     let shown = sink_view g.O.Sink.written g.O.Sink.faults g.O.Sink.refusals in
     let q = state-of _ _ c.in-Ok.state c.in-Ok.ensures.ok in
-    exported-other q.1 (shape c.args.subject.now.filter) c.args.subject.now.refname q.0 q.1 c.in-Ok.state c.export.new.state (shown c.args.out.now) (shown c.export.new.out) c.export.result (c.export.ensures.exported q.0 q.1 q.2)
+    exported-other false q.1 (shape c.args.subject.now.filter) c.args.subject.now.refname q.0 q.1 c.in-Ok.state c.export.new.state (shown c.args.out.now) (shown c.export.new.out) c.export.result (c.export.ensures.exported q.0 q.1 q.2)
 
 pub returns-clause-unread : goal.returns-clause-unread
 returns-clause-unread g c =

@@ -18,7 +18,7 @@ use Rattle.proj_cli.proofs.exporting.export_loaded.Goals as goal
 pub returns-in-Err-clause-exported : goal.returns-in-Err-clause-exported
 returns-in-Err-clause-exported g c = λ (items : List Bytes) told.
     let s = c.args.subject.now in
-    unloaded-export (λ (l : Result Held Outcome). exported_case l (shape s.filter) s.refname) (λ x. refl) items c.in-Err.outcome (sink_view g.O.Sink.written g.O.Sink.faults g.O.Sink.refusals c.args.out.now) (c.in-Err.ensures.err items told)
+    unloaded-export (λ (l : Result Held Outcome). exported_case c.args.tagged l (shape s.filter) s.refname) (λ x. refl) items c.in-Err.outcome (sink_view g.O.Sink.written g.O.Sink.faults g.O.Sink.refusals c.args.out.now) (c.in-Err.ensures.err items told)
 
 pub returns-in-Err-clause-unread : goal.returns-in-Err-clause-unread
 returns-in-Err-clause-unread g c = none-read c.in-Err.outcome c.in-Err.ensures.early
@@ -43,7 +43,7 @@ returns-in-Ok-clause-exported g c = λ (items : List Bytes) told.
     let f = shape c.args.subject.now.filter in
     let r = c.args.subject.now.refname in
     let same : KeepsItems (kept then) (kept mid) = (does.kept.number, does.kept.items) in
-    export-of items (kept then) (kept mid) (g.K.Keeper.number then) s told same does.ok (λ (h : Held). export_case h f r) (λ (l : Result Held Outcome). exported_case l f r) (λ h. export-holds f r h) (λ h. refl)
+    export-of items (kept then) (kept mid) (g.K.Keeper.number then) s told same does.ok (λ (h : Held). export_case c.args.tagged h f r) (λ (l : Result Held Outcome). exported_case c.args.tagged l f r) (λ h. export-holds c.args.tagged f r h) (λ h. refl)
     c.export.new.state (shown c.args.out.now) (shown c.export.new.out) c.export.result
     (c.export.ensures.exported items does.ok.held (loaded-state items (kept then) (kept mid) (g.K.Keeper.number then) s told same does.ok))
 
@@ -51,7 +51,7 @@ pub returns-in-Ok-clause-other : goal.returns-in-Ok-clause-other
 returns-in-Ok-clause-other g c =
     let shown = sink_view g.O.Sink.written g.O.Sink.faults g.O.Sink.refusals in
     let q = state-of _ _ c.in-Ok.state c.in-Ok.ensures.ok in
-    exported-other q.1 (shape c.args.subject.now.filter) c.args.subject.now.refname q.0 q.1 c.in-Ok.state c.export.new.state (shown c.args.out.now) (shown c.export.new.out) c.export.result (c.export.ensures.exported q.0 q.1 q.2)
+    exported-other c.args.tagged q.1 (shape c.args.subject.now.filter) c.args.subject.now.refname q.0 q.1 c.in-Ok.state c.export.new.state (shown c.args.out.now) (shown c.export.new.out) c.export.result (c.export.ensures.exported q.0 q.1 q.2)
 
 pub returns-in-Ok-clause-unread : goal.returns-in-Ok-clause-unread
 returns-in-Ok-clause-unread g c =

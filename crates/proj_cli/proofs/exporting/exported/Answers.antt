@@ -11,7 +11,7 @@ use Rattle.proj_cli.proofs.exporting.exported.Goals as goal
 
 pub returns-in-Done-clause-made : goal.returns-in-Done-clause-made
 returns-in-Done-clause-made c = λ (items : List Bytes) (h : Held) (k : KeeperView) w.
-    export-done h (shape c.args.subject.now.filter) c.args.subject.now.refname _ _ items c.args.state.now c.export.new.state k c.into_bytes.result
+    export-done c.args.tagged h (shape c.args.subject.now.filter) c.args.subject.now.refname _ _ items c.args.state.now c.export.new.state k c.into_bytes.result
     (ap (λ (s : SinkState). Some s.bytes) c.new-out.ensures) (ap Some (sym c.into_bytes.ensures)) (c.in-Done.ensures.exported items h w)
 
 pub returns-in-Done-clause-early : goal.returns-in-Done-clause-early
@@ -24,7 +24,7 @@ returns-in_default c =
     let write = no_fault c.export.ensures.cause in
     record {
       made = λ (items : List Bytes) (h : Held) (k : KeeperView) w.
-          export-refused h (shape c.args.subject.now.filter) c.args.subject.now.refname _ _ items c.args.state.now c.export.new.state k c.export.result c.in_default.not-Done write (made items h w);
+          export-refused c.args.tagged h (shape c.args.subject.now.filter) c.args.subject.now.refname _ _ items c.args.state.now c.export.new.state k c.export.result c.in_default.not-Done write (made items h w);
       early =
           quiet-made c.export.result write (no-read _ q.0 q.1 c.args.state.now c.export.new.state _ _ c.export.result (made q.0 q.1 q.2))
           (not-store _ q.0 q.1 c.args.state.now c.export.new.state _ _ c.export.result (made q.0 q.1 q.2));

@@ -1,7 +1,7 @@
 -- Proves what src/judging.rt needs of `judge`.
 use Rattle.std.proofs.Common.{sym, refl, ap}
 use Rattle.proj_words.specs.Views.{command_of}
-use Rattle.proj_words.specs.Words.{As, Project, Push, Export, Name, Audit, Verify}
+use Rattle.proj_words.specs.Words.{As, Project, Push, PushMerges, Export, ExportTags, Tags, Name, Audit, Verify}
 use Rattle.proj_cli.proofs.Judged.{text-refused}
 use Rattle.proj_cli.proofs.judging.judge.Goals as goal
 
@@ -15,10 +15,25 @@ returns-in_err-subject-in-Push-clause-err c =
     let t = c.in-Push.filter.now in
     text-refused (Push c.in-Push.refname.now t) (command_of c.args.asked) t (sym (ap command_of c.in-Push.is)) refl c.from_residual-in_err-subject-in-Push.result c.in_err-subject-in-Push.field-0.0 c.from_residual-in_err-subject-in-Push.ensures.1 c.in_err-subject-in-Push.ensures.err
 
+pub returns-in_err-subject-in-PushMerges-clause-err : goal.returns-in_err-subject-in-PushMerges-clause-err
+returns-in_err-subject-in-PushMerges-clause-err c =
+    let t = c.in-PushMerges.filter.now in
+    text-refused (PushMerges c.in-PushMerges.refname.now t) (command_of c.args.asked) t (sym (ap command_of c.in-PushMerges.is)) refl c.from_residual-in_err-subject-in-PushMerges.result c.in_err-subject-in-PushMerges.field-0.0 c.from_residual-in_err-subject-in-PushMerges.ensures.1 c.in_err-subject-in-PushMerges.ensures.err
+
 pub returns-in_err-subject-in-Export-clause-err : goal.returns-in_err-subject-in-Export-clause-err
 returns-in_err-subject-in-Export-clause-err c =
     let t = c.in-Export.filter.now in
     text-refused (Export c.in-Export.refname.now t) (command_of c.args.asked) t (sym (ap command_of c.in-Export.is)) refl c.from_residual-in_err-subject-in-Export.result c.in_err-subject-in-Export.field-0.0 c.from_residual-in_err-subject-in-Export.ensures.1 c.in_err-subject-in-Export.ensures.err
+
+pub returns-in_err-subject-in-ExportTags-clause-err : goal.returns-in_err-subject-in-ExportTags-clause-err
+returns-in_err-subject-in-ExportTags-clause-err c =
+    let t = c.in-ExportTags.filter.now in
+    text-refused (ExportTags c.in-ExportTags.refname.now t) (command_of c.args.asked) t (sym (ap command_of c.in-ExportTags.is)) refl c.from_residual-in_err-subject-in-ExportTags.result c.in_err-subject-in-ExportTags.field-0.0 c.from_residual-in_err-subject-in-ExportTags.ensures.1 c.in_err-subject-in-ExportTags.ensures.err
+
+pub returns-in_err-subject-in-Tags-clause-err : goal.returns-in_err-subject-in-Tags-clause-err
+returns-in_err-subject-in-Tags-clause-err c =
+    let t = c.in-Tags.filter.now in
+    text-refused (Tags c.in-Tags.refname.now t) (command_of c.args.asked) t (sym (ap command_of c.in-Tags.is)) refl c.from_residual-in_err-subject-in-Tags.result c.in_err-subject-in-Tags.field-0.0 c.from_residual-in_err-subject-in-Tags.ensures.1 c.in_err-subject-in-Tags.ensures.err
 
 pub returns-in_err-subject-in-Name-clause-err : goal.returns-in_err-subject-in-Name-clause-err
 returns-in_err-subject-in-Name-clause-err c =

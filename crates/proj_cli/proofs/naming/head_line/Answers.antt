@@ -3,7 +3,7 @@ use Rattle.std.proofs.Common.{◌∙◌, Result, Ok, sym, subst}
 use Rattle.std.specs.Option.{option_map}
 use Rattle.git_objects.specs.Paths.{Bytes}
 use Rattle.commit_map.specs.Shown.{shown_value}
-use Rattle.fast_import.specs.Replays.{empty_base, ran}
+use Rattle.fast_import.specs.Replays.{empty_base}
 use Rattle.filter_text.specs.Shapes.{shape}
 use Rattle.repo_ground.specs.Contents.{Contents}
 use Rattle.repo_ground.specs.contracts.state.State.{the_view}
@@ -16,6 +16,7 @@ use Rattle.proj_cli.specs.StreamsGiven.{IsGiven}
 use Rattle.proj_cli.proofs.NamesGiven.{known-head, line-given, none-quiet, passed-quiet, passed-whole, unknown-told, unshown-told, untold-memory}
 use Rattle.proj_cli.proofs.Outcomes.{apply-quiet}
 use Rattle.proj_cli.proofs.naming.head_line.Goals as goal
+use Rattle.proj_cli.specs.Import.{tagged_ran}
 
 pub returns-in_default-clause-made : goal.returns-in_default-clause-made
 returns-in_default-clause-made c = λ all bytes w.
@@ -50,7 +51,7 @@ pub returns-in_err-line-in-Ok-clause-made : goal.returns-in_err-line-in-Ok-claus
 returns-in_err-line-in-Ok-clause-made c = λ all bytes w.
     let f = shape c.args.filter.now in
     let n = c.args.refname.now in
-    passed-whole Bytes c.from_residual.result outcomes.OutOfMemory c.from_residual.ensures.1 (λ (r : Result Bytes Outcome). IsReportOf (Ok (NameCase f n (ran empty_base all))) r) (untold-memory all f n)
+    passed-whole Bytes c.from_residual.result outcomes.OutOfMemory c.from_residual.ensures.1 (λ (r : Result Bytes Outcome). IsReportOf (Ok (NameCase f n (tagged_ran empty_base all))) r) (untold-memory all f n)
 
 pub returns-in_err-line-in-Ok-clause-early : goal.returns-in_err-line-in-Ok-clause-early
 returns-in_err-line-in-Ok-clause-early c = passed-quiet _ c.from_residual.result outcomes.OutOfMemory c.from_residual.ensures.1 (λ q. cc, λ q. cc, λ q. cc)

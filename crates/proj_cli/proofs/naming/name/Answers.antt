@@ -1,10 +1,10 @@
 -- Proves what src/naming.rt needs of `name`.
 use Rattle.filter_text.specs.Shapes.{shape}
 use Rattle.fast_import.specs.Replays.{empty_base}
-use Rattle.fast_import.specs.Waited.{waited}
 use Rattle.proj_cli.proofs.Intaking.{takes-none}
 use Rattle.proj_cli.proofs.NamesGiven.{some-bytes, untold-memory}
 use Rattle.proj_cli.proofs.naming.name.Goals as goal
+use Rattle.proj_cli.specs.Intake.{tagged_waited}
 
 pub returns-in-Err-clause-made : goal.returns-in-Err-clause-made
 returns-in-Err-clause-made g c =
@@ -18,4 +18,4 @@ pub returns-in-Err-clause-told : goal.returns-in-Err-clause-told
 returns-in-Err-clause-told g c = (λ t. t, λ t. t)
 
 pub returns-in-Err-clause-taken : goal.returns-in-Err-clause-taken
-returns-in-Err-clause-taken g c = takes-none (waited empty_base) (g.S.Source.left c.args.input.now)
+returns-in-Err-clause-taken g c = takes-none (tagged_waited empty_base) (g.S.Source.left c.args.input.now)

@@ -1,7 +1,7 @@
 -- Proves what src/naming.rt needs of `name_upon`.
 use Rattle.std.proofs.Common.{List, Result, Ok, Err, sym, ap, subst}
 use Rattle.git_objects.specs.Paths.{Bytes}
-use Rattle.fast_import.specs.Replays.{empty_base, ran}
+use Rattle.fast_import.specs.Replays.{empty_base}
 use Rattle.fast_import.specs.declared.replayed.Setting.{Setting}
 use Rattle.filter_text.specs.Shapes.{shape}
 use Rattle.proj_words.specs.declared.outcome.Outcome.{Outcome}
@@ -11,6 +11,7 @@ use Rattle.proj_cli.specs.Makes.{IsReportOf}
 use Rattle.proj_cli.specs.StreamsGiven.{IsGiven}
 use Rattle.proj_cli.proofs.NamesGiven.{counts-by, passed-count, passed-neither, passed-whole}
 use Rattle.proj_cli.proofs.naming.name_upon.Goals as goal
+use Rattle.proj_cli.specs.Import.{tagged_ran}
 
 pub returns-in_err-heads-clause-made : goal.returns-in_err-heads-clause-made
 returns-in_err-heads-clause-made g c =
@@ -19,7 +20,7 @@ returns-in_err-heads-clause-made g c =
     let n = c.args.refname.now in (
       t.0,
       t.2,
-      passed-whole Bytes c.from_residual.result c.in_err-heads.field-0.0 c.from_residual.ensures.1 (λ (r : Result Bytes Outcome). IsReportOf (Ok (NameCase f n (ran empty_base t.0))) r) (t.4 f n),
+      passed-whole Bytes c.from_residual.result c.in_err-heads.field-0.0 c.from_residual.ensures.1 (λ (r : Result Bytes Outcome). IsReportOf (Ok (NameCase f n (tagged_ran empty_base t.0))) r) (t.4 f n),
     )
 
 pub returns-in_err-heads-clause-early : goal.returns-in_err-heads-clause-early

@@ -1,6 +1,6 @@
 -- Proves what src/naming.rt needs of `take_stream`.
 use Rattle.std.proofs.Common.{◌≡◌, [], Err, Ok, sym, ap, subst, ◌∙◌}
-use Rattle.fast_import.specs.Replays.{empty_base, ran}
+use Rattle.fast_import.specs.Replays.{empty_base}
 use Rattle.proj_words.specs.declared.outcome.Outcome.TheVariants as outcomes
 use Rattle.repo_ground.specs.Contents.{Contents}
 use Rattle.repo_ground.specs.Loads.{IsEmpty}
@@ -11,13 +11,14 @@ use Rattle.proj_cli.proofs.Intaking.{replay-takes}
 use Rattle.proj_cli.proofs.NamesGiven.{IsUntold, batch-given, counts-by, ground-given, neither, passed-count, passed-neither, passed-result, same-error, state-given, unreplayed, untaken, untaken-store, untold-memory}
 use Rattle.proj_cli.proofs.Outcomes.{commit-read, commit-write, replay-read, replay-store, replay-write, told-input}
 use Rattle.proj_cli.proofs.naming.take_stream.Goals as goal
+use Rattle.proj_cli.specs.Import.{tagged_ran}
 
 pub returns-in-Err-clause-given : goal.returns-in-Err-clause-given
 returns-in-Err-clause-given g c =
     let v : Contents = the_view c.state.inside in
     let empty = subst IsEmpty (sym c.state.view_is) c.requires in
     let t = c.in-Err.ensures.stream in
-    (t.0, t.1, told-input (g.S.Source.left c.args.input.now) t.0 t.2, tt, unreplayed t.0 t.1 v empty c.replay_all.new.store c.in-Err.error c.replay_outcome.result c.replay_outcome.ensures t.3)
+    (t.0, t.1, told-input (g.S.Source.left c.args.input.now) t.0 t.2, tt, unreplayed t.0 t.1 v empty c.replay_tagged.new.store c.in-Err.error c.replay_outcome.result c.replay_outcome.ensures t.3)
 
 pub returns-in-Err-clause-early : goal.returns-in-Err-clause-early
 returns-in-Err-clause-early g c =
@@ -29,7 +30,7 @@ returns-in-Err-clause-told g c = c.in-Err.ensures.told
 
 pub returns-in-Err-clause-read : goal.returns-in-Err-clause-read
 returns-in-Err-clause-read g c =
-    counts-by (g.S.Source.faults c.args.input.now) (g.S.Source.faults c.replay_all.new.input) _ _ c.in-Err.ensures.cause
+    counts-by (g.S.Source.faults c.args.input.now) (g.S.Source.faults c.replay_tagged.new.input) _ _ c.in-Err.ensures.cause
     (λ q. ap Err (replay-read c.in-Err.error (sym c.replay_outcome.ensures ∙ same-error c.replay_outcome.result outcomes.ReadFault q)))
 
 pub returns-in_err-batch-clause-given : goal.returns-in_err-batch-clause-given
@@ -46,7 +47,7 @@ returns-in_err-batch-clause-told g c = c.in-Ok.ensures.told
 
 pub returns-in_err-batch-clause-read : goal.returns-in_err-batch-clause-read
 returns-in_err-batch-clause-read g c =
-    passed-count _ c.from_residual.result outcomes.OutOfMemory c.from_residual.ensures.1 (g.S.Source.faults c.args.input.now) (g.S.Source.faults c.replay_all.new.input) _ outcomes.ReadFault
+    passed-count _ c.from_residual.result outcomes.OutOfMemory c.from_residual.ensures.1 (g.S.Source.faults c.args.input.now) (g.S.Source.faults c.replay_tagged.new.input) _ outcomes.ReadFault
     c.in-Ok.ensures.cause (λ q. absurd (let no : outcomes.OutOfMemory ≡ outcomes.ReadFault = q in cc))
 
 pub take-requires-clause-ground : goal.take-requires-clause-ground
@@ -54,7 +55,7 @@ take-requires-clause-ground g c =
     let v : Contents = the_view c.state.inside in
     let empty = subst IsEmpty (sym c.state.view_is) c.requires in
     let t = c.in-Ok.ensures.stream in
-    ground-given t.0 t.1 v empty c.replay_all.new.store c.in-Ok.replayed t.3
+    ground-given t.0 t.1 v empty c.replay_tagged.new.store c.in-Ok.given t.3
 
 pub take-requires-clause-batch : goal.take-requires-clause-batch
 take-requires-clause-batch g c =
@@ -62,9 +63,9 @@ take-requires-clause-batch g c =
     let empty = subst IsEmpty (sym c.state.view_is) c.requires in
     let t = c.in-Ok.ensures.stream in (
       nothing,
-      (ran empty_base t.0).state.blobs,
-      (ran empty_base t.0).state.commits,
-      batch-given t.0 t.1 v empty c.replay_all.new.store c.in-Ok.replayed t.3 c.in_ok-batch.batch c.in_ok-batch.heads.items c.in_ok-batch.ensures,
+      (tagged_ran empty_base t.0).state.blobs,
+      (tagged_ran empty_base t.0).state.commits,
+      batch-given t.0 t.1 v empty c.replay_tagged.new.store c.in-Ok.given t.3 c.in_ok-batch.batch c.in_ok-batch.heads.items c.in_ok-batch.ensures,
     )
 
 pub returns-in-Err-take-clause-given : goal.returns-in-Err-take-clause-given
@@ -72,14 +73,14 @@ returns-in-Err-take-clause-given g c =
     let v : Contents = the_view c.state.inside in
     let empty = subst IsEmpty (sym c.state.view_is) c.requires in
     let t = c.in-Ok.ensures.stream in
-    let x = (ran empty_base t.0).state in
-    let S = c.replay_all.new.store in
-    let batch = batch-given t.0 t.1 v empty S c.in-Ok.replayed t.3 c.in_ok-batch.batch c.in_ok-batch.heads.items c.in_ok-batch.ensures in (
+    let x = (tagged_ran empty_base t.0).state in
+    let S = c.replay_tagged.new.store in
+    let batch = batch-given t.0 t.1 v empty S c.in-Ok.given t.3 c.in_ok-batch.batch c.in_ok-batch.heads.items c.in_ok-batch.ensures in (
       t.0,
       t.1,
       told-input (g.S.Source.left c.args.input.now) t.0 t.2,
       tt,
-      untaken t.0 t.1 v empty S c.in-Ok.replayed t.3 c.in-Err-take.error c.commit_outcome.result c.commit_outcome.ensures (c.in-Err-take.ensures nothing x.blobs x.commits batch),
+      untaken t.0 t.1 v empty S c.in-Ok.given t.3 c.in-Err-take.error c.commit_outcome.result c.commit_outcome.ensures (c.in-Err-take.ensures nothing x.blobs x.commits batch),
     )
 
 pub returns-in-Err-take-clause-early : goal.returns-in-Err-take-clause-early
@@ -87,8 +88,8 @@ returns-in-Err-take-clause-early g c =
     let v : Contents = the_view c.state.inside in
     let empty = subst IsEmpty (sym c.state.view_is) c.requires in
     let t = c.in-Ok.ensures.stream in
-    let x = (ran empty_base t.0).state in
-    let batch = batch-given t.0 t.1 v empty c.replay_all.new.store c.in-Ok.replayed t.3 c.in_ok-batch.batch c.in_ok-batch.heads.items c.in_ok-batch.ensures in
+    let x = (tagged_ran empty_base t.0).state in
+    let batch = batch-given t.0 t.1 v empty c.replay_tagged.new.store c.in-Ok.given t.3 c.in_ok-batch.batch c.in_ok-batch.heads.items c.in_ok-batch.ensures in
     let is = c.commit_outcome.ensures in
     neither _ c.commit_outcome.result (λ q. commit-write c.in-Err-take.error (sym is ∙ q))
     (λ q. untaken-store nothing (fresh [] (objects_of x.blobs x.commits)) c.in-Err-take.error (c.in-Err-take.ensures nothing x.blobs x.commits batch) (sym is ∙ q))
@@ -98,7 +99,7 @@ returns-in-Err-take-clause-told g c = c.in-Ok.ensures.told
 
 pub returns-in-Err-take-clause-read : goal.returns-in-Err-take-clause-read
 returns-in-Err-take-clause-read g c =
-    counts-by (g.S.Source.faults c.args.input.now) (g.S.Source.faults c.replay_all.new.input) _ _ c.in-Ok.ensures.cause
+    counts-by (g.S.Source.faults c.args.input.now) (g.S.Source.faults c.replay_tagged.new.input) _ _ c.in-Ok.ensures.cause
     (λ q. absurd (commit-read c.in-Err-take.error (sym c.commit_outcome.ensures ∙ same-error c.commit_outcome.result outcomes.ReadFault q)))
 
 pub returns-clause-given : goal.returns-clause-given
@@ -106,13 +107,13 @@ returns-clause-given g c =
     let v : Contents = the_view c.state.inside in
     let empty = subst IsEmpty (sym c.state.view_is) c.requires in
     let t = c.in-Ok.ensures.stream in
-    let x = (ran empty_base t.0).state in
-    let S = c.replay_all.new.store in
-    let batch = batch-given t.0 t.1 v empty S c.in-Ok.replayed t.3 c.in_ok-batch.batch c.in_ok-batch.heads.items c.in_ok-batch.ensures in (
+    let x = (tagged_ran empty_base t.0).state in
+    let S = c.replay_tagged.new.store in
+    let batch = batch-given t.0 t.1 v empty S c.in-Ok.given t.3 c.in_ok-batch.batch c.in_ok-batch.heads.items c.in_ok-batch.ensures in (
       t.0,
       t.1,
       told-input (g.S.Source.left c.args.input.now) t.0 t.2,
-      state-given t.0 t.1 v empty S c.in-Ok.replayed t.3 c.in_ok-batch.batch c.in_ok-batch.heads.items c.in_ok-batch.ensures c.take.new.self (c.in-Ok-take.ensures nothing x.blobs x.commits batch),
+      state-given t.0 t.1 v empty S c.in-Ok.given t.3 c.in_ok-batch.batch c.in_ok-batch.heads.items c.in_ok-batch.ensures c.take.new.self (c.in-Ok-take.ensures nothing x.blobs x.commits batch),
       tt,
     )
 
@@ -124,16 +125,16 @@ returns-clause-told g c = c.in-Ok.ensures.told
 
 pub returns-clause-read : goal.returns-clause-read
 returns-clause-read g c =
-    counts-by (g.S.Source.faults c.args.input.now) (g.S.Source.faults c.replay_all.new.input) _ _ c.in-Ok.ensures.cause (λ q. absurd cc)
+    counts-by (g.S.Source.faults c.args.input.now) (g.S.Source.faults c.replay_tagged.new.input) _ _ c.in-Ok.ensures.cause (λ q. absurd cc)
 
 pub returns-in-Err-clause-taken : goal.returns-in-Err-clause-taken
-returns-in-Err-clause-taken g c = replay-takes empty_base (g.S.Source.left c.args.input.now) (g.S.Source.left c.replay_all.new.input) (Err c.in-Err.error) c.in-Err.ensures.taken
+returns-in-Err-clause-taken g c = replay-takes empty_base (g.S.Source.left c.args.input.now) (g.S.Source.left c.replay_tagged.new.input) (Err c.in-Err.error) c.in-Err.ensures.taken
 
 pub returns-in_err-batch-clause-taken : goal.returns-in_err-batch-clause-taken
-returns-in_err-batch-clause-taken g c = replay-takes empty_base (g.S.Source.left c.args.input.now) (g.S.Source.left c.replay_all.new.input) (Ok c.in-Ok.replayed) c.in-Ok.ensures.taken
+returns-in_err-batch-clause-taken g c = replay-takes empty_base (g.S.Source.left c.args.input.now) (g.S.Source.left c.replay_tagged.new.input) (Ok c.in-Ok.given) c.in-Ok.ensures.taken
 
 pub returns-in-Err-take-clause-taken : goal.returns-in-Err-take-clause-taken
-returns-in-Err-take-clause-taken g c = replay-takes empty_base (g.S.Source.left c.args.input.now) (g.S.Source.left c.replay_all.new.input) (Ok c.in-Ok.replayed) c.in-Ok.ensures.taken
+returns-in-Err-take-clause-taken g c = replay-takes empty_base (g.S.Source.left c.args.input.now) (g.S.Source.left c.replay_tagged.new.input) (Ok c.in-Ok.given) c.in-Ok.ensures.taken
 
 pub returns-clause-taken : goal.returns-clause-taken
-returns-clause-taken g c = replay-takes empty_base (g.S.Source.left c.args.input.now) (g.S.Source.left c.replay_all.new.input) (Ok c.in-Ok.replayed) c.in-Ok.ensures.taken
+returns-clause-taken g c = replay-takes empty_base (g.S.Source.left c.args.input.now) (g.S.Source.left c.replay_tagged.new.input) (Ok c.in-Ok.given) c.in-Ok.ensures.taken

@@ -2,7 +2,7 @@
 use Rattle.std.proofs.Common.{◌∙◌, List, Ok, ap, refl, subst, sym}
 use Rattle.filter_text.specs.Shapes.{shape}
 use Rattle.git_objects.specs.Paths.{Bytes}
-use Rattle.fast_import.specs.Replays.{empty_base, ran}
+use Rattle.fast_import.specs.Replays.{empty_base}
 use Rattle.proj_io.specs.Views.{keeper_view}
 use Rattle.repo_ground.proofs.Stopping.{adds_none}
 use Rattle.repo_ground.specs.Changes.{IsStopOf}
@@ -19,11 +19,13 @@ use Rattle.proj_cli.specs.declared.judging.Judged.TheVariants as judged
 use Rattle.proj_cli.proofs.AloneForms.{claim-alone, name-alone}
 use Rattle.proj_cli.proofs.CommandsMade.{alone-command, performed}
 use Rattle.proj_cli.proofs.Grants.{let-made}
-use Rattle.proj_cli.proofs.Headless.{head-held, no-claim, no-head, no-import, no-name, no-user-head}
+use Rattle.proj_cli.proofs.Headless.{head-held, no-claim, no-head, no-import, no-merge-head, no-name, no-user-head}
 use Rattle.proj_cli.proofs.Intaking.{push-takes, takes-by, takes-let, takes-none}
 use Rattle.proj_cli.proofs.Judged.{case-upon}
 use Rattle.proj_cli.proofs.Lengthening.{for-any}
 use Rattle.proj_cli.proofs.performing.perform_permitted.Goals as goal
+use Rattle.proj_cli.specs.Import.{tagged_ran}
+use Rattle.proj_cli.specs.declared.pushing.Manner.TheVariants.{InLine, Merging}
 
 pub returns-in-Import-clause-made : goal.returns-in-Import-clause-made
 returns-in-Import-clause-made g c = λ (asked : Command) (items : List Bytes) (h : Held) w st.
@@ -34,6 +36,11 @@ pub returns-in-Push-clause-made : goal.returns-in-Push-clause-made
 returns-in-Push-clause-made g c = λ (asked : Command) (items : List Bytes) (h : Held) w st.
     let m = c.push.ensures.made items h st in
     record { all = m.0; told = m.1; says = performed asked (judged.Push _) (subst (IsJudged asked) c.in-Push.is w) refl m.0 items h _ _ _ _ _ _ _ _ _ m.2 m.3 m.4 }
+
+pub returns-in-PushMerges-clause-made : goal.returns-in-PushMerges-clause-made
+returns-in-PushMerges-clause-made g c = λ (asked : Command) (items : List Bytes) (h : Held) w st.
+    let m = c.push-in-PushMerges.ensures.made items h st in
+    record { all = m.0; told = m.1; says = performed asked (judged.PushMerges _) (subst (IsJudged asked) c.in-PushMerges.is w) refl m.0 items h _ _ _ _ _ _ _ _ _ m.2 m.3 m.4 }
 
 pub returns-in-Project-clause-made : goal.returns-in-Project-clause-made
 returns-in-Project-clause-made g c = λ (asked : Command) (items : List Bytes) (h : Held) w st.
@@ -51,6 +58,18 @@ returns-in-Export-clause-made g c = λ (asked : Command) (items : List Bytes) (h
     for-any (g.S.Source.left c.args.input.now) _
     (λ all. performed asked (judged.Export _) (subst (IsJudged asked) c.in-Export.is w) refl all items h _ _ _ _ _ _ _ _ _ NoPlan (c.exported.ensures.made items h seen st) (adds_none _ _ (IsStopOf h c.args.state.now NoPlan seen.items)))
 
+pub returns-in-ExportTags-clause-made : goal.returns-in-ExportTags-clause-made
+returns-in-ExportTags-clause-made g c = λ (asked : Command) (items : List Bytes) (h : Held) w st.
+    let seen = keeper_view g.K.Keeper.items g.K.Keeper.number g.K.Keeper.faults c.args.store.now in
+    for-any (g.S.Source.left c.args.input.now) _
+    (λ all. performed asked (judged.ExportTags _) (subst (IsJudged asked) c.in-ExportTags.is w) refl all items h _ _ _ _ _ _ _ _ _ NoPlan (c.exported-in-ExportTags.ensures.made items h seen st) (adds_none _ _ (IsStopOf h c.args.state.now NoPlan seen.items)))
+
+pub returns-in-Tags-clause-made : goal.returns-in-Tags-clause-made
+returns-in-Tags-clause-made g c = λ (asked : Command) (items : List Bytes) (h : Held) w st.
+    let seen = keeper_view g.K.Keeper.items g.K.Keeper.number g.K.Keeper.faults c.args.store.now in
+    for-any (g.S.Source.left c.args.input.now) _
+    (λ all. performed asked (judged.Tags _) (subst (IsJudged asked) c.in-Tags.is w) refl all items h _ _ _ _ _ _ _ _ _ NoPlan (c.tags_upon.ensures.made items h seen st) (adds_none _ _ (IsStopOf h c.args.state.now NoPlan seen.items)))
+
 pub returns-in-Audit-clause-made : goal.returns-in-Audit-clause-made
 returns-in-Audit-clause-made g c = λ (asked : Command) (items : List Bytes) (h : Held) w st.
     let seen = keeper_view g.K.Keeper.items g.K.Keeper.number g.K.Keeper.faults c.args.store.now in
@@ -66,7 +85,7 @@ returns-in-Name-clause-made g c = λ (asked : Command) (items : List Bytes) (h :
       all = m.0;
       told = m.1;
       says =
-          alone-command (NameCase (shape s.filter) s.refname (ran empty_base m.0)) (name-alone (shape s.filter) s.refname (ran empty_base m.0)) m.0 items h c.args.state.now st seen
+          alone-command (NameCase (shape s.filter) s.refname (tagged_ran empty_base m.0)) (name-alone (shape s.filter) s.refname (tagged_ran empty_base m.0)) m.0 items h c.args.state.now st seen
           asked (case-upon asked (judged.Name s) (subst (IsJudged asked) c.in-Name.is w) h m.0) _ _ c.name.result c.name.ensures.early.1 m.2;
     }
 
@@ -122,6 +141,11 @@ returns-in-Push-clause-caseless g c = λ (asked : Command) (items : List Bytes) 
     let s = c.in-Push.subject in
     c.push.ensures.headless (head-held h c.args.state.now st.spells s.refname ∙ no-head asked s (subst (IsJudged asked) c.in-Push.is w) h none)
 
+pub returns-in-PushMerges-clause-caseless : goal.returns-in-PushMerges-clause-caseless
+returns-in-PushMerges-clause-caseless g c = λ (asked : Command) (items : List Bytes) (h : Held) w st none.
+    let s = c.in-PushMerges.subject in
+    c.push-in-PushMerges.ensures.headless (head-held h c.args.state.now st.spells s.refname ∙ no-merge-head asked s (subst (IsJudged asked) c.in-PushMerges.is w) h none)
+
 pub returns-in-AsPush-clause-caseless : goal.returns-in-AsPush-clause-caseless
 returns-in-AsPush-clause-caseless g c = λ (asked : Command) (items : List Bytes) (h : Held) w st none.
     let s = c.in-AsPush.subject in
@@ -146,16 +170,23 @@ pub returns-in-Push-clause-taken : goal.returns-in-Push-clause-taken
 returns-in-Push-clause-taken g c = λ (asked : Command) (items : List Bytes) (h : Held) w st.
     let s = c.in-Push.subject in
     takes-by asked (judged.Push s) (subst (IsJudged asked) c.in-Push.is w) h _ _
-    (push-takes Both h (shape s.filter) s.refname (g.S.Source.left c.args.input.now) (g.S.Source.left c.push.new.input) (λ n at. c.push.ensures.taken items h n st at)
+    (push-takes InLine Both h (shape s.filter) s.refname (g.S.Source.left c.args.input.now) (g.S.Source.left c.push.new.input) (λ n at. c.push.ensures.taken items h n st at)
     (λ none. ap g.S.Source.left (c.push.ensures.headless (head-held h c.args.state.now st.spells s.refname ∙ none))))
+
+pub returns-in-PushMerges-clause-taken : goal.returns-in-PushMerges-clause-taken
+returns-in-PushMerges-clause-taken g c = λ (asked : Command) (items : List Bytes) (h : Held) w st.
+    let s = c.in-PushMerges.subject in
+    takes-by asked (judged.PushMerges s) (subst (IsJudged asked) c.in-PushMerges.is w) h _ _
+    (push-takes Merging Both h (shape s.filter) s.refname (g.S.Source.left c.args.input.now) (g.S.Source.left c.push-in-PushMerges.new.input) (λ n at. c.push-in-PushMerges.ensures.taken items h n st at)
+    (λ none. ap g.S.Source.left (c.push-in-PushMerges.ensures.headless (head-held h c.args.state.now st.spells s.refname ∙ none))))
 
 pub returns-in-AsPush-clause-taken : goal.returns-in-AsPush-clause-taken
 returns-in-AsPush-clause-taken g c = λ (asked : Command) (items : List Bytes) (h : Held) w st.
     let s = c.in-AsPush.subject in
     let may = ap (permission h) (sym c.in-AsPush.is) ∙ c.requires.permitted items h st in
     takes-by asked (judged.AsPush _ s) (subst (IsJudged asked) c.in-AsPush.is w) h _ _
-    (takes-let _ (push_case PushedAlone h (shape s.filter) s.refname) may _ _
-    (push-takes PushedAlone h (shape s.filter) s.refname (g.S.Source.left c.args.input.now) (g.S.Source.left c.push-in-AsPush.new.input) (λ n at. c.push-in-AsPush.ensures.taken items h n st at)
+    (takes-let _ (push_case InLine PushedAlone h (shape s.filter) s.refname) may _ _
+    (push-takes InLine PushedAlone h (shape s.filter) s.refname (g.S.Source.left c.args.input.now) (g.S.Source.left c.push-in-AsPush.new.input) (λ n at. c.push-in-AsPush.ensures.taken items h n st at)
     (λ none. ap g.S.Source.left (c.push-in-AsPush.ensures.headless (head-held h c.args.state.now st.spells s.refname ∙ none)))))
 
 pub returns-in-AsProject-clause-taken : goal.returns-in-AsProject-clause-taken
@@ -173,6 +204,12 @@ returns-in-Project-clause-taken g c = λ (asked : Command) (items : List Bytes) 
 
 pub returns-in-Export-clause-taken : goal.returns-in-Export-clause-taken
 returns-in-Export-clause-taken g c = λ (asked : Command) (items : List Bytes) (h : Held) w st. takes-none (waited_by (case asked (Ok h))) (g.S.Source.left c.args.input.now)
+
+pub returns-in-ExportTags-clause-taken : goal.returns-in-ExportTags-clause-taken
+returns-in-ExportTags-clause-taken g c = λ (asked : Command) (items : List Bytes) (h : Held) w st. takes-none (waited_by (case asked (Ok h))) (g.S.Source.left c.args.input.now)
+
+pub returns-in-Tags-clause-taken : goal.returns-in-Tags-clause-taken
+returns-in-Tags-clause-taken g c = λ (asked : Command) (items : List Bytes) (h : Held) w st. takes-none (waited_by (case asked (Ok h))) (g.S.Source.left c.args.input.now)
 
 pub returns-in-Rule-clause-taken : goal.returns-in-Rule-clause-taken
 returns-in-Rule-clause-taken g c = λ (asked : Command) (items : List Bytes) (h : Held) w st. takes-none (waited_by (case asked (Ok h))) (g.S.Source.left c.args.input.now)

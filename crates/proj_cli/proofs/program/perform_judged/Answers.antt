@@ -1,12 +1,12 @@
 -- Proves what src/program.rt needs of `perform_judged`.
-use Rattle.std.proofs.Common.{◌≡◌, ◌≢◌, true, List, Result, Ok, Err, refl, sym, ap, subst, ◌∙◌, rules, true≢false}
+use Rattle.std.proofs.Common.{◌≡◌, ◌≢◌, true, false, List, Result, Ok, Err, refl, sym, ap, subst, ◌∙◌, rules, true≢false}
 use Rattle.git_objects.specs.Paths.{Bytes}
 use Rattle.filter_text.specs.Shapes.{shape}
-use Rattle.fast_import.specs.Replays.{empty_base, ran}
+use Rattle.fast_import.specs.Replays.{empty_base}
 use Rattle.proj_io.specs.Stops.{OnlyAdds}
 use Rattle.proj_io.specs.Views.{source_view, sink_view, keeper_view}
 use Rattle.repo_ground.proofs.Stopping.{adds_none}
-use Rattle.proj_words.specs.Words.{Command, As, Export, Name, loads, reads}
+use Rattle.proj_words.specs.Words.{Command, As, Export, ExportTags, Name, loads, reads}
 use Rattle.proj_words.specs.declared.outcome.Outcome.{Outcome}
 use Rattle.proj_words.specs.declared.outcome.Outcome.TheVariants.{StoreFault}
 use Rattle.proj_cli.specs.Calls.{devices}
@@ -19,7 +19,7 @@ use Rattle.proj_cli.specs.Sent.{IsConcluded}
 use Rattle.proj_cli.proofs.AloneForms.{claim-alone, name-alone}
 use Rattle.proj_cli.proofs.Delivering.{after, before}
 use Rattle.proj_cli.proofs.Dispatching.{judged-one, one-adds, one-answer}
-use Rattle.proj_cli.proofs.ExportAnswers.{export-answer, export-case, user-export-case}
+use Rattle.proj_cli.proofs.ExportAnswers.{export-answer, export-case, tagged-export-case, user-export-case}
 use Rattle.proj_cli.proofs.Forming.{adds-nothing}
 use Rattle.proj_cli.proofs.Fronts.{form-grows, grows-self, grows-still}
 use Rattle.proj_cli.proofs.Joining.{concluded}
@@ -28,6 +28,7 @@ use Rattle.proj_cli.proofs.Lengthening.{for-any, form-adds}
 use Rattle.proj_cli.proofs.Making.{alone-form}
 use Rattle.proj_cli.proofs.Verdicts.{apart-judged}
 use Rattle.proj_cli.proofs.program.perform_judged.Goals as goal
+use Rattle.proj_cli.specs.Import.{tagged_ran}
 
 pub returns-in-Export-clause-fronts : goal.returns-in-Export-clause-fronts
 returns-in-Export-clause-fronts g c = λ (items : List Bytes) told apart. let kept = c.export_loaded.ensures.kept in grows-still items _ _ told kept.items _ _ _ _ kept.stops
@@ -45,13 +46,37 @@ returns-in-Export-clause-answer g c = λ (asked : Command) judges.
     (export-answer (Export s.refname w.text) refl refl (export-case s.refname w.text) (read c.args.input.now) (shown c.args.out.now) (shown c.export_loaded.new.out) (kept c.args.store.now) (kept c.export_loaded.new.store) c.export_loaded.result
     (apart-judged (Export s.refname w.text) c.export_loaded.result does.other) does.unread does.write does.cause does.memory (does.kept.number, does.kept.items)
     (λ items all told. subst (λ (r : Result Case Outcome). IsExport r items (shown c.args.out.now) (shown c.export_loaded.new.out) c.export_loaded.result)
-    (sym (read-filter w.text (shape s.filter) (λ f. exported_case (loaded items) f s.refname) w.sound_is)) (does.exported items told)))
+    (sym (read-filter w.text (shape s.filter) (λ f. exported_case false (loaded items) f s.refname) w.sound_is)) (does.exported items told)))
 
 pub returns-in-Export-clause-adds : goal.returns-in-Export-clause-adds
 returns-in-Export-clause-adds g c = λ (asked : Command) (items : List Bytes) judges told.
     for-any (g.S.Source.left c.args.input.now)
     (λ all. OnlyAdds (g.K.Keeper.moment c.args.store.now) (g.K.Keeper.moment c.export_loaded.new.store) (g.K.Keeper.left_since c.args.store.now) (g.K.Keeper.left_since c.export_loaded.new.store) (MayLeave asked items all))
     (λ all. adds-nothing (g.K.Keeper.moment c.args.store.now) (g.K.Keeper.moment c.export_loaded.new.store) (g.K.Keeper.left_since c.args.store.now) (g.K.Keeper.left_since c.export_loaded.new.store) (MayLeave asked items all) c.export_loaded.ensures.kept.stops)
+
+pub returns-in-ExportTags-clause-fronts : goal.returns-in-ExportTags-clause-fronts
+returns-in-ExportTags-clause-fronts g c = λ (items : List Bytes) told apart. let kept = c.export_loaded-in-ExportTags.ensures.kept in grows-still items _ _ told kept.items _ _ _ _ kept.stops
+
+pub returns-in-ExportTags-clause-answer : goal.returns-in-ExportTags-clause-answer
+returns-in-ExportTags-clause-answer g c = λ (asked : Command) judges.
+    let seen = devices g.S.Source.left g.S.Source.faults g.O.Sink.written g.O.Sink.faults g.O.Sink.refusals g.K.Keeper.items g.K.Keeper.number g.K.Keeper.faults in
+    let read = source_view g.S.Source.left g.S.Source.faults in
+    let shown = sink_view g.O.Sink.written g.O.Sink.faults g.O.Sink.refusals in
+    let kept = keeper_view g.K.Keeper.items g.K.Keeper.number g.K.Keeper.faults in
+    let does = c.export_loaded-in-ExportTags.ensures in
+    let s = c.in-ExportTags.subject in
+    let w : IsOf ExportTags asked s = subst (IsJudged asked) c.in-ExportTags.is judges in
+    subst (λ (a : Command). IsAnswer a (seen c.args.input.now c.args.out.now c.args.store.now) (seen c.args.input.now c.export_loaded-in-ExportTags.new.out c.export_loaded-in-ExportTags.new.store) c.export_loaded-in-ExportTags.result) (sym w.asked_is)
+    (export-answer (ExportTags s.refname w.text) refl refl (tagged-export-case s.refname w.text) (read c.args.input.now) (shown c.args.out.now) (shown c.export_loaded-in-ExportTags.new.out) (kept c.args.store.now) (kept c.export_loaded-in-ExportTags.new.store) c.export_loaded-in-ExportTags.result
+    (apart-judged (ExportTags s.refname w.text) c.export_loaded-in-ExportTags.result does.other) does.unread does.write does.cause does.memory (does.kept.number, does.kept.items)
+    (λ items all told. subst (λ (r : Result Case Outcome). IsExport r items (shown c.args.out.now) (shown c.export_loaded-in-ExportTags.new.out) c.export_loaded-in-ExportTags.result)
+    (sym (read-filter w.text (shape s.filter) (λ f. exported_case true (loaded items) f s.refname) w.sound_is)) (does.exported items told)))
+
+pub returns-in-ExportTags-clause-adds : goal.returns-in-ExportTags-clause-adds
+returns-in-ExportTags-clause-adds g c = λ (asked : Command) (items : List Bytes) judges told.
+    for-any (g.S.Source.left c.args.input.now)
+    (λ all. OnlyAdds (g.K.Keeper.moment c.args.store.now) (g.K.Keeper.moment c.export_loaded-in-ExportTags.new.store) (g.K.Keeper.left_since c.args.store.now) (g.K.Keeper.left_since c.export_loaded-in-ExportTags.new.store) (MayLeave asked items all))
+    (λ all. adds-nothing (g.K.Keeper.moment c.args.store.now) (g.K.Keeper.moment c.export_loaded-in-ExportTags.new.store) (g.K.Keeper.left_since c.args.store.now) (g.K.Keeper.left_since c.export_loaded-in-ExportTags.new.store) (MayLeave asked items all) c.export_loaded-in-ExportTags.ensures.kept.stops)
 
 pub returns-in-AsExport-clause-fronts : goal.returns-in-AsExport-clause-fronts
 returns-in-AsExport-clause-fronts g c = λ (items : List Bytes) told apart. let kept = c.export_granted.ensures.kept in grows-still items _ _ told kept.items _ _ _ _ kept.stops
@@ -98,9 +123,9 @@ returns-in-Name g c =
           let w = claimed asked judges in
           one-answer asked (before i j o q k k) (after i j o q k k) c.conclude.result (judged-one asked c.args.judged.now judges)
           (concluded c.recall_law.ensures asked i j o q k k (OnlyAdds at at since since) c.name-made.result c.conclude.result
-          (alone-form i j k at since c.name-made.result asked (λ all. NameCase (shape s.filter) s.refname (ran empty_base all))
-          (λ loading all. ap (λ (a : Command). case a loading all) w.asked_is ∙ read-filter w.text (shape s.filter) (λ f. Ok (NameCase f s.refname (ran empty_base all))) w.sound_is)
-          (λ all. name-alone (shape s.filter) s.refname (ran empty_base all)) (ap reads w.asked_is)
+          (alone-form i j k at since c.name-made.result asked (λ all. NameCase (shape s.filter) s.refname (tagged_ran empty_base all))
+          (λ loading all. ap (λ (a : Command). case a loading all) w.asked_is ∙ read-filter w.text (shape s.filter) (λ f. Ok (NameCase f s.refname (tagged_ran empty_base all))) w.sound_is)
+          (λ all. name-alone (shape s.filter) s.refname (tagged_ran empty_base all)) (ap reads w.asked_is)
           c.name-made.ensures.read c.name-made.ensures.early c.name-made.ensures.taken c.name-made.ensures.made)
           c.conclude.ensures.concluded (λ e. ap shown (c.conclude.ensures.same e)));
       adds = λ (asked : Command) (items : List Bytes) judges told.

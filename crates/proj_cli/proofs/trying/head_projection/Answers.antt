@@ -12,11 +12,12 @@ use Rattle.proj_cli.specs.Trying.{IsEnded, IsTried, from_of}
 use Rattle.proj_cli.proofs.StatesShown.{head-placed}
 use Rattle.proj_cli.proofs.TrialParts.{head-seen, head-unseen, no-head}
 use Rattle.proj_cli.proofs.trying.head_projection.Goals as goal
+use Rattle.proj_cli.specs.declared.pushing.Manner.TheVariants.{InLine}
 
 pub returns-in_default : goal.returns-in_default
 returns-in_default c = λ items h hands all w.
     let f = shape c.args.filter.now in
-    no-head (hands ++ hands_of (push_case Both h f c.args.refname.now all)) h f c.args.refname.now (sym (c.in_default.ensures.held h w.state.spells))
+    no-head (hands ++ hands_of (push_case InLine Both h f c.args.refname.now all)) h f c.args.refname.now (sym (c.in_default.ensures.held h w.state.spells))
 
 pub seen_head-requires-clause-ground : goal.seen_head-requires-clause-ground
 seen_head-requires-clause-ground c =
@@ -36,7 +37,7 @@ returns-in-Err c = λ items h hands all w.
     let f = shape c.args.filter.now in
     let n : Bytes = c.in-Some.head.0 in
     let s = subst (IsTried items h hands) (sym c.state.view_is) w in
-    subst (λ (o : Outcome). IsEnded (hands ++ hands_of (push_case Both h f c.args.refname.now all)) (from_of h f c.args.refname.now) o) (sym c.apply_outcome.ensures)
+    subst (λ (o : Outcome). IsEnded (hands ++ hands_of (push_case InLine Both h f c.args.refname.now all)) (from_of h f c.args.refname.now) o) (sym c.apply_outcome.ensures)
     (head-unseen items h hands v f c.args.refname.now n all s (sym (c.in-Some.ensures.held h w.state.spells)) c.seen_head.new.ground c.in-Err.ensures.same c.in-Err.error c.in-Err.ensures.err)
 
 pub returns : goal.returns
