@@ -3,7 +3,7 @@
 ghost use Rattle.std.specs.Prelude.{◌≤◌, IfOk};
 
 use crate::calls::{BATCH, FIRST, PUSHED, SECOND, THIRD, sink};
-use crate::stops::{leaves_state, outcome_of};
+use crate::stops::{Told, leaves_state, outcome_of};
 use proj_cli::outcome_code;
 use proj_disk::MemDisk;
 use proj_io::MemSink;
@@ -24,7 +24,7 @@ const ENTRIES: [(&[u8], &[u8], &[u8]); 4] = [
         b"status 0\nbytes 57\nrefs/heads/main 592cd3665c8a2250cf7988e22686ce308524df8c\n\n",
     ),
     (
-        b"import\nbytes 146\n",
+        b"import\nbytes 216\n",
         THIRD,
         b"status 0\nbytes 57\nrefs/heads/main fcfc493607bfc8dbf616768af28cd698dfb8108a\n\n",
     ),
@@ -36,13 +36,25 @@ const ENTRIES: [(&[u8], &[u8], &[u8]); 4] = [
     ),
 ];
 
-// What is told of the ref after each number of the entries: the name that Git gives its commit.
-const HEADS: [&[u8]; 5] = [
-    b"",
-    b"5990ba6163d77f77071ca2e8e9899c368dbc6eb7\n",
-    b"592cd3665c8a2250cf7988e22686ce308524df8c\n",
-    b"fcfc493607bfc8dbf616768af28cd698dfb8108a\n",
-    b"c0087f5ed9a3c59cccefdc3ba1fe9cbbb5ab8376\n",
+// What is told after each number of the entries.
+const STATES: [Option<Told>; 5] = [
+    None,
+    Some(Told {
+        head: b"5990ba6163d77f77071ca2e8e9899c368dbc6eb7\n",
+        tags: b"",
+    }),
+    Some(Told {
+        head: b"592cd3665c8a2250cf7988e22686ce308524df8c\n",
+        tags: b"",
+    }),
+    Some(Told {
+        head: b"fcfc493607bfc8dbf616768af28cd698dfb8108a\n",
+        tags: b"v1 91441b133ff576ee75d55a9d00a96487d8c2bca4\n",
+    }),
+    Some(Told {
+        head: b"c0087f5ed9a3c59cccefdc3ba1fe9cbbb5ab8376\n",
+        tags: b"v1 91441b133ff576ee75d55a9d00a96487d8c2bca4\n",
+    }),
 ];
 
 // The reply to an entry at which the store fails. It is the last one.
@@ -133,7 +145,7 @@ fn each_image_has_the_acknowledged_entries(rt: HostRuntime) -> Result<(), Fail> 
     for number in 0..4usize {
         let after = reply_moment(alloc, &whole.disk, before, number)?;
         assert!(rt;
-            leaves_state(alloc, &whole.disk, before, after, &HEADS, number)?,
+            leaves_state(alloc, &whole.disk, before, after, &STATES, number)?,
             "{number}"
         );
         before = after;

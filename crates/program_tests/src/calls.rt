@@ -23,6 +23,7 @@ two\n\
 from 5990ba6163d77f77071ca2e8e9899c368dbc6eb7\n\
 M 100644 :1 a/g\n";
 
+// It has an annotated tag of its commit.
 pub(crate) const THIRD: &[u8] = b"commit refs/heads/main\n\
 committer A <a@x> 1700000000 +0000\n\
 data 6\n\
@@ -30,7 +31,12 @@ three\n\
 from 592cd3665c8a2250cf7988e22686ce308524df8c\n\
 M 100644 inline b/k\n\
 data 2\n\
-3\n";
+3\n\
+tag v1\n\
+from refs/heads/main\n\
+tagger A <a@x> 1700000000 +0000\n\
+data 3\n\
+v1\n";
 
 // A commit that is pushed upon what `:/a` shows of the third.
 pub(crate) const PUSHED: &[u8] = b"commit refs/heads/main\n\
@@ -50,6 +56,9 @@ pub(crate) const PROJECT: &[&str] = &["project", "refs/heads/main", ":/a"];
 
 // What all of each tree is shown as.
 pub(crate) const WHOLE: &[&str] = &["project", "refs/heads/main", ":nop"];
+
+// The tags beside it.
+pub(crate) const TAGS: &[&str] = &["tags", "refs/heads/main", ":nop"];
 
 pub(crate) const RULE: &[&str] = &["rule", "2"];
 

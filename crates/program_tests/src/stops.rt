@@ -4,7 +4,7 @@ ghost use Rattle.proj_disk.specs.MemDisks.{MemDiskState, view_of};
 ghost use Rattle.proj_journal.specs.Journals.{IsOpen};
 
 use crate::calls::{
-    FIRST, IMPORT, PROJECT, PUSH, PUSHED, RULE, SECOND, THIRD, WHOLE, sink, source, strings,
+    FIRST, IMPORT, PROJECT, PUSH, PUSHED, RULE, SECOND, TAGS, THIRD, WHOLE, sink, source, strings,
 };
 use crate::serving::{disk_of, served};
 use proj_cli::{Outcome, run};
@@ -14,7 +14,7 @@ use proj_journal::Journal;
 use std::alloc::{AllocError, Global};
 use std::test::Fail;
 
-// Each appends one item: objects and a ref, a rule, or kept projections.
+// Each appends one item: objects and a ref, of the third import a tag too, a rule, or kept projections.
 const COMMANDS: [(&[&str], &[u8]); 6] = [
     (IMPORT, FIRST),
     (IMPORT, SECOND),
@@ -24,15 +24,42 @@ const COMMANDS: [(&[&str], &[u8]); 6] = [
     (PUSH, PUSHED),
 ];
 
-// What is told of the ref after each number of the commands: the name that Git gives its commit.
-const HEADS: [&[u8]; 7] = [
-    b"",
-    b"5990ba6163d77f77071ca2e8e9899c368dbc6eb7\n",
-    b"592cd3665c8a2250cf7988e22686ce308524df8c\n",
-    b"592cd3665c8a2250cf7988e22686ce308524df8c\n",
-    b"fcfc493607bfc8dbf616768af28cd698dfb8108a\n",
-    b"fcfc493607bfc8dbf616768af28cd698dfb8108a\n",
-    b"c0087f5ed9a3c59cccefdc3ba1fe9cbbb5ab8376\n",
+// What is told of a state: the name that Git gives the ref's commit, and those that it gives the tags' objects.
+#[derive(Clone, Copy)]
+pub(crate) struct Told {
+    pub(crate) head: &'static [u8],
+    pub(crate) tags: &'static [u8],
+}
+
+const ONE: Told = Told {
+    head: b"5990ba6163d77f77071ca2e8e9899c368dbc6eb7\n",
+    tags: b"",
+};
+
+const TWO: Told = Told {
+    head: b"592cd3665c8a2250cf7988e22686ce308524df8c\n",
+    tags: b"",
+};
+
+const THREE: Told = Told {
+    head: b"fcfc493607bfc8dbf616768af28cd698dfb8108a\n",
+    tags: b"v1 91441b133ff576ee75d55a9d00a96487d8c2bca4\n",
+};
+
+const PUSHED_THEN: Told = Told {
+    head: b"c0087f5ed9a3c59cccefdc3ba1fe9cbbb5ab8376\n",
+    tags: b"v1 91441b133ff576ee75d55a9d00a96487d8c2bca4\n",
+};
+
+// What is told after each number of the commands. At first there is no ref.
+const STATES: [Option<Told>; 7] = [
+    None,
+    Some(ONE),
+    Some(TWO),
+    Some(TWO),
+    Some(THREE),
+    Some(THREE),
+    Some(PUSHED_THEN),
 ];
 
 // What a stop leaves of writes that weren't synced.
@@ -76,28 +103,36 @@ fn item_count(alloc: Global, disk: MemDisk) -> Option<u32> {
     Journal::open(alloc, disk).ok()?.count().ok()
 }
 
-// What the program, on a disk, tells of the ref: the name of its commit, which is what all of its tree is shown as.
-// Nothing where there is no ref.
-fn has_head(alloc: Global, disk: MemDisk, head: &[u8]) -> Result<bool, AllocError> {
-    let answer = served(alloc, disk, WHOLE, b"")?;
-    let err: &[u8] = if head.is_empty() {
-        b"unknown ref\n"
-    } else {
-        b""
+// Whether the program, on a disk with these bytes, tells this of the ref; or where that is nothing, that there is none.
+fn tells(
+    alloc: Global,
+    bytes: &[u8],
+    words: &[&str],
+    told: Option<&[u8]>,
+) -> Result<bool, AllocError> {
+    let answer = served(alloc, disk_of(alloc, bytes)?, words, b"")?;
+    let (out, err): (&[u8], &[u8]) = match told {
+        None => (b"", b"unknown ref\n"),
+        Some(out) => (out, b""),
     };
-    Ok(answer.out.bytes() == head && answer.err.bytes() == err)
+    Ok(answer.out.bytes() == out && answer.err.bytes() == err)
 }
 
 // Whether a disk with these bytes has the state after so many commands.
 fn has_state(
     alloc: Global,
     bytes: &[u8],
-    heads: &[&[u8]],
+    states: &[Option<Told>],
     number: usize,
 ) -> Result<bool, AllocError> {
-    match (item_count(alloc, disk_of(alloc, bytes)?), heads.get(number)) {
-        (Some(count), Some(head)) if count as usize == number => {
-            has_head(alloc, disk_of(alloc, bytes)?, head)
+    match (
+        item_count(alloc, disk_of(alloc, bytes)?),
+        states.get(number),
+    ) {
+        (Some(count), Some(state)) if count as usize == number => {
+            let head = state.map(|told| told.head);
+            let tags = state.map(|told| told.tags);
+            Ok(tells(alloc, bytes, WHOLE, head)? && tells(alloc, bytes, TAGS, tags)?)
         }
         _ => Ok(false),
     }
@@ -109,23 +144,23 @@ fn leaves(
     disk: &MemDisk,
     calls: u64,
     fill: Fill,
-    heads: &[&[u8]],
+    states: &[Option<Told>],
     number: usize,
 ) -> Result<bool, AllocError>
     requires { calls ≤ disk.now.calls }
 {
-    has_state(alloc, &disk.image(calls, fill)?, heads, number)
+    has_state(alloc, &disk.image(calls, fill)?, states, number)
 }
 
 // Whether a stop leaves the state after so many commands where the disk had made `before` calls, the state after one
-// more where it had made `after` calls, and one of the two in between. The heads are those after each number of
+// more where it had made `after` calls, and one of the two in between. The states are those after each number of
 // commands.
 pub(crate) fn leaves_state(
     alloc: Global,
     disk: &MemDisk,
     before: u64,
     after: u64,
-    heads: &[&[u8]],
+    states: &[Option<Told>],
     number: usize,
 ) -> Result<bool, AllocError>
     requires calls { after ≤ disk.now.calls }
@@ -133,8 +168,8 @@ pub(crate) fn leaves_state(
 {
     for calls in before..=after {
         for fill in FILLS {
-            let is_earlier = calls < after && leaves(alloc, disk, calls, fill, heads, number)?;
-            let is_later = calls > before && leaves(alloc, disk, calls, fill, heads, number + 1)?;
+            let is_earlier = calls < after && leaves(alloc, disk, calls, fill, states, number)?;
+            let is_later = calls > before && leaves(alloc, disk, calls, fill, states, number + 1)?;
             if !is_earlier && !is_later {
                 return Ok(false);
             }
@@ -160,7 +195,7 @@ fn each_image_has_the_acknowledged_commands(rt: HostRuntime) -> Result<(), Fail>
                 journal.disk(),
                 before,
                 journal.disk().calls(),
-                &HEADS,
+                &STATES,
                 number
             )?,
             "{number}"
