@@ -68,7 +68,7 @@ while [ "$count" -lt "$entries" ]; do
     : >"$work/input"
     filter=${filters[RANDOM % 8]}
     at=$((RANDOM % 4))
-    case $((RANDOM % 16)) in
+    case $((RANDOM % 18)) in
     0 | 1 | 2 | 3) run project $main "$filter" ;;
     4 | 5 | 6)
         commit $((commits + 1 + count)) "from $head
@@ -119,6 +119,13 @@ while [ "$count" -lt "$entries" ]; do
             ;;
         esac
         ;;
+    16)
+        # a tag that may be there already, as it is or another one
+        printf 'tag t%d\nfrom %s\ntagger A <a@x> %d +0000\ndata 0\n' $((RANDOM % 4)) $main $((RANDOM % 2)) \
+            >"$work/input"
+        if [ $((RANDOM % 2)) -eq 0 ]; then run import; else run import --force; fi
+        ;;
+    17) run tags $main "$filter" ;;
     esac
 done
 
@@ -146,7 +153,8 @@ for filter in "${filters[@]}"; do
     [ "$("$proj" "$work/store" project $main "$filter")" = "$("$proj" "$work/single" project $main "$filter")" ] ||
         fail "$filter: the stores show different commits"
 done
-"$proj" "$work/store" export $main :nop >"$work/out" && "$proj" "$work/single" export $main :nop >"$work/err" &&
+"$proj" "$work/store" export --tags $main :nop >"$work/out" &&
+    "$proj" "$work/single" export --tags $main :nop >"$work/err" &&
     cmp "$work/out" "$work/err" || fail 'the stores have different histories'
 printf 'batches: %d commands on %d commits are answered as single runs answer them, in %d ms with %d kB at most\n' \
     "$count" $((commits + 1)) $((span / 1000)) "$peak"

@@ -18,11 +18,28 @@ commit() {
     printf 'M 100644 inline %s\ndata %d\n%s\n' "$3" ${#4} "$4"
 }
 
-# many commits, so that what is held grows while they are read
-for ((i = 0; i < 400; i++)); do commit "c$i" '' "a/d$((i % 40))/f$i" "$i $i $i"; done >"$work/first"
+# an annotated tag of the ref's commit, with this message
+tag() {
+    printf 'tag %s\nfrom %s\ntagger A <a@x> 1700000000 +0000\ndata %d\n%s\n' "$1" $main ${#2} "$2"
+}
+
+# many commits and tags, so that what is held grows while they are read
+for ((i = 0; i < 400; i++)); do
+    commit "c$i" '' "a/d$((i % 40))/f$i" "$i $i $i"
+    tag "t$i" "$i"
+done >"$work/first"
+for ((i = 0; i < 400; i += 2)); do tag "t$i" "$i, moved"; done >"$work/moved"
+for ((i = 0; i < 400; i += 2)); do tag "u$i" "$i"; done >"$work/tags"
 "$proj" "$work/store" import <"$work/first" >"$work/out" || fail 'the history is refused'
 read -r _ head <"$work/out"
 shown=$("$proj" "$work/store" project $main :/a) || fail 'the history is not shown'
+commit side "from $head
+" a/side s | sed "1s|$main|refs/heads/side|" >"$work/side"
+"$proj" "$work/store" import <"$work/side" >"$work/out" || fail 'a branch is refused'
+side=$("$proj" "$work/store" project refs/heads/side :/a) || fail 'a branch is not shown'
+commit merge "from $shown
+merge $side
+" n w >"$work/merge"
 commit next "from $head
 " b/h z >"$work/next"
 for ((i = 0; i < 400; i++)); do commit "n$i" "$([ "$i" -ne 0 ] || printf 'from %s\n' "$head") 
@@ -44,6 +61,8 @@ entry() {
     entry "project $main :/a" "$work/none"
     entry "push $main :/a" "$work/push"
     entry "export $main :/a" "$work/none"
+    entry import "$work/tags"
+    entry "tags $main :/a" "$work/none"
     entry import "$work/root"
     entry "rule 2" "$work/none"
     entry "name $main :/a" "$work/first"
@@ -51,7 +70,7 @@ entry() {
 
 # what a store shows
 state() {
-    "$proj" "$1" export $main :nop
+    "$proj" "$1" export --tags $main :nop
 }
 
 # Runs the words on a copy of the store, with so many KiB of address space.
@@ -75,7 +94,7 @@ try() {
     shift
     local words=("${@/COPY/$work/copy}") low=4000 high=4000000 size step
     run $high "${words[@]}"
-    [ "$status" -eq 0 ] || [ "$status" -eq 12 ] || fail "$*: status $status with ample memory"
+    [ "$status" -eq 0 ] || [ "$status" -eq 12 ] || [ "$status" -eq 29 ] || fail "$*: status $status with ample memory"
     local ample=$status
     cp "$work/out" "$work/wanted"
     state "$work/copy" >"$work/after" || fail "$*: the store does not load"
@@ -109,9 +128,15 @@ try "$work/next" COPY import
 try "$work/more" COPY import
 try "$work/root" COPY import
 try "$work/root" COPY import --force
+try "$work/tags" COPY import
+try "$work/moved" COPY import
+try "$work/moved" COPY import --force
 try "$work/none" COPY project $main ':[x=:/a,y=:/b]'
 try "$work/none" COPY export $main ::a/
+try "$work/none" COPY export --tags $main ::a/
+try "$work/none" COPY tags $main ::a/
 try "$work/push" COPY push $main :/a
+try "$work/merge" COPY push --merges $main :/a
 try "$work/none" COPY rule 2
 try "$work/batch" COPY batch
 try "$work/first" name $main :/a

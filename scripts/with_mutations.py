@@ -31,13 +31,16 @@ STREAMS = [
     b"merge :2\nM 644 inline a/b/c\ndata 0\n\nreset refs/heads/z\nfrom :2\n\ndone\n",
     b"feature done\nprogress p\nreset refs/heads/main\ncheckpoint\n# no command\ncommit refs/heads/main\n"
     b"committer A <a@x> 6 +0000\ndata 0\nM 100644 inline ws/workspace.josh\ndata 20\nx = :/a\ny = :[::b/]\n\ndone\n",
+    b"reset refs/heads/t\nfrom refs/heads/main^0\ntag v1\nmark :1\nfrom refs/heads/t\noriginal-oid x\n"
+    b"tagger A <a@x> 7 +0000\ndata 3\nv1\n\ntag rel/1.0\nfrom refs/heads/main\ntagger <> 8 -0100\ndata 0\n",
 ]
 FILTERS = [
     b":/a", b"::a/", b"::a", b":prefix=lib", b":nop", b":[x=:/a,y=:/c]", b":exclude[::a/,::b]", b":/a:prefix=x:/x",
     b":workspace=ws", b":[::a/,:[z=:/b/c]]", b":/\"a b\"", b":[ x = :/a , # c\n y = :/b ]", b":[" * 17,
 ]
 WORDS = [
-    b"import", b"import --force", b"project", b"export", b"push", b"name", b"rule 1", b"rule 2", b"batch", b"trial 1",
+    b"import", b"import --force", b"project", b"export", b"tags", b"push", b"name", b"rule 1", b"rule 2", b"batch",
+    b"trial 1",
 ]
 PIECES = [
     b"\n", b" ", b"\0", b"\"", b"\\", b"/", b":", b"[", b"]", b",", b"from ", b"merge :1\n", b"data 3\n", b"0",
@@ -77,7 +80,7 @@ def batch():
     parts = []
     for _ in range(random.randint(1, 5)):
         word = random.choice(WORDS)
-        if word in (b"project", b"export", b"push", b"name"):
+        if word in (b"project", b"export", b"tags", b"push", b"name"):
             text = random.choice(FILTERS)
             if random.random() < 0.5:
                 text = mutated(text)
@@ -97,7 +100,7 @@ def fail(what, words, data):
 
 def run(words, data):
     done = subprocess.run([PROJ] + words, input=data, stdout=subprocess.PIPE, stderr=subprocess.PIPE, check=False)
-    if not 0 <= done.returncode <= 27 and done.returncode != 30:
+    if not 0 <= done.returncode <= 30:
         fail("status %d" % done.returncode, words, data)
     if (done.returncode == 0) != (done.stderr == b""):
         fail("status %d with the text %r" % (done.returncode, done.stderr), words, data)
@@ -157,6 +160,22 @@ def loads(store):
     return run([store, "project", "refs/heads/none", ":/a"], b"") == 8
 
 
+def merge(store):
+    """A filter, and a stream that merges what it shows of the store's branches, changed or not."""
+    text = random.choice([":/a", "::a/", ":nop"])
+    names = []
+    for ref in (MAIN, "refs/heads/x", "refs/heads/z"):
+        done = subprocess.run([PROJ, store, "project", ref, text], capture_output=True, check=False)
+        if done.returncode == 0 and done.stdout != b"none\n":
+            names.append(done.stdout)
+    stream = b"commit refs/heads/main\nmark :1\ncommitter A <a@x> 9 +0000\ndata 1\nm\n"
+    for line, name in zip([b"from "] + 2 * [b"merge "], names):
+        stream += line + name
+    stream += b"M 100644 inline a/merged\ndata 1\n1\n\ncommit refs/heads/main\ncommitter A <a@x> 9 +0000\ndata 1\nn\n"
+    stream += b"from :1\nmerge " + random.choice(names + [b":1\n"]) + b"M 100644 inline a/n\ndata 0\n"
+    return text, stream if random.random() < 0.3 else mutated(stream)
+
+
 def build():
     """Builds the program where it isn't there."""
     if not os.access(PROJ, os.X_OK) and shutil.which("rt"):
@@ -190,8 +209,12 @@ def main():
             if kind == 0:
                 status = run([store, "import"] + random.choice([[], ["--force"]]), mutated(random.choice(STREAMS)))
             elif kind == 1:
-                words = [store, "push", MAIN, random.choice([":/a", "::a/", ":nop"])]
-                status = run(words, mutated(random.choice(STREAMS)))
+                if random.random() < 0.5:
+                    text, stream = merge(store)
+                    status = run([store, "push", "--merges", MAIN, text], stream)
+                else:
+                    words = [store, "push", MAIN, random.choice([":/a", "::a/", ":nop"])]
+                    status = run(words, mutated(random.choice(STREAMS)))
             elif kind == 2:
                 status = run([store, "batch"], batch())
             elif kind == 3:
@@ -209,7 +232,8 @@ def main():
                 status = verify(found)
             else:
                 text = mutated(random.choice(FILTERS)).replace(b"\0", b"")
-                status = run([store, random.choice(["project", "export"]), MAIN, text], b"")
+                words = random.choice([["project"], ["export"], ["export", "--tags"], ["tags"]])
+                status = run([store] + words + [MAIN, text], b"")
             counts[status] = counts.get(status, 0) + 1
             if kind < 4 and not loads(store):
                 fail("a store that loaded does not", ["status %d" % status], b"")

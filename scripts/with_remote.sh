@@ -4,7 +4,8 @@ set -u
 cd "$(dirname "$0")/.." || exit 1
 label=remote
 . scripts/lib.sh
-needs git mktemp flock realpath awk sed grep cut paste sort head tail seq tee tr dirname sleep mkdir chmod cat cp ln rm
+needs git mktemp flock realpath awk sed grep cut paste sort head tail seq tee tr dirname sleep mkdir chmod cat cp cmp ln rm \
+    wc
 begin
 own_settings
 mkdir "$work/bin"
@@ -217,7 +218,8 @@ git -C "$work/a" checkout -q -b side HEAD~1
 change a side 'of a side'
 git -C "$work/a" checkout -q main
 git -C "$work/a" merge -q -m merge side
-refused 'a merge' 'a merge cannot be pushed' git -C "$work/a" push origin main
+refused 'a merge of what is not there' "does not show the merged $(git -C "$work/a" rev-parse side)" \
+    git -C "$work/a" push origin main
 git -C "$work/a" reset -q --hard '@{upstream}'
 git -C "$work/a" -c i18n.commitEncoding=latin1 commit -q --allow-empty -m "$(printf '\351')"
 refused 'an encoding' 'names an encoding' git -C "$work/a" push
@@ -233,6 +235,227 @@ git -C "$work/a" commit -q --allow-empty -m 'nothing'
 refused 'a commit without a change' 'no change: commit 1' git -C "$work/a" push
 git -C "$work/a" reset -q --hard '@{upstream}'
 settled 'after what was refused' a :/a
+
+# ---- merges
+
+store=$work/joined
+part=a
+
+# Puts the monorepo's branches into the store.
+publish() {
+    git -C "$work/many" fast-export --use-done-feature --branches >"$work/stream"
+    does 'an import of branches' proj "$store" import <"$work/stream"
+}
+
+# Makes a branch of the monorepo upon a commit of it: its name, the commit, and a file that it changes behind one in
+# `b`.
+branch() {
+    git -C "$work/many" checkout -q -b "$1" "$2"
+    change many "b/$1" 'not shown'
+    change many "$3" "of $1"
+    git -C "$work/many" checkout -q main
+    publish
+}
+
+# Fetches branches of the store, each as a remote of its own of a clone.
+fetched() {
+    local clone=$1 name
+    shift
+    for name in "$@"; do
+        git -C "$work/$clone" remote add "$name" "proj::$store#refs/heads/$name#:/$part"
+        does "a fetch of $name" git -C "$work/$clone" fetch -q "$name"
+    done
+}
+
+# Has the monorepo fetch a branch to which a clone has pushed.
+taken_back() {
+    does "the monorepo fetches $1" git -C "$work/many" fetch -q "proj::$store#refs/heads/$1" "$1:$1"
+}
+
+# The name that a ref has in a fresh repository, into which it is exported by a filter.
+exported() {
+    rm -rf "$work/fresh"
+    git init -q --bare "$work/fresh"
+    proj "$store" export "$1" "$2" | git -C "$work/fresh" fast-import --quiet
+    git -C "$work/fresh" fsck --strict --no-dangling >"$work/out" 2>&1 || printf 'not sound '
+    git -C "$work/fresh" rev-parse -q --verify "$1" || printf 'none\n'
+}
+
+# authors, dates and messages of the last commits of a line of first parents
+told() {
+    git -C "$work/$1" log --first-parent -n "$3" --format='%an %ae %ad %cn %cd %B' "$2"
+}
+
+# What came of a clone's push of so many commits: the clone is as the store and a fresh export, and the monorepo pulls
+# the originals. The last has the parents that are given, behind the original before it.
+joined() {
+    local it=$1 clone=$2 count=$3 old
+    shift 3
+    settled "$it" "$clone" ":/$part"
+    same "$it: an export" "$(git -C "$work/$clone" rev-parse HEAD)" "$(exported $main ":/$part")"
+    old=$(git -C "$work/many" rev-parse main)
+    does "$it: the monorepo pulls" git -C "$work/many" pull -q --ff-only store main
+    does "$it: fsck of the monorepo" git -C "$work/many" fsck --strict --no-dangling
+    same "$it: what they stand upon" "$old" "$(git -C "$work/many" rev-parse "main~$count")"
+    same "$it: the parents" "$(git -C "$work/many" rev-parse main~1 "$@" | paste -sd ' ')" \
+        "$(git -C "$work/many" log -1 --format=%P main)"
+    same "$it: what they say" "$(told "$clone" HEAD "$count")" "$(told many main "$count")"
+    same "$it: the tree" "$(git -C "$work/$clone" rev-parse 'HEAD^{tree}')" \
+        "$(git -C "$work/many" rev-parse "main:$part")"
+    same "$it: what is not shown" "$(git -C "$work/many" rev-parse "$old:b")" \
+        "$(git -C "$work/many" rev-parse main:b)"
+}
+
+git init -q "$work/many"
+git -C "$work/many" remote add store "proj::$store"
+change many b/g two
+change many a/f one
+publish
+branch ours main a/ours
+does 'a clone that merges' git clone -q "$(address :/a)" "$work/m"
+fetched m ours
+
+# By rule 2 a merge is no commit of its own where it has the tree of a parent that descends from the others, and by
+# rule 1 it is one. A merge that takes nothing of a branch with work of its own is one by both.
+does 'rule 2' proj "$store" rule 2
+change m x 'of the clone'
+git -C "$work/m" merge -q -s ours -m 'nothing of theirs' ours/ours
+does 'a push of a merge that takes nothing' git -C "$work/m" push -q
+joined 'a merge that takes nothing' m 2 ours
+branch ahead main a/ahead
+fetched m ahead
+git -C "$work/m" merge -q --no-ff --no-edit ahead/ahead
+refused 'a merge that rule 2 drops' 'no change: commit 1' git -C "$work/m" push
+does 'rule 1' proj "$store" rule 1
+does 'a push of that merge by rule 1' git -C "$work/m" push -q
+joined 'a merge that changes nothing' m 1 ahead
+
+# A diamond: work of the clone and of a branch upon one commit. The last commit of the branch changes nothing that is
+# shown, so the one before it is the first with this projection.
+branch dev main a/dev
+git -C "$work/many" checkout -q dev
+change many b/more 'nor is it shown'
+git -C "$work/many" checkout -q main
+publish
+fetched m dev
+change m y 'of the clone too'
+does 'a pull of a branch' git -C "$work/m" pull -q --no-rebase --no-edit dev dev
+does 'a push of a diamond' git -C "$work/m" push -q
+joined 'a diamond' m 2 dev~1
+
+# Two merges with a commit between them, and a merge of three.
+branch one main a/one
+branch two main~1 a/two
+fetched m one two
+git -C "$work/m" merge -q --no-ff --no-edit one/one
+change m between 'two merges'
+git -C "$work/m" merge -q --no-edit two/two
+does 'a push of two merges' git -C "$work/m" push -q
+joined 'two merges' m 3 two
+same 'the parents of the first of two merges' "$(git -C "$work/many" rev-parse main~3 one | paste -sd ' ')" \
+    "$(git -C "$work/many" log -1 --format=%P main~2)"
+branch three main~1 a/three
+branch four main~2 a/four
+branch five main a/five
+fetched m three four five
+change m beside 'three branches'
+git -C "$work/m" merge -q --no-edit three/three four/four five/five >"$work/out" 2>&1
+does 'a push of a merge of three' git -C "$work/m" push -q
+joined 'a merge of three' m 2 three four five
+
+# A merge of a commit of the same push, and of one that was pushed before.
+change m t 'first'
+change m u 'second'
+git -C "$work/m" reset -q --hard "$(git -C "$work/m" commit-tree -p HEAD -p HEAD~1 -m 'of this push' 'HEAD^{tree}')"
+does 'a push of a merge of itself' git -C "$work/m" push -q
+joined 'a merge of a commit of the same push' m 3 main~2
+git -C "$work/m" reset -q --hard "$(git -C "$work/m" commit-tree -p HEAD -p HEAD~1 -m 'pushed before' 'HEAD~2^{tree}')"
+does 'a push of a merge of what was pushed before' git -C "$work/m" push -q
+joined 'a merge of a commit that was pushed before' m 1 main~2
+
+# A late push. What the clone pulled is no first parent, so its own work goes to a branch, and is merged from there.
+does 'a clone that is late' git clone -q "$(address :/a)" "$work/behind"
+change m v 'first'
+does 'a push before the late one' git -C "$work/m" push -q
+joined 'a push before the late one' m 1
+change behind w 'late'
+refused 'a late push before a merge' 'fetch first' git -C "$work/behind" push
+does 'a pull that merges' git -C "$work/behind" pull -q --no-rebase --no-edit
+cp "$store" "$work/before"
+refused 'a late push with a merge' "do not lead to the fetched commit $(git -C "$work/m" rev-parse HEAD)" \
+    git -C "$work/behind" push
+does 'it changed nothing' cmp "$store" "$work/before"
+git -C "$work/many" branch aside main~1
+publish
+fetched behind aside
+does 'a push of late work to a branch' git -C "$work/behind" push -q aside HEAD^1:refs/heads/aside
+taken_back aside
+git -C "$work/behind" reset -q --hard origin/main
+git -C "$work/behind" merge -q --no-edit aside/aside
+does 'a push of late work that is merged' git -C "$work/behind" push -q
+joined 'late work that is merged' behind 1 aside
+
+# A branch of the clone alone, which the store takes first.
+does 'a pull after that' git -C "$work/m" pull -q
+git -C "$work/m" checkout -q -b own HEAD~1
+change m own 'of the clone alone'
+git -C "$work/m" checkout -q main
+git -C "$work/m" merge -q --no-edit own
+cp "$store" "$work/before"
+refused 'a merge of what the store does not show' "does not show the merged $(git -C "$work/m" rev-parse own)" \
+    git -C "$work/m" push
+does 'that changed nothing' cmp "$store" "$work/before"
+git -C "$work/many" branch own main~1
+publish
+fetched m own
+does 'a push of a branch' git -C "$work/m" push -q own own
+taken_back own
+does 'a push of a merge of it' git -C "$work/m" push -q
+joined 'a merge of a branch that was pushed' m 1 own
+
+# A parent twice, and an original's name, which Git writes of no commit.
+merging() {
+    printf 'commit %s\ncommitter A <a@x> 1700000000 +0000\ndata 4\nhand\nfrom %s\nmerge %s\n' \
+        $main "$(git -C "$work/m" rev-parse HEAD)" "$1"
+    printf 'M 100644 inline hand\ndata 4\nhand\n'
+}
+
+# what it is, the status and the text that a push of it is answered with, and the name that it merges
+answered() {
+    merging "$4" >"$work/stream"
+    proj "$store" push --merges $main :/a <"$work/stream" >"$work/out" 2>&1
+    same "$1" "$2 $3" "$? $(cat "$work/out")"
+}
+cp "$store" "$work/before"
+answered 'a parent twice' 28 'repeated parent: commit 1' "$(git -C "$work/m" rev-parse HEAD)"
+answered "an original's name" 5 "unresolved at $(merging x | sed '/^merge/,$d' | wc -c)" \
+    "$(git -C "$work/many" rev-parse dev)"
+merging "$(proj "$store" project refs/heads/dev :/a)" >"$work/stream"
+same 'merges without their word' 'merge: commit 1' "$(proj "$store" push $main :/a 2>&1 <"$work/stream")"
+does 'refusals change nothing' cmp "$store" "$work/before"
+
+# Of a part that only a branch has.
+part=n
+branch new main n/f
+does 'a clone without a commit' git clone -q "$(address :/n)" "$work/root"
+fetched root new
+change root own 'a root'
+git -C "$work/root" merge -q --no-edit --allow-unrelated-histories new/new
+does 'a push of roots that are merged' git -C "$work/root" push -q origin main
+joined 'roots that are merged' root 2 new
+
+for ref in $(git -C "$work/many" for-each-ref --format='%(refname)' refs/heads); do
+    same "all of $ref" "$(git -C "$work/many" rev-parse "$ref")" "$(proj "$store" project "$ref" :nop)"
+    same "an export of all of $ref" "$(git -C "$work/many" rev-parse "$ref")" "$(exported "$ref" :nop)"
+    name=$(proj "$store" project "$ref" :/a)
+    same "what is shown of $ref" "$name" "$(exported "$ref" :/a)"
+    branch=${ref##*/}
+    fetched=$(git -C "$work/m" rev-parse -q --verify "refs/remotes/$branch/$branch") || continue
+    same "what a clone has of $ref" "$name" "$fetched"
+done
+does 'a pull of all that' git -C "$work/m" pull -q
+settled 'a pull of all that' m :/a
+store=$work/store
 
 # ---- what is not shown
 
