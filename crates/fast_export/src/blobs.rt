@@ -44,8 +44,8 @@ fn write_blob<O: Sink>(
     Ok(())
 }
 
-// Writes a leaf's blob, if it has one without a mark, and gives it the next.
-fn write_new_blob<O: Sink>(
+/// Writes a leaf's blob, if it has one without a mark, and gives it the next.
+pub fn write_new_blob<O: Sink>(
     store: &Store,
     leaf: Leaf,
     marks: &mut GivenMarks,

@@ -33,8 +33,8 @@ use std::alloc::AllocError;
 // How many levels of directories are gone down one by one.
 const DEPTH: u32 = 64;
 
-// What stands in front of a commit's message.
-fn add_head(
+/// The lines of a commit in front of its message; before one without parents the ref is unset.
+pub fn add_head(
     out: &mut Vec<u8>,
     refname: &RefName,
     number: u64,

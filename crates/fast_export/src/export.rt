@@ -46,8 +46,8 @@ fn write_commits<O: Sink>(
     Ok(())
 }
 
-// The ref is set to the last commit.
-fn add_last(out: &mut Vec<u8>, refname: &RefName, number: u64) -> Result<(), AllocError>
+/// The lines by which the ref is set to the last commit, of which this is the mark.
+pub fn add_last(out: &mut Vec<u8>, refname: &RefName, number: u64) -> Result<(), AllocError>
     ensures { OnOk result (out.new.items ≡ out.old.items
         ++ (line (codes "reset ") refname.now ++ mark_line (codes "from ") number ++ 10 ∷ [])) }
 {

@@ -7,7 +7,8 @@ ghost use Rattle.git_objects.specs.Snapshots.{snapshot_name};
 ghost use Rattle.git_objects.specs.declared.limits.TheConstants.{STREAM_BYTES};
 ghost use Rattle.object_store.specs.Objects.{Object};
 ghost use Rattle.fast_import.specs.Bases.{base_in};
-ghost use Rattle.fast_import.specs.Replays.{Replay as ReplayOf, branch, given_by, nothing_yet, tagged_given, target_name};
+ghost use Rattle.fast_import.specs.Replays.{Replay as ReplayOf, branch, given_by, nothing_yet, tagged_given};
+ghost use Rattle.fast_import.specs.Replays.{target_name};
 ghost use Rattle.fast_import.specs.Standing.{IsReplayOf, IsReplayedOf, IsTaggedReplayedOf};
 
 use crate::blobs::Blobs;

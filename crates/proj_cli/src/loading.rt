@@ -25,7 +25,7 @@ fn load_outcome(error: LoadError) -> Outcome
 }
 
 /// Loads what the items of a store hold.
-pub(crate) fn load<K: Keeper>(alloc: Global, store: &mut K) -> Result<State, Outcome>
+pub fn load<K: Keeper>(alloc: Global, store: &mut K) -> Result<State, Outcome>
     requires { K.is_open store.old }
     ensures ok { IfOk result (IsLoaded (K.items store.old) (K.number store.old)) }
     ensures err { (items : List Bytes) → K.items store.old ≡ Some items → IfErr result (IsEarly (loaded items)) }

@@ -35,7 +35,7 @@ pub(crate) fn certificate_outcome(fault: VerifyFault) -> Outcome
 }
 
 /// Why nothing is shown.
-pub(crate) fn apply_outcome(error: ApplyError) -> Outcome
+pub fn apply_outcome(error: ApplyError) -> Outcome
     ensures { result ≡ apply_outcome error }
 {
     match error {

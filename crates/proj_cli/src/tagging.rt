@@ -72,7 +72,7 @@ fn retargeted_all(
 
 /// The state's tags of the commit `head` and of those before it that have a projection, each with the projection of its
 /// commit.
-pub(crate) fn shown_tags(
+pub fn shown_tags(
     alloc: Global,
     state: &mut State,
     filter: &Filter,
@@ -96,7 +96,7 @@ pub(crate) fn shown_tags(
 }
 
 /// These tags where they are asked for, and else none.
-pub(crate) fn tags_beside(
+pub fn tags_beside(
     alloc: Global,
     state: &mut State,
     filter: &Filter,
