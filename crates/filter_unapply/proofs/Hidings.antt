@@ -5,7 +5,7 @@ use Rattle.std.specs.Prelude.{find}
 use Rattle.std.specs.Option.{option_map, option_map_or, option_or}
 use Rattle.std.specs.Cmp.Lexicographic.{bytes_decides}
 use Rattle.git_objects.specs.Paths.{Bytes, Path, is_path, same_bytes}
-use Rattle.git_objects.specs.Trees.{Leaf, FileLeaf, ExecLeaf, LinkLeaf, ModuleLeaf, Flat, at, LeafNode, TreeNode, standing, under, if_full}
+use Rattle.git_objects.specs.Trees.{Leaf, FileLeaf, ExecLeaf, LinkLeaf, ModuleLeaf, Flat, at, LeafNode, TreeNode, standing, under, if_full, same_leaf}
 use Rattle.git_objects.specs.Names.{name}
 use Rattle.git_objects.specs.declared.kind.Kind.TheVariants.{Blob}
 use denote.Enum.Bare.{sameb}
@@ -20,7 +20,7 @@ use Rattle.std.proofs.lemmas.List.{length-drop, take_all}
 use Rattle.filter_text.specs.Filters.{Filter, has_paths}
 use Rattle.filter_routes.specs.Images.{image}
 use Rattle.filter_routes.proofs.ImagePaths.{image-path}
-use Rattle.filter_unapply.specs.Laying.{differs_at, is_unseen, same_leaf, unseen}
+use Rattle.filter_unapply.specs.Laying.{differs_at, is_unseen, unseen}
 use Rattle.filter_unapply.proofs.Places.{leaf_stands, nothing_stands}
 use Rattle.filter_unapply.proofs.Sieves.{directory_stands}
 

@@ -1,8 +1,8 @@
 -- A tree laid back into the one that it was shown of.
 use Rattle.std.specs.Prelude.{Bool, false, true, cond, not, ◌&&◌, [], ◌∷◌, ◌++◌, Option, Some, None, filter, find, is_some}
 use Rattle.std.specs.Option.{is_none, option_map, option_and_then, option_map_or}
-use Rattle.git_objects.specs.Paths.{Path, comparable, same_bytes, same_path}
-use Rattle.git_objects.specs.Trees.{Leaf, FileLeaf, ExecLeaf, LinkLeaf, ModuleLeaf, Flat, at, rest_below}
+use Rattle.git_objects.specs.Paths.{Path, comparable, same_path}
+use Rattle.git_objects.specs.Trees.{Leaf, Flat, at, rest_below, same_leaf}
 use Rattle.filter_text.specs.Filters.{Filter}
 use Rattle.filter_routes.specs.Images.{image}
 use Rattle.filter_routes.specs.Lenses.{Lens, carried}
@@ -65,14 +65,6 @@ laid_through f t n = laid_from (first_lost f n) (first_blocked f (pre f t n)) (p
 -- n laid into t, through the filter that n itself asks for
 abbrev pub laid : Filter → Flat → Flat → Laid
 laid f t n = laid_through (lens_of (next f t n)) t n
-
--- whether both have one mode and the same bytes
-abbrev pub same_leaf : Leaf → Leaf → Bool
-same_leaf (FileLeaf a) (FileLeaf b) = same_bytes a b
-same_leaf (ExecLeaf a) (ExecLeaf b) = same_bytes a b
-same_leaf (LinkLeaf a) (LinkLeaf b) = same_bytes a b
-same_leaf (ModuleLeaf a) (ModuleLeaf b) = same_bytes a b
-same_leaf _ _ = false
 
 -- whether n has another leaf at q than x, or none there
 abbrev pub differs_at : Flat → Leaf → Path → Bool

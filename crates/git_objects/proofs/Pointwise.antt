@@ -7,7 +7,7 @@ use Rattle.std.specs.Cmp.Lexicographic.{bytes_decides}
 use Rattle.std.specs.FinMap.{is_sorted}
 use Rattle.std.specs.FinMap.Entries.{below_all}
 use Rattle.git_objects.specs.Paths.{Path, same_bytes, same_path, is_component, is_path, is_prefix, comparable, path_cmp}
-use Rattle.git_objects.specs.Trees.{Leaf, is_leaf, Flat, at, IsTree, no_comparable, Node, LeafNode, TreeNode, rests, put, remove}
+use Rattle.git_objects.specs.Trees.{Leaf, FileLeaf, ExecLeaf, LinkLeaf, ModuleLeaf, is_leaf, same_leaf, Flat, at, IsTree, no_comparable, Node, LeafNode, TreeNode, rests, put, remove}
 use Rattle.git_objects.proofs.Order.{path_cmp-total, path_decides}
 use Rattle.git_objects.proofs.Basics.{both, first, second, same_bytes-self, same_bytes-back}
 use Rattle.git_objects.specs.Lists.{Each}
@@ -226,3 +226,22 @@ remove-tree t p h =
     (λ q x e. all_at is_path t q x h.paths (kept t p q x e))
     (λ q x e. leaf_at is_leaf t q x h.leaves (kept t p q x e))
     (λ q s x y e f c. at_apart t h.apart q s x y (kept t p q x e) (kept t p s y f) c)
+
+-- leaves that pass the test are one
+pub leaf-is : (x y : Leaf) → same_leaf x y ≡ true → x ≡ y
+leaf-is (FileLeaf a) (FileLeaf b) e = ap FileLeaf ((bytes_decides a b).0 e)
+leaf-is (ExecLeaf a) (ExecLeaf b) e = ap ExecLeaf ((bytes_decides a b).0 e)
+leaf-is (LinkLeaf a) (LinkLeaf b) e = ap LinkLeaf ((bytes_decides a b).0 e)
+leaf-is (ModuleLeaf a) (ModuleLeaf b) e = ap ModuleLeaf ((bytes_decides a b).0 e)
+leaf-is (FileLeaf a) (ExecLeaf b) e = absurd (true≢false (sym e))
+leaf-is (FileLeaf a) (LinkLeaf b) e = absurd (true≢false (sym e))
+leaf-is (FileLeaf a) (ModuleLeaf b) e = absurd (true≢false (sym e))
+leaf-is (ExecLeaf a) (FileLeaf b) e = absurd (true≢false (sym e))
+leaf-is (ExecLeaf a) (LinkLeaf b) e = absurd (true≢false (sym e))
+leaf-is (ExecLeaf a) (ModuleLeaf b) e = absurd (true≢false (sym e))
+leaf-is (LinkLeaf a) (FileLeaf b) e = absurd (true≢false (sym e))
+leaf-is (LinkLeaf a) (ExecLeaf b) e = absurd (true≢false (sym e))
+leaf-is (LinkLeaf a) (ModuleLeaf b) e = absurd (true≢false (sym e))
+leaf-is (ModuleLeaf a) (FileLeaf b) e = absurd (true≢false (sym e))
+leaf-is (ModuleLeaf a) (ExecLeaf b) e = absurd (true≢false (sym e))
+leaf-is (ModuleLeaf a) (LinkLeaf b) e = absurd (true≢false (sym e))

@@ -1,5 +1,5 @@
 -- Trees: finite maps from paths to leaves, in which no two paths are comparable.
-use Rattle.std.specs.Prelude.{Bool, true, not, cond, ◌&&◌, ◌==◌, T, List, [], ◌∷◌, ◌++◌, Option, Some, None, filter, length}
+use Rattle.std.specs.Prelude.{Bool, true, false, not, cond, ◌&&◌, ◌==◌, T, List, [], ◌∷◌, ◌++◌, Option, Some, None, filter, length}
 use Rattle.std.specs.List.{list_all, filter_map}
 use Rattle.std.specs.FinMap.{put as put_entry, is_sorted}
 use Rattle.git_objects.specs.Paths.{Path, Bytes, is_bytes, is_path, path_cmp, comparable, is_prefix, same_bytes, same_path}
@@ -17,6 +17,14 @@ is_leaf (FileLeaf b) = is_bytes b
 is_leaf (ExecLeaf b) = is_bytes b
 is_leaf (LinkLeaf b) = is_bytes b
 is_leaf (ModuleLeaf n) = is_bytes n && length n == 20
+
+-- whether both have one mode and the same bytes
+abbrev pub same_leaf : Leaf → Leaf → Bool
+same_leaf (FileLeaf a) (FileLeaf b) = same_bytes a b
+same_leaf (ExecLeaf a) (ExecLeaf b) = same_bytes a b
+same_leaf (LinkLeaf a) (LinkLeaf b) = same_bytes a b
+same_leaf (ModuleLeaf a) (ModuleLeaf b) = same_bytes a b
+same_leaf _ _ = false
 
 -- a map from paths to leaves, as its pairs in path order
 abbrev pub Flat : Type 0

@@ -109,9 +109,13 @@ one-of m n ws h e = by (same_bytes m n) refl e
     by true q x = ap (λ (j : Bytes). list_any (same_bytes j) ws) ((bytes_decides m n).0 q) ∙ h
     by false q x = absurd (true≢false (sym x))
 
+-- the commits of their own that a commit and its ancestors become are among those that all commits become
+pub own-of-all : (k : Rule) (s : Flat → Flat) (g : Graph) (n : Bytes) → has g n ≡ true → (d : Snapshot) → Contains (own_commits k s g (n ∷ [])) d → Contains (own_commits k s g (map snapshot_name g)) d
+own-of-all k s g n there d m = own-more k s g (n ∷ []) (map snapshot_name g) (λ j. one-of j n (map snapshot_name g) (among-names g n there)) d m
+
 module _ (f : Filter) (g : Ground) (n : Bytes) (there : has (commits_of g) n ≡ true) where
   own-all : (d : Snapshot) → Contains (own_commits g.rule (shown f) (commits_of g) (n ∷ [])) d → Contains (own_commits g.rule (shown f) (commits_of g) (map snapshot_name (commits_of g))) d
-  own-all = own-more g.rule (shown f) (commits_of g) (n ∷ []) (map snapshot_name (commits_of g)) (λ m. one-of m n (map snapshot_name (commits_of g)) (among-names (commits_of g) n there))
+  own-all = own-of-all g.rule (shown f) (commits_of g) n there
 
   seen-projection : (o : Object) → IsSeenObject f g n o → IsProjectionObject f g o
   seen-projection o (inl (inl x)) = inl x

@@ -10,6 +10,6 @@ mod TrueWalking
 pub mod HeadLemmas
 mod TrueHeads
 mod FirstLookups
-mod AllProjections
+pub mod AllProjections
 mod Standing
 mod Befores

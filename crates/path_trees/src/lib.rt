@@ -21,4 +21,5 @@ pub use found::{Found, Leaf, TreeFault};
 pub use join::{JoinFault, join_apart, join_disjoint};
 pub use laws::together_law;
 pub use lookup::{entry_at, entry_in};
+pub use pairs::{Pair, next_pair};
 pub use walk::{Walk, entries_at};

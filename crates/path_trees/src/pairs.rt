@@ -8,7 +8,7 @@ ghost use Rattle.path_trees.specs.Merged.{merged, pair_value};
 use git_objects::{EntryView, TreeView, compare_components};
 use std::cmp::Ordering;
 
-// An entry of one listing, or two of the same component.
+/// An entry of one of two listings, or one of each with the same component.
 #[derive(Clone, Copy)]
 pub enum Pair<'a> {
     Left(EntryView<'a>),
@@ -22,7 +22,7 @@ fn order(a: &EntryView<'_>, b: &EntryView<'_>) -> Ordering
     compare_components(a.component, a.mode.is_dir(), b.component, b.mode.is_dir())
 }
 
-// The next of two listings in Git's order.
+/// The next of what is left of two listings, in Git's order. It needs no memory.
 pub fn next_pair<'a>(left: &mut TreeView<'a>, right: &mut TreeView<'a>) -> Option<Pair<'a>>
     ensures pair { option_map pair_value result ≡ slice_get (merged left.old right.old) 0 }
     ensures rest { merged left.new right.new ≡ drop 1 (merged left.old right.old) }

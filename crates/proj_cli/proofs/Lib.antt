@@ -48,7 +48,6 @@ mod NamesGiven
 pub mod ListLengths
 pub mod DiskLists
 pub mod Lifting
-mod OwnOfAll
 mod PushHands
 mod PushedLaws
 mod PushPlans

@@ -51,7 +51,7 @@ use Rattle.proj_cli.specs.Pushing.{AreSeenOver, IsMadeOver, IsSeenOver}
 use Rattle.proj_cli.specs.declared.pushing.Manner.{Manner}
 use Rattle.proj_cli.specs.declared.pushing.Manner.TheVariants.{InLine, Merging}
 use Rattle.proj_cli.proofs.InHands.{added-in, here, in-hands, none-in, there}
-use Rattle.proj_cli.proofs.OwnOfAll.{own-of-all}
+use Rattle.history_ground.proofs.AllProjections.{own-of-all}
 use Rattle.proj_cli.proofs.StreamHands.{IsBrought, brought-in-hand, component-in-hand, leaf-in-hand, run-brought}
 
 -- ---- parts of filters

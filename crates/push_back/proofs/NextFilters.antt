@@ -4,7 +4,7 @@ use Rattle.std.specs.Option.{is_some, option_and_then, option_map_or}
 use Rattle.std.specs.Ordering.{is_eq}
 use Rattle.std.specs.declared.alloc.AllocError.{AllocError}
 use Rattle.git_objects.specs.Paths.{Path, path_cmp}
-use Rattle.git_objects.specs.Trees.{Flat, at}
+use Rattle.git_objects.specs.Trees.{Flat, at, same_leaf}
 use Rattle.git_objects.specs.Trees as trees
 use Rattle.git_objects.proofs.Order.{path_ties}
 use Rattle.object_store.specs.Objects.{Object}
@@ -13,7 +13,7 @@ use Rattle.filter_text.specs.Filters.{Filter}
 use Rattle.filter_routes.specs.Images.{image}
 use Rattle.filter_routes.specs.Interned.{HasAt, Interns}
 use Rattle.filter_routes.specs.TableValues.{Table}
-use Rattle.filter_unapply.specs.Laying.{differs_at, same_leaf}
+use Rattle.filter_unapply.specs.Laying.{differs_at}
 use Rattle.workspace.specs.Views.{found_value}
 use Rattle.workspace.specs.Workspaces.{has_unreadable, next, place, resolve, shown_place, with_leaf}
 use Rattle.projection_ground.specs.Grounds.{AreInFront}

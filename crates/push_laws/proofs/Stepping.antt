@@ -6,7 +6,8 @@ use Rattle.std.proofs.lemmas.Bool.{or_parts}
 use Rattle.std.proofs.lemmas.Option.{none-some, same_Some}
 use Rattle.std.specs.Cmp.Lexicographic.{bytes_decides}
 use Rattle.git_objects.specs.Paths.{Path, is_path, same_bytes, same_path}
-use Rattle.git_objects.specs.Trees.{Leaf, FileLeaf, ExecLeaf, LinkLeaf, ModuleLeaf, Flat, IsTree, at}
+use Rattle.git_objects.specs.Trees.{Leaf, Flat, IsTree, at, same_leaf}
+use Rattle.git_objects.proofs.Pointwise.{leaf-is}
 use Rattle.git_objects.specs.Names.{tree_name}
 use Rattle.git_objects.specs.declared.quantity.Quantity.{Quantity}
 use Rattle.git_objects.proofs.Order.{path_decides}
@@ -17,7 +18,7 @@ use Rattle.filter_routes.specs.Lenses.{seen_through}
 use Rattle.filter_routes.specs.Origins.{lens_of}
 use Rattle.workspace.specs.Laws.{IsUsable}
 use Rattle.workspace.specs.Workspaces.{place, with_leaf, resolve, shown, shown_place, next}
-use Rattle.filter_unapply.specs.Laying.{same_leaf, differs_at, is_unseen, unseen, laid, Laid, LaidTree, NotHeld, Blocked}
+use Rattle.filter_unapply.specs.Laying.{differs_at, is_unseen, unseen, laid, Laid, LaidTree, NotHeld, Blocked}
 use Rattle.push_laws.specs.PushVerdicts.{NoChange, BadWorkspace, same_found, same_place, is_changed, is_bad, is_bad_workspace, passed, judged, original_tree, tree_upon, TreeLimit}
 use Rattle.push_laws.specs.PushLaws.{next_place, NextLaw, IsStep, StepLaw}
 use Rattle.filter_unapply.proofs.LayingLemmas.{the_law as laying}
@@ -62,24 +63,6 @@ next-law f t n u h v w e k = by (place f) refl
     by (Some p) i = ap (λ o. with_leaf f (option_and_then (at u) o)) i ∙ next-at f t n u h v w e k p i (shown_place f t) refl
 
 -- ---- tests as equations
-
-leaf-is : (x y : Leaf) → same_leaf x y ≡ true → x ≡ y
-leaf-is (FileLeaf a) (FileLeaf b) e = ap FileLeaf ((bytes_decides a b).0 e)
-leaf-is (ExecLeaf a) (ExecLeaf b) e = ap ExecLeaf ((bytes_decides a b).0 e)
-leaf-is (LinkLeaf a) (LinkLeaf b) e = ap LinkLeaf ((bytes_decides a b).0 e)
-leaf-is (ModuleLeaf a) (ModuleLeaf b) e = ap ModuleLeaf ((bytes_decides a b).0 e)
-leaf-is (FileLeaf a) (ExecLeaf b) e = absurd (true≢false (sym e))
-leaf-is (FileLeaf a) (LinkLeaf b) e = absurd (true≢false (sym e))
-leaf-is (FileLeaf a) (ModuleLeaf b) e = absurd (true≢false (sym e))
-leaf-is (ExecLeaf a) (FileLeaf b) e = absurd (true≢false (sym e))
-leaf-is (ExecLeaf a) (LinkLeaf b) e = absurd (true≢false (sym e))
-leaf-is (ExecLeaf a) (ModuleLeaf b) e = absurd (true≢false (sym e))
-leaf-is (LinkLeaf a) (FileLeaf b) e = absurd (true≢false (sym e))
-leaf-is (LinkLeaf a) (ExecLeaf b) e = absurd (true≢false (sym e))
-leaf-is (LinkLeaf a) (ModuleLeaf b) e = absurd (true≢false (sym e))
-leaf-is (ModuleLeaf a) (FileLeaf b) e = absurd (true≢false (sym e))
-leaf-is (ModuleLeaf a) (ExecLeaf b) e = absurd (true≢false (sym e))
-leaf-is (ModuleLeaf a) (LinkLeaf b) e = absurd (true≢false (sym e))
 
 found-is : (o o' : Option Leaf) → same_found o o' ≡ true → o ≡ o'
 found-is None None e = refl

@@ -8,7 +8,7 @@ use Rattle.std.specs.Prelude.{ℕ, ◌+◌, Bool, true, false, not, ◌&&◌, �
 use Rattle.std.specs.Option.{option_and_then, option_map_or}
 use Rattle.std.specs.List.{list_any}
 use Rattle.git_objects.specs.Paths.{Bytes, Path, same_bytes, same_path, text}
-use Rattle.git_objects.specs.Trees.{Leaf, Flat, at}
+use Rattle.git_objects.specs.Trees.{Leaf, Flat, at, same_leaf}
 use Rattle.git_objects.specs.Names.{tree_name}
 use Rattle.git_objects.specs.declared.limits.TheConstants.{TREE_DEPTH, TREE_FILES, TREE_PATH_BYTES}
 use Rattle.git_objects.specs.declared.quantity.Quantity.{Quantity}
@@ -17,7 +17,7 @@ use Rattle.filter_text.specs.Filters.{Filter}
 use Rattle.filter_routes.specs.Images.{image}
 use Rattle.git_objects.specs.Snapshots.{Snapshot, Graph, snapshot_name, tree_at}
 use Rattle.workspace.specs.Workspaces.{place, split, is_unreadable, resolve, shown, shown_place, next}
-use Rattle.filter_unapply.specs.Laying.{laid, unseen, same_leaf, Laid, LaidTree, NotHeld as LaidNotHeld, Blocked as LaidBlocked}
+use Rattle.filter_unapply.specs.Laying.{laid, unseen, Laid, LaidTree, NotHeld as LaidNotHeld, Blocked as LaidBlocked}
 
 -- why a commit of a push is refused
 pub data Refusal : Type 0 where
