@@ -21,8 +21,8 @@ use path_trees::{Leaf, Walk};
 use proj_io::Sink;
 use std::alloc::{AllocError, Global};
 
-// A text behind another, with room for a byte more.
-fn behind(alloc: Global, front: &[u8], text: &[u8]) -> Result<Vec<u8>, AllocError>
+/// A text behind another, with room for a byte more.
+pub fn behind(alloc: Global, front: &[u8], text: &[u8]) -> Result<Vec<u8>, AllocError>
     ensures { IfOk result (λ t. t.items ≡ front.now ++ text.now) }
 {
     let size = front.len().saturating_add(text.len()).saturating_add(1);
@@ -32,8 +32,8 @@ fn behind(alloc: Global, front: &[u8], text: &[u8]) -> Result<Vec<u8>, AllocErro
     Ok(both)
 }
 
-// What stands in front of the paths below a directory.
-fn below(alloc: Global, front: &[u8], component: &[u8]) -> Result<Vec<u8>, AllocError>
+/// What stands in front of the paths below a directory.
+pub fn below(alloc: Global, front: &[u8], component: &[u8]) -> Result<Vec<u8>, AllocError>
     ensures { IfOk result (λ t. t.items ≡ (front.now ++ component.now) ++ 47 ∷ []) }
 {
     let mut both = behind(alloc, front, component)?;
