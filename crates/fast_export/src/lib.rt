@@ -22,5 +22,5 @@ pub use export::{add_last, write_history};
 pub use given::GivenMarks;
 pub use laws::{reading_again_law, stored_history_law, tagged_again_law};
 pub use leaves::{behind, below};
-pub use lines::{add_leaf_line, add_line};
+pub use lines::{add_leaf_line, add_line, add_mark_line};
 pub use sending::{PIECE, put, send, send_piece};
