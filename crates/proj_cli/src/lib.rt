@@ -40,7 +40,7 @@ pub use projecting::project;
 pub use pushing::{Manner, push};
 pub use refusals::apply_outcome;
 pub use rule::set_rule;
-pub use serving::{Served, serve};
+pub use serving::{Served, error_code, serve, tell_error};
 pub use tagging::{shown_tags, tags_beside};
 pub use trying::trial;
 pub use verifying::verify_text;

@@ -75,9 +75,9 @@ fn broken_text(alloc: Global, at: u64) -> Result<Vec<u8>, AllocError>
     Ok(text)
 }
 
-// Writes why there is no journal, and answers what was written: where there is no memory for the text of a broken one,
-// it is that.
-fn tell_error<E: Sink>(alloc: Global, error: JournalError, err: &mut E) -> JournalError
+/// Writes why there is no journal, and answers what was written: where there is no memory for the text of a broken one,
+/// it is that.
+pub fn tell_error<E: Sink>(alloc: Global, error: JournalError, err: &mut E) -> JournalError
     ensures error { (result ≡ error) ⊎ ((result ≡ JournalError.OutOfMemory) ×
         ((at : ℕ) × (error ≡ JournalError.Broken at))) }
     ensures text { let seen = sink_view E.written E.faults E.refusals in GetsText (seen err.old) (seen err.new)
@@ -97,8 +97,8 @@ fn tell_error<E: Sink>(alloc: Global, error: JournalError, err: &mut E) -> Journ
     error
 }
 
-// The exit status where there is no journal.
-fn error_code(error: JournalError) -> u8
+/// The exit status where there is no journal.
+pub fn error_code(error: JournalError) -> u8
     ensures { result ≡ error_code error }
 {
     match error {
