@@ -3,7 +3,7 @@ pub mod Giving
 pub mod Lookups
 pub mod NewBlobs
 pub mod Marked
-pub mod Behind
+pub mod LinesBehind
 pub mod WrittenBlobs
 pub mod ParentLines
 pub mod WrittenLeaves

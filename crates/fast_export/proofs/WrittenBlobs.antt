@@ -19,7 +19,7 @@ use Rattle.path_trees.proofs.Walks.{dir_rests, leaf_rests}
 use Rattle.git_objects.specs.Entries.{is_dir}
 use Rattle.git_objects.specs.declared.entry.Entry.{Entry}
 use Rattle.git_objects.proofs.SharedFronts.{listed}
-use Rattle.fast_export.proofs.Behind.{first_of_left, joined_in, none_of_left}
+use Rattle.fast_export.proofs.LinesBehind.{first_of_left, joined_in, none_of_left}
 use Rattle.fast_export.proofs.Marked.{new_below}
 use Rattle.fast_export.proofs.NewBlobs.{with_append, texts_append, with_nothing}
 use Rattle.fast_export.specs.declared.error.ExportError.TheVariants.{OutOfMemory}

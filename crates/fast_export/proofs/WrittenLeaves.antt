@@ -24,7 +24,7 @@ use Rattle.fast_export.specs.declared.known.Lines.{Lines}
 use Rattle.fast_export.specs.Sending.{IsPut}
 use Rattle.fast_export.specs.declared.error.ExportError.{ExportError}
 use Rattle.fast_export.specs.declared.error.ExportError.TheVariants.{OutOfMemory}
-use Rattle.fast_export.proofs.Behind.{first_of_left, joined_in, line_is, none_of_left}
+use Rattle.fast_export.proofs.LinesBehind.{first_of_left, joined_in, line_is, none_of_left}
 use Rattle.fast_export.proofs.Marked.{marks_parts}
 use Rattle.fast_export.proofs.Sent.{put_as, put_idle, put_short, put_stop, put_then}
 use Rattle.fast_export.proofs.WrittenBlobs.{children_more, parts_more}

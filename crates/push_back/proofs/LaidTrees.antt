@@ -1,9 +1,9 @@
 -- What comes of laying a pushed tree, and what a ground keeps.
-use Rattle.std.proofs.Common.{◌≡◌, Bool, true, false, cond, List, Option, Some, None, Result, Ok, Err, IfOk, IfErr, IsOkAnd, refl, sym, ap, subst, ◌∙◌}
-use Rattle.std.specs.Option.{option_map_or}
+use Rattle.std.proofs.Common.{◌≡◌, Bool, true, false, cond, List, [], ◌∷◌, Option, Some, None, Result, Ok, Err, IfOk, IfErr, IsOkAnd, refl, sym, ap, subst, ◌∙◌}
+use Rattle.std.specs.Option.{is_none, option_map, option_map_or}
 use Rattle.std.proofs.lemmas.Option.{same_Some}
 use Rattle.git_objects.specs.Paths.{Bytes, Path, same_bytes}
-use Rattle.git_objects.specs.Trees.{Flat}
+use Rattle.git_objects.specs.Trees.{Flat, Leaf}
 use Rattle.git_objects.specs.Names.{tree_name}
 use Rattle.git_objects.specs.declared.kind.Kind.TheVariants.{Tree}
 use Rattle.git_objects.specs.declared.name.Name.{Name}
@@ -15,12 +15,13 @@ use Rattle.object_store.proofs.Growth.{clash_as, grown_self}
 use Rattle.object_store.proofs.Unfolding.{unfolding_law}
 use Rattle.filter_text.specs.Filters.{Filter}
 use Rattle.filter_text.specs.Shapes.{shape}
+use Rattle.filter_routes.specs.Images.{image}
 use Rattle.filter_routes.specs.Interned.{HasAt}
 use Rattle.filter_routes.specs.TableValues.{Table}
 use Rattle.filter_routes.specs.Origins.{lens_of}
-use Rattle.std.specs.Prelude.{slice_get, ℕ}
+use Rattle.std.specs.Prelude.{find, slice_get, ℕ, ◌&&◌}
 use Rattle.filter_unapply.specs.Hands.{IsFaultBy, IsLaidMade}
-use Rattle.filter_unapply.specs.Laying.{Laid, LaidTree, NotHeld as LaidNotHeld, Blocked as LaidBlocked, laid_through, unseen}
+use Rattle.filter_unapply.specs.Laying.{Laid, LaidTree, NotHeld as LaidNotHeld, Blocked as LaidBlocked, differs_at, is_unseen, laid_through, unseen}
 use Rattle.filter_unapply.specs.Stored.{IsLaidTree}
 use Rattle.filter_unapply.specs.declared.fault.LayFault.{LayFault}
 use Rattle.filter_unapply.specs.declared.fault.LayFault.TheVariants as lay
@@ -56,6 +57,22 @@ nothing-made v made S r e s q h = record {
   err = subst (λ x. IfErr x (IsRefusedBy (λ x. v ≡ Err x) made S)) (sym q) h;
   grown = grown_self made S s;
 }
+
+-- ---- nothing is unseen through one filter
+
+is-seen : (r : Filter) (n : Flat) (e : Path × Leaf) → is_unseen r r n e ≡ false
+is-seen r n e = by (image r e.0)
+  where
+    by : (o : Option Path) → (is_none o && option_map_or (differs_at n e.1) o false) ≡ false
+    by None = refl
+    by (Some q) = refl
+
+none-found : (r : Filter) (t n : Flat) → find (is_unseen r r n) t ≡ None
+none-found r [] n = refl
+none-found r (e ∷ t) n = ap (λ (b : Bool). cond b (Some e) (find (is_unseen r r n) t)) (is-seen r n e) ∙ none-found r t n
+
+pub unseen-self : (r : Filter) (t n : Flat) → unseen r r t n ≡ None
+unseen-self r t n = ap (λ (o : Option (Path × Leaf)). option_map (λ (e : Path × Leaf). e.0) o) (none-found r t n)
 
 -- ---- laying
 
@@ -113,6 +130,13 @@ laying r r2 t n = judged (unseen r r2 t n) (laid_through (lens_of r2) t n)
 
 pub answer-by : (r r2 k k2 : Filter) (t n : Flat) (S S' : List Object) (x : Result Name TreeRefusal) → k ≡ r → k2 ≡ r2 → IsTreeAnswer (laying k k2 t n) (IsLaidMade k2 t n) S S' x → IsTreeAnswer (laying r r2 t n) (IsLaidMade r2 t n) S S' x
 answer-by r r2 k k2 t n S S' x e e2 h = subst (λ (f : Filter). IsTreeAnswer (laying f r2 t n) (IsLaidMade r2 t n) S S' x) e (subst (λ (f : Filter). IsTreeAnswer (laying k f t n) (IsLaidMade f t n) S S' x) e2 h)
+
+-- through one filter nothing is unseen
+pub answer-one : (r r2 k : Filter) (t n : Flat) (S S' : List Object) (x : Result Name TreeRefusal) → k ≡ r → k ≡ r2
+    → IsTreeAnswer (judged None (laid_through (lens_of k) t n)) (IsLaidMade k t n) S S' x → IsTreeAnswer (laying r r2 t n) (IsLaidMade r2 t n) S S' x
+answer-one r r2 k t n S S' x e e2 h =
+    answer-by r r2 k k t n S S' x e e2
+    (subst (λ (o : Option Path). IsTreeAnswer (judged o (laid_through (lens_of k) t n)) (IsLaidMade k t n) S S' x) (sym (unseen-self k t n)) h)
 
 -- ---- names of trees
 

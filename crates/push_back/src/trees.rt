@@ -1,5 +1,5 @@
 // The original tree of a pushed tree.
-ghost use Rattle.std.specs.Prelude.{◌≡◌, ◌<◌, true, length};
+ghost use Rattle.std.specs.Prelude.{◌≡◌, ◌<◌, true, length, None};
 ghost use Rattle.git_objects.specs.declared.kind.Kind.TheVariants.{Tree};
 ghost use Rattle.object_store.specs.Objects.{has};
 ghost use Rattle.object_store.specs.Unfolding.{flat};
@@ -27,6 +27,29 @@ use object_store::{Store, store_law};
 use projection_ground::Ground;
 use std::alloc::Global;
 
+// Lays a pushed tree through a table's filter, where what is laid keeps within the limits of a tree.
+fn laid_within(
+    alloc: Global,
+    store: &mut Store,
+    table: &Table,
+    base: Name,
+    pushed: Name,
+) -> Result<Name, TreeRefusal>
+    requires base { has Tree store.old base.0 ≡ true }
+    requires pushed { has Tree store.old pushed.0 ≡ true }
+    ensures { IsTreeAnswer
+        (judged None (laid_through (lens_of (shape table.now.filter)) (flat store.old base.0) (flat store.old pushed.0)))
+        (IsLaidMade (shape table.now.filter) (flat store.old base.0) (flat store.old pushed.0))
+        store.old store.new result }
+{
+    store_law(store);
+    let root = laid(alloc, store, table, base, pushed)?;
+    match passed(store, &root) {
+        None => Ok(root),
+        Some(which) => Err(TreeRefusal::TreeLimit { which }),
+    }
+}
+
 // Lays a pushed tree through the new table's filter, where it overwrites nothing that only that filter shows, and where
 // what is laid keeps within the limits of a tree.
 fn laid_unless_unseen(
@@ -49,14 +72,10 @@ fn laid_unless_unseen(
     if let Some(path) = unseen(alloc, store, old, new, base, pushed)? {
         return Err(TreeRefusal::Unseen { path });
     }
-    let root = laid(alloc, store, new, base, pushed)?;
-    match passed(store, &root) {
-        None => Ok(root),
-        Some(which) => Err(TreeRefusal::TreeLimit { which }),
-    }
+    laid_within(alloc, store, new, base, pushed)
 }
 
-// The same by the numbers of the tables.
+// The same by the numbers of the tables. Where both are one, nothing is unseen, and no path is looked at.
 fn laid_by(
     alloc: Global,
     ground: &mut Ground,
@@ -83,6 +102,9 @@ fn laid_by(
     let Some(new) = ground.tables.get(way.new) else {
         unreachable!()
     };
+    if way.old == way.new {
+        return laid_within(alloc, &mut ground.store, new, base, pushed);
+    }
     laid_unless_unseen(alloc, &mut ground.store, old, new, base, pushed)
 }
 

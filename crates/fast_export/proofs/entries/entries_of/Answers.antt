@@ -2,7 +2,7 @@ use Rattle.std.proofs.Common.{◌∙◌, ap, []}
 use Rattle.std.specs.Prelude.{unwrap_or}
 use Rattle.std.specs.Option.{is_some}
 use Rattle.git_objects.specs.Bodies.{tree_entries}
-use Rattle.fast_export.proofs.Behind.{body_lists, found_body, found_never}
+use Rattle.fast_export.proofs.LinesBehind.{body_lists, found_body, found_never}
 use Rattle.fast_export.proofs.entries.entries_of.Goals as goal
 
 pub unreachable-requires : goal.unreachable-requires

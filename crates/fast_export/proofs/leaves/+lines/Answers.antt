@@ -6,7 +6,7 @@ use Rattle.object_store.specs.Unfolding.{flat}
 use Rattle.path_trees.proofs.Walks.{tree_held}
 use Rattle.fast_export.specs.Known.{lines_behind}
 use Rattle.fast_export.specs.MarkedStores.{blobs_of}
-use Rattle.fast_export.proofs.Behind.{behind_is, directory_lines, leaf_lines}
+use Rattle.fast_export.proofs.LinesBehind.{behind_is, directory_lines, leaf_lines}
 use Rattle.fast_export.proofs.Exported.{unit_err}
 use Rattle.fast_export.proofs.Marked.{directory_marks}
 use Rattle.fast_export.proofs.Sent.{put_as, put_result}
