@@ -43,7 +43,7 @@ put_one ref v bs (inr h) =
     ap (put_entry bytes_cmp ref v) h.1
     ∙ ap (λ o. by_order o ((ref, v) ∷ (ref, h.0) ∷ []) ((ref, v) ∷ []) ((ref, h.0) ∷ (ref, v) ∷ [])) (tied_itself nat_list_cmp_total ref)
 
-unset : (s : Replay) (ref : Bytes) → s.branches ≡ (ref, None) ∷ [] → branch s ref ≡ None
+pub unset : (s : Replay) (ref : Bytes) → s.branches ≡ (ref, None) ∷ [] → branch s ref ≡ None
 unset s ref e =
     ap (λ bs. option_and_then (λ n. n) (find_entry bytes_cmp ref bs)) e
     ∙ ap (λ o. option_and_then (λ n. n) (cond (is_eq o) (Some None) None)) (tied_itself nat_list_cmp_total ref)
@@ -104,11 +104,11 @@ blobs_arrive n ref made (b ∷ fs) blobs names top rest s r f h =
 
 -- ---- leaves
 
-T-true : (b : Bool) → T b → b ≡ true
+pub T-true : (b : Bool) → T b → b ≡ true
 T-true true h = refl
 T-true false h = absurd h
 
-leaf_readable : (blobs : List (ℕ × Bytes)) (top : ℕ) (marks : List (ℕ × Marked)) (p : Path) (x : Leaf) → AreMarked BlobMark blobs top marks → top ≤ 2 ^ 30 → HasBlob (contents blobs) (p, x) → T (is_leaf x) → is_zero_module x ≡ false →
+pub leaf_readable : (blobs : List (ℕ × Bytes)) (top : ℕ) (marks : List (ℕ × Marked)) (p : Path) (x : Leaf) → AreMarked BlobMark blobs top marks → top ≤ 2 ^ 30 → HasBlob (contents blobs) (p, x) → T (is_leaf x) → is_zero_module x ≡ false →
     IsReadable (leaf_mark blobs x) x × NamesLeaf marks (leaf_mark blobs x) x
 leaf_readable blobs top marks p (FileLeaf b) m l h v z = let g = m b (h b refl) in let low = g.low in (record { some = g.some; small = omega arith }, g.names)
 leaf_readable blobs top marks p (ExecLeaf b) m l h v z = let g = m b (h b refl) in let low = g.low in (record { some = g.some; small = omega arith }, g.names)
@@ -139,7 +139,7 @@ leaves_arrive n r ref number l ps blobs top m most whole tree front ((p, x) ∷ 
 pub word_longer : (w v rest : Bytes) → length rest < length (word_text w v rest)
 word_longer w v rest = omega (arith, length-append (w ++ v) (10 ∷ rest))
 
-data_longer : (b rest : Bytes) → length rest < length (data_text b rest)
+pub data_longer : (b rest : Bytes) → length rest < length (data_text b rest)
 data_longer b rest = omega (arith, length-append (codes "data " ++ decimal (length b)) (10 ∷ (b ++ 10 ∷ rest)), length-append b (10 ∷ rest))
 
 merges_longer : (ms : List ℕ) (t : Bytes) → length t ≤ length (merge_lines ms t)
@@ -176,11 +176,11 @@ pub record After (ref : Bytes) (made : List Snapshot) (blobs names : List (ℕ �
   pub standing : Standing ref (made ++ c ∷ []) blobs (names ++ (number, snapshot_name c) ∷ []) (number + 1) s
   pub last : marked number s.marks ≡ Some (CommitMark (snapshot_name c))
 
-steps_so : (o : Result Replay StreamFault) (S U : Replay → Type 0) → ((s : Replay) → S s → U s) → Steps o S → Steps o U
+pub steps_so : (o : Result Replay StreamFault) (S U : Replay → Type 0) → ((s : Replay) → S s → U s) → Steps o S → Steps o U
 steps_so o S U h (Stepped s e x) = Stepped s e (h s x)
 steps_so o S U h (TooMuch at which e) = TooMuch at which e
 
-after_commit : (ref : Bytes) (made : List Snapshot) (blobs names : List (ℕ × Bytes)) (number : ℕ) (c : Snapshot) (r s : Replay) → 1 ≤ number → Standing ref made blobs names number r → Committed r ref number c s → After ref made blobs names number c s
+pub after_commit : (ref : Bytes) (made : List Snapshot) (blobs names : List (ℕ × Bytes)) (number : ℕ) (c : Snapshot) (r s : Replay) → 1 ≤ number → Standing ref made blobs names number r → Committed r ref number c s → After ref made blobs names number c s
 after_commit ref made blobs names number c r s one h d = record {
   standing = record {
     commits = d.commits ∙ ap (λ cs. cs ++ c ∷ []) h.commits;

@@ -111,7 +111,7 @@ none_plain : (t : Bytes) → list_any is_special t ≡ false → no_lf t ≡ tru
 none_plain [] h = refl
 none_plain (x ∷ t) h = let o = or_none (is_special x) (list_any is_special t) h in and_both (usual_plain x o.0) (none_plain t o.1)
 
-quote_plain : (t : Bytes) → no_lf (quote t) ≡ true
+pub quote_plain : (t : Bytes) → no_lf (quote t) ≡ true
 unfolding quote
 quote_plain t =
     elim (list_any is_special t) as (λ b. list_any is_special t ≡ b → no_lf (cond b (quoted t) t) ≡ true) [ true ↦ λ e. rest_plain t | false ↦ λ e. none_plain t e ] refl
@@ -187,7 +187,7 @@ not_quoted (x ∷ t) h =
 abbrev last_of : ℕ → Bytes → Judged Path
 last_of at t = cond (is_quoted t) (unquoted_at at t >>= λ u. cond (is_nil u.1) (path_at at u.0) (fault (BadPath at))) (path_at at t)
 
-last_says : (at : ℕ) (p : Path) → is_path p ≡ true → Says (last_path at (quote (text p))) (λ q. q ≡ p)
+pub last_says : (at : ℕ) (p : Path) → is_path p ≡ true → Says (last_path at (quote (text p))) (λ q. q ≡ p)
 unfolding last_path quote
 last_says at p h =
     elim (list_any is_special (text p)) as (λ b. list_any is_special (text p) ≡ b → Says (last_of at (cond b (quoted (text p)) (text p))) (λ q. q ≡ p)) [
@@ -362,7 +362,7 @@ inside_turn n l rest kind P j r k e h = by (line_told n l rest r k)
 abbrev pub is_change : Change → Command → Type 0
 is_change c d = d ≡ commands.Change c
 
-changed_reads : (f : Reader Change) (i j : Input) (at : ℕ) (c : Change) → Reads (f true i) (λ d. d ≡ c) j →
+pub changed_reads : (f : Reader Change) (i j : Input) (at : ℕ) (c : Change) → Reads (f true i) (λ d. d ≡ c) j →
     Reads ((f then λ c. gives at InCommit calm (commands.Change c)) true i) (is_command (is_change c) inside) j
 changed_reads f i j at c h =
     then_reads f (λ c. gives at InCommit calm (commands.Change c)) i j j (λ d. d ≡ c) (is_command (is_change c) inside) h
@@ -375,7 +375,7 @@ all_turn n rest r =
     inside_turn n (codes "deleteall") rest DeleteAllIs (is_command (is_change changes.DeleteAll) inside) (left n rest) r (record { plain = refl; seen = refl }) all_again
     (λ at. changed_reads (pure changes.DeleteAll) (left n rest) (left n rest) at changes.DeleteAll (pure_reads changes.DeleteAll (left n rest) (λ d. d ≡ changes.DeleteAll) refl))
 
-leaf_line_is : (k : ℕ) (p : Path) (x : Leaf) → IsReadable k x → IsLine (codes "M " ++ leaf_text k p x)
+pub leaf_line_is : (k : ℕ) (p : Path) (x : Leaf) → IsReadable k x → IsLine (codes "M " ++ leaf_text k p x)
 leaf_line_is k p x h = record { plain = all_front plain (mode_text (leaf_mode x)) (32 ∷ (ref_text k x ++ 32 ∷ quote (text p))) (mode_plain x) (all_front plain (ref_text k x) (32 ∷ quote (text p)) (ref_plain k x h) (quote_plain (text p))); seen = refl }
   where
     plain : ℕ → Bool

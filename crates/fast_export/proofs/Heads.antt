@@ -183,7 +183,7 @@ people_read n a c rest r h g =
 
 -- ---- parents
 
-ref_says : (m at : ℕ) → IsMark m → Says (ref_in (record { place = at; bytes = colon m })) (λ r. r.target ≡ targets.Mark m)
+pub ref_says : (m at : ℕ) → IsMark m → Says (ref_in (record { place = at; bytes = colon m })) (λ r. r.target ≡ targets.Mark m)
 unfolding target
 ref_says m at h =
     Said (record { at = at; target = targets.Mark m })
@@ -203,7 +203,7 @@ from_lines (m ∷ ms) t = word_text (codes "from ") (colon m) (merge_lines ms t)
 abbrev pub targets_of : List CommitRef → List Target
 targets_of rs = map (λ (r : CommitRef). r.target) rs
 
-targets_push : (done : List CommitRef) (r : CommitRef) → targets_of (done ++ r ∷ []) ≡ targets_of done ++ r.target ∷ []
+pub targets_push : (done : List CommitRef) (r : CommitRef) → targets_of (done ++ r ∷ []) ≡ targets_of done ++ r.target ∷ []
 targets_push [] r = refl
 targets_push (d ∷ done) r = ap (λ ts. d.target ∷ ts) (targets_push done r)
 
@@ -252,7 +252,7 @@ abbrev pub Named : List ℕ → Option CommitRef → List CommitRef → Type 0
 Named [] f rs = (f ≡ None) × (rs ≡ [])
 Named (m ∷ ms) f rs = (r : CommitRef) × (f ≡ Some r) × (r.target ≡ targets.Mark m) × (targets_of rs ≡ map targets.Mark ms)
 
-no_targets : (rs : List CommitRef) → targets_of rs ≡ [] → rs ≡ []
+pub no_targets : (rs : List CommitRef) → targets_of rs ≡ [] → rs ≡ []
 no_targets [] e = refl
 no_targets (r ∷ rs) e = absurd cc
 
@@ -292,7 +292,7 @@ ref_plain t h =
     all_so is_ref_byte (λ x. not (nat_eq x 10)) ref_byte_plain t
     (second_so _ _ (first_so _ _ (first_so _ _ (first_so _ _ (first_so _ _ (first_so _ _ (first_so _ _ h)))))))
 
-refname_says : (at : ℕ) (t : Bytes) → is_ref_name t ≡ true → Says (refname at t) (λ x. x ≡ t)
+pub refname_says : (at : ℕ) (t : Bytes) → is_ref_name t ≡ true → Says (refname at t) (λ x. x ≡ t)
 refname_says at t h = Said t (ap (λ b. cond b (Ok t) (Err (stops.Fault (Syntax at)))) h) refl
 
 -- the head of a commit
@@ -342,7 +342,7 @@ head_read at t m l ms n rest r name h s marks =
 abbrev pub commit_lines : Bytes → ℕ → Letter → List ℕ → Bytes → Bytes
 commit_lines t m l ms rest = word_text (codes "commit ") t (head_lines m l ms rest)
 
-commit_kind : (t : Bytes) → command_line (codes "commit " ++ t) ≡ CommitLine t
+pub commit_kind : (t : Bytes) → command_line (codes "commit " ++ t) ≡ CommitLine t
 unfolding command_line
 commit_kind t = refl
 

@@ -46,7 +46,7 @@ pub among_behind : (b : Bytes) (xs ys : List Bytes) → is_among b ys ≡ true �
 among_behind b [] ys h = h
 among_behind b (x ∷ xs) ys h = or_right (same_bytes b x) _ (among_behind b xs ys h)
 
-among_either : (b : Bytes) (xs ys : List Bytes) → is_among b xs ≡ false → is_among b (xs ++ ys) ≡ is_among b ys
+pub among_either : (b : Bytes) (xs ys : List Bytes) → is_among b xs ≡ false → is_among b (xs ++ ys) ≡ is_among b ys
 among_either b [] ys h = refl
 among_either b (x ∷ xs) ys h =
     let o = or_none (same_bytes b x) (is_among b xs) h in

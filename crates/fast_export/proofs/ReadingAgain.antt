@@ -36,17 +36,17 @@ use Rattle.fast_export.proofs.Arriving.{One, put_one, Standing, Few, few_mark, b
 
 -- ---- behind the blobs of a commit
 
-blobs_few : (n : ℕ) (fs : List Bytes) (top : ℕ) (rest : Bytes) → Few n top (blobs_lines (enumerate_from top fs) rest) → Few n (top + length (enumerate_from top fs)) rest
+pub blobs_few : (n : ℕ) (fs : List Bytes) (top : ℕ) (rest : Bytes) → Few n top (blobs_lines (enumerate_from top fs) rest) → Few n (top + length (enumerate_from top fs)) rest
 blobs_few n [] top rest f = let e : top ≡ top + 0 = omega arith in subst (λ k. Few n k rest) e f
 blobs_few n (b ∷ fs) top rest f =
     let e : top + 1 + length (enumerate_from (top + 1) fs) ≡ top + length (enumerate_from top (b ∷ fs)) = omega arith in
     subst (λ k. Few n k rest) e (blobs_few n fs (top + 1) rest (blob_few n top b (blobs_lines (enumerate_from (top + 1) fs) rest) f))
 
-blobs_room : (n : ℕ) (fs : List Bytes) (top : ℕ) (rest : Bytes) → Room n (blobs_lines (enumerate_from top fs) rest) → Room n rest
+pub blobs_room : (n : ℕ) (fs : List Bytes) (top : ℕ) (rest : Bytes) → Room n (blobs_lines (enumerate_from top fs) rest) → Room n rest
 blobs_room n [] top rest r = r
 blobs_room n (b ∷ fs) top rest r = blobs_room n fs (top + 1) rest (blob_room n top b (blobs_lines (enumerate_from (top + 1) fs) rest) r)
 
-start_longer : (ref : Bytes) (ps : List Bytes) (t : Bytes) → length t ≤ length (start_lines ref ps t)
+pub start_longer : (ref : Bytes) (ps : List Bytes) (t : Bytes) → length t ≤ length (start_lines ref ps t)
 start_longer ref [] t = omega (arith, word_longer (codes "reset ") ref t)
 start_longer ref (p ∷ ps) t = omega arith
 
@@ -157,7 +157,7 @@ listed_more before names k q l p h =
 arrives_so : (p q : Progress) (i j : Input) (r : Replay) (S U : Replay → Type 0) → ((s : Replay) → S s → U s) → Arrives p i r q j S → Arrives p i r q j U
 arrives_so p q i j r S U h a t n = let x = a t n in record { state = x.state; same = x.same; such = h x.state x.such }
 
-few_next : (n k : ℕ) (a b : Bytes) → Few n k a → length b < length a → Few n (k + 1) b
+pub few_next : (n k : ℕ) (a b : Bytes) → Few n k a → length b < length a → Few n (k + 1) b
 few_next n k a b f h = let l = f.few in record { few = omega arith; some = omega arith }
 
 -- a history's first commit
@@ -213,7 +213,7 @@ commits_arrive n ref before made m c (d ∷ ds) rest s name h z listed names_are
 
 -- ---- the last reset, and the end
 
-last_among : (c : Snapshot) (cs : List Snapshot) → is_among (snapshot_name (last_of c cs)) (map snapshot_name (c ∷ cs)) ≡ true
+pub last_among : (c : Snapshot) (cs : List Snapshot) → is_among (snapshot_name (last_of c cs)) (map snapshot_name (c ∷ cs)) ≡ true
 last_among c [] = ap (λ b. b || false) (same_bytes-self (snapshot_name c))
 last_among c (d ∷ cs) = or_right (same_bytes (snapshot_name (last_of d cs)) (snapshot_name c)) _ (last_among d cs)
 
@@ -306,7 +306,7 @@ head_is ref c cs s d =
     ap (λ (bs : List (Bytes × Option Bytes)). filter_map (λ b. option_map (λ n. (b.0, n)) b.1) bs) d.branches
     ∙ ap (λ o. option_to_list (option_map (λ c. (ref, snapshot_name c)) o)) (sym (last_is c cs))
 
-outcome_is : (s : Replay) (f : Option StreamFault) → outcome_of s f ≡ (reached s f >>= λ s. Ok (given_by s))
+pub outcome_is : (s : Replay) (f : Option StreamFault) → outcome_of s f ≡ (reached s f >>= λ s. Ok (given_by s))
 outcome_is s None = refl
 outcome_is s (Some f) = refl
 

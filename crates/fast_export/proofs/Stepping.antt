@@ -54,7 +54,7 @@ pub data Counts (o : Result (List Bytes) StreamFault) (ps : List Bytes) : Type 0
   Counted : o ≡ Ok ps → Counts o ps
   Passed : (at : ℕ) (which : Quantity) → o ≡ Err (Limit at which) → Counts o ps
 
-counts_along : (o u : Result (List Bytes) StreamFault) (ps qs : List Bytes) → o ≡ u → ps ≡ qs → Counts u ps → Counts o qs
+pub counts_along : (o u : Result (List Bytes) StreamFault) (ps qs : List Bytes) → o ≡ u → ps ≡ qs → Counts u ps → Counts o qs
 counts_along o u ps qs e f (Counted d) = Counted (e ∙ d ∙ ap Ok f)
 counts_along o u ps qs e f (Passed at which d) = Passed at which (e ∙ d)
 

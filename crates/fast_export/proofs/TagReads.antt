@@ -44,7 +44,7 @@ use Rattle.fast_export.proofs.ReadLines.{IsLine, LineIs, LineLong, LineTold, Roo
 
 -- ---- the name of a commit
 
-digits_says : (at : ℕ) (n : Bytes) → is_name n ≡ true → same_bytes n (replicate 20 0) ≡ false → Says (ref_in (record { place = at; bytes = hex n })) (λ r. r.target ≡ targets.Digits (record { 0 = n }))
+pub digits_says : (at : ℕ) (n : Bytes) → is_name n ≡ true → same_bytes n (replicate 20 0) ≡ false → Says (ref_in (record { place = at; bytes = hex n })) (λ r. r.target ≡ targets.Digits (record { 0 = n }))
 unfolding target
 digits_says at n h z =
     Said (record { at = at; target = targets.Digits (record { 0 = n }) })
@@ -118,7 +118,7 @@ behind_lines t rest = word_text (codes "from ") (hex t.target.0) (word_text (cod
 abbrev pub tag_lines : Tag → Bytes → Bytes
 tag_lines t rest = word_text (codes "tag ") t.name (behind_lines t rest)
 
-lf_free : (n : Bytes) → is_bytes n ≡ true → no_lf (hex n) ≡ true
+pub lf_free : (n : Bytes) → is_bytes n ≡ true → no_lf (hex n) ≡ true
 lf_free n h = all_so (λ x. not (nat_eq x 10)) (λ x. not (nat_eq x 10)) (λ x e. e) (hex n) (hex_avoids 10 n refl h)
 
 name_says : (at : ℕ) (t : Bytes) → is_tag_name t ≡ true → Says (tag_name at (Some t)) (λ x. x ≡ t)

@@ -37,18 +37,18 @@ use Rattle.fast_export.proofs.TagReads.{IsHeadOf, IsRead, IsWritable, behind_lin
 
 -- ---- the texts of tags
 
-abbrev tags_lines : List Tag → Bytes → Bytes
+abbrev pub tags_lines : List Tag → Bytes → Bytes
 tags_lines [] rest = rest
 tags_lines (t ∷ ts) rest = tag_lines t (tags_lines ts rest)
 
-tags_text_lines : (ts : List Tag) (rest : Bytes) → tags_text ts ++ rest ≡ tags_lines ts rest
+pub tags_text_lines : (ts : List Tag) (rest : Bytes) → tags_text ts ++ rest ≡ tags_lines ts rest
 tags_text_lines [] rest = refl
 tags_text_lines (t ∷ ts) rest =
     append_assoc (tag_text t) (tags_text ts) rest
     ∙ ap (λ (x : Bytes). tag_text t ++ x) (tags_text_lines ts rest)
     ∙ tag_text_lines t (tags_lines ts rest)
 
-tag_longer : (t : Tag) (rest : Bytes) → length rest < length (tag_lines t rest)
+pub tag_longer : (t : Tag) (rest : Bytes) → length rest < length (tag_lines t rest)
 tag_longer t rest =
     let d = data_text t.message rest in
     let g = word_text (codes "tagger ") t.tagger d in
@@ -71,15 +71,15 @@ among_named n (c ∷ cs) e =
       | false ↦ λ f g. among_named n cs g
     ] refl e
 
-writable : (cs : List Snapshot) (t : Tag) → IsTagOf cs t → IsWritable t
+pub writable : (cs : List Snapshot) (t : Tag) → IsTagOf cs t → IsWritable t
 writable cs t h = record { name = h.name; tagger = h.tagger; target = among_named t.target.0 cs h.target; some = h.some }
 
 -- ---- one tag
 
-abbrev holds : Replay → List Tag → Replay
+abbrev pub holds : Replay → List Tag → Replay
 holds s us = record s { tags = us }
 
-same_tag : (t : Tag) (h : TagHead) → IsHeadOf t h → tag_of h t.target.0 ≡ t
+pub same_tag : (t : Tag) (h : TagHead) → IsHeadOf t h → tag_of h t.target.0 ≡ t
 same_tag t h k = λ i. record { name = k.name i; target = t.target; tagger = k.tagger i; message = k.message i }
 
 one_step : (cs : List Snapshot) (s : Replay) (us : List Tag) (t : Tag) (p : Placed) → s.commits ≡ cs → is_among t.target.0 (map snapshot_name cs) ≡ true → IsRead t p.command →
@@ -117,7 +117,7 @@ tags_arrive n cs s e most us (t ∷ ts) rest h l none =
 
 -- ---- the law
 
-given_is : (s : Replay) (f : Option StreamFault) → (outcome_of s f >>= λ g. Ok (record { replayed = g; tags = s.tags })) ≡ (reached s f >>= λ s. Ok (tagged_given s))
+pub given_is : (s : Replay) (f : Option StreamFault) → (outcome_of s f >>= λ g. Ok (record { replayed = g; tags = s.tags })) ≡ (reached s f >>= λ s. Ok (tagged_given s))
 given_is s None = refl
 given_is s (Some f) = refl
 
@@ -162,7 +162,7 @@ some_again c cs ref ts h name z tags most none =
     (sym input ∙ at_tags ∙ there ∙ on_end true start (left n []) (holds a.state (with_tags [] ts)) start (left n []) (last_turn n (room_of n [] (omega arith) small)))
     d.commits (head_is ref c cs a.state d) (put_in_order ts tags.order)
 
-no_tags : (ts : List Tag) → Each (IsTagOf []) ts → ts ≡ []
+pub no_tags : (ts : List Tag) → Each (IsTagOf []) ts → ts ≡ []
 no_tags [] h = refl
 no_tags (t ∷ ts) h = absurd (never (h.0).target)
   where

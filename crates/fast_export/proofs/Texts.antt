@@ -92,7 +92,7 @@ abbrev pub start_lines : Bytes → List Bytes → Bytes → Bytes
 start_lines ref [] rest = word_text (codes "reset ") ref rest
 start_lines ref (p ∷ ps) rest = rest
 
-start_text : (ref : Bytes) (ps : List Bytes) (rest : Bytes) → (if is_nil ps then line (codes "reset ") ref else []) ++ rest ≡ start_lines ref ps rest
+pub start_text : (ref : Bytes) (ps : List Bytes) (rest : Bytes) → (if is_nil ps then line (codes "reset ") ref else []) ++ rest ≡ start_lines ref ps rest
 start_text ref [] rest = append_assoc (codes "reset " ++ ref) (10 ∷ []) rest
 start_text ref (p ∷ ps) rest = refl
 
