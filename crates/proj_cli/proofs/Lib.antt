@@ -4,15 +4,15 @@ mod FilterFaults
 pub mod StatesAfter
 pub mod Committing
 mod RulesSet
-mod InHands
-mod StatesShown
-mod Exports
-mod ShownTags
-mod SeenHands
-mod WrittenTags
-mod Retargeting
+pub mod InHands
+pub mod StatesShown
+pub mod Exports
+pub mod ShownTags
+pub mod SeenHands
+pub mod WrittenTags
+pub mod Retargeting
 mod TagsMade
-mod Heads
+pub mod Heads
 mod Audits
 mod PolicyTexts
 mod SoundTexts
