@@ -1,0 +1,9 @@
+pub mod Changes
+pub mod ChangeTexts
+pub mod Laws
+pub mod TagLaws
+pub mod Histories
+pub mod Unreached
+pub mod Compared
+pub mod Written
+pub mod Examples
