@@ -1,0 +1,114 @@
+-- What is new upon a state, written.
+use Rattle.std.proofs.Common.{◌≡◌, Bool, true, cond, List, [], ◌∷◌, ◌++◌, reverse, Some, Result, Ok, append-nil, true≢false, refl, sym, ap, subst, ◌∙◌}
+use Rattle.std.specs.Cmp.{first_so, second_so}
+use Rattle.std.specs.FinMap.{find}
+use Rattle.std.specs.List.{list_all}
+use Rattle.std.specs.Ordering.{eq_by_cmp, is_eq}
+use Rattle.std.specs.declared.cmp.Ordering.{Ordering}
+use Rattle.std.specs.declared.cmp.Ordering.TheVariants.{Equal, Greater, Less}
+use Rattle.std.proofs.lemmas.Option.{none-some}
+use Rattle.git_objects.specs.Paths.{Bytes}
+use Rattle.git_objects.specs.Refs.{Refs, bytes_cmp}
+use Rattle.git_objects.specs.Results.{◌>>=◌, or_refuse}
+use Rattle.git_objects.specs.Snapshots.{Graph, ancestors, tree_at}
+use Rattle.object_store.specs.Objects.{Object}
+use Rattle.filter_text.specs.Filters.{Filter}
+use Rattle.path_names.specs.RefNames.{is_ref_name}
+use Rattle.fast_export.specs.Histories.{snapshots_at}
+use Rattle.incremental_export.specs.ChangeTexts.{changes_text}
+use Rattle.incremental_export.specs.Histories.{tree_in}
+use Rattle.incremental_export.specs.Unreached.{unreached}
+use Rattle.projection_ground.specs.Grounds.{commits_of}
+use Rattle.proj_io.specs.Views.{SinkView}
+use Rattle.tag_objects.specs.Tags.{tags_text}
+use Rattle.tag_objects.specs.declared.tag.Tag.{Tag}
+use Rattle.tag_objects.proofs.TagLists.{one_name}
+use Rattle.state_items.specs.Items.{Held}
+use Rattle.state_items.specs.Repos.{repo}
+use Rattle.state_items.proofs.ReadEntries.{read-law}
+use Rattle.repo_ground.specs.Contents.{Contents}
+use Rattle.proj_words.specs.declared.outcome.Outcome.{Outcome}
+use Rattle.proj_words.specs.declared.outcome.Outcome.TheVariants.{UnknownRef}
+use Rattle.proj_cli.specs.Export.{export_hand}
+use Rattle.proj_cli.specs.Hands.{still_hand}
+use Rattle.proj_cli.specs.Makes.{IsStateOf}
+use Rattle.read_cli.specs.Answers.{IsGiven, IsReadBackUpon, OfHead}
+use Rattle.read_cli.specs.Looks.{AreFresh, AreNew, IsAtHand, IsLookedFor, IsUnshown, IsWriteOutcome, at_head}
+use Rattle.read_cli.specs.Outputs.{new_commits, new_output, original_commits, originals_output, projected_graph}
+use Rattle.read_cli.proofs.Looked.{looked-at, unshown-looked, written-looked}
+use Rattle.repo_ground.proofs.GroundLaws.{ground-law}
+
+-- ---- names of refs
+
+tied : (o : Ordering) → is_eq o ≡ true → o ≡ Equal
+tied Less h = absurd (true≢false (sym h))
+tied Equal h = refl
+tied Greater h = absurd (true≢false (sym h))
+
+found-name : (refs : Refs) (r n : Bytes) → list_all (λ e. is_ref_name e.0) refs ≡ true → find bytes_cmp r refs ≡ Some n → is_ref_name r ≡ true
+found-name [] r n h e = absurd (none-some n e)
+found-name (x ∷ refs) r n h e = by (λ k. found-name refs r n (second_so (is_ref_name x.0) _ h) k) (eq_by_cmp bytes_cmp r x.0) refl e
+  where
+    by : (find bytes_cmp r refs ≡ Some n → is_ref_name r ≡ true) → (b : Bool) → eq_by_cmp bytes_cmp r x.0 ≡ b → cond b (Some x.1) (find bytes_cmp r refs) ≡ Some n → is_ref_name r ≡ true
+    by later true same g = ap is_ref_name (one_name r x.0 (tied (bytes_cmp r x.0) same)) ∙ first_so (is_ref_name x.0) _ h
+    by later _ same g = later g
+
+ok-same : (x y : Bytes) → ◌≡◌ {A = Result Bytes Outcome} (Ok x) (Ok y) → x ≡ y
+ok-same x y e = cc
+
+module _ (items : List Bytes) (h : Held) (s : Contents) (w : IsStateOf items h s) (refname : Bytes) where
+  pub named : (n : Bytes) → find bytes_cmp refname h.refs ≡ Some n → is_ref_name refname ≡ true
+  named n e = found-name h.refs refname n (read-law.sound items h w.current.read).names e
+
+  -- a law of the head
+  pub law-at : (Law : Held → Bytes → Type 0) (n : Bytes) → find bytes_cmp refname h.refs ≡ Some n → Law h n → OfHead (Ok h) refname Law
+  law-at Law n e l = λ m q. subst (Law h) (ok-same n m (sym (ap (or_refuse UnknownRef) e) ∙ q)) l
+
+-- ---- a projected history
+
+module _ (tagged : Bool) (items : List Bytes) (h : Held) (s : Contents) (w : IsStateOf items h s) (f : Filter) (refname n : Bytes) (e : find bytes_cmp refname h.refs ≡ Some n) (haves : List Bytes) where
+  -- of equal stores, names and tags
+  pub new-as : (S T : List Object) (ms ns : List Bytes) (us ts : List Tag) → T ≡ S → ns ≡ ms → ts ≡ us → AreNew tagged h f n haves S ms us → AreNew tagged h f n haves T ns ts
+  new-as S T ms ns us ts x y z a =
+      subst (λ (q : List Object). AreNew tagged h f n haves q ns ts) (sym x)
+      (subst (λ (q : List Bytes). AreNew tagged h f n haves S q ts) (sym y) (subst (λ (q : List Tag). AreNew tagged h f n haves S ms q) (sym z) a))
+
+  abbrev pub IsNewLooked : SinkView → SinkView → Outcome → Type 0
+  IsNewLooked before after o = IsLookedFor s.basis.store (at_head refname h (export_hand tagged h f)) (at_head refname h (λ m. new_output tagged h f refname m haves)) before after o
+
+  pub looked-as : (before a b : SinkView) (o p : Outcome) → a ≡ b → o ≡ p → IsNewLooked before b p → IsNewLooked before a o
+  looked-as before a b o p x y l = subst (λ (v : SinkView). IsNewLooked before v o) (sym x) (subst (λ (q : Outcome). IsNewLooked before b q) (sym y) l)
+
+  pub new-looked : (S : List Object) (ns : List Bytes) (tags : List Tag) → AreNew tagged h f n haves S ns tags → (before after : SinkView) (o : Outcome) → IsWriteOutcome o
+      → IsGiven (changes_text (tree_in S) (snapshots_at S ns) refname ++ tags_text tags) before after o → IsNewLooked before after o
+  new-looked S ns tags a before after o wrote g =
+      let text : changes_text (tree_in S) (snapshots_at S ns) refname ++ tags_text tags ≡ new_output tagged h f refname n haves = λ i. a.fresh.text refname i ++ tags_text (a.same_tags i) in
+      looked-at s.basis.store (λ (r : Result Bytes Outcome). r >>= λ m. Ok (export_hand tagged h f m)) (λ m. new_output tagged h f refname m haves) refname h.refs before after n o e
+      (written-looked s.basis.store (export_hand tagged h f n ∷ []) (new_output tagged h f refname n haves) before after o wrote (subst (λ (t : Bytes). IsGiven t before after o) text g))
+
+  pub unshown-new : (before : SinkView) (o : Outcome) → IsUnshown (IsAtHand s.basis.store (export_hand tagged h f n ∷ [])) o → IsNewLooked before before o
+  unshown-new before o u =
+      looked-at s.basis.store (λ (r : Result Bytes Outcome). r >>= λ m. Ok (export_hand tagged h f m)) (λ m. new_output tagged h f refname m haves) refname h.refs before before n o e
+      (unshown-looked s.basis.store (export_hand tagged h f n ∷ []) (new_output tagged h f refname n haves) before o u)
+
+  pub new-lawful : (S : List Object) (ns : List Bytes) (tags : List Tag) → AreNew tagged h f n haves S ns tags
+      → OfHead (Ok h) refname (λ h n. IsReadBackUpon (tree_at (projected_graph h f n)) (new_commits h f n haves) refname)
+  new-lawful S ns tags a = law-at items h s w refname (λ h n. IsReadBackUpon (tree_at (projected_graph h f n)) (new_commits h f n haves) refname) n e (a.fresh.lawful refname (named items h s w refname n e))
+
+-- ---- originals
+
+module _ (items : List Bytes) (h : Held) (s : Contents) (w : IsStateOf items h s) (refname n : Bytes) (e : find bytes_cmp refname h.refs ≡ Some n) (haves ns : List Bytes)
+    (fresh : AreFresh s.basis.store (tree_at (commits_of s.basis)) (reverse (unreached (ancestors (commits_of s.basis) n) haves)) ns) where
+  here : AreFresh s.basis.store (tree_at (repo h).commits) (original_commits h n haves) ns
+  here = subst (λ (g : Graph). AreFresh s.basis.store (tree_at g) (reverse (unreached (ancestors g n) haves)) ns) (ground-law.commits h s w.spells w.ground) fresh
+
+  pub originals-looked : (before after : SinkView) (o : Outcome) → IsWriteOutcome o → IsGiven (changes_text (tree_in s.basis.store) (snapshots_at s.basis.store ns) refname ++ []) before after o
+      → IsLookedFor s.basis.store (Ok (still_hand h.objects [] [])) (at_head refname h (λ m. originals_output h refname m haves)) before after o
+  originals-looked before after o wrote g =
+      let text : changes_text (tree_in s.basis.store) (snapshots_at s.basis.store ns) refname ++ [] ≡ originals_output h refname n haves =
+      append-nil (changes_text (tree_in s.basis.store) (snapshots_at s.basis.store ns) refname) ∙ here.text refname in
+      looked-at s.basis.store (λ (r : Result Bytes Outcome). Ok (still_hand h.objects [] [])) (λ m. originals_output h refname m haves) refname h.refs before after n o e
+      (written-looked s.basis.store (still_hand h.objects [] [] ∷ []) (originals_output h refname n haves) before after o wrote (subst (λ (t : Bytes). IsGiven t before after o) text g))
+
+  pub originals-lawful : OfHead (Ok h) refname (λ h n. IsReadBackUpon (tree_at (repo h).commits) (original_commits h n haves) refname)
+  originals-lawful = law-at items h s w refname (λ h n. IsReadBackUpon (tree_at (repo h).commits) (original_commits h n haves) refname) n e (here.lawful refname (named items h s w refname n e))

@@ -1,0 +1,101 @@
+-- What a reading gives for what is held.
+use Rattle.std.specs.Prelude.{Bool, if◌then◌else◌, List, [], ◌∷◌, ◌++◌, codes, filter, flat_map, map, reverse, Option, Some, None, Result, Ok, Err}
+use Rattle.std.specs.Option.{option_to_list}
+use Rattle.std.specs.Result.{result_ok}
+use Rattle.git_objects.specs.Commits.{hex}
+use Rattle.git_objects.specs.Paths.{Bytes}
+use Rattle.git_objects.specs.Results.{◌>>=◌}
+use Rattle.git_objects.specs.Snapshots.{Graph, Snapshot, ancestors, snapshot_name, tree_at}
+use Rattle.filter_text.specs.Filters.{Filter}
+use Rattle.workspace.specs.Workspaces.{shown}
+use Rattle.projection_laws.specs.Projections.{history_graph}
+use Rattle.state_items.specs.Items.{Held}
+use Rattle.state_items.specs.Repos.{repo}
+use Rattle.tag_objects.specs.Tags.{tags_text}
+use Rattle.tag_objects.specs.declared.tag.Tag.{Tag}
+use Rattle.fast_export.specs.ExportTexts.{is_among}
+use Rattle.incremental_export.specs.ChangeTexts.{changes_text}
+use Rattle.incremental_export.specs.Unreached.{unreached}
+use Rattle.proj_words.specs.declared.outcome.Outcome.{Outcome}
+use Rattle.proj_words.specs.declared.outcome.Outcome.TheVariants.{Usage}
+use Rattle.proj_cli.specs.Cases.{head_of}
+use Rattle.proj_cli.specs.Export.{export_hand, tags_beside}
+use Rattle.proj_cli.specs.Filters.{rule_by, sound}
+use Rattle.proj_cli.specs.Hands.{Hand, seen_hand, still_hand}
+use Rattle.proj_cli.specs.Import.{ref_line}
+use Rattle.proj_cli.specs.Tags.{shown_before}
+use Rattle.read_cli.specs.Readings.{Reading, Refs, Log, New, Originals, Unknown}
+
+-- ---- refs
+
+-- the line of each ref, in byte order
+abbrev pub refs_output : Held → Bytes
+refs_output h = flat_map ref_line h.refs
+
+-- ---- a log
+
+-- the digits of a name, or `none`
+abbrev pub name_or_none : Option Bytes → Bytes
+name_or_none None = codes "none"
+name_or_none (Some n) = hex n
+
+-- the digits of a commit, a space, and those of its projection
+abbrev pub name_line : Bytes → Option Bytes → Bytes
+name_line m o = hex m ++ 32 ∷ (name_or_none o ++ 10 ∷ [])
+
+abbrev pub log_line : Held → Filter → Bytes → Bytes → Bytes
+log_line h f n m = name_line m (shown_before h f n m)
+
+-- of a commit and its ancestors, parents first
+abbrev pub log_output : Held → Filter → Bytes → Bytes
+log_output h f n = flat_map (log_line h f n) (map snapshot_name (reverse (ancestors (repo h).commits n)))
+
+-- ---- what is new
+
+-- the projected history of a commit, the newest first
+abbrev pub projected_graph : Held → Filter → Bytes → Graph
+projected_graph h f n = history_graph (rule_by h.rule) (shown f) (repo h).commits n
+
+-- its commits without those that are there and their ancestors, parents first
+abbrev pub new_commits : Held → Filter → Bytes → List Bytes → List Snapshot
+new_commits h f n haves = reverse (unreached (projected_graph h f n) haves)
+
+-- the tags of these commits
+abbrev pub new_tags : Bool → Held → Filter → Bytes → List Bytes → List Tag
+new_tags tagged h f n haves = filter (λ t. is_among t.target.0 (map snapshot_name (new_commits h f n haves))) (tags_beside tagged h f n)
+
+abbrev pub new_output : Bool → Held → Filter → Bytes → Bytes → List Bytes → Bytes
+new_output tagged h f refname n haves =
+    changes_text (tree_at (projected_graph h f n)) (new_commits h f n haves) refname ++ tags_text (new_tags tagged h f n haves)
+
+-- ---- originals
+
+-- a commit and its ancestors without those that are there and their ancestors, parents first
+abbrev pub original_commits : Held → Bytes → List Bytes → List Snapshot
+original_commits h n haves = reverse (unreached (ancestors (repo h).commits n) haves)
+
+abbrev pub originals_output : Held → Bytes → Bytes → List Bytes → Bytes
+originals_output h refname n haves = changes_text (tree_at (repo h).commits) (original_commits h n haves) refname
+
+-- ---- by what is loaded
+
+-- what is written, or the first refusal: of the words, of the filter, of loading, and of the ref
+abbrev pub output : Reading → Result Held Outcome → Result Bytes Outcome
+output Refs loading = loading >>= λ h. Ok (refs_output h)
+output (Log r text) loading = sound text >>= λ f. loading >>= λ h. head_of r h.refs >>= λ n. Ok (log_output h f n)
+output (New tagged r text haves) loading =
+    sound text >>= λ f. loading >>= λ h. head_of r h.refs >>= λ n. Ok (new_output tagged h f r n haves)
+output (Originals r haves) loading = loading >>= λ h. head_of r h.refs >>= λ n. Ok (originals_output h r n haves)
+output Unknown loading = Err Usage
+
+-- what is brought together for it
+abbrev pub hand : Reading → Result Held Outcome → Result Hand Outcome
+hand Refs loading = loading >>= λ h. Ok (still_hand h.objects [] [])
+hand (Log r text) loading = sound text >>= λ f. loading >>= λ h. head_of r h.refs >>= λ n. Ok (seen_hand h f n)
+hand (New tagged r text haves) loading =
+    sound text >>= λ f. loading >>= λ h. head_of r h.refs >>= λ n. Ok (export_hand tagged h f n)
+hand (Originals r haves) loading = loading >>= λ h. Ok (still_hand h.objects [] [])
+hand Unknown loading = Err Usage
+
+abbrev pub hands : Reading → Result Held Outcome → List Hand
+hands asked loading = option_to_list (result_ok (hand asked loading))

@@ -1,0 +1,113 @@
+// The forms of the words.
+ghost use Rattle.std.specs.Prelude.{◌≡◌, ◌↔◌, map, string_bytes, IsSome, true};
+ghost use Rattle.read_cli.specs.Readings.{log_words, names_of, new_subject, new_words, originals_words, reading};
+ghost use Rattle.read_cli.specs.Looks.{IsFormed, form_reading};
+
+use git_objects::Name;
+use path_names::is_ref_name;
+
+/// What the words ask of a store. A ref stands before the text of a filter, and is a ref name; names have 40 digits of
+/// either case.
+#[derive(Clone, Copy)]
+pub enum Form<'a> {
+    Refs,
+    Log(&'a [u8], &'a [u8]),
+    /// Whether with annotated tags; a ref, the text of a filter, and names.
+    New(bool, &'a [u8], &'a [u8], &'a [String]),
+    /// A ref, and names.
+    Originals(&'a [u8], &'a [String]),
+    /// The words have none of the forms.
+    Unknown,
+}
+
+// Whether each word is a name in digits.
+fn are_names(words: &[String]) -> bool
+    ensures { (result ≡ true) ↔ IsSome (names_of (map (λ word. string_bytes word) words.now)) }
+{
+    for word in words {
+        if Name::from_hex(word.as_bytes()).is_none() {
+            return false;
+        }
+    }
+    true
+}
+
+fn log_words(words: &[String]) -> Form<'_>
+    ensures reading { form_reading result ≡ log_words (map (λ word. string_bytes word) words.now) }
+    ensures formed { IsFormed result }
+{
+    let [refname, filter] = words else {
+        return Form::Unknown;
+    };
+    if is_ref_name(refname.as_bytes()) {
+        return Form::Log(refname.as_bytes(), filter.as_bytes());
+    }
+    Form::Unknown
+}
+
+// A ref, the text of a filter, and names.
+fn new_subject(tagged: bool, words: &[String]) -> Form<'_>
+    ensures reading { form_reading result ≡ new_subject tagged (map (λ word. string_bytes word) words.now) }
+    ensures formed { IsFormed result }
+{
+    let [refname, filter, haves @ ..] = words else {
+        return Form::Unknown;
+    };
+    if is_ref_name(refname.as_bytes()) && are_names(haves) {
+        return Form::New(tagged, refname.as_bytes(), filter.as_bytes(), haves);
+    }
+    Form::Unknown
+}
+
+fn new_words(words: &[String]) -> Form<'_>
+    ensures reading { form_reading result ≡ new_words (map (λ word. string_bytes word) words.now) }
+    ensures formed { IsFormed result }
+{
+    let [first, rest @ ..] = words else {
+        return Form::Unknown;
+    };
+    if first.as_bytes() == b"--tags".as_slice() {
+        return new_subject(true, rest);
+    }
+    new_subject(false, words)
+}
+
+fn originals_words(words: &[String]) -> Form<'_>
+    ensures reading { form_reading result ≡ originals_words (map (λ word. string_bytes word) words.now) }
+    ensures formed { IsFormed result }
+{
+    let [refname, haves @ ..] = words else {
+        return Form::Unknown;
+    };
+    if is_ref_name(refname.as_bytes()) && are_names(haves) {
+        return Form::Originals(refname.as_bytes(), haves);
+    }
+    Form::Unknown
+}
+
+/// The form of the words. It takes no memory.
+pub fn read_words(words: &[String]) -> Form<'_>
+    ensures reading { form_reading result ≡ reading (map (λ word. string_bytes word) words.now) }
+    ensures formed { IsFormed result }
+{
+    let [form, rest @ ..] = words else {
+        return Form::Unknown;
+    };
+    if form.as_bytes() == b"refs".as_slice() {
+        return if rest.is_empty() {
+            Form::Refs
+        } else {
+            Form::Unknown
+        };
+    }
+    if form.as_bytes() == b"log".as_slice() {
+        return log_words(rest);
+    }
+    if form.as_bytes() == b"new".as_slice() {
+        return new_words(rest);
+    }
+    if form.as_bytes() == b"originals".as_slice() {
+        return originals_words(rest);
+    }
+    Form::Unknown
+}
