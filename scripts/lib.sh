@@ -36,16 +36,30 @@ micros() {
     printf '%s' "${EPOCHREALTIME/[.,]/}"
 }
 
+# Finds a program in `found`: its crate, the file that somebody names for it or nothing, and a word with which the
+# crate's own is run once where it has to be built.
+find_program() {
+    found=${2:-$PWD/crates/$1/out/$1}
+    if [ ! -x "$found" ]; then
+        (cd "crates/$1" && rt run -- "$3") </dev/null >/dev/null 2>&1
+        [ -x "$found" ] || fail "the program $1 is not built"
+    fi
+}
+
 # Finds the program `proj`: the one that `PROJ` names, or the built one, which is built where it isn't there. Makes
 # the folder `work`. When the script ends, that folder goes, and so does the process `child`, if there is one.
 begin() {
-    proj=${PROJ:-$PWD/crates/proj/out/proj}
-    if [ ! -x "$proj" ]; then
-        (cd crates/proj && rt run -- name) </dev/null >/dev/null 2>&1
-        [ -x "$proj" ] || fail 'the program is not built'
-    fi
+    find_program proj "${PROJ:-}" name
+    proj=$found
     work=$(mktemp -d) || exit 1
     trap '[ -z "$child" ] || kill -KILL "$child" 2>/dev/null; rm -rf "$work"' EXIT
+}
+
+# Begins, and finds the program `proj_read` in the same way, by `PROJ_READ`.
+begin_reading() {
+    begin
+    find_program proj_read "${PROJ_READ:-}" --version
+    proj_read=$found
 }
 
 # Has Git read no settings but those of the file `config` in the folder `work`.
