@@ -6,11 +6,16 @@ label=remote
 . scripts/lib.sh
 needs git mktemp flock realpath awk sed grep cut paste sort head tail seq tee tr dirname sleep mkdir chmod cat cp cmp ln rm \
     wc
-begin
+begin_reading
 own_settings
-mkdir "$work/bin"
-ln -s "$(realpath "$proj")" "$work/bin/proj"
-ln -s "$PWD/contrib/git-remote-proj" "$work/bin/git-remote-proj"
+mkdir "$work/bin" "$work/alone"
+for it in bin alone; do
+    ln -s "$(realpath "$proj")" "$work/$it/proj"
+    ln -s "$PWD/contrib/git-remote-proj" "$work/$it/git-remote-proj"
+done
+ln -s "$(realpath "$proj_read")" "$work/bin/proj_read"
+# One has both programs, and the other one has `proj` alone.
+alone=$work/alone:$PATH
 export PATH=$work/bin:$PATH
 git config --file "$work/config" user.name A
 git config --file "$work/config" user.email a@x
@@ -191,6 +196,22 @@ settled 'a push of modes' a :/a
 same 'the mode of a file' '100755 blob run' "$(original a/f | paste -sd ' ')"
 same 'a link' '120000 blob a place' "$(original 'a/a link' | paste -sd ' ')"
 same 'a name' '100644 blob named' "$(original "a/$name" | paste -sd ' ')"
+
+# ---- a file that becomes a directory, and back
+
+change a turned 'a file'
+does 'a push of a file' git -C "$work/a" push -q
+git -C "$work/a" rm -q turned
+change a turned/into/this 'a directory'
+change a beside 'a commit more'
+does 'a push of a directory' git -C "$work/a" push -q
+settled 'a push of a directory' a :/a
+same 'a file that became a directory' '100644 blob a directory' "$(original a/turned/into/this | paste -sd ' ')"
+git -C "$work/a" rm -q -r turned
+change a turned 'a file again'
+does 'a push of a file again' git -C "$work/a" push -q
+settled 'a push of a file again' a :/a
+same 'a directory that became a file' '100644 blob a file again' "$(original a/turned | paste -sd ' ')"
 
 # ---- many commits
 
@@ -468,21 +489,28 @@ same 'what all of this has changed' 'a b none w' \
 
 # ---- a fetch that was cut off
 
-# A program whose export ends in the middle.
-mkdir "$work/short"
-cat >"$work/short/proj" <<END
+# Programs whose streams end in the middle.
+for it in bin alone; do
+    mkdir "$work/short.$it"
+    for program in proj proj_read; do
+        cat >"$work/short.$it/$program" <<END
 #!/bin/sh
-[ "\$2" = export ] || exec "$work/bin/proj" "\$@"
-"$work/bin/proj" "\$@" | head -c 2000
+case \$2 in new | export) "$work/bin/$program" "\$@" | head -c 2000 ;; *) exec "$work/bin/$program" "\$@" ;; esac
 END
-chmod +x "$work/short/proj"
-git init -q "$work/half"
-git -C "$work/half" remote add origin "$(address :/a)"
-refused 'a fetch that is cut off' '' env PATH="$work/short:$PATH" git -C "$work/half" fetch -q
-same 'no ref of a fetch that was cut off' none "$(git -C "$work/half" for-each-ref; printf none)"
-does 'a fetch after that' git -C "$work/half" fetch -q
-does 'its files' git -C "$work/half" reset -q --hard origin/main
-settled 'a fetch after that' half :/a
+        chmod +x "$work/short.$it/$program"
+    done
+done
+rm "$work/short.alone/proj_read"
+for it in "bin:$PATH" "alone:$alone"; do
+    rm -rf "$work/half"
+    git init -q "$work/half"
+    git -C "$work/half" remote add origin "$(address :/a)"
+    refused 'a fetch that is cut off' 'proj: ' env PATH="$work/short.$it" git -C "$work/half" fetch -q
+    same 'no ref of a fetch that was cut off' none "$(git -C "$work/half" for-each-ref; printf none)"
+    does 'a fetch after that' git -C "$work/half" fetch -q
+    does 'its files' git -C "$work/half" reset -q --hard origin/main
+    settled 'a fetch after that' half :/a
+done
 does 'a clone that is cut off begins' git clone -q --no-checkout "$(address :/a)" "$work/cut"
 rm -rf "$work/cut/.git/objects/pack" "$work/cut/.git/refs/remotes"
 mkdir "$work/cut/.git/objects/pack"
@@ -492,14 +520,20 @@ settled 'a clone that was cut off' cut :/a
 
 # ---- how often the program is called
 
-# A program that notes each call.
+# Programs that note each call, and keep what it was asked and what it wrote last.
 mkdir "$work/noted"
-cat >"$work/noted/proj" <<END
+for program in proj proj_read; do
+    cat >"$work/noted/$program" <<END
 #!/bin/sh
 printf '%s\n' "\$2" >>"$work/calls"
-exec "$work/bin/proj" "\$@"
+printf '%s\n' "\$*" >"$work/words"
+"$work/bin/$program" "\$@" >"$work/wrote"
+status=\$?
+cat "$work/wrote"
+exit "\$status"
 END
-chmod +x "$work/noted/proj"
+    chmod +x "$work/noted/$program"
+done
 
 # The calls while the words run, which must end well.
 calls() {
@@ -508,12 +542,186 @@ calls() {
     paste -sd ' ' <"$work/calls"
 }
 does 'a pull before calls are counted' git -C "$work/a" pull -q
-same 'the calls of a fetch of nothing new' project "$(calls git -C "$work/a" fetch -q)"
-same 'the calls of a push of nothing new' project "$(calls git -C "$work/a" push -q)"
+same 'the calls of a fetch of nothing new' batch "$(calls git -C "$work/a" fetch -q)"
+same 'the calls of a push of nothing new' batch "$(calls git -C "$work/a" push -q)"
+does 'another pull before calls are counted' git -C "$work/late" pull -q
 change a counted 'once'
-same 'the calls of a push' 'project push' "$(calls git -C "$work/a" push -q)"
-same 'the calls of a fetch' 'project export' "$(calls git -C "$work/late" fetch -q)"
-settled 'after calls that were counted' a :/a
+same 'the calls of a push' 'batch push' "$(calls git -C "$work/a" push -q)"
+old=$(git -C "$work/late" rev-parse HEAD)
+same 'the calls of a fetch' 'batch new' "$(calls git -C "$work/late" fetch -q)"
+same 'it says what the clone has' yes "$(grep -q -- " :/a .*$old" "$work/words" && printf yes)"
+same 'it gets what is new' 1 "$(grep -c '^commit ' "$work/wrote")"
+does 'its files are there' git -C "$work/late" merge -q --ff-only '@{upstream}'
+settled 'after calls that were counted' late :/a
+same 'the calls of a clone' 'batch new' "$(calls git clone -q "$(address :/a)" "$work/noted.a")"
+
+# ---- annotated tags, also without `proj_read`
+
+# The tags of a clone, and those that the store has for it.
+same_tags() {
+    same "$1" "$(proj "$store" tags $main :/a | LC_ALL=C sort; printf end)" "$(
+        git -C "$work/$2" for-each-ref --format='%(refname:strip=2) %(objectname)' refs/tags | LC_ALL=C sort
+        printf end
+    )"
+    does "$1: fsck" git -C "$work/$2" fsck --strict --no-dangling
+}
+
+# Puts the monorepo and its tags into the store.
+publish_tags() {
+    git -C "$work/tagged" fast-export --use-done-feature --branches --tags >"$work/stream"
+    does 'an import of tags' proj "$store" import "$@" <"$work/stream"
+}
+
+for it in "with:$PATH" "alone:$alone"; do
+    store=$work/tags.${it%%:*}
+    clone=tags.${it%%:*}.clone
+    before=$PATH
+    PATH=${it#*:}
+    rm -rf "$work/tagged"
+    git init -q "$work/tagged"
+    change tagged b/g two
+    git -C "$work/tagged" tag -a -m 'not shown' other
+    change tagged a/f one
+    git -C "$work/tagged" tag -a -m 'the first' v1
+    change tagged b/h three
+    git -C "$work/tagged" tag -a -m 'shown by the commit before' rel/v2
+    git -C "$work/tagged" tag light
+    change tagged a/g four
+    git -C "$work/tagged" tag -a -m 'an odd name' "$(printf 'caf\303\251"')"
+    publish_tags
+    does 'a clone with tags' git clone -q "$(address :/a)" "$work/$clone"
+    same_tags 'a clone with tags' "$clone"
+    same 'how many tags it has' 3 "$(git -C "$work/$clone" tag | wc -l)"
+    does 'a clone of one branch' git clone -q --single-branch "$(address :/a)" "$work/$clone.single"
+    same_tags 'a clone of one branch' "$clone.single"
+    does 'a clone without tags' git clone -q --no-tags "$(address :/a)" "$work/$clone.none"
+    same 'a clone without tags' none "none$(git -C "$work/$clone.none" tag)"
+    same 'nor has it their objects' none "none$(git -C "$work/$clone.none" cat-file --batch-all-objects \
+        --batch-check='%(objecttype)' | grep tag)"
+    same 'the tags of the address' 3 "$(git ls-remote -q --tags "$(address :/a)" | grep -c refs/tags/)"
+
+    # Tags of new commits come with these, and tags of others where all tags are asked for.
+    change tagged a/g five
+    git -C "$work/tagged" tag -a -m 'of a new commit' new
+    publish_tags
+    does 'a fetch of a commit with a tag' git -C "$work/$clone" fetch -q
+    same_tags 'a fetch of a commit with a tag' "$clone"
+    does 'a fetch without tags' git -C "$work/$clone.none" fetch -q
+    same 'a fetch without tags' none "none$(git -C "$work/$clone.none" tag)"
+    git -C "$work/tagged" tag -a -m 'of an old commit' old HEAD~2
+    publish_tags
+    does 'a fetch of no new commit' git -C "$work/$clone" fetch -q
+    same 'a tag of an old commit' none "none$(git -C "$work/$clone" tag -l old)"
+    does 'a fetch of tags' git -C "$work/$clone" fetch -q --tags
+    same_tags 'a fetch of tags' "$clone"
+    does 'a fetch of all tags' git -C "$work/$clone.none" fetch -q --tags
+    same_tags 'a fetch of all tags' "$clone.none"
+    git -C "$work/tagged" tag -a -f -m 'another word' v1 'v1^{commit}' >"$work/out" 2>&1
+    publish_tags --force
+    does 'a fetch of tags that moved' git -C "$work/$clone" fetch -q --tags --force
+    same_tags 'a fetch of tags that moved' "$clone"
+
+    # A push knows them.
+    does 'a pull with tags' git -C "$work/$clone" pull -q
+    change "$clone" pushed 'with tags'
+    does 'a push with tags' git -C "$work/$clone" -c push.followTags=true push -q
+    settled 'a push with tags' "$clone" :/a
+    does 'a push of tags that are there' git -C "$work/$clone" push -q --tags
+    git -C "$work/$clone" tag -a -m own own
+    refused 'a push of a tag' "only $main" git -C "$work/$clone" push -q --tags
+
+    # Git's importer writes this tagger in its own way.
+    printf 'tag odd\nfrom %s\ntagger <a@x> 1700000000 +0000\ndata 4\nodd\n' "$(git -C "$work/tagged" rev-parse main)" |
+        proj "$store" import >"$work/out" || wrong 'an odd tagger is refused'
+    refused 'a tag that Git does not make' "Git makes no $(proj "$store" tags $main :/a | sed -n 's/^odd //p')" \
+        git -C "$work/$clone" fetch -q --tags
+    does 'a fetch beside such a tag' git -C "$work/$clone" fetch -q
+    does 'a clone without such a tag' git clone -q --no-tags "$(address :/a)" "$work/$clone.odd"
+    PATH=$before
+done
+store=$work/store
+
+# ---- without `proj_read`
+
+does 'a clone without proj_read' env PATH="$alone" git clone -q "$(address :/a)" "$work/slow"
+settled 'a clone without proj_read' slow :/a
+change a slow 'to be fetched'
+does 'a push before a fetch without proj_read' git -C "$work/a" push -q
+does 'a fetch without proj_read' env PATH="$alone" git -C "$work/slow" pull -q
+settled 'a fetch without proj_read' slow :/a
+
+# ---- a store that can only be read
+
+# Runs the words as somebody who may not write the store.
+reading() {
+    if [ -w "$work/reader/store" ]; then
+        setpriv --reuid=65534 --regid=65534 --clear-groups env HOME="$work/reader/own" PATH="$work/reader:$PATH" "$@"
+    else
+        env PATH="$work/reader:$PATH" "$@"
+    fi
+}
+mkdir "$work/reader" "$work/reader/own"
+cp "$store" "$work/reader/store"
+chmod 444 "$work/reader/store"
+if [ ! -w "$work/reader/store" ] || setpriv --reuid=65534 --regid=65534 --clear-groups true 2>"$work/out"; then
+    cp "$proj" "$work/reader/proj"
+    cp "$proj_read" "$work/reader/proj_read"
+    cp contrib/git-remote-proj "$work/reader/git-remote-proj"
+    cp "$work/config" "$work/reader/config"
+    chmod 755 "$work" "$work/reader" "$work/reader"/*
+    chmod 444 "$work/reader/store"
+    [ ! -w "$work/reader/store" ] || chmod 777 "$work/reader/own"
+    cd "$work/reader/own" || exit 1
+    address="proj::$work/reader/store#$main#:/a"
+    does 'a clone of a store that can only be read' reading git clone -q "$address" clone
+    same 'its name' "$(proj "$store" project $main :/a)" "$(reading git -C clone rev-parse HEAD)"
+    does 'a fetch from it' reading git -C clone fetch -q
+    does 'a commit upon it' reading git -C clone commit -q --allow-empty -m own
+    refused 'a push to it' 'the store cannot be written' reading git -C clone push
+    does 'it is as it was' cmp "$store" "$work/reader/store"
+    cd "$top" || exit 1
+fi
+
+# ---- what is told
+
+does 'a quiet clone' git clone -q "$(address :/a)" "$work/told"
+same 'what a quiet clone tells' nothing "nothing$(cat "$work/out")"
+rm -rf "$work/told"
+does 'a clone' git clone "$(address :/a)" "$work/told"
+same 'what a clone tells' nothing "nothing$(grep -v "^Cloning into '$work/told'...$" "$work/out")"
+rm -rf "$work/told"
+does 'a clone with progress' git clone --progress "$(address :/a)" "$work/told"
+count=$(git -C "$work/told" rev-list --count HEAD)
+same 'its progress' "$(seq -f 'proj: commits: %g' 100 100 "$count"; printf 'proj: commits: %d, done.' "$count")" \
+    "$(tr '\r' '\n' <"$work/out" | grep '^proj: ')"
+settled 'a clone with progress' told :/a
+rm -rf "$work/told"
+does 'a clone with words' git clone -v "$(address :/a)" "$work/told"
+same 'the words of a clone' yes "$(grep -q '^fast-import statistics:' "$work/out" && printf yes)"
+change a told 'once more'
+does 'a push before that' git -C "$work/a" push -q
+does 'a fetch with progress' git -C "$work/told" fetch --progress
+same 'the progress of a fetch' 'proj: commits: 1, done.' "$(grep '^proj: ' "$work/out")"
+does 'a fetch of nothing with progress' git -C "$work/told" fetch --progress
+same 'the progress of a fetch of nothing' nothing "nothing$(cat "$work/out")"
+
+# ---- a push that is only tried
+
+change told tried 'once'
+does 'a pull before a trial' git -C "$work/told" pull -q
+cp "$store" "$work/before"
+does 'a trial' git -C "$work/told" push --dry-run
+does 'a trial changes nothing' cmp "$store" "$work/before"
+git -C "$work/told" -c i18n.commitEncoding=latin1 commit -q --allow-empty -m "$(printf '\351')"
+refused 'a trial of an encoding' 'names an encoding' git -C "$work/told" push --dry-run
+git -C "$work/told" reset -q --hard HEAD~1
+change a first 'before'
+does 'a push before a trial' git -C "$work/a" push -q
+refused 'a trial that is late' 'fetch first' git -C "$work/told" push --dry-run
+does 'a pull behind a trial' git -C "$work/told" pull -q
+does 'a push behind a trial' git -C "$work/told" push -q
+settled 'a push behind a trial' told :/a
+does 'a pull behind all that' git -C "$work/a" pull -q
 
 # ---- addresses
 

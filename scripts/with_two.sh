@@ -8,7 +8,7 @@ cd "$(dirname "$0")/.." || exit 1
 label=two
 . scripts/lib.sh
 needs mktemp sleep cat rm seq tail grep wc
-begin
+begin_reading
 rounds=${ROUNDS:-2}
 store=$work/store
 
@@ -162,6 +162,7 @@ with_git() {
 if with_git; then
     mkdir "$work/bin"
     ln -s "$(realpath "$proj")" "$work/bin/proj"
+    ln -s "$(realpath "$proj_read")" "$work/bin/proj_read"
     ln -s "$PWD/contrib/git-remote-proj" "$work/bin/git-remote-proj"
     export PATH=$work/bin:$PATH
     own_settings
