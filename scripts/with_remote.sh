@@ -781,9 +781,7 @@ change a fault 'made, and told a fault'
 does 'a push that was made with a fault' env PATH="$work/faulty:$PATH" git -C "$work/a" push -q
 settled 'a push that was made with a fault' a :/a
 same 'both faults came' gone "$([ -e "$work/fault" ] || printf gone)"
-
 # ---- the commands that README tells first
-
 mkdir -p "$work/story"
 cd "$work/story" || exit 1
 git init -q mono
@@ -798,5 +796,4 @@ same 'what the files are' "$(printf 'notes\na line more\nby all')" "$(cat mono/l
 same 'nothing else' clean "$(git -C mono status --porcelain; printf clean)"
 same 'what the store has' "$(git -C mono rev-parse main)" "$(proj mono.store project $main :nop)"
 same 'what the clone has' "$(git -C mono rev-parse main:lib)" "$(git -C lib rev-parse 'main^{tree}')"
-
 counted
