@@ -688,6 +688,20 @@ for name in "${names[@]}"; do
 done
 same 'forced, the store' "$(git -C "$clone" rev-parse HEAD)" "$(proj_read "$host/store" refs | sed -n "s|^$main ||p")"
 
+# A file that becomes a directory, in a part, in the monorepo, and in a history that is there.
+does 'a clone of the part' git clone -q "$host/dir.git" "$work/turned"
+change "$work/turned" 'a file' turned 'a file'
+rm "$work/turned/turned"
+change "$work/turned" 'a directory' turned/deep 'in a directory'
+does 'a directory in a part' git -C "$work/turned" push -q
+does 'a clone of the monorepo' git clone -q "$host/mono.git" "$work/turned.mono"
+does 'it has the directory' rm "$work/turned.mono/lib/turned/deep"
+change "$work/turned.mono" 'a directory more' lib/turned/deep/er 'deeper'
+does 'a directory in the monorepo' git -C "$work/turned.mono" push -q
+git clone -q --bare "$host/mono.git" "$work/turned.git"
+does 'a history with directories' proj-host init "$work/turned.git" "$work/turned.store"
+does 'its names' proj-host status "$work/turned.git"
+
 # ---- users of a policy
 
 git init -q "$work/rules"
