@@ -295,10 +295,10 @@ kill_hooks() {
     done
 }
 
-# Git leaves the lock of a ref where it is ended while it moves one. Nobody pushes now, so these go.
+# Git leaves the locks of a ref and of HEAD where it is ended while it moves one. Nobody pushes now, so these go.
 unlock() {
     find "$host" -path '*.git/refs/*' -name '*.lock' -delete
-    find "$host" -maxdepth 2 -name 'packed-refs.lock' -delete
+    find "$host" -maxdepth 2 -name '*.lock' -path '*.git/*' -delete
 }
 
 # ---- everything that was acknowledged is everywhere
