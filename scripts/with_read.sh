@@ -2,8 +2,8 @@
 # What `proj_read` tells of a store, beside a real Git: of a made history with merges, moves, modes, links, modules, odd
 # names and commits without a change, and of this repository. By several filters `new` gives the names that `export`
 # gives, from nothing and into repositories that have a part of it, with what Git says has changed and no more;
-# `originals` brings pushed work back; `log`, `refs` and tags are as Git and `proj` have them. And what is told where
-# words are wrong, the file is no store, or somebody else has it. No call changes the file.
+# `originals` brings pushed work back; `log`, `refs`, `check` and tags are as Git and `proj` have them. And what is told
+# where words are wrong, the file is no store, or somebody else has it. No call changes the file.
 set -u
 cd "$(dirname "$0")/.." || exit 1
 label='read'
@@ -101,18 +101,22 @@ upon() {
 
 # A ref and a filter: by Git's reading of `export` and of `new`, the same commits.
 agrees() {
-    local ref=$1 filter=$2 what="$1 $2" name commits n k
+    local ref=$1 filter=$2 what="$1 $2" name commits files n k
     name=$("$proj" "$store" project "$ref" "$filter") || wrong "$what: project"
     "$proj" "$store" export "$ref" "$filter" >"$work/text" || wrong "$what: export"
     keep
+    answers "$what: check" check "$ref" "$filter"
+    files=$(sed -n 's/^files //p' "$work/answer")
     answers "$what" new "$ref" "$filter"
     if [ "$name" = none ]; then
         equal "$what, of which nothing is shown" "$work/text" "$work/answer"
+        same "$what, of which nothing is shown: its files" 0 "$files"
         return
     fi
     fresh whole
     taken "$what: export" whole "$work/text"
     same "$what: export" "$name" "$(git -C "$work/whole" rev-parse "$ref")"
+    same "$what: its files" "$(git -C "$work/whole" ls-tree -r "$ref" | wc -l)" "$files"
     fresh all
     taken "$what" all "$work/answer"
     same "$what: its name" "$name" "$(git -C "$work/all" rev-parse "$ref")"
@@ -332,6 +336,61 @@ for ref in $main refs/heads/side3 refs/heads/root; do
     done
 done
 
+# ---- `check`
+
+# What is told of a filter and a commit of three files and of what these lines change.
+checks=0
+checked() {
+    local what=$1 filter=$2 wanted=$3 changes=$4 ref
+    checks=$((checks + 1))
+    ref=refs/checked/$checks
+    {
+        printf 'commit %s\ncommitter A <a@x> 1700000000 +0000\ndata 0\n' "$ref"
+        file 100644 lib/a 1
+        file 100644 lib/b 2
+        file 100644 docs/d 3
+        printf '%s\n' "$changes"
+    } | "$proj" "$work/checked" import >"$work/out" || wrong "$what: import"
+    cp "$work/checked" "$work/kept"
+    answers "$what" check "$ref" "$filter"
+    same "$what: what is told" "$wanted" "$(cat "$work/answer")"
+}
+listing() {
+    file 100644 "${2:-ws/workspace.josh}" "$1"
+}
+made_store=$store
+store=$work/checked
+checked 'no workspace' :/lib 'files 2' ''
+checked 'nothing is shown' :/lib/none 'files 0' ''
+checked 'no listing' :workspace=ws $'files 0\nworkspace ws/workspace.josh absent' ''
+checked 'a directory in its place' :workspace=ws $'files 1\nworkspace ws/workspace.josh absent' \
+    "$(file 100644 ws/workspace.josh/x 1)"
+checked 'a link in its place' :workspace=ws $'files 1\nworkspace ws/workspace.josh no file' \
+    "$(file 120000 ws/workspace.josh ../lib)"
+checked 'a module in its place' :workspace=ws $'files 1\nworkspace ws/workspace.josh no file' \
+    "$(printf 'M 160000 %040d ws/workspace.josh' 5)"
+checked 'no text of items' :workspace=ws $'files 1\nworkspace ws/workspace.josh syntax' "$(listing $'x = \n')"
+checked 'an empty listing' :workspace=ws $'files 1\nworkspace ws/workspace.josh items 0' "$(listing '')"
+checked 'two items' :workspace=ws $'files 4\nworkspace ws/workspace.josh items 2' \
+    "$(listing $'x = :/lib\ny = :/docs\n')"
+checked 'places that meet' :workspace=ws \
+    $'files 1\nworkspace ws/workspace.josh overlap: list 0, branches 0 and 2' \
+    "$(listing $'x = :/lib\ny = :/docs\nx/z = ::docs/d\n')"
+checked 'a path in two places' :workspace=ws \
+    $'files 1\nworkspace ws/workspace.josh overlap: list 0, branches 0 and 1' "$(listing $'x = :/lib\ny = :/lib\n')"
+checked 'lists in an item that meet' :workspace=ws \
+    $'files 1\nworkspace ws/workspace.josh overlap: list 3, branches 0 and 1' \
+    "$(listing $'x = :/lib\ny = :[:/docs,:/tools]\n')"
+checked 'an exclude of what moves' :workspace=ws $'files 1\nworkspace ws/workspace.josh not keeping: piece 3' \
+    "$(listing $'x = :/lib:exclude[:/a]\n')"
+checked 'a listing that a prefix moves' :prefix=p:workspace=p/ws $'files 3\nworkspace ws/workspace.josh items 1' \
+    "$(listing $'x = :/p/lib\n')"
+checked 'a listing that is not shown' ':exclude[::ws/]:workspace=ws' $'files 0\nworkspace none' \
+    "$(listing $'x = :/lib\n')"
+checked 'a listing of an odd name' ':workspace="w\ts"' $'files 2\nworkspace "w\\ts/workspace.josh" items 1' \
+    "$(listing $'x = ::docs/d\n' '"w\ts/workspace.josh"')"
+store=$made_store
+
 # ---- annotated tags
 
 # The tags of a repository, as `tags` prints them.
@@ -486,7 +545,7 @@ for _ in $(seq 200); do
     [ "$status" -ne 24 ] || break
     sleep 0.05
 done
-for words in refs "log $main :/a" "new $main :/a" "originals $main"; do
+for words in refs "log $main :/a" "check $main :/a" "new $main :/a" "originals $main"; do
     # shellcheck disable=SC2086
     reads $words
     same "$words, while proj has the store" 'store fault 24 ' "$(cat "$work/told") $status $(cat "$work/answer")"
@@ -503,12 +562,13 @@ equal 'when proj has ended' "$work/wanted" "$work/answer"
 told() {
     same "$1" "$2" "$(cat "$work/told"; printf 'status %d%s' "$status" "$(cat "$work/answer")")"
 }
-usage='usage: proj_read STORE (refs | log REF FILTER | new [--tags] REF FILTER [HAVE ..] | originals REF [HAVE ..])
-status 2'
+usage='usage: proj_read STORE (refs | log REF FILTER | check REF FILTER | new [--tags] REF FILTER [HAVE ..] | '
+usage+=$'originals REF [HAVE ..])\nstatus 2'
 store=$work/store
 keep
 name=$(git -C "$work/made" rev-parse main)
-for words in '' other 'refs x' log "log $main" "log $main :/a x" new 'new --tags' "new $main" "new --tags $main" \
+for words in '' other 'refs x' log "log $main" "log $main :/a x" check "check $main" "check $main :/a x" \
+    'check bad..ref :/a' new 'new --tags' "new $main" "new --tags $main" \
     "new $main :/a x" "new $main :/a $name $name:" "new $main :/a ${name}0" "new $main :/a ${name%?}" \
     "new $main :/a --tags" originals "originals $main :/a" "originals $main ${name%?}" "originals $main $name x" \
     'log bad..ref :/a' 'new a//b :/a' 'originals /a' "project $main :/a" "export $main :/a" 'rule 1' --help; do
@@ -526,7 +586,7 @@ for words in 'refs/heads/none :/a' "$main :/a:" "$main :[x=:/a,x=:/b]" "$main :[
     # shellcheck disable=SC2086
     wanted=$("$proj" "$store" project $words 2>&1; printf 'status %d' $?)
     keep
-    for form in log new 'new --tags'; do
+    for form in log check new 'new --tags'; do
         # shellcheck disable=SC2086
         reads $form $words
         told "$form $words" "$wanted"
@@ -536,12 +596,12 @@ reads originals refs/heads/none
 told 'originals of no ref' $'unknown ref\nstatus 8'
 
 same 'the version' 'proj_read 0.1' "$("$proj_read" --version)"
-for it in refs log new originals; do
+for it in refs log check new originals; do
     same "the help on $it" yes "$("$proj_read" --help | grep -q "^    *proj_read mono.proj $it" && printf yes)"
 done
 if [ -c /dev/full ]; then
-    for words in --help --version "$store refs" "$store log $main :/a" "$store new $main :/a" \
-        "$store originals $main"; do
+    for words in --help --version "$store refs" "$store log $main :/a" "$store check $main :/a" \
+        "$store new $main :/a" "$store originals $main"; do
         # shellcheck disable=SC2086
         same "an output that is full: ${words#"$store "}" $'write fault\nstatus 23' \
             "$("$proj_read" $words 2>&1 >/dev/full; printf 'status %d' $?)"
@@ -559,7 +619,7 @@ done
 same 'no file is made' none "$([ -e "$store" ] || printf none)"
 store=$work/empty
 : >"$store"
-for words in refs "log $main :/a" "new $main :/a" "originals $main"; do
+for words in refs "log $main :/a" "check $main :/a" "new $main :/a" "originals $main"; do
     # shellcheck disable=SC2086
     reads $words
     told "an empty file: $words" $'damaged: journal at 0\nstatus 25'
@@ -577,7 +637,7 @@ damaged() {
     wanted=$("$proj" "$work/other" project $main :/a 2>&1; printf 'status %d' $?)
     keep
     case $wanted in *'status 25') ;; *) wrong "$what: proj says $wanted" ;; esac
-    for words in refs "log $main :/a" "new $main :/a" "originals $main"; do
+    for words in refs "log $main :/a" "check $main :/a" "new $main :/a" "originals $main"; do
         # shellcheck disable=SC2086
         reads $words
         told "$what: $words" "$wanted"

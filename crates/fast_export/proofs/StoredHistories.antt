@@ -57,10 +57,10 @@ one_commit S n c h = ap (λ (o : Option Commit). cons_option (option_map (snapsh
 
 -- ---- the commit's mark
 
-abbrev with_commit : Marks → Bytes → Marks
+abbrev pub with_commit : Marks → Bytes → Marks
 with_commit m n = record { next = m.next + 1; blobs = m.blobs; commits = m.commits ++ (m.next, n) ∷ [] }
 
-mark_given : (S : List Object) (g h : Given) (k : Name) → h ≡ record g { commits = g.commits ++ (k, next_of g) ∷ [] } → marks_in S h ≡ with_commit (marks_in S g) k.0
+pub mark_given : (S : List Object) (g h : Given) (k : Name) → h ≡ record g { commits = g.commits ++ (k, next_of g) ∷ [] } → marks_in S h ≡ with_commit (marks_in S g) k.0
 mark_given S g h k e =
     let long : length g.blobs + length (g.commits ++ (k, next_of g) ∷ []) + 1 ≡ next_of g + 1 = omega (arith, length-append g.commits ((k, next_of g) ∷ [])) in
     ap (marks_in S) e ∙ (λ i. record { next = long i; blobs = (marks_in S g).blobs; commits = map-append commit_mark g.commits ((k, next_of g) ∷ []) i })

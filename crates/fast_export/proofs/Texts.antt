@@ -105,17 +105,18 @@ commit_parts : (s w r m d u a v c x e lf b p z l rest : Bytes) →
     ≡ s ++ ((w ++ r) ++ (lf ++ ((m ++ d) ++ (lf ++ ((u ++ a) ++ (lf ++ ((v ++ c) ++ (lf ++ ((x ++ e) ++ (lf ++ (b ++ (lf ++ (p ++ (z ++ (l ++ (lf ++ rest))))))))))))))))
 commit_parts s w r m d u a v c x e lf b p z l rest = simp append_assoc
 
-commit_shape : (s r d a c e b p l rest : Bytes) →
+-- a commit of these parts, where z stands between its parents and its leaves
+pub commit_shape : (s r d a c e b p z l rest : Bytes) →
     (((((((s ++ ((codes "commit " ++ r) ++ 10 ∷ [])) ++ (((codes "mark " ++ codes ":") ++ d) ++ 10 ∷ []))
-    ++ ((((codes "author " ++ a) ++ 10 ∷ []) ++ ((codes "committer " ++ c) ++ 10 ∷ [])) ++ ((((codes "data " ++ e) ++ 10 ∷ []) ++ b) ++ 10 ∷ []))) ++ p) ++ codes "deleteall\n") ++ l) ++ 10 ∷ []) ++ rest
-    ≡ s ++ ((codes "commit " ++ r) ++ 10 ∷ ((codes "mark " ++ (codes ":" ++ d)) ++ 10 ∷ ((codes "author " ++ a) ++ 10 ∷ ((codes "committer " ++ c) ++ 10 ∷ ((codes "data " ++ e) ++ 10 ∷ (b ++ 10 ∷ (p ++ (codes "deleteall" ++ 10 ∷ (l ++ 10 ∷ rest)))))))))
-commit_shape s r d a c e b p l rest =
-    commit_parts s (codes "commit ") r (codes "mark " ++ codes ":") d (codes "author ") a (codes "committer ") c (codes "data ") e (10 ∷ []) b p (codes "deleteall\n") l rest
+    ++ ((((codes "author " ++ a) ++ 10 ∷ []) ++ ((codes "committer " ++ c) ++ 10 ∷ [])) ++ ((((codes "data " ++ e) ++ 10 ∷ []) ++ b) ++ 10 ∷ []))) ++ p) ++ z) ++ l) ++ 10 ∷ []) ++ rest
+    ≡ s ++ ((codes "commit " ++ r) ++ 10 ∷ ((codes "mark " ++ (codes ":" ++ d)) ++ 10 ∷ ((codes "author " ++ a) ++ 10 ∷ ((codes "committer " ++ c) ++ 10 ∷ ((codes "data " ++ e) ++ 10 ∷ (b ++ 10 ∷ (p ++ (z ++ (l ++ 10 ∷ rest)))))))))
+commit_shape s r d a c e b p z l rest =
+    commit_parts s (codes "commit ") r (codes "mark " ++ codes ":") d (codes "author ") a (codes "committer ") c (codes "data ") e (10 ∷ []) b p z l rest
 
 pub one_commit_text : (ref : Bytes) (number : ℕ) (m : Marks) (c : Snapshot) (rest : Bytes) → commit_text ref number m c ++ rest ≡ start_lines ref c.parents (body_lines ref number m c rest)
 one_commit_text ref number m c rest =
     commit_shape (if is_nil c.parents then line (codes "reset ") ref else []) ref (decimal number) c.letter.author c.letter.committer (decimal (length c.letter.message)) c.letter.message
-    (parent_lines m.commits c.parents) (flat_map (leaf_line m.blobs) c.tree) rest
+    (parent_lines m.commits c.parents) (codes "deleteall\n") (flat_map (leaf_line m.blobs) c.tree) rest
     ∙ start_text ref c.parents _
     ∙ ap (λ t. start_lines ref c.parents (word_text (codes "commit ") ref (word_text (codes "mark ") (colon number) (people_lines c.letter.author c.letter.committer (data_text c.letter.message t)))))
     (parents_text m.commits c.parents (all_text (flat_map (leaf_line m.blobs) c.tree ++ 10 ∷ rest))

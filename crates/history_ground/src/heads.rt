@@ -1,13 +1,15 @@
 // What is shown of a commit, from scratch.
-ghost use Rattle.std.specs.Prelude.{◌≡◌, IfErr, IfOk, IsSome};
+ghost use Rattle.std.specs.Prelude.{◌≡◌, true, IfErr, IfOk, IsSome};
 ghost use Rattle.git_objects.specs.Snapshots.{tree_at};
+ghost use Rattle.git_objects.specs.declared.kind.Kind.TheVariants.{Tree};
 ghost use Rattle.commit_graph.specs.Graphs.{place_of};
 ghost use Rattle.filter_apply.specs.Faults.{IsApplyFault};
 ghost use Rattle.filter_text.specs.Shapes.{shape};
 ghost use Rattle.projection_ground.specs.Grounds.{Extends, IsGround, IsShownOf, commits_of};
 ghost use Rattle.projection_ground.specs.TrueMaps.{IsTrueMap};
 ghost use Rattle.history_ground.specs.TrueWalks.{IsTrueWalk};
-ghost use Rattle.object_store.specs.Unfolding.{StandsFor};
+ghost use Rattle.object_store.specs.Objects.{has};
+ghost use Rattle.object_store.specs.Unfolding.{flat, StandsFor};
 ghost use Rattle.history_ground.specs.Heads.{IsSeen, IsSeenObject};
 ghost use Rattle.workspace.specs.Laws.{IsUsable};
 ghost use Rattle.workspace.specs.Workspaces.{shown};
@@ -71,7 +73,7 @@ fn shown_upon(
     ensures walked { IsTrueWalk (shape filter.now) head.now.0 ground.old ground.new }
     ensures err { IfErr result (IsApplyFault (IsSeenObject (shape filter.now) ground.old head.now.0) ground.new.store) }
 {
-    let tree = head_tree(alloc, ground, filter, head)?;
+    let tree = shown_tree(alloc, ground, filter, head)?;
     let Some(shown) = made_to(alloc, ground, filter, head)? else {
         return Ok(Seen { from: None, tree });
     };
@@ -81,8 +83,22 @@ fn shown_upon(
     })
 }
 
-// The tree that is shown of a commit.
-fn head_tree(
+/// The tree of the commit of that name, which is in the graph.
+pub fn commit_tree(ground: &Ground, head: &Name) -> Name
+    requires ground { IsGround ground.now }
+    requires head { IsSome (place_of head.now.0 ground.now.graph) }
+    ensures held { has Tree ground.now.store result.0 ≡ true }
+    ensures tree { flat ground.now.store result.0 ≡ tree_at (commits_of ground.now) head.now.0 }
+{
+    let Some(place) = ground.graph.index_of(head) else {
+        unreachable!()
+    };
+    ground.graph.tree(place)
+}
+
+/// The tree that a filter shows of the commit of that name, which is in the graph, put into the store. Nothing is
+/// projected; the kept projections are neither asked nor changed.
+pub fn shown_tree(
     alloc: Global,
     ground: &mut Ground,
     filter: &Filter,

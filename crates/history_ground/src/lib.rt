@@ -9,7 +9,7 @@ mod origins;
 mod walking;
 
 pub use before::shown_before;
-pub use heads::{Seen, seen_head};
+pub use heads::{Seen, commit_tree, seen_head, shown_tree};
 pub use histories::{history, put_commit};
 pub use origins::{First, Origins};
 pub use walking::project_to;

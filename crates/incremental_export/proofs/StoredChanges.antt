@@ -13,7 +13,7 @@ use Rattle.object_store.specs.StoredSnapshots.{commit_named, snapshot_of}
 use Rattle.fast_export.specs.ExportTexts.{Marks, blob_text, new_blobs}
 use Rattle.fast_export.specs.Given.{Given, AreGivenIn, commit_mark, commit_names, marks_in, next_of, with_blobs}
 use Rattle.fast_export.specs.Histories.{snapshots_at}
-use Rattle.fast_export.proofs.StoredHistories.{IsStoredCommit, one_commit}
+use Rattle.fast_export.proofs.StoredHistories.{IsStoredCommit, mark_given, one_commit, with_commit}
 use Rattle.fast_export.proofs.WrittenBlobs.{blobs_text}
 use Rattle.incremental_export.specs.ChangeTexts.{commit_text, commits_text, marks_after, marks_behind, one_text}
 use Rattle.incremental_export.specs.Histories.{tree_in}
@@ -22,15 +22,6 @@ use Rattle.incremental_export.specs.declared.compare.Changes.{Changes}
 use Rattle.incremental_export.proofs.CommitChanges.{new_found, new_tree}
 
 -- ---- one commit
-
--- the marks with that of a commit of this name
-abbrev with_name : Marks → Bytes → Marks
-with_name m n = record { next = m.next + 1; blobs = m.blobs; commits = m.commits ++ (m.next, n) ∷ [] }
-
-mark_given : (S : List Object) (g h : Given) (k : Name) → h ≡ record g { commits = g.commits ++ (k, next_of g) ∷ [] } → marks_in S h ≡ with_name (marks_in S g) k.0
-mark_given S g h k e =
-    let long : length g.blobs + length (g.commits ++ (k, next_of g) ∷ []) + 1 ≡ next_of g + 1 = omega (arith, length-append g.commits ((k, next_of g) ∷ [])) in
-    ap (marks_in S) e ∙ (λ i. record { next = long i; blobs = (marks_in S g).blobs; commits = map-append commit_mark g.commits ((k, next_of g) ∷ []) i })
 
 module _ (S : List Object) (n : Name) (c : Commit) (stored : IsStoredCommit S n.0 c) (x : Changes) (changes : AreChangesOf S c x) (g : Given) where
   abbrev after_blobs : Marks
@@ -56,7 +47,7 @@ module _ (S : List Object) (n : Name) (c : Commit) (stored : IsStoredCommit S n.
       pub marks_put : marks_in S i ≡ marks_behind (tree_in S) (marks_in S g) (snapshots_at S (n.0 ∷ []))
       marks_put =
           mark_given S h i n commit
-          ∙ (λ j. with_name ((blobs ∙ with_found) j) (sym stored.named j))
+          ∙ (λ j. with_commit ((blobs ∙ with_found) j) (sym stored.named j))
           ∙ ap (marks_behind (tree_in S) (marks_in S g)) (sym (one_commit S n.0 c stored))
 
 pub still_given : (S : List Object) (n : Name) (h i : Given) → i ≡ record h { commits = h.commits ++ (n, next_of h) ∷ [] } → AreGivenIn S h → AreGivenIn S i

@@ -48,7 +48,7 @@ module _ {A B : Type 0} (f : A → Option B) (name : B → A) where
       let k : length (filter_map f (map name xs)) ≡ suc (length xs) = ap length h in
       absurd (omega arith)
 
-  each_found : (xs : List B) → filter_map f (map name xs) ≡ xs → Each (λ x. f (name x) ≡ Some x) xs
+  pub each_found : (xs : List B) → filter_map f (map name xs) ≡ xs → Each (λ x. f (name x) ≡ Some x) xs
   each_found [] h = tt
   each_found (x ∷ xs) h = by (f (name x)) refl h (each_found xs)
     where
@@ -57,16 +57,17 @@ module _ {A B : Type 0} (f : A → Option B) (name : B → A) where
       by None e k more = absurd (not_more x xs k)
       by (Some y) e k more = (let same : y ≡ x = cc in e ∙ ap Some same, more (cc))
 
-  all_found : (xs : List B) → Each (λ x. f (name x) ≡ Some x) xs → filter_map f (map name xs) ≡ xs
+  pub all_found : (xs : List B) → Each (λ x. f (name x) ≡ Some x) xs → filter_map f (map name xs) ≡ xs
   all_found [] h = refl
   all_found (x ∷ xs) h = λ i. cons_option (h.0 i) (all_found xs h.1 i)
 
 -- ---- commits
 
-abbrev IsAt : List Object → Snapshot → Type 0
-IsAt S c = option_map (snapshot_of S) (commit_named S (snapshot_name c)) ≡ Some c
+-- the store has it, under its name
+abbrev pub IsFound : List Object → Snapshot → Type 0
+IsFound S c = option_map (snapshot_of S) (commit_named S (snapshot_name c)) ≡ Some c
 
-own_parents : (S : List Object) (c : Snapshot) → IsAt S c → parents_in S (snapshot_name c) ≡ c.parents
+pub own_parents : (S : List Object) (c : Snapshot) → IsFound S c → parents_in S (snapshot_name c) ≡ c.parents
 own_parents S c h = by (commit_named S (snapshot_name c)) h
   where
     by : (o : Option Commit) → option_map (snapshot_of S) o ≡ Some c → option_map_or (λ (d : Commit). d.parents) o [] ≡ c.parents
@@ -74,7 +75,7 @@ own_parents S c h = by (commit_named S (snapshot_name c)) h
     by (Some d) e = let same : snapshot_of S d ≡ c = cc in ap (λ (x : Snapshot). x.parents) same
 
 -- what is left, by names
-names_left : (S : List Object) (g : Graph) (wanted : List Bytes) → Each (IsAt S) g → left_of S wanted (map snapshot_name g) ≡ map snapshot_name (unreached g wanted)
+names_left : (S : List Object) (g : Graph) (wanted : List Bytes) → Each (IsFound S) g → left_of S wanted (map snapshot_name g) ≡ map snapshot_name (unreached g wanted)
 names_left S [] wanted h = refl
 names_left S (c ∷ older) wanted h =
     ap (λ ps. cond (is_wanted wanted c) (left_of S (ps ++ wanted) (map snapshot_name older)) (snapshot_name c ∷ left_of S wanted (map snapshot_name older))) (own_parents S c h.0)
@@ -96,10 +97,10 @@ each_unreached P (c ∷ older) wanted h = by (is_wanted wanted c) (each_unreache
     by false k = (h.0, k)
 
 pub stored_unreached_law : StoredUnreachedLaw
-stored_unreached_law S g haves h = (names, ap (snapshots_at S) names ∙ all_found _ snapshot_name (reverse (unreached g haves)) (each_reverse (IsAt S) (unreached g haves) (each_unreached (IsAt S) g haves held)))
+stored_unreached_law S g haves h = (names, ap (snapshots_at S) names ∙ all_found _ snapshot_name (reverse (unreached g haves)) (each_reverse (IsFound S) (unreached g haves) (each_unreached (IsFound S) g haves held)))
   where
-    held : Each (IsAt S) g
-    held = subst (Each (IsAt S)) (reverse-reverse g) (each_reverse (IsAt S) (reverse g) (each_found _ snapshot_name (reverse g) h))
+    held : Each (IsFound S) g
+    held = subst (Each (IsFound S)) (reverse-reverse g) (each_reverse (IsFound S) (reverse g) (each_found _ snapshot_name (reverse g) h))
 
     names : unreached_in S haves (map snapshot_name (reverse g)) ≡ map snapshot_name (reverse (unreached g haves))
     names =

@@ -11,7 +11,7 @@ use Rattle.fast_export.specs.ExportTexts.{Marks, no_marks, new_blobs, line, blob
 use Rattle.fast_export.specs.Given.{with_blobs}
 use Rattle.fast_export.proofs.ReadLines.{data_text}
 use Rattle.fast_export.proofs.Heads.{word_text, colon, people_lines}
-use Rattle.fast_export.proofs.Texts.{blobs_lines, blobs_text, leaves_lines, leaves_text, start_lines, start_text}
+use Rattle.fast_export.proofs.Texts.{blobs_lines, blobs_text, commit_shape, leaves_lines, leaves_text, start_lines, start_text}
 use Rattle.incremental_export.specs.ChangeTexts.{commit_ref, parent_lines, delete_line, gone, new, marks_after, commit_text, one_text, commits_text, marks_behind, changes_text}
 use Rattle.incremental_export.proofs.UponParents.{from_lines, merge_lines, commit_lines}
 
@@ -48,18 +48,6 @@ parents_text marks (p ∷ ps) rest =
 
 abbrev pub change_lines : List (ℕ × Bytes) → List Path → Flat → Bytes → Bytes
 change_lines blobs ds es rest = deletes_lines ds (leaves_lines blobs es (10 ∷ rest))
-
-commit_parts : (s w r m d u a v c x e lf b p z l rest : Bytes) →
-    (((((((s ++ ((w ++ r) ++ lf)) ++ ((m ++ d) ++ lf)) ++ ((((u ++ a) ++ lf) ++ ((v ++ c) ++ lf)) ++ ((((x ++ e) ++ lf) ++ b) ++ lf))) ++ p) ++ z) ++ l) ++ lf) ++ rest
-    ≡ s ++ ((w ++ r) ++ (lf ++ ((m ++ d) ++ (lf ++ ((u ++ a) ++ (lf ++ ((v ++ c) ++ (lf ++ ((x ++ e) ++ (lf ++ (b ++ (lf ++ (p ++ (z ++ (l ++ (lf ++ rest))))))))))))))))
-commit_parts s w r m d u a v c x e lf b p z l rest = simp append_assoc
-
-commit_shape : (s r d a c e b p z l rest : Bytes) →
-    (((((((s ++ ((codes "commit " ++ r) ++ 10 ∷ [])) ++ (((codes "mark " ++ codes ":") ++ d) ++ 10 ∷ []))
-    ++ ((((codes "author " ++ a) ++ 10 ∷ []) ++ ((codes "committer " ++ c) ++ 10 ∷ [])) ++ ((((codes "data " ++ e) ++ 10 ∷ []) ++ b) ++ 10 ∷ []))) ++ p) ++ z) ++ l) ++ 10 ∷ []) ++ rest
-    ≡ s ++ ((codes "commit " ++ r) ++ 10 ∷ ((codes "mark " ++ (codes ":" ++ d)) ++ 10 ∷ ((codes "author " ++ a) ++ 10 ∷ ((codes "committer " ++ c) ++ 10 ∷ ((codes "data " ++ e) ++ 10 ∷ (b ++ 10 ∷ (p ++ (z ++ (l ++ 10 ∷ rest)))))))))
-commit_shape s r d a c e b p z l rest =
-    commit_parts s (codes "commit ") r (codes "mark " ++ codes ":") d (codes "author ") a (codes "committer ") c (codes "data ") e (10 ∷ []) b p z l rest
 
 -- a commit, of which the blobs have marks
 abbrev pub body_lines : (Bytes → Flat) → Bytes → Marks → Snapshot → Bytes → Bytes

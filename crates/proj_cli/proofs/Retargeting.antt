@@ -29,7 +29,7 @@ map-names p [] = refl
 map-names p (t ∷ ts) = ap (λ (os : List (Option Bytes)). p t.target.0 ∷ os) (map-names p ts)
 
 module _ (items : List Bytes) (h : Held) (s : Contents) (f : Filter) (n : Bytes) (w : IsStateOf items h s) where
-  same-before : before.shown_before f s.basis n ≡ shown_before h f n
+  pub same-before : before.shown_before f s.basis n ≡ shown_before h f n
   same-before = λ i m. if has (ancestors (commits-are items h s f n w i) n) m then option_map (λ c. c.commit) (projection (rule-is h s w.spells i) (shown f) (commits-are items h s f n w i) m) else None
 
   -- the state's tags, each of the projection of its commit, where that is shown before the head

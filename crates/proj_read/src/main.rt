@@ -25,6 +25,10 @@ const HELP: &[u8] = b"proj_read looks into a store of proj, and writes nothing t
 \x20 proj_read STORE log REF FILTER   print each commit of a ref's history, parents first, and\n\
 \x20                                  what the filter shows of it: a commit, or none\n\
 \x20     proj_read mono.proj log refs/heads/main :/lib\n\
+\x20 proj_read STORE check REF FILTER\n\
+\x20                                  print how many files the filter shows of a ref's commit,\n\
+\x20                                  and what its workspace's file gives\n\
+\x20     proj_read mono.proj check refs/heads/main :workspace=ws\n\
 \x20 proj_read STORE new [--tags] REF FILTER [HAVE ..]\n\
 \x20                                  print the history of what the filter shows, as a stream\n\
 \x20                                  that has what each commit changes, without all that is\n\

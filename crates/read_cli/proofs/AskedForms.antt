@@ -29,8 +29,8 @@ use Rattle.proj_cli.specs.Judging.{IsOwn}
 use Rattle.proj_cli.proofs.Refusing.{sound-own}
 use Rattle.read_cli.specs.Answers.{IsLawful, IsReadBackUpon, OfHead}
 use Rattle.read_cli.specs.Looks.{IsAsked, IsLooked, IsLookedFor, IsReport, IsSubject, IsUnreported}
-use Rattle.read_cli.specs.Outputs.{hand, hands, log_output, new_commits, new_output, original_commits, originals_output, output, projected_graph, refs_output}
-use Rattle.read_cli.specs.Readings.{Log, New, Originals, Reading, Refs, Unknown, verdict}
+use Rattle.read_cli.specs.Outputs.{check_output, hand, hands, log_output, new_commits, new_output, original_commits, originals_output, output, projected_graph, refs_output}
+use Rattle.read_cli.specs.Readings.{Check, Log, New, Originals, Reading, Refs, Unknown, verdict}
 use Rattle.read_cli.specs.declared.judging.Asked.{Asked}
 use Rattle.read_cli.specs.declared.judging.Asked.TheVariants as asks
 use Rattle.read_cli.specs.declared.judging.Subject.{Subject}
@@ -41,6 +41,7 @@ module _ (S : List Object) (h : Held) (before after : SinkView) (o : Outcome) wh
   pub look-refs : (form : Reading) → IsAsked form asks.Refs → IsLookedFor S (Ok (still_hand h.objects [] [])) (Ok (refs_output h)) before after o → IsLooked S (hands form (Ok h)) (output form (Ok h)) before after o
   look-refs Refs w l = l
   look-refs (Log r t) w l = absurd w
+  look-refs (Check r t) w l = absurd w
   look-refs (New b r t ns) w l = absurd w
   look-refs (Originals r ns) w l = absurd w
   look-refs Unknown w l = absurd w
@@ -51,16 +52,30 @@ module _ (S : List Object) (h : Held) (before after : SinkView) (o : Outcome) wh
   look-log Refs s w l = absurd w
   look-log (New b r t ns) s w l = absurd w
   look-log (Originals r ns) s w l = absurd w
+  look-log (Check r t) s w l = absurd w
   look-log Unknown s w l = absurd w
   look-log (Log r t) s w l =
       subst (λ (x : Result Filter Outcome). IsLookedFor S (x >>= λ f. head_of r h.refs >>= λ n. Ok (seen_hand h f n)) (x >>= λ f. head_of r h.refs >>= λ n. Ok (log_output h f n)) before after o) (sym w.sound_is)
       (subst (λ (q : Bytes). IsLookedFor S (head_of q h.refs >>= λ n. Ok (seen_hand h (shape s.filter) n)) (head_of q h.refs >>= λ n. Ok (log_output h (shape s.filter) n)) before after o) w.refname l)
+
+  pub look-check : (form : Reading) (s : Subject) → IsAsked form (asks.Check s)
+      → IsLookedFor S (head_of s.refname h.refs >>= λ n. Ok (seen_hand h (shape s.filter) n)) (head_of s.refname h.refs >>= λ n. Ok (check_output h (shape s.filter) n)) before after o
+      → IsLooked S (hands form (Ok h)) (output form (Ok h)) before after o
+  look-check Refs s w l = absurd w
+  look-check (Log r t) s w l = absurd w
+  look-check (New b r t ns) s w l = absurd w
+  look-check (Originals r ns) s w l = absurd w
+  look-check Unknown s w l = absurd w
+  look-check (Check r t) s w l =
+      subst (λ (x : Result Filter Outcome). IsLookedFor S (x >>= λ f. head_of r h.refs >>= λ n. Ok (seen_hand h f n)) (x >>= λ f. head_of r h.refs >>= λ n. Ok (check_output h f n)) before after o) (sym w.sound_is)
+      (subst (λ (q : Bytes). IsLookedFor S (head_of q h.refs >>= λ n. Ok (seen_hand h (shape s.filter) n)) (head_of q h.refs >>= λ n. Ok (check_output h (shape s.filter) n)) before after o) w.refname l)
 
   pub look-new : (form : Reading) (b : Bool) (s : Subject) (haves : Vec Name) → IsAsked form (asks.New b s haves)
       → IsLookedFor S (head_of s.refname h.refs >>= λ n. Ok (export_hand b h (shape s.filter) n)) (head_of s.refname h.refs >>= λ n. Ok (new_output b h (shape s.filter) s.refname n (map name_bytes haves.items))) before after o
       → IsLooked S (hands form (Ok h)) (output form (Ok h)) before after o
   look-new Refs b s haves w l = absurd w
   look-new (Log r t) b s haves w l = absurd w
+  look-new (Check r t) b s haves w l = absurd w
   look-new (Originals r ns) b s haves w l = absurd w
   look-new Unknown b s haves w l = absurd w
   look-new (New k r t ns) b s haves w l =
@@ -74,6 +89,7 @@ module _ (S : List Object) (h : Held) (before after : SinkView) (o : Outcome) wh
       → IsLooked S (hands form (Ok h)) (output form (Ok h)) before after o
   look-originals Refs refname haves w l = absurd w
   look-originals (Log r t) refname haves w l = absurd w
+  look-originals (Check r t) refname haves w l = absurd w
   look-originals (New k r t ns) refname haves w l = absurd w
   look-originals Unknown refname haves w l = absurd w
   look-originals (Originals r ns) refname haves w l =
@@ -89,6 +105,7 @@ module _ (h : Held) where
   pub lawful-refs : (form : Reading) → IsAsked form asks.Refs → IsLawful form (Ok h)
   lawful-refs Refs w = tt
   lawful-refs (Log r t) w = absurd w
+  lawful-refs (Check r t) w = absurd w
   lawful-refs (New b r t ns) w = absurd w
   lawful-refs (Originals r ns) w = absurd w
   lawful-refs Unknown w = absurd w
@@ -98,13 +115,23 @@ module _ (h : Held) where
   lawful-log Refs s w = absurd w
   lawful-log (New b r t ns) s w = absurd w
   lawful-log (Originals r ns) s w = absurd w
+  lawful-log (Check r t) s w = absurd w
   lawful-log Unknown s w = absurd w
+
+  pub lawful-check : (form : Reading) (s : Subject) → IsAsked form (asks.Check s) → IsLawful form (Ok h)
+  lawful-check (Check r t) s w = tt
+  lawful-check Refs s w = absurd w
+  lawful-check (Log r t) s w = absurd w
+  lawful-check (New b r t ns) s w = absurd w
+  lawful-check (Originals r ns) s w = absurd w
+  lawful-check Unknown s w = absurd w
 
   pub lawful-new : (form : Reading) (b : Bool) (s : Subject) (haves : Vec Name) → IsAsked form (asks.New b s haves)
       → OfHead (Ok h) s.refname (λ h n. IsReadBackUpon (tree_at (projected_graph h (shape s.filter) n)) (new_commits h (shape s.filter) n (map name_bytes haves.items)) s.refname)
       → IsLawful form (Ok h)
   lawful-new Refs b s haves w law = absurd w
   lawful-new (Log r t) b s haves w law = absurd w
+  lawful-new (Check r t) b s haves w law = absurd w
   lawful-new (Originals r ns) b s haves w law = absurd w
   lawful-new Unknown b s haves w law = absurd w
   lawful-new (New k r t ns) b s haves w law = λ f is.
@@ -116,6 +143,7 @@ module _ (h : Held) where
       → OfHead (Ok h) refname (λ h n. IsReadBackUpon (tree_at (repo h).commits) (original_commits h n (map name_bytes haves.items)) refname) → IsLawful form (Ok h)
   lawful-originals Refs refname haves w law = absurd w
   lawful-originals (Log r t) refname haves w law = absurd w
+  lawful-originals (Check r t) refname haves w law = absurd w
   lawful-originals (New k r t ns) refname haves w law = absurd w
   lawful-originals Unknown refname haves w law = absurd w
   lawful-originals (Originals r ns) refname haves w law =
@@ -150,6 +178,7 @@ refused-first {C = C} (Err d) c e g = ap Err (err-same {A = C} d e g)
 pub verdict-output : (form : Reading) (l : Result Held Outcome) (e : Outcome) → verdict form ≡ Err e → output form l ≡ Err e
 verdict-output Refs l e g = absurd cc
 verdict-output (Log r t) l e g = refused-on (sound t) (λ f. l >>= λ h. head_of r h.refs >>= λ n. Ok (log_output h f n)) tt e g
+verdict-output (Check r t) l e g = refused-on (sound t) (λ f. l >>= λ h. head_of r h.refs >>= λ n. Ok (check_output h f n)) tt e g
 verdict-output (New b r t ns) l e g = refused-on (sound t) (λ f. l >>= λ h. head_of r h.refs >>= λ n. Ok (new_output b h f r n ns)) tt e g
 verdict-output (Originals r ns) l e g = absurd cc
 verdict-output Unknown l e g = ap Err (err-same {A = Unit {0}} Usage e g)
@@ -160,6 +189,7 @@ usage-own = record { done = λ e. cc; read = λ e. cc; write = λ e. cc; store =
 pub verdict-own : (form : Reading) (e : Outcome) → verdict form ≡ Err e → IsOwn e
 verdict-own Refs e g = absurd cc
 verdict-own (Log r t) e g = sound-own t e (refused-first (sound t) tt e g)
+verdict-own (Check r t) e g = sound-own t e (refused-first (sound t) tt e g)
 verdict-own (New b r t ns) e g = sound-own t e (refused-first (sound t) tt e g)
 verdict-own (Originals r ns) e g = absurd cc
 verdict-own Unknown e g = subst IsOwn (err-same {A = Unit {0}} Usage e g) usage-own
@@ -169,8 +199,10 @@ pub asked-refused : (form : Reading) (v : Asked) → IsAsked form v → (e : Out
 asked-refused Refs v w e = refl
 asked-refused (Originals r ns) v w e = refl
 asked-refused (Log r t) (asks.Log s) w e = ap (λ (x : Result Filter Outcome). x >>= λ f. (Err e >>= λ (h : Held). head_of r h.refs >>= λ n. Ok (log_output h f n))) w.sound_is
+asked-refused (Check r t) (asks.Check s) w e = ap (λ (x : Result Filter Outcome). x >>= λ f. (Err e >>= λ (h : Held). head_of r h.refs >>= λ n. Ok (check_output h f n))) w.sound_is
 asked-refused (New b r t ns) (asks.New k s haves) w e = ap (λ (x : Result Filter Outcome). x >>= λ f. (Err e >>= λ (h : Held). head_of r h.refs >>= λ n. Ok (new_output b h f r n ns))) w.1.sound_is
 asked-refused (Log r t) _ w e = absurd w
+asked-refused (Check r t) _ w e = absurd w
 asked-refused (New b r t ns) _ w e = absurd w
 asked-refused Unknown _ w e = absurd w
 
@@ -192,6 +224,7 @@ module _ (h : Held) where
   pub hands-held : (form : Reading) → Each (λ (k : Hand). k.held ≡ h.objects) (hands form (Ok h))
   hands-held Refs = (refl, tt)
   hands-held (Log r t) = held-two (sound t) (head_of r h.refs) (λ f n. seen_hand h f n) (λ f n. refl)
+  hands-held (Check r t) = held-two (sound t) (head_of r h.refs) (λ f n. seen_hand h f n) (λ f n. refl)
   hands-held (New b r t ns) = held-two (sound t) (head_of r h.refs) (λ f n. export_hand b h f n) (λ f n. held-export b f n)
   hands-held (Originals r ns) = (refl, tt)
   hands-held Unknown = tt

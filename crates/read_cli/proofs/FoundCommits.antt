@@ -13,57 +13,17 @@ use Rattle.object_store.specs.StoredSnapshots.{commit_named, snapshot_of}
 use Rattle.object_store.specs.Unfolding.{flat}
 use Rattle.fast_export.specs.Histories.{parents_in, snapshots_at}
 use Rattle.incremental_export.specs.Histories.{tree_in}
+use Rattle.incremental_export.proofs.StoredUnreached.{IsFound, all_found, each_found}
 use Rattle.projection_laws.proofs.HistoryLemmas.{each-reverse}
-
-abbrev pub IsFound : List Object → Snapshot → Type 0
-IsFound S c = option_map (snapshot_of S) (commit_named S (snapshot_name c)) ≡ Some c
-
--- ---- what is found of each is found of all
-
-module _ {A B : Type 0} (f : A → Option B) (name : B → A) where
-  few : (ns : List A) → length (filter_map f ns) ≤ length ns
-  few [] = omega arith
-  few (n ∷ ns) = by (f n) (few ns)
-    where
-      by : (o : Option B) → length (filter_map f ns) ≤ length ns → length (cons_option o (filter_map f ns)) ≤ suc (length ns)
-      by None h = omega arith
-      by (Some y) h = omega arith
-
-  not-more : (x : B) (xs : List B) → filter_map f (map name xs) ≡ x ∷ xs → ⊥
-  not-more x xs h =
-      let l : length (filter_map f (map name xs)) ≤ length (map name xs) = few (map name xs) in
-      let e : length (map name xs) ≡ length xs = length-map xs name in
-      let k : length (filter_map f (map name xs)) ≡ suc (length xs) = ap length h in
-      absurd (omega arith)
-
-  each-found : (xs : List B) → filter_map f (map name xs) ≡ xs → Each (λ x. f (name x) ≡ Some x) xs
-  each-found [] h = tt
-  each-found (x ∷ xs) h = by (f (name x)) refl h (each-found xs)
-    where
-      by : (o : Option B) → f (name x) ≡ o → cons_option o (filter_map f (map name xs)) ≡ x ∷ xs
-          → (filter_map f (map name xs) ≡ xs → Each (λ x. f (name x) ≡ Some x) xs) → (f (name x) ≡ Some x) × Each (λ x. f (name x) ≡ Some x) xs
-      by None e k more = absurd (not-more x xs k)
-      by (Some y) e k more = (let same : y ≡ x = cc in e ∙ ap Some same, more (cc))
-
-  all-found : (xs : List B) → Each (λ x. f (name x) ≡ Some x) xs → filter_map f (map name xs) ≡ xs
-  all-found [] h = refl
-  all-found (x ∷ xs) h = λ i. cons_option (h.0 i) (all-found xs h.1 i)
 
 -- ---- of a store
 
 module _ (S : List Object) where
   pub found-of : (g : Graph) → snapshots_at S (map snapshot_name (reverse g)) ≡ reverse g → Each (IsFound S) g
-  found-of g h = subst (Each (IsFound S)) (reverse-reverse g) (each-reverse (IsFound S) (reverse g) (each-found _ snapshot_name (reverse g) h))
+  found-of g h = subst (Each (IsFound S)) (reverse-reverse g) (each-reverse (IsFound S) (reverse g) (each_found _ snapshot_name (reverse g) h))
 
   pub snapshots-of : (g : Graph) → Each (IsFound S) g → snapshots_at S (map snapshot_name (reverse g)) ≡ reverse g
-  snapshots-of g h = all-found _ snapshot_name (reverse g) (each-reverse (IsFound S) g h)
-
-  pub own-parents : (c : Snapshot) → IsFound S c → parents_in S (snapshot_name c) ≡ c.parents
-  own-parents c h = by (commit_named S (snapshot_name c)) h
-    where
-      by : (o : Option Commit) → option_map (snapshot_of S) o ≡ Some c → option_map_or (λ (d : Commit). d.parents) o [] ≡ c.parents
-      by None e = absurd (cc)
-      by (Some d) e = let same : snapshot_of S d ≡ c = cc in ap (λ (x : Snapshot). x.parents) same
+  snapshots-of g h = all_found _ snapshot_name (reverse g) (each-reverse (IsFound S) g h)
 
   pub own-commit : (c : Snapshot) → IsFound S c → (d : Commit) × (commit_named S (snapshot_name c) ≡ Some d)
   own-commit c h = by (commit_named S (snapshot_name c)) refl h

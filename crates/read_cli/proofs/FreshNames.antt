@@ -17,7 +17,8 @@ use Rattle.projection_laws.specs.Histories.{AreMade}
 use Rattle.projection_laws.specs.StoredGraphs.{IsGraphIn, graph_of, snapshot_named}
 use Rattle.projection_laws.proofs.StoredGraphs.{at-row, older, older-all, older-suc, row-at, whole-graph}
 use Rattle.read_cli.specs.Looks.{AreFresh}
-use Rattle.read_cli.proofs.FoundCommits.{IsFound, found-of, snapshots-of}
+use Rattle.incremental_export.proofs.StoredUnreached.{IsFound}
+use Rattle.read_cli.proofs.FoundCommits.{found-of, snapshots-of}
 use Rattle.read_cli.proofs.GraphParts.{IsPart, held-names, names, part-each, part-of-part, reached-part, unreached-part}
 use Rattle.read_cli.proofs.WrittenCommits.{commits-in, read-back, text-is}
 

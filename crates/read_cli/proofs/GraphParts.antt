@@ -17,7 +17,8 @@ use Rattle.incremental_export.specs.Unreached.{unreached}
 use Rattle.projection_laws.proofs.GraphLemmas.{IsGrown, grown, has-newer}
 use Rattle.projection_laws.proofs.HistoryLemmas.{any-append, any-reverse, each-map, each-reverse, map-append, reverse-more, same-image}
 use Rattle.projection_ground.proofs.Growing.{commit-there}
-use Rattle.read_cli.proofs.FoundCommits.{IsFound, own-commit, own-parents}
+use Rattle.incremental_export.proofs.StoredUnreached.{IsFound, own_parents}
+use Rattle.read_cli.proofs.FoundCommits.{own-commit}
 
 abbrev pub IsPart : Graph → Graph → Type 0
 IsPart cs [] = cs ≡ []
@@ -173,13 +174,13 @@ module _ (S : List Object) where
       (each-names (λ m. list_all (λ p. not (same_bytes p n)) (parents_in S m) ≡ true) (reverse h.0)
       (each-reverse (λ d. list_all (λ p. not (same_bytes p n)) (parents_in S (snapshot_name d)) ≡ true) h.0
       (part-each (λ d. list_all (λ p. not (same_bytes p n)) (parents_in S (snapshot_name d)) ≡ true) older h.0 h.2 (older-apart n q.new older f.1 (parents-within older q.graph)))))
-      (ap (list_all (λ p. not (same_bytes p n))) (own-parents S c f.0) ∙ none-new older n q.new c.parents q.parents)
+      (ap (list_all (λ p. not (same_bytes p n))) (own_parents S c f.0) ∙ none-new older n q.new c.parents q.parents)
     where
       older-apart : (n : Bytes) → has older n ≡ false → (ds : List Snapshot) → Each (IsFound S) ds → Each (λ d. list_all (has older) d.parents ≡ true) ds
           → Each (λ d. list_all (λ p. not (same_bytes p n)) (parents_in S (snapshot_name d)) ≡ true) ds
       older-apart n new [] k e = tt
       older-apart n new (d ∷ ds) k e = (
-        ap (list_all (λ p. not (same_bytes p n))) (own-parents S d k.0) ∙ none-new older n new d.parents e.0,
+        ap (list_all (λ p. not (same_bytes p n))) (own_parents S d k.0) ∙ none-new older n new d.parents e.0,
         older-apart n new ds k.1 e.1,
       )
 

@@ -9,7 +9,7 @@ use Rattle.workspace.specs.Laws.{IsUsable}
 use Rattle.proj_words.specs.declared.outcome.Outcome.{Outcome}
 use Rattle.proj_words.specs.declared.outcome.Outcome.TheVariants.{OutOfMemory, Usage}
 use Rattle.read_cli.specs.Looks.{IsAsked, IsSubject, IsUnjudged}
-use Rattle.read_cli.specs.Readings.{Log, New, Originals, Reading, Refs, Unknown, new_of, originals_of, verdict}
+use Rattle.read_cli.specs.Readings.{Check, Log, New, Originals, Reading, Refs, Unknown, new_of, originals_of, verdict}
 use Rattle.read_cli.specs.declared.judging.Asked.{Asked}
 use Rattle.read_cli.specs.declared.judging.Asked.TheVariants as asks
 use Rattle.read_cli.specs.declared.judging.Subject.{Subject}
@@ -26,31 +26,6 @@ pub unjudged-told : (form : Reading) (e : Outcome) → IsUnjudged form e → (e 
 unjudged-told Unknown e h = inr (ap Err (sym h))
 unjudged-told Refs e h = h
 unjudged-told (Log r t) e h = h
+unjudged-told (Check r t) e h = h
 unjudged-told (New k r t ns) e h = h
 unjudged-told (Originals r ns) e h = h
-
-pub unjudged-usage : (form : Reading) (e : Outcome) → IsUnjudged form e → form ≡ Unknown → e ≡ Usage
-unjudged-usage form e h q = subst (λ (r : Reading). IsUnjudged r e) q h
-
-pub never-unknown : (form : Reading) (v : Asked) → IsAsked form v → form ≡ Unknown → ⊥
-never-unknown form v w q = by v (subst (λ (r : Reading). IsAsked r v) q w)
-  where
-    by : (v : Asked) → IsAsked Unknown v → ⊥
-    by asks.Refs w = w
-    by (asks.Log s) w = w
-    by (asks.New k s haves) w = w
-    by (asks.Originals n haves) w = w
-
-pub usable-log : (form : Reading) (s : Subject) → IsAsked form (asks.Log s) → IsUsable (shape s.filter)
-usable-log (Log r t) s w = w.usable
-usable-log Refs s w = absurd w
-usable-log (New k r t ns) s w = absurd w
-usable-log (Originals r ns) s w = absurd w
-usable-log Unknown s w = absurd w
-
-pub usable-new : (form : Reading) (k : Bool) (s : Subject) (haves : Vec Name) → IsAsked form (asks.New k s haves) → IsUsable (shape s.filter)
-usable-new (New j r t ns) k s haves w = w.1.usable
-usable-new Refs k s haves w = absurd w
-usable-new (Log r t) k s haves w = absurd w
-usable-new (Originals r ns) k s haves w = absurd w
-usable-new Unknown k s haves w = absurd w

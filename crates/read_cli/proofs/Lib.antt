@@ -8,6 +8,8 @@ mod GraphParts
 mod SameTexts
 mod WrittenCommits
 mod Looked
+mod HeadReports
+mod Checked
 mod FreshNames
 mod Freshness
 mod JudgedForms

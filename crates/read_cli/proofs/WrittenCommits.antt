@@ -21,7 +21,8 @@ use Rattle.incremental_export.specs.Histories.{AreCommitsIn, HasParents, IsThere
 use Rattle.incremental_export.specs.Laws.{AreNewUpon, IsReadUpon, ReadUponLaw}
 use Rattle.projection_laws.proofs.HistoryLemmas.{each-map, each-reverse}
 use Rattle.read_cli.specs.Answers.{HasOthers, IsReadBackUpon}
-use Rattle.read_cli.proofs.FoundCommits.{IsFound, own-parents, snapshots-of, tree-same}
+use Rattle.incremental_export.proofs.StoredUnreached.{IsFound, own_parents}
+use Rattle.read_cli.proofs.FoundCommits.{snapshots-of, tree-same}
 use Rattle.read_cli.proofs.GraphParts.{IsPart, held-names, names, parents-within, part-behind, part-distinct, part-each}
 use Rattle.read_cli.proofs.SameTexts.{Agree, text-same}
 
@@ -70,7 +71,7 @@ module _ (S : List Object) (store : IsStore S) (g : Graph) (graph : is_graph g �
   others-there base others =
       each-names (HasParents S base (names cs)) (reverse cs)
       (each-both (λ c. IsFound S c) (λ c. Each (Other base (tree_in S)) c.parents) (λ c. HasParents S base (names cs) (snapshot_name c))
-      (λ c f h. subst (λ (ps : List Bytes). Each (λ p. IsThere S base (names cs) p × (same_bytes p (replicate 20 0) ≡ false)) ps) (sym (own-parents S c f)) h)
+      (λ c f h. subst (λ (ps : List Bytes). Each (λ p. IsThere S base (names cs) p × (same_bytes p (replicate 20 0) ≡ false)) ps) (sym (own_parents S c f)) h)
       (reverse cs) (each-reverse (IsFound S) cs found-part)
       (each-both (λ c. Each (Other base (tree_at g)) c.parents) (λ c. Each (λ p. tree_in S p ≡ tree_at g p) c.parents) (λ c. Each (Other base (tree_in S)) c.parents)
       (λ c h a. each-both (Other base (tree_at g)) (λ p. tree_in S p ≡ tree_at g p) (Other base (tree_in S)) (λ p x e. (λ k. x.0 k ∙ ap Some (sym e), x.1)) c.parents h a)

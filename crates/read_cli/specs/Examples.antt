@@ -3,7 +3,7 @@ use Rattle.std.specs.Prelude.{◌≡◌, true, false, [], ◌∷◌, replicate, 
 use Rattle.git_objects.specs.Paths.{Bytes}
 use Rattle.path_names.specs.RefNames.{is_ref_name}
 use Rattle.hex.specs.Hex.{decode_pairs}
-use Rattle.read_cli.specs.Readings.{Log, New, Originals, Refs, Unknown, reading}
+use Rattle.read_cli.specs.Readings.{Check, Log, New, Originals, Refs, Unknown, reading}
 
 abbrev main : Bytes
 main = codes "refs/heads/main"
@@ -20,6 +20,10 @@ no_more = refl
 log : reading (codes "log" ∷ main ∷ codes ":/lib" ∷ []) ≡ Log main (codes ":/lib")
 unfolding is_ref_name
 log = refl
+
+check : reading (codes "check" ∷ main ∷ codes ":/lib" ∷ []) ≡ Check main (codes ":/lib")
+unfolding is_ref_name
+check = refl
 
 new : reading (codes "new" ∷ main ∷ codes ":/lib" ∷ digits ∷ []) ≡ New false main (codes ":/lib") (replicate 20 171 ∷ [])
 unfolding is_ref_name decode_pairs

@@ -27,7 +27,7 @@ use Rattle.proj_cli.specs.Filters.{sound}
 use Rattle.proj_cli.specs.Hands.{Hand, IsInHands}
 use Rattle.read_cli.specs.Answers.{IsGiven, IsOutcome, IsReadBackUpon, text_of}
 use Rattle.read_cli.specs.Outputs.{new_commits, new_tags, projected_graph}
-use Rattle.read_cli.specs.Readings.{Reading, Refs, Log, New, Originals, Unknown, names_of, new_of, originals_of, verdict}
+use Rattle.read_cli.specs.Readings.{Reading, Refs, Log, Check, New, Originals, Unknown, names_of, new_of, originals_of, verdict}
 use Rattle.read_cli.specs.declared.words.Form.{Form}
 use Rattle.read_cli.specs.declared.words.Form.TheVariants as forms
 use Rattle.read_cli.specs.declared.judging.Asked.{Asked}
@@ -38,6 +38,7 @@ use Rattle.read_cli.specs.declared.judging.Subject.{Subject}
 abbrev pub form_reading : Form → Reading
 form_reading forms.Refs = Refs
 form_reading (forms.Log r f) = Log r.now f.now
+form_reading (forms.Check r f) = Check r.now f.now
 form_reading (forms.New tagged r f ws) = new_of tagged r.now f.now (names_of (map (λ word. string_bytes word) ws.now))
 form_reading (forms.Originals r ws) = originals_of r.now (names_of (map (λ word. string_bytes word) ws.now))
 form_reading forms.Unknown = Unknown
@@ -46,6 +47,7 @@ form_reading forms.Unknown = Unknown
 abbrev pub IsFormed : Form → Type 0
 IsFormed forms.Refs = Unit
 IsFormed (forms.Log r f) = is_ref_name r.now ≡ true
+IsFormed (forms.Check r f) = is_ref_name r.now ≡ true
 IsFormed (forms.New tagged r f ws) = (is_ref_name r.now ≡ true) × IsSome (names_of (map (λ word. string_bytes word) ws.now))
 IsFormed (forms.Originals r ws) = (is_ref_name r.now ≡ true) × IsSome (names_of (map (λ word. string_bytes word) ws.now))
 IsFormed forms.Unknown = Unit
@@ -60,6 +62,7 @@ pub record IsSubject (s : Subject) (r text : Bytes) : Type 0 where
 abbrev pub IsAsked : Reading → Asked → Type 0
 IsAsked Refs asks.Refs = Unit
 IsAsked (Log r text) (asks.Log s) = IsSubject s r text
+IsAsked (Check r text) (asks.Check s) = IsSubject s r text
 IsAsked (New tagged r text ns) (asks.New t s haves) = (t ≡ tagged) × IsSubject s r text × (map name_bytes haves.items ≡ ns)
 IsAsked (Originals r ns) (asks.Originals n haves) = (n ≡ r) × (map name_bytes haves.items ≡ ns)
 IsAsked asked found = ⊥
@@ -135,8 +138,8 @@ pub record AreNew (tagged : Bool) (h : Held) (f : Filter) (n : Bytes) (haves : L
 -- the forms of the words
 abbrev pub usage : Bytes
 usage =
-    codes "usage: proj_read STORE (refs | log REF FILTER | new [--tags] REF FILTER [HAVE ..] | "
-    ++ codes "originals REF [HAVE ..])\n"
+    codes "usage: proj_read STORE (refs | log REF FILTER | check REF FILTER | "
+    ++ codes "new [--tags] REF FILTER [HAVE ..] | originals REF [HAVE ..])\n"
 
 -- the line for the error stream
 abbrev pub read_text : Outcome → Bytes

@@ -1,13 +1,19 @@
 -- What a reading gives for what is held.
-use Rattle.std.specs.Prelude.{Bool, if◌then◌else◌, List, [], ◌∷◌, ◌++◌, codes, filter, flat_map, map, reverse, Option, Some, None, Result, Ok, Err}
-use Rattle.std.specs.Option.{option_to_list}
+use Rattle.std.specs.Prelude.{ℕ, Bool, if◌then◌else◌, List, [], ◌∷◌, ◌++◌, codes, decimal, filter, flat_map, length, map, reverse, Option, Some, None, Result, Ok, Err}
+use Rattle.std.specs.Option.{option_and_then, option_to_list}
 use Rattle.std.specs.Result.{result_ok}
 use Rattle.git_objects.specs.Commits.{hex}
-use Rattle.git_objects.specs.Paths.{Bytes}
+use Rattle.git_objects.specs.Paths.{Bytes, Path, text}
 use Rattle.git_objects.specs.Results.{◌>>=◌}
 use Rattle.git_objects.specs.Snapshots.{Graph, Snapshot, ancestors, snapshot_name, tree_at}
+use Rattle.git_objects.specs.Trees.{Flat, at}
+use Rattle.object_store.specs.Sizes.{held_number}
+use Rattle.path_names.specs.Quoting.{quote}
 use Rattle.filter_text.specs.Filters.{Filter}
-use Rattle.workspace.specs.Workspaces.{shown}
+use Rattle.workspace.specs.Giving.{leaf_gives}
+use Rattle.workspace.specs.Workspaces.{Split, place, shown, split}
+use Rattle.workspace.specs.declared.giving.LeafGives.{LeafGives}
+use Rattle.workspace.specs.declared.giving.LeafGives.TheVariants as gives
 use Rattle.projection_laws.specs.Projections.{history_graph}
 use Rattle.state_items.specs.Items.{Held}
 use Rattle.state_items.specs.Repos.{repo}
@@ -16,6 +22,8 @@ use Rattle.tag_objects.specs.declared.tag.Tag.{Tag}
 use Rattle.fast_export.specs.ExportTexts.{is_among}
 use Rattle.incremental_export.specs.ChangeTexts.{changes_text}
 use Rattle.incremental_export.specs.Unreached.{unreached}
+use Rattle.proj_words.specs.Faults.{route_outcome}
+use Rattle.proj_words.specs.Outcomes.{text_of}
 use Rattle.proj_words.specs.declared.outcome.Outcome.{Outcome}
 use Rattle.proj_words.specs.declared.outcome.Outcome.TheVariants.{Usage}
 use Rattle.proj_cli.specs.Cases.{head_of}
@@ -24,7 +32,7 @@ use Rattle.proj_cli.specs.Filters.{rule_by, sound}
 use Rattle.proj_cli.specs.Hands.{Hand, seen_hand, still_hand}
 use Rattle.proj_cli.specs.Import.{ref_line}
 use Rattle.proj_cli.specs.Tags.{shown_before}
-use Rattle.read_cli.specs.Readings.{Reading, Refs, Log, New, Originals, Unknown}
+use Rattle.read_cli.specs.Readings.{Reading, Refs, Log, Check, New, Originals, Unknown}
 
 -- ---- refs
 
@@ -49,6 +57,38 @@ log_line h f n m = name_line m (shown_before h f n m)
 -- of a commit and its ancestors, parents first
 abbrev pub log_output : Held → Filter → Bytes → Bytes
 log_output h f n = flat_map (log_line h f n) (map snapshot_name (reverse (ancestors (repo h).commits n)))
+
+-- ---- what is checked
+
+-- what the leaf at the workspace place gives, or why it gives no items
+abbrev pub gives_text : LeafGives → Bytes
+gives_text gives.Absent = codes "absent\n"
+gives_text gives.NoFile = codes "no file\n"
+gives_text gives.Unreadable = codes "syntax\n"
+gives_text (gives.Unsound fault) = text_of (route_outcome fault)
+gives_text (gives.Items n) = codes "items " ++ decimal n ++ 10 ∷ []
+
+-- The line of a workspace: the path of its file and what stands there, or `none` where the pieces before it show none
+-- of the paths as its file.
+abbrev pub place_line : LeafGives → Option Path → Bytes
+place_line given None = codes "workspace none\n"
+place_line given (Some p) = codes "workspace " ++ quote (text p) ++ 32 ∷ gives_text given
+
+-- without a workspace there is no line
+abbrev pub workspace_line : Filter → Flat → Option Split → Bytes
+workspace_line f t None = []
+workspace_line f t (Some s) = place_line (leaf_gives s.directory (option_and_then (at t) (place f))) (place f)
+
+-- how many files are shown
+abbrev pub files_line : ℕ → Bytes
+files_line n = codes "files " ++ decimal n ++ 10 ∷ []
+
+-- of a tree
+abbrev pub check_text : Filter → Flat → Bytes
+check_text f t = files_line (held_number (length (shown f t))) ++ workspace_line f t (split f)
+
+abbrev pub check_output : Held → Filter → Bytes → Bytes
+check_output h f n = check_text f (tree_at (repo h).commits n)
 
 -- ---- what is new
 
@@ -83,6 +123,7 @@ originals_output h refname n haves = changes_text (tree_at (repo h).commits) (or
 abbrev pub output : Reading → Result Held Outcome → Result Bytes Outcome
 output Refs loading = loading >>= λ h. Ok (refs_output h)
 output (Log r text) loading = sound text >>= λ f. loading >>= λ h. head_of r h.refs >>= λ n. Ok (log_output h f n)
+output (Check r text) loading = sound text >>= λ f. loading >>= λ h. head_of r h.refs >>= λ n. Ok (check_output h f n)
 output (New tagged r text haves) loading =
     sound text >>= λ f. loading >>= λ h. head_of r h.refs >>= λ n. Ok (new_output tagged h f r n haves)
 output (Originals r haves) loading = loading >>= λ h. head_of r h.refs >>= λ n. Ok (originals_output h r n haves)
@@ -92,6 +133,7 @@ output Unknown loading = Err Usage
 abbrev pub hand : Reading → Result Held Outcome → Result Hand Outcome
 hand Refs loading = loading >>= λ h. Ok (still_hand h.objects [] [])
 hand (Log r text) loading = sound text >>= λ f. loading >>= λ h. head_of r h.refs >>= λ n. Ok (seen_hand h f n)
+hand (Check r text) loading = sound text >>= λ f. loading >>= λ h. head_of r h.refs >>= λ n. Ok (seen_hand h f n)
 hand (New tagged r text haves) loading =
     sound text >>= λ f. loading >>= λ h. head_of r h.refs >>= λ n. Ok (export_hand tagged h f n)
 hand (Originals r haves) loading = loading >>= λ h. Ok (still_hand h.objects [] [])

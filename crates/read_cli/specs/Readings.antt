@@ -15,6 +15,8 @@ pub data Reading : Type 0 where
   Refs : Reading
   -- of a ref and the text of a filter
   Log : Bytes → Bytes → Reading
+  -- of a ref and the text of a filter
+  Check : Bytes → Bytes → Reading
   -- whether with annotated tags, of a ref, the text of a filter, and the names of commits that are there
   New : Bool → Bytes → Bytes → List Bytes → Reading
   -- of a ref, and the names of commits that are there
@@ -27,9 +29,10 @@ abbrev pub names_of : List Bytes → Option (List Bytes)
 names_of [] = Some []
 names_of (w ∷ ws) = option_and_then (λ n. option_map (λ ns. n ∷ ns) (names_of ws)) (digits_name w)
 
-abbrev pub log_words : List Bytes → Reading
-log_words (r ∷ f ∷ []) = if is_ref_name r then Log r f else Unknown
-log_words _ = Unknown
+-- a form of a ref and the text of a filter
+abbrev pub subject_words : (Bytes → Bytes → Reading) → List Bytes → Reading
+subject_words form (r ∷ f ∷ []) = if is_ref_name r then form r f else Unknown
+subject_words form _ = Unknown
 
 abbrev pub new_of : Bool → Bytes → Bytes → Option (List Bytes) → Reading
 new_of tagged r f None = Unknown
@@ -57,14 +60,16 @@ abbrev pub reading : List Bytes → Reading
 reading [] = Unknown
 reading (w ∷ ws) =
     if same_bytes w (codes "refs") then (if is_nil ws then Refs else Unknown) else
-    (if same_bytes w (codes "log") then log_words ws else
+    (if same_bytes w (codes "log") then subject_words Log ws else
+    (if same_bytes w (codes "check") then subject_words Check ws else
     (if same_bytes w (codes "new") then new_words ws else
-    (if same_bytes w (codes "originals") then originals_words ws else Unknown)))
+    (if same_bytes w (codes "originals") then originals_words ws else Unknown))))
 
 -- what is known before anything is loaded: nothing, or the refusal of the words or of the filter
 abbrev pub verdict : Reading → Result (Unit {0}) Outcome
 verdict Refs = Ok tt
 verdict (Log r text) = sound text >>= λ _. Ok tt
+verdict (Check r text) = sound text >>= λ _. Ok tt
 verdict (New tagged r text ns) = sound text >>= λ _. Ok tt
 verdict (Originals r ns) = Ok tt
 verdict Unknown = Err Usage

@@ -27,6 +27,8 @@ pub enum Asked {
     Refs,
     /// The projection of each commit of a history.
     Log(Subject),
+    /// What a filter shows of a ref's commit, and what its workspace's file gives.
+    Check(Subject),
     /// The projected history without what is reached from these commits; and whether with its annotated tags.
     New(bool, Subject, Vec<Name>),
     /// The history itself without what is reached from these commits.
@@ -82,6 +84,7 @@ pub fn judge(alloc: Global, form: Form<'_>) -> Result<Asked, Outcome>
     match form {
         Form::Refs => Ok(Asked::Refs),
         Form::Log(refname, filter) => Ok(Asked::Log(subject_of(alloc, refname, filter)?)),
+        Form::Check(refname, filter) => Ok(Asked::Check(subject_of(alloc, refname, filter)?)),
         Form::New(tagged, refname, filter, haves) => {
             let subject = subject_of(alloc, refname, filter)?;
             Ok(Asked::New(tagged, subject, names_of(alloc, haves)?))

@@ -1,6 +1,7 @@
 //! What `proj_read` does: it looks into a store, and changes nothing.
 #![tactic(auto)]
 
+mod checking;
 mod deliver;
 mod judging;
 mod logging;

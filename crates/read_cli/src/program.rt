@@ -12,6 +12,7 @@ ghost use Rattle.read_cli.specs.Looks.{IsAsked, IsEnd, IsFormed, IsLooked, form_
 ghost use Rattle.read_cli.specs.Outputs.{hands, output};
 ghost use Rattle.read_cli.specs.Readings.{IsJudgedRightly, Reading, Unknown, reading};
 
+use crate::checking::check;
 use crate::deliver::finish_read;
 use crate::judging::{Asked, judge};
 use crate::logging::log;
@@ -39,6 +40,7 @@ fn look<O: Sink>(alloc: Global, asked: &Asked, state: &mut State, out: &mut O) -
     match asked {
         Asked::Refs => conclude(refs_lines(alloc, &state.refs), out),
         Asked::Log(subject) => conclude(log(alloc, subject, state), out),
+        Asked::Check(subject) => conclude(check(alloc, subject, state), out),
         Asked::New(tagged, subject, haves) => {
             write_projected(alloc, state, subject, *tagged, haves, out)
         }

@@ -1,6 +1,6 @@
 // The forms of the words.
 ghost use Rattle.std.specs.Prelude.{◌≡◌, ◌↔◌, map, string_bytes, IsSome, true};
-ghost use Rattle.read_cli.specs.Readings.{log_words, names_of, new_subject, new_words, originals_words, reading};
+ghost use Rattle.read_cli.specs.Readings.{Reading, Check, Log, names_of, new_subject, new_words, originals_words, reading, subject_words};
 ghost use Rattle.read_cli.specs.Looks.{IsFormed, form_reading};
 
 use git_objects::Name;
@@ -12,6 +12,7 @@ use path_names::is_ref_name;
 pub enum Form<'a> {
     Refs,
     Log(&'a [u8], &'a [u8]),
+    Check(&'a [u8], &'a [u8]),
     /// Whether with annotated tags; a ref, the text of a filter, and names.
     New(bool, &'a [u8], &'a [u8], &'a [String]),
     /// A ref, and names.
@@ -33,7 +34,7 @@ fn are_names(words: &[String]) -> bool
 }
 
 fn log_words(words: &[String]) -> Form<'_>
-    ensures reading { form_reading result ≡ log_words (map (λ word. string_bytes word) words.now) }
+    ensures reading { form_reading result ≡ subject_words Log (map (λ word. string_bytes word) words.now) }
     ensures formed { IsFormed result }
 {
     let [refname, filter] = words else {
@@ -43,6 +44,16 @@ fn log_words(words: &[String]) -> Form<'_>
         return Form::Log(refname.as_bytes(), filter.as_bytes());
     }
     Form::Unknown
+}
+
+fn check_words(words: &[String]) -> Form<'_>
+    ensures reading { form_reading result ≡ subject_words Check (map (λ word. string_bytes word) words.now) }
+    ensures formed { IsFormed result }
+{
+    match log_words(words) {
+        Form::Log(refname, filter) => Form::Check(refname, filter),
+        _ => Form::Unknown,
+    }
 }
 
 // A ref, the text of a filter, and names.
@@ -102,6 +113,9 @@ pub fn read_words(words: &[String]) -> Form<'_>
     }
     if form.as_bytes() == b"log".as_slice() {
         return log_words(rest);
+    }
+    if form.as_bytes() == b"check".as_slice() {
+        return check_words(rest);
     }
     if form.as_bytes() == b"new".as_slice() {
         return new_words(rest);

@@ -2,7 +2,7 @@ use Rattle.filter_text.specs.Shapes.{shape}
 use Rattle.projection_ground.specs.Grounds.{IsShownOf, commits_of}
 use Rattle.projection_ground.proofs.Asking.{extends-none}
 use Rattle.history_ground.proofs.HeadLemmas.{head-fault, head-same, head-shown, head-tree-has, root-held}
-use Rattle.history_ground.proofs.heads.head_tree.Goals as goal
+use Rattle.history_ground.proofs.heads.shown_tree.Goals as goal
 
 pub new-requires-clause-root : goal.new-requires-clause-root
 new-requires-clause-root c = head-tree-has c.args.ground.now c.args.head.now.0 c.in-Some.place c.requires.ground c.in-Some.ensures.place c.tree-root.result.0 c.tree-root.ensures
