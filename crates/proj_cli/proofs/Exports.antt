@@ -92,7 +92,7 @@ last-mapped f [] o = refl
 last-mapped f (x ∷ xs) o = last-mapped f xs (Some x)
 
 -- it is the projection of the head
-ends-at : HistoryLaw → (h : Held) (f : Filter) (n : Bytes) → IsStore h.objects → EndsAtProjection h f n
+pub ends-at : HistoryLaw → (h : Held) (f : Filter) (n : Bytes) → IsStore h.objects → EndsAtProjection h f n
 ends-at law h f n store apart =
     let whole : is_graph (repo h).commits ≡ true = stored-graph h.objects store in
     last-mapped shown_of (history h.rule f (repo h).commits n) None
@@ -116,7 +116,7 @@ tied Less h = absurd (true≢false (sym h))
 tied Equal h = refl
 tied Greater h = absurd (true≢false (sym h))
 
-found-name : (refs : Refs) (r n : Bytes) → list_all (λ e. is_ref_name e.0) refs ≡ true → find bytes_cmp r refs ≡ Some n → is_ref_name r ≡ true
+pub found-name : (refs : Refs) (r n : Bytes) → list_all (λ e. is_ref_name e.0) refs ≡ true → find bytes_cmp r refs ≡ Some n → is_ref_name r ≡ true
 found-name [] r n h e = absurd (none-some n e)
 found-name (x ∷ refs) r n h e = by (λ k. found-name refs r n (second_so (is_ref_name x.0) _ h) k) (eq_by_cmp bytes_cmp r x.0) refl e
   where

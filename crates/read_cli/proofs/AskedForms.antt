@@ -27,9 +27,9 @@ use Rattle.proj_cli.specs.Hands.{Hand, seen_hand, still_hand}
 use Rattle.proj_cli.specs.Import.{ref_line}
 use Rattle.proj_cli.specs.Judging.{IsOwn}
 use Rattle.proj_cli.proofs.Refusing.{sound-own}
-use Rattle.read_cli.specs.Answers.{IsLawful, IsReadBackUpon, OfHead}
+use Rattle.read_cli.specs.Answers.{IsLawful, IsNewLawful, IsReadBackUpon, OfHead}
 use Rattle.read_cli.specs.Looks.{IsAsked, IsLooked, IsLookedFor, IsReport, IsSubject, IsUnreported}
-use Rattle.read_cli.specs.Outputs.{check_output, hand, hands, log_output, new_commits, new_output, original_commits, originals_output, output, projected_graph, refs_output}
+use Rattle.read_cli.specs.Outputs.{check_output, hand, hands, log_output, new_output, original_commits, originals_output, output, refs_output}
 use Rattle.read_cli.specs.Readings.{Check, Log, New, Originals, Reading, Refs, Unknown, verdict}
 use Rattle.read_cli.specs.declared.judging.Asked.{Asked}
 use Rattle.read_cli.specs.declared.judging.Asked.TheVariants as asks
@@ -127,7 +127,7 @@ module _ (h : Held) where
   lawful-check Unknown s w = absurd w
 
   pub lawful-new : (form : Reading) (b : Bool) (s : Subject) (haves : Vec Name) → IsAsked form (asks.New b s haves)
-      → OfHead (Ok h) s.refname (λ h n. IsReadBackUpon (tree_at (projected_graph h (shape s.filter) n)) (new_commits h (shape s.filter) n (map name_bytes haves.items)) s.refname)
+      → OfHead (Ok h) s.refname (λ h n. IsNewLawful h (shape s.filter) s.refname n (map name_bytes haves.items))
       → IsLawful form (Ok h)
   lawful-new Refs b s haves w law = absurd w
   lawful-new (Log r t) b s haves w law = absurd w
@@ -135,9 +135,9 @@ module _ (h : Held) where
   lawful-new (Originals r ns) b s haves w law = absurd w
   lawful-new Unknown b s haves w law = absurd w
   lawful-new (New k r t ns) b s haves w law = λ f is.
-      subst (λ (g : Filter). OfHead (Ok h) r (λ h n. IsReadBackUpon (tree_at (projected_graph h g n)) (new_commits h g n ns) r)) (ok-same (shape s.filter) f (sym w.1.sound_is ∙ is))
-      (subst (λ (z : List Bytes). OfHead (Ok h) r (λ h n. IsReadBackUpon (tree_at (projected_graph h (shape s.filter) n)) (new_commits h (shape s.filter) n z) r)) w.2
-      (subst (λ (q : Bytes). OfHead (Ok h) q (λ h n. IsReadBackUpon (tree_at (projected_graph h (shape s.filter) n)) (new_commits h (shape s.filter) n (map name_bytes haves.items)) q)) w.1.refname law))
+      subst (λ (g : Filter). OfHead (Ok h) r (λ h n. IsNewLawful h g r n ns)) (ok-same (shape s.filter) f (sym w.1.sound_is ∙ is))
+      (subst (λ (z : List Bytes). OfHead (Ok h) r (λ h n. IsNewLawful h (shape s.filter) r n z)) w.2
+      (subst (λ (q : Bytes). OfHead (Ok h) q (λ h n. IsNewLawful h (shape s.filter) q n (map name_bytes haves.items))) w.1.refname law))
 
   pub lawful-originals : (form : Reading) (refname : Bytes) (haves : Vec Name) → IsAsked form (asks.Originals refname haves)
       → OfHead (Ok h) refname (λ h n. IsReadBackUpon (tree_at (repo h).commits) (original_commits h n (map name_bytes haves.items)) refname) → IsLawful form (Ok h)

@@ -13,6 +13,7 @@ mod Checked
 mod FreshNames
 mod Freshness
 mod JudgedForms
+mod NewEnds
 mod AskedForms
 mod Answered
 mod Writing

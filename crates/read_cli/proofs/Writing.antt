@@ -1,14 +1,8 @@
 -- What is new upon a state, written.
-use Rattle.std.proofs.Common.{◌≡◌, Bool, true, cond, List, [], ◌∷◌, ◌++◌, reverse, Some, Result, Ok, append-nil, true≢false, refl, sym, ap, subst, ◌∙◌}
-use Rattle.std.specs.Cmp.{first_so, second_so}
+use Rattle.std.proofs.Common.{◌≡◌, Bool, true, List, [], ◌∷◌, ◌++◌, reverse, Some, Result, Ok, append-nil, sym, ap, subst, ◌∙◌}
 use Rattle.std.specs.FinMap.{find}
-use Rattle.std.specs.List.{list_all}
-use Rattle.std.specs.Ordering.{eq_by_cmp, is_eq}
-use Rattle.std.specs.declared.cmp.Ordering.{Ordering}
-use Rattle.std.specs.declared.cmp.Ordering.TheVariants.{Equal, Greater, Less}
-use Rattle.std.proofs.lemmas.Option.{none-some}
 use Rattle.git_objects.specs.Paths.{Bytes}
-use Rattle.git_objects.specs.Refs.{Refs, bytes_cmp}
+use Rattle.git_objects.specs.Refs.{bytes_cmp}
 use Rattle.git_objects.specs.Results.{◌>>=◌, or_refuse}
 use Rattle.git_objects.specs.Snapshots.{Graph, ancestors, tree_at}
 use Rattle.object_store.specs.Objects.{Object}
@@ -22,7 +16,6 @@ use Rattle.projection_ground.specs.Grounds.{commits_of}
 use Rattle.proj_io.specs.Views.{SinkView}
 use Rattle.tag_objects.specs.Tags.{tags_text}
 use Rattle.tag_objects.specs.declared.tag.Tag.{Tag}
-use Rattle.tag_objects.proofs.TagLists.{one_name}
 use Rattle.state_items.specs.Items.{Held}
 use Rattle.state_items.specs.Repos.{repo}
 use Rattle.state_items.proofs.ReadEntries.{read-law}
@@ -32,26 +25,15 @@ use Rattle.proj_words.specs.declared.outcome.Outcome.TheVariants.{UnknownRef}
 use Rattle.proj_cli.specs.Export.{export_hand}
 use Rattle.proj_cli.specs.Hands.{still_hand}
 use Rattle.proj_cli.specs.Makes.{IsStateOf}
-use Rattle.read_cli.specs.Answers.{IsGiven, IsReadBackUpon, OfHead}
+use Rattle.read_cli.specs.Answers.{IsGiven, IsNewLawful, IsReadBackUpon, OfHead}
 use Rattle.read_cli.specs.Looks.{AreFresh, AreNew, IsAtHand, IsLookedFor, IsUnshown, IsWriteOutcome, at_head}
-use Rattle.read_cli.specs.Outputs.{new_commits, new_output, original_commits, originals_output, projected_graph}
+use Rattle.read_cli.specs.Outputs.{new_output, original_commits, originals_output}
+use Rattle.proj_cli.proofs.Exports.{found-name}
+use Rattle.read_cli.proofs.NewEnds.{ends-new}
 use Rattle.read_cli.proofs.Looked.{looked-at, unshown-looked, written-looked}
 use Rattle.repo_ground.proofs.GroundLaws.{ground-law}
 
 -- ---- names of refs
-
-tied : (o : Ordering) → is_eq o ≡ true → o ≡ Equal
-tied Less h = absurd (true≢false (sym h))
-tied Equal h = refl
-tied Greater h = absurd (true≢false (sym h))
-
-found-name : (refs : Refs) (r n : Bytes) → list_all (λ e. is_ref_name e.0) refs ≡ true → find bytes_cmp r refs ≡ Some n → is_ref_name r ≡ true
-found-name [] r n h e = absurd (none-some n e)
-found-name (x ∷ refs) r n h e = by (λ k. found-name refs r n (second_so (is_ref_name x.0) _ h) k) (eq_by_cmp bytes_cmp r x.0) refl e
-  where
-    by : (find bytes_cmp r refs ≡ Some n → is_ref_name r ≡ true) → (b : Bool) → eq_by_cmp bytes_cmp r x.0 ≡ b → cond b (Some x.1) (find bytes_cmp r refs) ≡ Some n → is_ref_name r ≡ true
-    by later true same g = ap is_ref_name (one_name r x.0 (tied (bytes_cmp r x.0) same)) ∙ first_so (is_ref_name x.0) _ h
-    by later _ same g = later g
 
 ok-same : (x y : Bytes) → ◌≡◌ {A = Result Bytes Outcome} (Ok x) (Ok y) → x ≡ y
 ok-same x y e = cc
@@ -92,8 +74,10 @@ module _ (tagged : Bool) (items : List Bytes) (h : Held) (s : Contents) (w : IsS
       (unshown-looked s.basis.store (export_hand tagged h f n ∷ []) (new_output tagged h f refname n haves) before o u)
 
   pub new-lawful : (S : List Object) (ns : List Bytes) (tags : List Tag) → AreNew tagged h f n haves S ns tags
-      → OfHead (Ok h) refname (λ h n. IsReadBackUpon (tree_at (projected_graph h f n)) (new_commits h f n haves) refname)
-  new-lawful S ns tags a = law-at items h s w refname (λ h n. IsReadBackUpon (tree_at (projected_graph h f n)) (new_commits h f n haves) refname) n e (a.fresh.lawful refname (named items h s w refname n e))
+      → OfHead (Ok h) refname (λ h n. IsNewLawful h f refname n haves)
+  new-lawful S ns tags a =
+      law-at items h s w refname (λ h n. IsNewLawful h f refname n haves) n e
+      (record { last = ends-new h f n haves w.spells.store; again = a.fresh.lawful refname (named items h s w refname n e) })
 
 -- ---- originals
 

@@ -1,5 +1,7 @@
 -- When each outcome is answered, and what has then been written.
-use Rattle.std.specs.Prelude.{◌≡◌, ◌≢◌, ◌≤◌, ◌⊎◌, ⊤, ℕ, true, false, List, [], ◌++◌, length, map, replicate, Some, Result, Ok, Err, IsOk}
+use Rattle.std.specs.Prelude.{◌≡◌, ◌≢◌, ◌≤◌, ◌⊎◌, ⊤, ℕ, true, false, List, [], ◌++◌, length, map, replicate, None, Some, Result, Ok, Err, IsOk}
+use Rattle.std.specs.List.{last_or}
+use Rattle.std.specs.Option.{option_map}
 use Rattle.std.specs.Io.KnownBytes.{Appends, Keeps}
 use Rattle.git_objects.specs.Lists.{Each}
 use Rattle.git_objects.specs.Paths.{Bytes, same_bytes}
@@ -15,6 +17,9 @@ use Rattle.fast_export.specs.ExportTexts.{is_among}
 use Rattle.fast_export.specs.Laws.{has_no_zero}
 use Rattle.proj_io.specs.Views.{SinkView}
 use Rattle.filter_text.specs.Filters.{Filter}
+use Rattle.commit_map.specs.Shown.{Shown}
+use Rattle.projection_laws.specs.ProjectionLaws.{AreOfDistinctNames}
+use Rattle.projection_laws.specs.Projections.{shown_of}
 use Rattle.state_items.specs.Hands.{IsTwice}
 use Rattle.state_items.specs.Items.{Held}
 use Rattle.state_items.specs.Repos.{repo}
@@ -23,8 +28,8 @@ use Rattle.incremental_export.specs.Laws.{IsReadUpon}
 use Rattle.proj_words.specs.declared.outcome.Outcome.{Outcome}
 use Rattle.proj_words.specs.declared.outcome.Outcome.TheVariants.{Done, OutOfMemory, Collision, ReadFault, WriteFault, StoreFault}
 use Rattle.proj_cli.specs.Cases.{head_of, loaded}
-use Rattle.proj_cli.specs.Filters.{sound}
-use Rattle.proj_cli.specs.Hands.{IsInHands}
+use Rattle.proj_cli.specs.Filters.{projected, sound}
+use Rattle.proj_cli.specs.Hands.{IsInHands, own}
 use Rattle.proj_cli.specs.Sent.{Fronts}
 use Rattle.read_cli.specs.Outputs.{hands, new_commits, original_commits, output, projected_graph}
 use Rattle.read_cli.specs.Readings.{Reading, Refs, Log, New, Originals, Unknown}
@@ -67,6 +72,21 @@ IsReadBackUpon tree_of cs refname =
     → ((at : ℕ) (which : Quantity) → replay base (changes_text tree_of cs refname) ≢ Err (Limit at which))
     → IsReadUpon base (changes_text tree_of cs refname) cs refname
 
+-- ---- where it ends
+
+-- Where the ref's commit has a projection that isn't there yet, it is the last commit that is written. So it is where no two different
+-- commits have one name that are made of the ref's commit and its ancestors.
+abbrev pub EndsNew : Held → Filter → Bytes → List Bytes → Type 0
+EndsNew h f n haves =
+    AreOfDistinctNames (own h.rule f (repo h).commits n)
+    → (p : Shown) → projected h f n ≡ Some p → is_among p.commit haves ≡ false
+    → option_map shown_of (last_or None (new_commits h f n haves)) ≡ Some p
+
+-- what is said of a projected history that is written
+pub record IsNewLawful (h : Held) (f : Filter) (refname n : Bytes) (haves : List Bytes) : Type 0 where
+  pub last : EndsNew h f n haves
+  pub again : IsReadBackUpon (tree_at (projected_graph h f n)) (new_commits h f n haves) refname
+
 -- a law of a head's history, where it comes up
 abbrev pub OfHead : Result Held Outcome → Bytes → (Held → Bytes → Type 0) → Type 0
 OfHead (Err e) r Law = ⊤
@@ -75,7 +95,7 @@ OfHead (Ok h) r Law = (n : Bytes) → head_of r h.refs ≡ Ok n → Law h n
 -- of what is done
 abbrev pub IsLawful : Reading → Result Held Outcome → Type 0
 IsLawful (New tagged r text haves) loading =
-    (f : Filter) → sound text ≡ Ok f → OfHead loading r (λ h n. IsReadBackUpon (tree_at (projected_graph h f n)) (new_commits h f n haves) r)
+    (f : Filter) → sound text ≡ Ok f → OfHead loading r (λ h n. IsNewLawful h f r n haves)
 IsLawful (Originals r haves) loading = OfHead loading r (λ h n. IsReadBackUpon (tree_at (repo h).commits) (original_commits h n haves) r)
 IsLawful other loading = ⊤
 

@@ -24,10 +24,10 @@ ghost use Rattle.workspace.specs.Workspaces.{shown};
 ghost use Rattle.proj_cli.specs.Export.{export_hand};
 ghost use Rattle.proj_cli.specs.Hands.{still_hand};
 ghost use Rattle.proj_cli.specs.Makes.{IsState, IsStateOf};
-ghost use Rattle.read_cli.specs.Answers.{IsGiven, IsReadBackUpon, OfHead};
+ghost use Rattle.read_cli.specs.Answers.{IsGiven, IsNewLawful, IsReadBackUpon, OfHead};
 ghost use Rattle.read_cli.specs.Looks.{AreFresh, AreNew, at_head};
 ghost use Rattle.read_cli.specs.Looks.{IsAtHand, IsEnd, IsLookedFor, IsUnshown, IsWriteOutcome};
-ghost use Rattle.read_cli.specs.Outputs.{new_commits, new_output, original_commits, originals_output, projected_graph};
+ghost use Rattle.read_cli.specs.Outputs.{new_output, original_commits, originals_output};
 
 use crate::judging::Subject;
 use crate::logging::history_of;
@@ -175,9 +175,8 @@ pub fn write_projected<O: Sink>(
         (at_head subject.now.refname h (λ n. new_output tagged h (shape subject.now.filter) subject.now.refname n
         (map name_bytes haves.now))) (seen out.old) (seen out.new) result }
     ensures lawful { (items : List Bytes) (h : Held) → IsStateOf items h state.old → result ≡ Outcome.Done →
-        OfHead (Ok h) subject.now.refname (λ h n. let f = shape subject.now.filter in
-        IsReadBackUpon (tree_at (projected_graph h f n)) (new_commits h f n (map name_bytes haves.now))
-        subject.now.refname) }
+        OfHead (Ok h) subject.now.refname (λ h n.
+        IsNewLawful h (shape subject.now.filter) subject.now.refname n (map name_bytes haves.now)) }
     ensures ends { IsEnd result }
     ensures write { Counts (O.faults out.old) (O.faults out.new) (result ≡ Outcome.WriteFault) }
     ensures memory { O.refusals out.old ≤ O.refusals out.new }
