@@ -4,3 +4,6 @@ pub mod Splits
 pub mod Lists
 pub mod Sources
 pub mod Readable
+pub mod ItemRooms
+pub mod ListRooms
+pub mod ListFaults

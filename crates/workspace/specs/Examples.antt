@@ -8,6 +8,10 @@ use Rattle.filter_text.specs.Filters.{Filter, Filters, sub, onto, dir, file, exc
 use Rattle.filter_text.specs.Texts.{name_at, kept_name_at, target_at}
 use Rattle.filter_text.specs.Reading.{word_at, pieces_at, list_at}
 use Rattle.filter_text.specs.Items.{items, members}
+use Rattle.filter_routes.specs.FaultTests.{fault}
+use Rattle.filter_routes.specs.declared.fault.RouteFault.TheVariants.{Overlap}
+use Rattle.workspace.specs.Giving.{leaf_gives}
+use Rattle.workspace.specs.declared.giving.LeafGives.TheVariants as gives
 use Rattle.workspace.specs.Workspaces.{fronts, is_unreadable, leaf_items, listed, next, place, resolve, shown, shown_place, with_leaf}
 
 -- what a theorem about workspaces unfolds, so that it computes
@@ -138,6 +142,36 @@ clash = refl
 pub own_paths : is_unreadable (ws ∷ []) (Some (FileLeaf (text_line (codes "x = :/ws/sub")))) ≡ true
 unfolding reading
 own_paths = refl
+
+-- ---- what a leaf gives
+
+pub absent : leaf_gives (ws ∷ []) None ≡ gives.Absent
+absent = refl
+
+pub no_file : leaf_gives (ws ∷ []) (Some (LinkLeaf listing)) ≡ gives.NoFile
+no_file = refl
+
+pub unreadable : leaf_gives (ws ∷ []) (Some (FileLeaf faulty)) ≡ gives.Unreadable
+unfolding reading
+unreadable = refl
+
+pub two_items : leaf_gives (ws ∷ []) (Some (FileLeaf (text_line (codes "a = :/x\nb = :/y")))) ≡ gives.Items 2
+unfolding reading fault
+two_items = refl
+
+pub no_items : leaf_gives (ws ∷ []) (Some (FileLeaf [])) ≡ gives.Items 0
+unfolding reading fault
+no_items = refl
+
+-- the second place lies below the first
+pub two_clash : leaf_gives (ws ∷ []) (Some (FileLeaf (text_line (codes "a = :/x\na/b = :/y")))) ≡ gives.Unsound (Overlap 0 0 1)
+unfolding reading fault
+two_clash = refl
+
+-- behind the two items is the workspace's own directory, which has the paths of the second too
+pub own_clash : leaf_gives (ws ∷ []) (Some (FileLeaf (text_line (codes "a = :/x\nb = :/ws/sub")))) ≡ gives.Unsound (Overlap 0 1 2)
+unfolding reading fault
+own_clash = refl
 
 -- ---- resolving
 

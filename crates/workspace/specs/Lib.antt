@@ -1,4 +1,5 @@
 pub mod Workspaces
 pub mod Laws
 pub mod Views
+pub mod Giving
 pub mod Examples

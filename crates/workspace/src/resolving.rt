@@ -66,7 +66,7 @@ fn put_in(alloc: Global, parts: &Parts<'_>, list: Filter) -> Result<Filter, Allo
 }
 
 // The items of a text; None where it can't be read.
-fn items_in(alloc: Global, text: &[u8]) -> Result<Option<Vec<Item>>, AllocError>
+pub fn items_in(alloc: Global, text: &[u8]) -> Result<Option<Vec<Item>>, AllocError>
     ensures items { IfOk result (λ o. items_read o ≡ items text.now) }
     ensures paths { IfOk result (λ o. IfSome o (λ v. Each IsMadeOfPaths (item_values v.items))) }
 {
@@ -78,7 +78,7 @@ fn items_in(alloc: Global, text: &[u8]) -> Result<Option<Vec<Item>>, AllocError>
 }
 
 // The bytes of a blob of the store.
-fn text_at<'a>(store: &'a Store, name: &Name) -> &'a [u8]
+pub fn text_at<'a>(store: &'a Store, name: &Name) -> &'a [u8]
     requires held { has Blob store.now name.now.0 ≡ true }
     ensures { result.now ≡ body_of Blob store.now name.now.0 }
 {
