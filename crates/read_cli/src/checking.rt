@@ -30,7 +30,7 @@ use proj_cli::{Outcome, apply_outcome, outcome_text};
 use projection_ground::Ground;
 use repo_ground::State;
 use std::alloc::{AllocError, Global};
-use workspace::{LeafGives, file_place, leaf_at, leaf_gives};
+use workspace::{LeafGives, file_place, leaf_gives, leaf_where};
 
 // Adds a word and a number as a line.
 fn add_number_line(report: &mut Vec<u8>, word: &[u8], n: u64) -> Result<(), AllocError>
@@ -95,10 +95,7 @@ fn workspace_lines(
 {
     let mut lines = Vec::new(alloc);
     let place = file_place(alloc, filter)?;
-    let leaf = match &place {
-        None => None,
-        Some(path) => leaf_at(store, root, path),
-    };
+    let leaf = leaf_where(store, root, &place);
     if let Some(given) = leaf_gives(alloc, store, filter, leaf)? {
         add_place_line(alloc, &mut lines, &place, given)?;
     }

@@ -11,4 +11,4 @@ mod resolving;
 pub use giving::{LeafGives, leaf_gives};
 pub use laws::resolve_law;
 pub use place::file_place;
-pub use resolving::{Resolved, leaf_at, resolve, resolve_leaf};
+pub use resolving::{Resolved, leaf_at, leaf_where, resolve, resolve_leaf};

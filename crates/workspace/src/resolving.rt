@@ -200,8 +200,8 @@ pub fn leaf_at(store: &Store, root: Name, path: &Path) -> Option<Leaf>
     })
 }
 
-// The leaf at a path of that tree, if there is a path and a leaf stands there.
-fn leaf_where(store: &Store, root: Name, place: &Option<Path>) -> Option<Leaf>
+/// The leaf at a path of that tree, if there is a path and a leaf stands there. Needs no memory.
+pub fn leaf_where(store: &Store, root: Name, place: &Option<Path>) -> Option<Leaf>
     requires root { has Tree store.now root.0 ≡ true }
     ensures leaf { found_value store.now result ≡ option_and_then (at (flat store.now root.0)) place.now }
     ensures held { IsHeldLeaf store.now result }
