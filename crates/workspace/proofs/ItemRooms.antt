@@ -101,6 +101,7 @@ shallow-item m h = by (is_fit m) refl (place m) refl
         leb-true (components m.filter) FILTER_COMPONENTS
         (and_parts (nat_le m.size FILTER_BYTES) (nat_le (components m.filter) FILTER_COMPONENTS)
         (and_parts (nat_le m.size FILTER_BYTES && nat_le (components m.filter) FILTER_COMPONENTS) (not (has_workspace m.filter)) e).0).1
+
     by : (b : Bool) → is_fit m ≡ b → (o : Option Path) → place m ≡ o → ShallowItem m (cond b (option_map {U = Item} (λ p. (p, m.filter)) o) None)
     by true f None e = tt
     by true f (Some p) e = (omega (arith, few f, h.placed p e), refl)

@@ -32,9 +32,13 @@ around-few p h = omega (arith, h, length-fronts p, files-pieces (fronts p))
 around-all-few : (is : List Item) → Each IsShallow is → pieces_in (filters_of (flat_map (λ i. around i.0) is)) ≤ (2 + FILTER_COMPONENTS) * length is
 around-all-few [] h = omega arith
 around-all-few (i ∷ is) h =
-    omega (arith, around-few i.0 h.0, around-all-few is h.1,
-    ap pieces_in (filters-append (around i.0) (flat_map (λ j. around j.0) is)),
-    pieces-append (filters_of (around i.0)) (filters_of (flat_map (λ j. around j.0) is)))
+    omega (
+      arith,
+      around-few i.0 h.0,
+      around-all-few is h.1,
+      ap pieces_in (filters-append (around i.0) (flat_map (λ j. around j.0) is)),
+      pieces-append (filters_of (around i.0)) (filters_of (flat_map (λ j. around j.0) is)),
+    )
 
 branches-pieces : (is : List Item) → pieces_in (filters_of (map (λ i. i.1) is)) ≡ sum_by (λ i. pieces i.1) is
 branches-pieces [] = refl
@@ -43,8 +47,14 @@ branches-pieces (i ∷ is) = omega (arith, branches-pieces is, sum_by-cons (λ (
 list-few : (w : Path) (is : List Item) → AreFew is → pieces (listed w is) < 2 ^ 31
 unfolding listed
 list-few w is h =
-    omega (arith, h.few, h.fit, around-all-few is h.shallow, branches-pieces is,
-    pieces-append (filters_of (map (λ i. i.1) is)) (only (own_branch w is)))
+    omega (
+      arith,
+      h.few,
+      h.fit,
+      around-all-few is h.shallow,
+      branches-pieces is,
+      pieces-append (filters_of (map (λ i. i.1) is)) (only (own_branch w is)),
+    )
 
 -- the list of the items of a text
 pub text-few : (w : Path) (t : Bytes) (is : List Item) → items t ≡ Some is → pieces (listed w is) < 2 ^ 31

@@ -50,12 +50,16 @@ fn list_gives(alloc: Global, directory: &Path, items: &[Item]) -> Result<LeafGiv
     match check(alloc, &list) {
         Ok(()) => Ok(LeafGives::Items(items.len())),
         Err(RouteFault::OutOfMemory) => Err(AllocError),
-        Err(RouteFault::NotKeeping { piece }) => Ok(LeafGives::Unsound(RouteFault::NotKeeping { piece })),
-        Err(RouteFault::Overlap {
-            list,
-            first,
-            second,
-        }) => Ok(LeafGives::Unsound(RouteFault::Overlap {
+        Err(RouteFault::NotKeeping { piece }) => Ok(LeafGives::Unsound(RouteFault::NotKeeping {
+            piece,
+        })),
+        Err(
+            RouteFault::Overlap {
+                list,
+                first,
+                second,
+            },
+        ) => Ok(LeafGives::Unsound(RouteFault::Overlap {
             list,
             first,
             second,
@@ -75,7 +79,12 @@ fn text_gives(alloc: Global, directory: &Path, text: &[u8]) -> Result<LeafGives,
 }
 
 // What a leaf gives that is there.
-fn held_gives(alloc: Global, store: &Store, directory: &Path, leaf: Leaf) -> Result<LeafGives, AllocError>
+fn held_gives(
+    alloc: Global,
+    store: &Store,
+    directory: &Path,
+    leaf: Leaf,
+) -> Result<LeafGives, AllocError>
     requires path { is_path directory.now ≡ true }
     requires held { has_child store.now leaf.mode leaf.name.0 ≡ true }
     ensures { IfOk result (λ g. g ≡ text_gives directory.now (text_of (leaf_value store.now leaf))) }
