@@ -25,12 +25,16 @@ use Rattle.filter_apply.specs.Truth.{IsTrueFor, KeepsOthers}
 use Rattle.filter_apply.specs.declared.fault.ApplyError.{ApplyError}
 use Rattle.filter_apply.specs.declared.fault.ApplyError.TheVariants.{OutOfMemory}
 use Rattle.commit_map.specs.Shown.{Entries}
+use Rattle.path_trees.specs.declared.found.Leaf.{Leaf}
+use Rattle.workspace.specs.Views.{IsHeldLeaf, found_value}
 use Rattle.workspace.specs.Workspaces.{place, resolve, shown, with_leaf}
+use Rattle.workspace.specs.declared.resolving.Resolved.{Resolved}
 use Rattle.projection_ground.specs.Grounds.{IsGround, AreInFront, Extends}
-use Rattle.projection_ground.specs.Asked.{IsNone, IsShownBy, IsAskedFor}
+use Rattle.projection_ground.specs.Asked.{IsNone, IsNumbered, IsShownBy, IsAskedFor}
 use Rattle.projection_ground.specs.declared.ground.Ground.{Ground}
 use Rattle.projection_ground.specs.declared.seeing.Asked.{Asked}
-use Rattle.projection_ground.proofs.Growing.{front-self, interned-front, has-front, graph-grown, maps-grown, true-grown, extends-self, extends-then, extends-as}
+use Rattle.projection_ground.proofs.Growing.{front-self, interned-front, has-front, graph-grown, ground-tables, maps-grown, true-grown, extends-self, extends-then, extends-as}
+use Rattle.projection_ground.proofs.Leaves.{found-leaf-grown, leaf-held-grown}
 
 -- without a workspace place the filter is one for every tree
 pub same-resolve : (f : Filter) (t u : Flat) → None ≡ place f → resolve f t ≡ resolve f u
@@ -53,8 +57,20 @@ last-grown f g h made a (Some p) k = (
   subst (λ (t : Flat). StandsFor h.store p.1.0 (shown f t)) (sym (flat-grown g.store h.store p.0.0 a.store k.0)) (stands-grown g.store h.store p.1.0 (shown f (flat g.store p.0.0)) a.store k.1),
 )
 
+leaf-grown : (f : Filter) (g h : Ground) (made : Object → Type 0) → Extends made g h → (o : Option (Option Leaf × ℕ)) → IfSome o (λ p. IsNumbered f g.store g.tables p.0 p.1) → IfSome o (λ p. IsNumbered f h.store h.tables p.0 p.1)
+leaf-grown f g h made a None k = tt
+leaf-grown f g h made a (Some p) k = record {
+  held = leaf-held-grown g.store h.store a.store p.0 k.held;
+  there = has-front g.tables h.tables (with_leaf f (found_value h.store p.0)) p.1 a.tables
+      (subst (λ x. HasAt g.tables (with_leaf f x) p.1) (sym (found-leaf-grown g.store h.store a.store p.0 k.held)) k.there);
+}
+
 pub asked-grown : (f : Filter) (g h : Ground) (made : Object → Type 0) (a : Asked) → Extends made g h → IsAskedFor f g a → IsAskedFor f h a
-asked-grown f g h made a e k = record { table = table-grown f g h made e a.table k.table; last = last-grown f g h made e a.last k.last }
+asked-grown f g h made a e k = record {
+  table = table-grown f g h made e a.table k.table;
+  last = last-grown f g h made e a.last k.last;
+  leaf = leaf-grown f g h made e a.leaf k.leaf;
+}
 
 -- ---- one more tree
 
@@ -130,8 +146,8 @@ shown-of g f number root table S memo r w h e ok err grown own others =
 
 -- ---- calls that fail, and what follows a call
 
-pub tables-after : (old new : List Table) (f : Filter) (r : Result ℕ AllocError) → IfOk r (Interns old new f) → OnErr r (new ≡ old) → AreInFront old new
-tables-after old new f (Ok n) h e = interned-front old new f n h
+pub tables-after : (old new : List Table) (f : Filter) (r : Result Resolved AllocError) → IfOk r (λ x. Interns old new f x.table) → OnErr r (new ≡ old) → AreInFront old new
+tables-after old new f (Ok x) h e = interned-front old new f x.table h
 tables-after old new f (Err d) h e = ([], append-nil old ∙ sym e)
 
 pub shown-failed : (f : Filter) (root : Bytes) (g h : Ground) (r : Result Name ApplyError) → IsGround g → Extends IsNone g h → h.map ≡ g.map → r ≡ Err OutOfMemory → IsShownBy f root g h r
@@ -143,10 +159,11 @@ shown-failed f root g h r w a m e = record {
 }
 
 -- what was asked last now
-pub asked-now : (f : Filter) (g h : Ground) (made : Object → Type 0) (a : Asked) (root shown' : Name) → has Tree g.store root.0 ≡ true → Extends made g h → IsAskedFor f g a
-    → StandsFor h.store shown'.0 (seen_through (lens_of (resolve f (flat g.store root.0))) (flat g.store root.0)) → IsAskedFor f h (record { table = a.table; last = Some (root, shown') })
+pub asked-now : (f : Filter) (g h : Ground) (made : Object → Type 0) (a : Asked) (root shown' : Name) → has Tree g.store root.0 ≡ true → Extends made g h → IsAskedFor f h a
+    → StandsFor h.store shown'.0 (seen_through (lens_of (resolve f (flat g.store root.0))) (flat g.store root.0)) → IsAskedFor f h (record a { last = Some (root, shown') })
 asked-now f g h made a root shown' t e k s = record {
-  table = table-grown f g h made e a.table k.table;
+  table = k.table;
+  leaf = k.leaf;
   last = (
     has-grown g.store h.store Tree root.0 e.store t,
     subst (λ (u : Flat). StandsFor h.store shown'.0 (shown f u)) (sym (flat-grown g.store h.store root.0 e.store t)) (subst (λ (u : Flat). StandsFor h.store shown'.0 u) (sym (shown-is f (flat g.store root.0))) s),
@@ -154,9 +171,23 @@ asked-now f g h made a root shown' t e k s = record {
 }
 
 -- the table that is the filter's for every tree
-pub asked-first : (f : Filter) (t : Flat) (g : Ground) (number : ℕ) (ts : List Table) (o : Option Path) → o ≡ place f → false ≡ is_some o → HasAt ts (resolve f t) number → IsAskedFor f (record g { tables = ts }) (record { table = Some number; last = None })
+pub asked-first : (f : Filter) (t : Flat) (g : Ground) (number : ℕ) (ts : List Table) (o : Option Path) → o ≡ place f → false ≡ is_some o → HasAt ts (resolve f t) number → IsAskedFor f (record g { tables = ts }) (record { table = Some number; last = None; leaf = None })
 asked-first f t g number ts (Some p) e n h = absurd (true≢false (sym n))
-asked-first f t g number ts None e n h = record { table = λ u. subst (λ (k : Filter). HasAt ts k number) (same-resolve f t u e) h; last = tt }
+asked-first f t g number ts None e n h = record { table = λ u. subst (λ (k : Filter). HasAt ts k number) (same-resolve f t u e) h; last = tt; leaf = tt }
+
+-- the leaf that stood last
+pub leaf-again : (f : Filter) (g : Ground) (a : Asked) (last leaf : Option Leaf) (n : ℕ) → IsAskedFor f g a → a.leaf ≡ Some (last, n) → last ≡ leaf → HasAt g.tables (with_leaf f (found_value g.store leaf)) n
+leaf-again f g a last leaf n k e same =
+    let kept = subst (λ (o : Option (Option Leaf × ℕ)). IfSome o (λ p. IsNumbered f g.store g.tables p.0 p.1)) e k.leaf in
+    subst (λ (x : Option Leaf). HasAt g.tables (with_leaf f (found_value g.store x)) n) same kept.there
+
+-- the leaf that stood last now
+pub leaf-now : (f : Filter) (g : Ground) (a : Asked) (ts : List Table) (leaf : Option Leaf) (n : ℕ) → IsGround g → AreInFront g.tables ts → IsAskedFor f g a → IsHeldLeaf g.store leaf → HasAt ts (with_leaf f (found_value g.store leaf)) n
+    → IsAskedFor f (record g { tables = ts }) (record a { leaf = Some (leaf, n) })
+leaf-now f g a ts leaf n w t k held there =
+    let h : Ground = record g { tables = ts } in
+    let e : Extends IsNone g h = ground-tables IsNone g ts w t in
+    record { table = table-grown f g h IsNone e a.table k.table; last = last-grown f g h IsNone e a.last k.last; leaf = record { held = held; there = there } }
 
 pub asked-same : (f : Filter) (g h : Ground) (a : Asked) (es : Entries) → h ≡ record g { map = es } → IsAskedFor f g a → IsAskedFor f h a
-asked-same f g h a es q k = subst (λ (x : Ground). IsAskedFor f x a) (sym q) (record { table = k.table; last = k.last })
+asked-same f g h a es q k = subst (λ (x : Ground). IsAskedFor f x a) (sym q) (record { table = k.table; last = k.last; leaf = k.leaf })

@@ -1,4 +1,5 @@
 pub mod Growing
+pub mod Leaves
 pub mod Asking
 pub mod Gathering
 pub mod Lacks

@@ -1,5 +1,5 @@
 -- What a filter shows of a tree of the ground, and what is known of it.
-use Rattle.std.specs.Prelude.{◌≡◌, true, Result, IfSome, IfOk, IfErr}
+use Rattle.std.specs.Prelude.{◌≡◌, ℕ, true, List, Option, Result, IfSome, IfOk, IfErr}
 use Rattle.git_objects.specs.Paths.{Bytes}
 use Rattle.git_objects.specs.Trees.{Flat}
 use Rattle.git_objects.specs.declared.kind.Kind.TheVariants.{Tree}
@@ -8,12 +8,15 @@ use Rattle.object_store.specs.Objects.{Object, has}
 use Rattle.object_store.specs.Unfolding.{flat, StandsFor}
 use Rattle.filter_text.specs.Filters.{Filter}
 use Rattle.filter_routes.specs.Interned.{HasAt}
+use Rattle.filter_routes.specs.TableValues.{Table}
 use Rattle.filter_routes.specs.Lenses.{seen_through}
 use Rattle.filter_routes.specs.Origins.{lens_of}
 use Rattle.filter_apply.specs.Faults.{IsApplyFault}
 use Rattle.filter_apply.specs.Hands.{IsShownObject}
 use Rattle.filter_apply.specs.declared.fault.ApplyError.{ApplyError}
-use Rattle.workspace.specs.Workspaces.{resolve, shown}
+use Rattle.path_trees.specs.declared.found.Leaf.{Leaf}
+use Rattle.workspace.specs.Views.{IsHeldLeaf, found_value}
+use Rattle.workspace.specs.Workspaces.{resolve, shown, with_leaf}
 use Rattle.projection_ground.specs.Grounds.{Extends}
 use Rattle.projection_ground.specs.declared.ground.Ground.{Ground}
 use Rattle.projection_ground.specs.declared.seeing.Asked.{Asked}
@@ -30,7 +33,14 @@ pub record IsShownBy (f : Filter) (root : Bytes) (g g' : Ground) (result : Resul
   pub same : Extends (IsShownObject f (flat g.store root)) g g'
   pub map : g'.map ≡ g.map
 
--- The table is that of the filter for every tree, and the pair is a tree of the store with what the filter shows of it.
+-- The leaf, or none, is held in the store, and the number is that of the table of the filter for trees with it at the workspace place.
+pub record IsNumbered (f : Filter) (S : List Object) (ts : List Table) (leaf : Option Leaf) (n : ℕ) : Type 0 where
+  pub held : IsHeldLeaf S leaf
+  pub there : HasAt ts (with_leaf f (found_value S leaf)) n
+
+-- The table is that of the filter for every tree, the tree that was asked last is in the store with what the filter shows of it, and
+-- the leaf has its number.
 pub record IsAskedFor (f : Filter) (g : Ground) (a : Asked) : Type 0 where
   pub table : IfSome a.table (λ n. (t : Flat) → HasAt g.tables (resolve f t) n)
   pub last : IfSome a.last (λ p. (has Tree g.store p.0.0 ≡ true) × StandsFor g.store p.1.0 (shown f (flat g.store p.0.0)))
+  pub leaf : IfSome a.leaf (λ p. IsNumbered f g.store g.tables p.0 p.1)

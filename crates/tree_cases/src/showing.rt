@@ -4,7 +4,6 @@ ghost use Rattle.git_objects.specs.declared.kind.Kind.TheVariants.{Tree};
 ghost use Rattle.object_store.specs.Objects.{has};
 ghost use Rattle.filter_text.specs.Shapes.{shape};
 ghost use Rattle.workspace.specs.Laws.{IsUsable};
-ghost use Rattle.workspace.specs.Views.{IsHeldLeaf};
 
 use crate::leaves::{add_leaves, add_tree, tree};
 use crate::routes::sound_filter;
@@ -17,10 +16,9 @@ use filter_text::Filter;
 use git_objects::{Name, Steps};
 use object_store::Store;
 use path_names::Path;
-use path_trees::Leaf;
 use std::alloc::{AllocError, Global};
 use std::sync::ledger::{Blank, Ledger};
-use workspace::{file_place, leaf_at, resolve, resolve_leaf};
+use workspace::{file_place, leaf_where, resolve, resolve_leaf};
 
 /// The number of the table of a sound filter for that tree.
 pub fn table_number(
@@ -35,17 +33,6 @@ pub fn table_number(
 {
     let filter = sound_filter(alloc, texts, filter)?;
     resolve(alloc, store, &filter, root, tables).map_err(Fault::from)
-}
-
-// The leaf at a place of that tree.
-fn leaf_where(store: &Store, root: Name, place: &Option<Path>) -> Option<Leaf>
-    requires root { has Tree store.now root.0 ≡ true }
-    ensures held { IsHeldLeaf store.now result }
-{
-    match place {
-        None => None,
-        Some(place) => leaf_at(store, root, place),
-    }
 }
 
 /// Adds the workspace place, whether the leaf there is readable, the filter for the tree of these leaves, and each path

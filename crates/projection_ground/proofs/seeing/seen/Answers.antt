@@ -26,9 +26,6 @@ returns-in_err-number-clause-shown c =
     let p = err_from_is_err_and c.from_residual.result c.from_residual.ensures.1 in
     shown-failed (resolve (shape c.args.filter.now) (flat c.args.ground.now.store c.args.root.0)) c.args.root.0 c.args.ground.now c.number_for.new.ground c.from_residual.result c.requires.ground c.number_for.ensures.same c.number_for.ensures.map (p.1 ∙ ap Err p.2)
 
-pub returns-in_err-number-clause-asked : goal.returns-in_err-number-clause-asked
-returns-in_err-number-clause-asked c = asked-grown (shape c.args.filter.now) c.args.ground.now c.number_for.new.ground IsNone c.args.asked.now c.number_for.ensures.same c.requires.asked
-
 pub shown_by-requires-clause-root : goal.shown_by-requires-clause-root
 shown_by-requires-clause-root c = has-grown c.args.ground.now.store c.number_for.new.ground.store Tree c.args.root.0 c.number_for.ensures.same.store c.requires.root
 
@@ -45,8 +42,8 @@ returns-in_err-shown-clause-shown c =
 pub returns-in_err-shown-clause-asked : goal.returns-in_err-shown-clause-asked
 returns-in_err-shown-clause-asked c =
     let f = resolve (shape c.args.filter.now) (flat c.args.ground.now.store c.args.root.0) in
-    asked-grown (shape c.args.filter.now) c.number_for.new.ground c.shown_by.new.ground (IsShownObject f (flat c.number_for.new.ground.store c.args.root.0)) c.args.asked.now (c.shown_by.ensures f c.in_ok-number.ensures.number).same
-    (asked-grown (shape c.args.filter.now) c.args.ground.now c.number_for.new.ground IsNone c.args.asked.now c.number_for.ensures.same c.requires.asked)
+    asked-grown (shape c.args.filter.now) c.number_for.new.ground c.shown_by.new.ground (IsShownObject f (flat c.number_for.new.ground.store c.args.root.0)) c.number_for.new.asked (c.shown_by.ensures f c.in_ok-number.ensures.number).same
+    c.number_for.ensures.asked
 
 pub returns-clause-shown : goal.returns-clause-shown
 returns-clause-shown c =
@@ -57,4 +54,7 @@ pub returns-clause-asked : goal.returns-clause-asked
 returns-clause-asked c =
     let f = resolve (shape c.args.filter.now) (flat c.args.ground.now.store c.args.root.0) in
     let w = shown-behind f c.args.root.0 c.args.ground.now c.number_for.new.ground c.shown_by.new.ground (Ok c.in_ok-shown.shown) c.requires.root c.number_for.ensures.same c.number_for.ensures.map (c.in_ok-shown.ensures f c.in_ok-number.ensures.number) in
-    asked-now (shape c.args.filter.now) c.args.ground.now c.shown_by.new.ground (IsShownObject f (flat c.args.ground.now.store c.args.root.0)) c.args.asked.now c.args.root c.in_ok-shown.shown c.requires.root w.same c.requires.asked w.ok
+    asked-now (shape c.args.filter.now) c.args.ground.now c.shown_by.new.ground (IsShownObject f (flat c.args.ground.now.store c.args.root.0)) c.number_for.new.asked c.args.root c.in_ok-shown.shown c.requires.root w.same
+    (asked-grown (shape c.args.filter.now) c.number_for.new.ground c.shown_by.new.ground (IsShownObject f (flat c.number_for.new.ground.store c.args.root.0)) c.number_for.new.asked (c.in_ok-shown.ensures f c.in_ok-number.ensures.number).same
+    c.number_for.ensures.asked)
+    w.ok
