@@ -4,11 +4,12 @@
 # that `PROJ` names, or the built one.
 set -e
 cd "$(dirname "$0")/.." || exit 1
-proj=${PROJ:-$PWD/crates/proj/out/proj}
-[ -x "$proj" ] || { printf 'the program is not built: (cd crates/proj && rt run -- name)\n'; exit 1; }
-room=$(mktemp -d)
-trap 'rm -rf "$room"' EXIT
-export GIT_CONFIG_NOSYSTEM=1 GIT_CONFIG_GLOBAL=/dev/null HOME=$room
+label=imports
+. scripts/lib.sh
+needs git mktemp awk date rm
+begin
+own_settings
+room=$work
 
 # a commit's lines before its changes
 head='function head(n, from) {

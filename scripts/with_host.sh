@@ -10,16 +10,7 @@ label=host
 . scripts/lib.sh
 needs git mktemp flock setsid realpath readlink awk sed grep cut paste sort head tail tr dirname sleep mkdir chmod cat \
     cp ln rm seq find wc mv
-begin
-
-# Finds the second program, as `begin` finds the first.
-begin_read() {
-    proj_read=${PROJ_READ:-$PWD/crates/proj_read/out/proj_read}
-    [ -x "$proj_read" ] || (cd crates/proj_read && rt run -- --version) </dev/null >/dev/null 2>&1
-    [ -x "$proj_read" ] || fail 'the program proj_read is not built'
-}
-
-begin_read
+begin_reading
 own_settings
 rounds=${ROUNDS:-40}
 RANDOM=${SEED:-55}
