@@ -4,11 +4,9 @@ use mathlib.Core.Bool.{Bool-set}
 use Rattle.git_objects.specs.Entries.{is_dir}
 use Rattle.git_objects.specs.Paths.{Bytes}
 use Rattle.git_objects.specs.Trees.{FileLeaf, ExecLeaf, LinkLeaf}
-use Rattle.git_objects.specs.Trees as trees
 use Rattle.git_objects.specs.declared.kind.Kind.TheVariants.{Blob}
 use Rattle.git_objects.specs.declared.mode.Mode.{Mode}
 use Rattle.git_objects.specs.declared.mode.Mode.TheVariants.{File, Exec, Link, Module, Dir}
-use Rattle.git_objects.specs.declared.name.Name.{Name}
 use Rattle.object_store.specs.Objects.{Object, IsStore, body_of, has_child}
 use Rattle.object_store.specs.Growth.{IsGrownBy}
 use Rattle.path_trees.specs.Walked.{leaf_of}

@@ -9,7 +9,7 @@ use Rattle.filter_text.specs.Shapes.{shape}
 use Rattle.filter_apply.specs.Hands.{IsShownObject}
 use Rattle.filter_apply.specs.declared.fault.ApplyError.{ApplyError}
 use Rattle.workspace.specs.Workspaces.{resolve, shown}
-use Rattle.projection_ground.specs.Asked.{IsNone, IsShownBy}
+use Rattle.projection_ground.specs.Asked.{IsShownBy}
 use Rattle.projection_ground.proofs.Growing.{has-within}
 use Rattle.projection_ground.proofs.Asking.{asked-again, asked-grown, asked-now, shown-behind, shown-failed}
 use Rattle.projection_ground.proofs.seeing.seen.Goals as goal
