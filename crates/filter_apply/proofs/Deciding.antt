@@ -1,15 +1,13 @@
 -- Which entry decides for a path, and what its part is.
 use Rattle.std.proofs.Common.{◌≡◌, ℕ, zero, suc, ◌<◌, Bool, true, false, cond, not, ◌&&◌, T, List, [], ◌∷◌, ◌++◌, take, filter, slice_get, Option, Some, None, refl, sym, ap, subst, ◌∙◌, arith, true≢false, append-nil}
 use Rattle.std.specs.Bool.{beq}
-use Rattle.std.specs.Option.{is_some, option_map, option_or}
-use Rattle.std.proofs.lemmas.Option.{same_Some}
+use Rattle.std.specs.Option.{is_some}
 use Rattle.git_objects.specs.Paths.{Path, is_path}
-use Rattle.git_objects.specs.Trees.{Leaf, Flat, IsTree, Node, LeafNode, TreeNode, at, under, rests, standing, if_full}
+use Rattle.git_objects.specs.Trees.{Flat, IsTree, Node, LeafNode, TreeNode, rests, standing, if_full}
 use Rattle.git_objects.specs.Entries.{is_dir}
 use Rattle.git_objects.proofs.Pointwise.{all_at}
 use Rattle.object_store.specs.Objects.{Object, IsStore, has_child}
 use Rattle.object_store.specs.Unfolding.{flat}
-use Rattle.object_store.specs.Hands.{IsLeafOf, IsComponentOf}
 use Rattle.object_store.proofs.Unfolding.{flat_good}
 use Rattle.path_trees.specs.Standing.{node}
 use Rattle.path_trees.specs.declared.found.Found.{Found}
@@ -22,10 +20,8 @@ use Rattle.decision_lists.proofs.Strip.{strip-self}
 use Rattle.decision_lists.proofs.Clash.{below-has}
 use Rattle.filter_routes.proofs.TreeEntries.{each_entry}
 use Rattle.filter_apply.specs.Hands.{IsPartObject}
-use Rattle.filter_apply.specs.Parts.{base_in, decides, part_of, rests_of}
+use Rattle.filter_apply.specs.Parts.{base_in, decides, part_in, rests_of}
 use Rattle.filter_apply.proofs.Cones.{in_cone, filter-each, filter-none, thin_apart}
-use Rattle.filter_apply.proofs.Handing.{part_handed}
-use Rattle.filter_apply.proofs.Overs.{IsOver, over_own, over_under}
 use Rattle.filter_apply.proofs.Places.{dir_node, leaf_node, dir_held, standing-root}
 
 -- ---- the entry that decides
@@ -73,31 +69,34 @@ module _ (es : List Entry) (i : ℕ) (b : Bool) (s : Path) (a : Option Path) (ge
   test-is : (r : Path) → test r ≡ (in_cone (cone_of b s) (s ++ r) && free_in (take i es) (s ++ r))
   test-is r = ap (λ q. decides es i (q ++ r)) base-is ∙ decides-is es i (cone_of b s, a) (s ++ r) get
 
-  module _ (S : List Object) (t : Flat) (p : Path) (f : Found) (store : IsStore S) (held : has_child S f.mode f.name.0 ≡ true) (h : IsTree t) (stands : Some (node S f) ≡ standing t p) where
+  module _ (S : List Object) (f : Found) (store : IsStore S) (held : has_child S f.mode f.name.0 ≡ true) where
     abbrev pub u : Flat
     u = flat S f.name.0
+
+    abbrev part : Flat
+    part = part_in es i (rests (node S f))
 
     u-tree : is_dir f.mode ≡ true → IsTree u
     u-tree d = (flat_good S store f.name.0 (dir_held S f.mode f.name.0 d held)).tree
 
-    of_node : (n : Node) → node S f ≡ n → part_of es i p t ≡ filter (λ e. test e.0) (rests n)
-    of_node n e = ap (λ o. filter (λ e. test e.0) (rests_of o)) (sym stands ∙ ap Some e)
+    of_node : (n : Node) → node S f ≡ n → part ≡ filter (λ e. test e.0) (rests n)
+    of_node n e = ap (λ (m : Node). part_in es i (rests m)) e
 
-    of_dir : is_dir f.mode ≡ true → part_of es i p t ≡ filter (λ e. test e.0) u
+    of_dir : is_dir f.mode ≡ true → part ≡ filter (λ e. test e.0) u
     of_dir d = of_node (TreeNode u) (dir_node S f.mode f.name.0 d)
 
     -- what stands there is not of the cone's kind
-    pub wrong_kind : is_dir f.mode ≡ b → [] ≡ part_of es i p t
+    pub wrong_kind : is_dir f.mode ≡ b → [] ≡ part
     wrong_kind k = by b k (λ r. test-is r)
       where
-        by : (v : Bool) → is_dir f.mode ≡ v → ((r : Path) → test r ≡ (in_cone (cone_of v s) (s ++ r) && free_in (take i es) (s ++ r))) → [] ≡ part_of es i p t
+        by : (v : Bool) → is_dir f.mode ≡ v → ((r : Path) → test r ≡ (in_cone (cone_of v s) (s ++ r) && free_in (take i es) (s ++ r))) → [] ≡ part
         by true d is = sym (of_dir d ∙ filter-none test u (each_entry (λ e. test e.0 ≡ false) u (u-tree d).sorted
             (λ e g. is e.0 ∙ ap (λ o. is_some (whole o) && free_in (take i es) (s ++ e.0)) (strip-self s e.0) ∙ ap (λ o. is_some o && free_in (take i es) (s ++ e.0)) (not_whole e.0 (all_at is_path u e.0 e.1 (u-tree d).paths g)))))
         by false d is = let x = leaf_node S f.mode f.name.0 d in
             sym (of_node (LeafNode x.0) x.1 ∙ filter-none test (([], x.0) ∷ []) (is [] ∙ ap (λ o. is_some (proper o) && free_in (take i es) (s ++ [])) (strip-self s []), tt))
 
     -- a leaf for a single path
-    pub right_leaf : is_dir f.mode ≡ false → b ≡ true → Thin [] es → rests (node S f) ≡ part_of es i p t
+    pub right_leaf : is_dir f.mode ≡ false → b ≡ true → Thin [] es → rests (node S f) ≡ part
     right_leaf d k thin =
         let x = leaf_node S f.mode f.name.0 d in
         ap rests x.1 ∙ sym (of_node (LeafNode x.0) x.1 ∙ ap (λ v. cond v (([], x.0) ∷ []) []) (decided))
@@ -126,7 +125,7 @@ module _ (es : List Entry) (i : ℕ) (b : Bool) (s : Path) (a : Option Path) (ge
             ∙ ap (λ o. is_some (whole o) && true) (ap (strip s) (sym (append-nil s)) ∙ strip-self s [])
 
     -- a directory for all below a path
-    pub right_tree : is_dir f.mode ≡ true → b ≡ false → filter (λ e. free_in (take i es) (base_in (slice_get es i) ++ e.0)) u ≡ part_of es i p t
+    pub right_tree : is_dir f.mode ≡ true → b ≡ false → filter (λ e. free_in (take i es) (base_in (slice_get es i) ++ e.0)) u ≡ part
     right_tree d k = sym (of_dir d ∙ filter-each test (λ r. free_in (take i es) (base_in (slice_get es i) ++ r)) u (each_entry (λ e. test e.0 ≡ free_in (take i es) (base_in (slice_get es i) ++ e.0)) u (u-tree d).sorted
         (λ e g.
         test-is e.0
@@ -134,14 +133,9 @@ module _ (es : List Entry) (i : ℕ) (b : Bool) (s : Path) (a : Option Path) (ge
         ∙ ap (λ o. is_some o && free_in (take i es) (s ++ e.0)) (below-has s e.0 (full e.0 (all_at is_path u e.0 e.1 (u-tree d).paths g)))
         ∙ ap (λ q. free_in (take i es) (q ++ e.0)) (sym base-is))))
 
-    -- what is made of the directory is made of the tree
-    pub tree_handed : is_dir f.mode ≡ true → (o : Object) → IsPartObject u o → IsPartObject t o
-    tree_handed d = part_handed t u (u-tree d) (subst (IsOver (IsLeafOf t) (IsComponentOf t)) (sym (tree_is (at t p) (under t p) (sym stands ∙ ap Some (dir_node S f.mode f.name.0 d)))) (over_under (IsLeafOf t) (IsComponentOf t) t p (over_own t)))
-      where
-        tree_is : (o : Option Leaf) (w : Flat) → option_or (option_map LeafNode o) (if_full w) ≡ Some (TreeNode u) → u ≡ w
-        tree_is (Some y) w e = let same : LeafNode y ≡ TreeNode u = same_Some (LeafNode y) (TreeNode u) e in cc
-        tree_is None [] e = cc
-        tree_is None (x ∷ w) e = let same : TreeNode (x ∷ w) ≡ TreeNode u = same_Some (TreeNode (x ∷ w)) (TreeNode u) e in cc
+    -- what is made of the directory is made of what was found
+    pub tree_handed : is_dir f.mode ≡ true → (o : Object) → IsPartObject u o → IsPartObject (rests (node S f)) o
+    tree_handed d o = subst (λ (n : Node). IsPartObject (rests n) o) (sym (dir_node S f.mode f.name.0 d))
 
 -- a whole tree by the rests of its paths
 pub whole_rests : (o : Option Node) (v : Flat) → IsTree v → o ≡ standing v [] → rests_of o ≡ v

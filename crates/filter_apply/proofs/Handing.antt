@@ -42,6 +42,10 @@ pub fault_as : (made more : Object → Type 0) (S : List Object) (e : ApplyError
 fault_as made more S (Collision n) h c = clash_as made more S n.0 h c
 fault_as made more S OutOfMemory h c = tt
 
+pub err_as : {A : Type 0} (made more : Object → Type 0) (S : List Object) (r : Result A ApplyError) → ((o : Object) → made o → more o) → IfErr r (IsApplyFault made S) → IfErr r (IsApplyFault more S)
+err_as made more S (Ok a) h e = tt
+err_as made more S (Err f) h e = fault_as made more S f h e
+
 pub on_ok : {A E P Q : Type 0} (r : Result A E) → (P → Q) → OnOk r P → OnOk r Q
 on_ok (Ok a) f h = f h
 on_ok (Err e) f h = h

@@ -4,6 +4,7 @@ pub mod Overs
 pub mod Cones
 pub mod Handing
 pub mod Deciding
+pub mod Bases
 pub mod Placements
 pub mod Restricting
 pub mod Routing

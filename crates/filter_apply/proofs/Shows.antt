@@ -5,7 +5,7 @@ use Rattle.std.specs.FinMap.{is_sorted}
 use Rattle.std.proofs.lemmas.Option.{none-some}
 use Rattle.git_objects.specs.Lists.{Each}
 use Rattle.git_objects.specs.Paths.{Bytes, Path, is_path, is_nil, path_cmp}
-use Rattle.git_objects.specs.Trees.{Leaf, Flat, IsTree, at, under, rests}
+use Rattle.git_objects.specs.Trees.{Leaf, Flat, IsTree, Node, at, under, rests, standing}
 use Rattle.git_objects.specs.Names.{name, body}
 use Rattle.git_objects.specs.Entries.{is_dir}
 use Rattle.git_objects.specs.declared.name.Name.{Name}
@@ -21,6 +21,7 @@ use Rattle.object_store.proofs.Growth.{grown_as, grown_then, stands-grown, has-g
 use Rattle.object_store.proofs.Unfolding.{IsFull, flat_good}
 use Rattle.decision_lists.specs.Entries.{Entry, base, tail, decide, run}
 use Rattle.decision_lists.specs.Cells.{free_in}
+use Rattle.decision_lists.specs.Hits.{target_of}
 use Rattle.filter_text.specs.Filters.{Filter, has_paths, nop, sub, onto, dir, file, exclude, join, chain, workspace}
 use Rattle.filter_routes.specs.Soundness.{IsSound}
 use Rattle.filter_routes.specs.Lists.{IsListOf, IsOneEntry}
@@ -43,11 +44,12 @@ use Rattle.path_trees.proofs.Together.{together_law}
 use Rattle.path_trees.proofs.Trees.{AreGood, good_fits}
 use Rattle.filter_apply.specs.Faults.{IsApplyFault, fault_of}
 use Rattle.filter_apply.specs.Hands.{parts_in, IsNamedIn, IsPartObject, IsShownObject, IsPlacedObject, IsJoinedObject}
-use Rattle.filter_apply.specs.Parts.{base_in, part_of}
+use Rattle.filter_apply.specs.Parts.{base_in, part_in, part_of, put_behind, rests_of, routed}
 use Rattle.filter_apply.specs.Truth.{IsPaid}
 use Rattle.object_store.specs.Puts.{of_body}
 use Rattle.filter_apply.specs.Ranges.{between, passed, seen_between, map_of}
 use Rattle.filter_apply.specs.declared.fault.ApplyError.{ApplyError}
+use Rattle.filter_apply.proofs.Bases.{node_handed}
 use Rattle.filter_apply.proofs.Cones.{in_cone}
 use Rattle.filter_apply.proofs.Handing.{fault_as}
 use Rattle.filter_apply.proofs.Members.{in-each, each-as, each-in}
@@ -117,8 +119,14 @@ right_none S first second a s e g h =
     let there : has Tree S a.0 ≡ true = subst (λ (o : Option Name). IfSome o (λ n. has Tree S n.0 ≡ true)) e h in
     record { held = there; map = sym ((λ i. together (map_of S (e i)) (map_of S (g i))) ∙ together-right (flat S a.0) (flat_good S s a.0 there).tree) }
 
-module _ (S S' : List Object) (first second : Option Name) (a b : Name) (s : IsStore S) (e : first ≡ Some a) (g : second ≡ Some b) (held_a : has Tree S a.0 ≡ true) (held_b : has Tree S b.0 ≡ true) (c : clash (map_of S first) (map_of S second) ≡ None) where
-  none-clash : clash (flat S a.0) (flat S b.0) ≡ None
+module _ (S S' : List Object) (first second : Option Name) (a b : Name) (s : IsStore S) (e : first ≡ Some a) (g : second ≡ Some b) (h : IfSome first (λ n. has Tree S n.0 ≡ true)) (k : IfSome second (λ n. has Tree S n.0 ≡ true)) (c : clash (map_of S first) (map_of S second) ≡ None) where
+  pub held_a : has Tree S a.0 ≡ true
+  held_a = subst (λ (o : Option Name). IfSome o (λ n. has Tree S n.0 ≡ true)) e h
+
+  pub held_b : has Tree S b.0 ≡ true
+  held_b = subst (λ (o : Option Name). IfSome o (λ n. has Tree S n.0 ≡ true)) g k
+
+  pub none-clash : clash (flat S a.0) (flat S b.0) ≡ None
   none-clash = (λ i. clash (map_of S (sym e i)) (map_of S (sym g i))) ∙ c
 
   all-over : AreOver (λ x. IsLeafOf (flat S a.0) x ⊎ IsLeafOf (flat S b.0) x) (λ x. IsComponentOf (flat S a.0) x ⊎ IsComponentOf (flat S b.0) x) (IsShared (flat S a.0) (flat S b.0))
@@ -130,11 +138,11 @@ module _ (S S' : List Object) (first second : Option Name) (a b : Name) (s : IsS
       (subst (λ (o : Option Name). IsGrownBy (IsJoinedObject (flat S a.0) (map_of S o)) S S') (sym g)
       (grown_over (λ x. IsLeafOf (flat S a.0) x ⊎ IsLeafOf (flat S b.0) x) (λ x. IsComponentOf (flat S a.0) x ⊎ IsComponentOf (flat S b.0) x) (IsShared (flat S a.0) (flat S b.0)) S S' all-over j))
 
-  pub joined_clash : (n : Bytes) → IsCollision (IsShared (flat S a.0) (flat S b.0)) S' n → IsClash (IsJoinedObject (map_of S first) (map_of S second)) S' n
-  joined_clash n j =
-      subst (λ (o : Option Name). IsClash (IsJoinedObject (map_of S o) (map_of S second)) S' n) (sym e)
-      (subst (λ (o : Option Name). IsClash (IsJoinedObject (flat S a.0) (map_of S o)) S' n) (sym g)
-      (clash_over (λ x. IsLeafOf (flat S a.0) x ⊎ IsLeafOf (flat S b.0) x) (λ x. IsComponentOf (flat S a.0) x ⊎ IsComponentOf (flat S b.0) x) (IsShared (flat S a.0) (flat S b.0)) S' n all-over j))
+  pub joined_fault : (x : TreeFault) → IsTreeFault (IsShared (flat S a.0) (flat S b.0)) S' x → IsApplyFault (IsJoinedObject (map_of S first) (map_of S second)) S' (fault_of x)
+  joined_fault x j =
+      subst (λ (o : Option Name). IsApplyFault (IsJoinedObject (map_of S o) (map_of S second)) S' (fault_of x)) (sym e)
+      (subst (λ (o : Option Name). IsApplyFault (IsJoinedObject (flat S a.0) (map_of S o)) S' (fault_of x)) (sym g)
+      (fault_over (λ x. IsLeafOf (flat S a.0) x ⊎ IsLeafOf (flat S b.0) x) (λ x. IsComponentOf (flat S a.0) x ⊎ IsComponentOf (flat S b.0) x) (IsShared (flat S a.0) (flat S b.0)) S' x all-over j))
 
   pub joined_stands : (n : Name) → StandsFor S' n.0 (together (flat S a.0) (flat S b.0)) → StandsFor S' n.0 (together (map_of S first) (map_of S second))
   joined_stands n j = record { held = j.held; map = j.map ∙ (λ i. together (map_of S (sym e i)) (map_of S (sym g i))) }
@@ -144,66 +152,111 @@ module _ (S S' : List Object) (first second : Option Name) (a b : Name) (s : IsS
 pub part_shown : (f : Filter) (t : Flat) (o : Object) → IsPartObject t o → IsShownObject f t o
 part_shown f t = made_as (IsLeafOf t) (IsLeafOf t) (IsComponentOf t) (IsNamedIn f t) (λ x l. l) (λ c k. inl k)
 
+pub found_shown : (f : Filter) (t : Flat) (p : Path) → IsTree t → (n : Node) → Some n ≡ standing t p → (o : Object) → IsPartObject (rests n) o → IsShownObject f t o
+found_shown f t p h n e o m = part_shown f t o (node_handed t p h n e o m)
+
+-- nothing is shown of nothing
+put-nothing : (o : Option Path) → put_behind o [] ≡ []
+put-nothing None = refl
+put-nothing (Some a) = refl
+
+-- an entry with that target
+with_target : (o : Option Entry) (a : Path) → target_of o ≡ Some a → (e : Entry) × (o ≡ Some e) × (e.1 ≡ Some a)
+with_target None a k = absurd (none-some a k)
+with_target (Some e) a k = (e, refl, k)
+
 module _ (f : Filter) (es : List Entry) (list : IsListOf f es) (sound : IsSound f) (named : has_paths f ≡ true) (t : Flat) (h : IsTree t) where
+  -- what is seen by an entry is what it shows where this stands at its base
   module _ (i : ℕ) (e : Entry) (get : slice_get es i ≡ Some e) where
     pub dead : (S : List Object) → e.1 ≡ None → IsDirectory S (seen_between f es i (i + 1) t) None
-    dead S n = no-target f es list sound named t h i e get n
+    dead S k = no-target f es list sound named t h i e get k
 
     module _ (a : Path) (target : e.1 ≡ Some a) where
-      pub empty_part : (S : List Object) → [] ≡ part_of es i (base e.0) t → IsDirectory S (seen_between f es i (i + 1) t) None
-      empty_part S n =
-          route-is f es list sound named t h i e get a target (subst (λ (u : Flat). IsTree (behind a u)) n nil-tree)
-          ∙ ap (behind a) (sym n)
+      pub routed_seen : (u : Flat) → u ≡ rests_of (standing t (base_in (slice_get es i))) → (S : List Object) → IsStore S → (o : Option Name) → IsDirectory S (routed es i u) o → IsDirectory S (seen_between f es i (i + 1) t) o
+      routed_seen u stands S s o d = by o d
+        where
+          routed-is : routed es i u ≡ behind a (part_of es i (base e.0) t)
+          routed-is =
+              ap (routed es i) stands
+              ∙ (λ j. put_behind (target_of (get j)) (part_of es i (base_in (get j)) t))
+              ∙ ap (λ o. put_behind o (part_of es i (base e.0) t)) target
 
-      module _ (S : List Object) (s : IsStore S) (d : Found) (held : has_child S d.mode d.name.0 ≡ true) (map : rests (node S d) ≡ part_of es i (base e.0) t) where
-        of-part : (r : Path) (x : Leaf) → at (rests (node S d)) r ≡ Some x → at (part_of es i (base e.0) t) r ≡ Some x
-        of-part r x g = ap (λ (u : Flat). at u r) (sym map) ∙ g
+          by : (o : Option Name) → IsDirectory S (routed es i u) o → IsDirectory S (seen_between f es i (i + 1) t) o
+          by None d =
+              let none : behind a (part_of es i (base e.0) t) ≡ [] = sym routed-is ∙ d in
+              route-is f es list sound named t h i e get a target (subst IsTree (sym none) nil-tree) ∙ none
+          by (Some n) d =
+              let whole : flat S n.0 ≡ behind a (part_of es i (base e.0) t) = d.map ∙ routed-is in
+              record { held = d.held; map = whole ∙ sym (route-is f es list sound named t h i e get a target (subst IsTree whole (flat_good S s n.0 d.held).tree)) }
 
-        pub kind : (is_dir d.mode ≡ true) ⊎ (is_nil a ≡ false)
-        kind = by (is_dir d.mode) refl
-          where
-            not_nil : (p : Path) → is_path (p ++ []) ≡ true → is_nil p ≡ false
-            not_nil [] v = absurd (true≢false (sym v))
-            not_nil (c ∷ p) v = refl
+      pub all_seen_by : {E : Type 0} (u : Flat) → u ≡ rests_of (standing t (base_in (slice_get es i))) → (S : List Object) → IsStore S → (r : Result (Option Name) E) → IfOk r (IsDirectory S (routed es i u)) → IfOk r (IsDirectory S (seen_between f es i (i + 1) t))
+      all_seen_by u stands S s (Ok o) d = routed_seen u stands S s o d
+      all_seen_by u stands S s (Err x) d = tt
 
-            by : (b : Bool) → is_dir d.mode ≡ b → (is_dir d.mode ≡ true) ⊎ (is_nil a ≡ false)
-            by true k = inl k
-            by false k =
-                let x = leaf_node S d.mode d.name.0 k in
-                inr (not_nil a (part-leaf f es list sound named t h i e get a target [] x.0 (of-part [] x.0 (ap (λ n. at (rests n) []) x.1))).1)
+      pub nothing_seen : (S : List Object) → IsStore S → None ≡ standing t (base_in (slice_get es i)) → IsDirectory S (seen_between f es i (i + 1) t) None
+      nothing_seen S s none = routed_seen [] (ap rests_of none) S s None (put-nothing (target_of (slice_get es i)))
 
-        sorted-rests : T (is_sorted path_cmp (rests (node S d)))
-        sorted-rests = by (is_dir d.mode) refl
-          where
-            by : (b : Bool) → is_dir d.mode ≡ b → T (is_sorted path_cmp (rests (node S d)))
-            by true k = subst (λ n. T (is_sorted path_cmp (rests n))) (sym (dir_node S d.mode d.name.0 k)) (flat_good S s d.name.0 (dir_held S d.mode d.name.0 k held)).tree.sorted
-            by false k = let x = leaf_node S d.mode d.name.0 k in subst (λ n. T (is_sorted path_cmp (rests n))) (sym x.1) tt
+  -- what is made at an entry's target
+  module _ (i : ℕ) (a : Path) (target : target_of (slice_get es i) ≡ Some a) (n : Node) (stands : Some n ≡ standing t (base_in (slice_get es i))) where
+    w : (e : Entry) × (slice_get es i ≡ Some e) × (e.1 ≡ Some a)
+    w = with_target (slice_get es i) a target
 
-        part-over : IsOver (IsLeafOf t) (IsComponentOf t) (rests (node S d))
-        part-over = record {
-          leaves = λ p x g. (part-named f es list sound named t h i e get a target p x (of-part p x g)).0;
-          parts = λ p x g. (part-named f es list sound named t h i e get a target p x (of-part p x g)).1;
-        }
+    routed-behind : routed es i (rests n) ≡ behind a (part_in es i (rests n))
+    routed-behind = ap (λ o. put_behind o (part_in es i (rests n))) target
 
-        target-named : Each (IsNamedIn f t) a
-        target-named = by (rests (node S d)) (rests_full S s d.mode d.name.0 held) (λ r x g. (part-named f es list sound named t h i e get a target r x (of-part r x g)).2)
-          where
-            by : (u : Flat) → IsFull u → ((r : Path) (x : Leaf) → at u r ≡ Some x → Each (IsNamedIn f t) a) → Each (IsNamedIn f t) a
-            by [] k all = absurd k
-            by (x ∷ u) k all = all x.0 x.1 (ap (λ b. cond b (Some x.1) (at u x.0)) ((path_decides x.0 x.0).1 refl))
+    pub none_routed : [] ≡ part_in es i (rests n) → routed es i (rests n) ≡ []
+    none_routed none = routed-behind ∙ ap (behind a) (sym none)
 
-        pub placed_shown : (o : Object) → IsPlacedObject a (rests (node S d)) o → IsShownObject f t o
-        placed_shown = made_as (IsLeafOf (rests (node S d))) (IsLeafOf t) (λ c. IsComponentOf (rests (node S d)) c ⊎ Contains a c) (IsNamedIn f t)
-            (leaf_over (IsLeafOf t) (IsComponentOf t) (rests (node S d)) sorted-rests part-over)
-            (λ c k. elim k [
-              | inl l ↦ inl (part_over (IsLeafOf t) (IsComponentOf t) (rests (node S d)) sorted-rests part-over c l)
-              | inr r ↦ each-in (IsNamedIn f t) a c target-named r
-            ])
+    module _ (S : List Object) (s : IsStore S) (d : Found) (held : has_child S d.mode d.name.0 ≡ true) (map : rests (node S d) ≡ part_in es i (rests n)) where
+      part-is : rests (node S d) ≡ part_of es i (base w.0.0) t
+      part-is = map ∙ ap (λ o. part_in es i (rests_of o)) stands ∙ ap (λ o. part_of es i (base_in o) t) w.1
 
-        pub placed_stands : (S' : List Object) (n : Name) → IsStore S' → StandsFor S' n.0 (behind a (rests (node S d))) → StandsFor S' n.0 (seen_between f es i (i + 1) t)
-        placed_stands S' n store j =
-            let whole : flat S' n.0 ≡ behind a (part_of es i (base e.0) t) = j.map ∙ ap (behind a) map in
-            record { held = j.held; map = whole ∙ sym (route-is f es list sound named t h i e get a target (subst IsTree whole (flat_good S' store n.0 j.held).tree)) }
+      of-part : (r : Path) (x : Leaf) → at (rests (node S d)) r ≡ Some x → at (part_of es i (base w.0.0) t) r ≡ Some x
+      of-part r x g = ap (λ (u : Flat). at u r) (sym part-is) ∙ g
+
+      pub kind : (is_dir d.mode ≡ true) ⊎ (is_nil a ≡ false)
+      kind = by (is_dir d.mode) refl
+        where
+          not_nil : (p : Path) → is_path (p ++ []) ≡ true → is_nil p ≡ false
+          not_nil [] v = absurd (true≢false (sym v))
+          not_nil (c ∷ p) v = refl
+
+          by : (b : Bool) → is_dir d.mode ≡ b → (is_dir d.mode ≡ true) ⊎ (is_nil a ≡ false)
+          by true k = inl k
+          by false k =
+              let x = leaf_node S d.mode d.name.0 k in
+              inr (not_nil a (part-leaf f es list sound named t h i w.0 w.1 a w.2 [] x.0 (of-part [] x.0 (ap (λ n. at (rests n) []) x.1))).1)
+
+      sorted-rests : T (is_sorted path_cmp (rests (node S d)))
+      sorted-rests = by (is_dir d.mode) refl
+        where
+          by : (b : Bool) → is_dir d.mode ≡ b → T (is_sorted path_cmp (rests (node S d)))
+          by true k = subst (λ n. T (is_sorted path_cmp (rests n))) (sym (dir_node S d.mode d.name.0 k)) (flat_good S s d.name.0 (dir_held S d.mode d.name.0 k held)).tree.sorted
+          by false k = let x = leaf_node S d.mode d.name.0 k in subst (λ n. T (is_sorted path_cmp (rests n))) (sym x.1) tt
+
+      part-over : IsOver (IsLeafOf t) (IsComponentOf t) (rests (node S d))
+      part-over = record {
+        leaves = λ p x g. (part-named f es list sound named t h i w.0 w.1 a w.2 p x (of-part p x g)).0;
+        parts = λ p x g. (part-named f es list sound named t h i w.0 w.1 a w.2 p x (of-part p x g)).1;
+      }
+
+      target-named : Each (IsNamedIn f t) a
+      target-named = by (rests (node S d)) (rests_full S s d.mode d.name.0 held) (λ r x g. (part-named f es list sound named t h i w.0 w.1 a w.2 r x (of-part r x g)).2)
+        where
+          by : (u : Flat) → IsFull u → ((r : Path) (x : Leaf) → at u r ≡ Some x → Each (IsNamedIn f t) a) → Each (IsNamedIn f t) a
+          by [] k all = absurd k
+          by (x ∷ u) k all = all x.0 x.1 (ap (λ b. cond b (Some x.1) (at u x.0)) ((path_decides x.0 x.0).1 refl))
+
+      pub placed_shown : (o : Object) → IsPlacedObject a (rests (node S d)) o → IsShownObject f t o
+      placed_shown = made_as (IsLeafOf (rests (node S d))) (IsLeafOf t) (λ c. IsComponentOf (rests (node S d)) c ⊎ Contains a c) (IsNamedIn f t)
+          (leaf_over (IsLeafOf t) (IsComponentOf t) (rests (node S d)) sorted-rests part-over)
+          (λ c k. elim k [
+            | inl l ↦ inl (part_over (IsLeafOf t) (IsComponentOf t) (rests (node S d)) sorted-rests part-over c l)
+            | inr r ↦ each-in (IsNamedIn f t) a c target-named r
+          ])
+
+      pub placed_routed : (S' : List Object) (name : Name) → StandsFor S' name.0 (behind a (rests (node S d))) → StandsFor S' name.0 (routed es i (rests n))
+      placed_routed S' name j = record { held = j.held; map = j.map ∙ ap (behind a) map ∙ sym routed-behind }
 
   -- ---- two ranges
 

@@ -4,7 +4,7 @@ use Rattle.git_objects.specs.Paths.{Bytes}
 use Rattle.git_objects.specs.Trees.{Leaf, FileLeaf, Flat, standing}
 use Rattle.decision_lists.specs.Entries.{Entry, at, below}
 use Rattle.filter_text.specs.Filters.{exclude, join, chain, sub, onto, dir, no_more, more}
-use Rattle.filter_apply.specs.Parts.{decides, rests_of, part_of}
+use Rattle.filter_apply.specs.Parts.{decides, rests_of, part_of, routed}
 use Rattle.filter_apply.specs.Hands.{parts_in}
 
 abbrev a : Bytes
@@ -92,6 +92,21 @@ without_what_lies_deeper = refl
 -- the same of a tree that is shown, where the rests stand behind the target
 pub of_what_is_shown : part_of moved 1 (x ∷ []) ((x ∷ c ∷ [], leaf) ∷ (x ∷ d ∷ e ∷ [], other) ∷ []) ≡ (c ∷ [], leaf) ∷ []
 of_what_is_shown = refl
+
+-- ---- what one entry shows where something stands at its base
+
+-- what stands at b, without what lies below b/d, is shown below x
+pub shown_at_its_target : routed moved 1 ((c ∷ [], other) ∷ (d ∷ e ∷ [], leaf) ∷ []) ≡ (x ∷ c ∷ [], other) ∷ []
+shown_at_its_target = refl
+
+pub all_of_it_is_taken : routed moved 1 ((d ∷ e ∷ [], leaf) ∷ []) ≡ []
+all_of_it_is_taken = refl
+
+pub without_a_target : routed moved 0 ((e ∷ [], leaf) ∷ []) ≡ []
+without_a_target = refl
+
+pub no_such_entry : routed moved 2 tree ≡ []
+no_such_entry = refl
 
 -- ---- components of filters
 

@@ -1,4 +1,5 @@
 pub mod Parts
+pub mod Founds
 pub mod Ranges
 pub mod Hands
 pub mod Truth

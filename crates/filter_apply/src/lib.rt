@@ -2,6 +2,7 @@
 #![tactic(auto)]
 
 mod fault;
+mod founds;
 mod holes;
 mod laws;
 mod parts;

@@ -8,12 +8,13 @@ ghost use Rattle.path_trees.specs.Levels.{IsDirectory};
 ghost use Rattle.filter_text.specs.Shapes.{shape};
 ghost use Rattle.filter_routes.specs.Lenses.{seen_through};
 ghost use Rattle.filter_routes.specs.Origins.{lens_of};
-ghost use Rattle.filter_cache.specs.Memos.{found};
+ghost use Rattle.filter_cache.specs.Memos.{found, same_key};
 ghost use Rattle.filter_apply.specs.Faults.{IsApplyFault};
 ghost use Rattle.filter_apply.specs.Hands.{IsShownObject};
 ghost use Rattle.filter_apply.specs.Truth.{IsPaid, IsTrueFor, KeepsOthers};
 
 use crate::ApplyError;
+use crate::founds::founds_of;
 use crate::routes::shown_between;
 use filter_cache::Memo;
 use filter_routes::Table;
@@ -28,23 +29,41 @@ fn shown_by_all<L: Ledger>(
     alloc: Global,
     store: &mut Store,
     table: &Table,
+    id: usize,
     root: Name,
+    memo: &mut Memo,
     steps: &mut Steps<L>,
 ) -> Result<Option<Name>, ApplyError>
     requires root { has Tree store.old root.0 ≡ true }
+    requires memo { IsTrueFor store.old table.now id memo.old }
     ensures ok { IfOk result (IsDirectory store.new
         (seen_through (lens_of (shape table.now.filter)) (flat store.old root.0))) }
     ensures err { IfErr result (IsApplyFault
         (IsShownObject (shape table.now.filter) (flat store.old root.0)) store.new) }
     ensures store { IsGrownBy (IsShownObject (shape table.now.filter) (flat store.old root.0)) store.old store.new }
+    ensures true_now { IsTrueFor store.new table.now id memo.new }
+    ensures others { KeepsOthers id memo.old memo.new }
     ensures few { IsPaid (shape table.now.filter) steps.old steps.new }
 {
     store_law(store);
-    let count = table.entries().len();
+    let entries = table.entries();
+    let count = entries.len();
     if count == 0 {
         return Ok(None);
     }
-    shown_between(alloc, store, table, 0, count, root, steps)
+    let founds = founds_of(alloc, store, root, entries, steps)?;
+    shown_between(
+        alloc,
+        store,
+        table,
+        id,
+        founds.as_slice(),
+        0,
+        count,
+        root,
+        memo,
+        steps,
+    )
 }
 
 // What the table shows of a tree, made from the tree.
@@ -52,18 +71,23 @@ fn made<L: Ledger>(
     alloc: Global,
     store: &mut Store,
     table: &Table,
+    id: usize,
     root: Name,
+    memo: &mut Memo,
     steps: &mut Steps<L>,
 ) -> Result<Name, ApplyError>
     requires root { has Tree store.old root.0 ≡ true }
+    requires memo { IsTrueFor store.old table.now id memo.old }
     ensures ok { IfOk result (λ n. StandsFor store.new n.0
         (seen_through (lens_of (shape table.now.filter)) (flat store.old root.0))) }
     ensures err { IfErr result (IsApplyFault
         (IsShownObject (shape table.now.filter) (flat store.old root.0)) store.new) }
     ensures store { IsGrownBy (IsShownObject (shape table.now.filter) (flat store.old root.0)) store.old store.new }
+    ensures true_now { IsTrueFor store.new table.now id memo.new }
+    ensures others { KeepsOthers id memo.old memo.new }
     ensures few { IsPaid (shape table.now.filter) steps.old steps.new }
 {
-    match shown_by_all(alloc, store, table, root, steps)? {
+    match shown_by_all(alloc, store, table, id, root, memo, steps)? {
         Some(name) => Ok(name),
         None => Ok(taken_in(store, &[])?),
     }
@@ -90,15 +114,15 @@ pub fn shown<L: Ledger>(
     ensures store { IsGrownBy (IsShownObject (shape table.now.filter) (flat store.old root.0)) store.old store.new }
     ensures true_now { IsTrueFor store.new table.now id memo.new }
     ensures others { KeepsOthers id memo.old memo.new }
-    ensures kept_hit { IfSome (found (id, root.0) memo.old.entries)
+    ensures kept_hit { IfSome (found same_key ((id, 0), root.0) memo.old.entries)
         (λ n. (result ≡ Ok (record { 0 = n })) × (steps.new ≡ steps.old)) }
     ensures few { IsPaid (shape table.now.filter) steps.old steps.new }
 {
     store_law(store);
-    if let Some(name) = memo.get(id, &root) {
+    if let Some(name) = memo.get(id, 0, &root) {
         return Ok(name);
     }
-    let name = made(alloc, store, table, root, steps)?;
-    memo.put(id, root, name);
+    let name = made(alloc, store, table, id, root, memo, steps)?;
+    memo.put(id, 0, root, name);
     Ok(name)
 }

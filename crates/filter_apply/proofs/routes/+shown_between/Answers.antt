@@ -1,15 +1,19 @@
-use Rattle.std.proofs.Common.{rules, ◌≡◌, true, ℕ, ◌+◌, subst, arith, IfOk}
+use Rattle.std.proofs.Common.{rules, ◌≡◌, true, ℕ, ◌+◌, subst, arith, IfOk, get_or, None}
+use Rattle.std.proofs.lemmas.Option.{slice_get-get_or}
 use Rattle.git_objects.specs.declared.kind.Kind.TheVariants.{Tree}
 use Rattle.object_store.specs.Objects.{has}
 use Rattle.object_store.specs.Unfolding.{flat}
-use Rattle.object_store.proofs.Growth.{has-grown}
+use Rattle.object_store.proofs.Growth.{has-grown, flat-grown}
 use Rattle.path_trees.specs.Levels.{IsDirectory}
 use Rattle.filter_text.specs.Shapes.{shape}
 use Rattle.filter_apply.specs.Faults.{IsApplyFault}
 use Rattle.filter_apply.specs.Hands.{IsShownObject}
 use Rattle.filter_apply.specs.Ranges.{seen_between}
+use Rattle.filter_apply.specs.Founds.{AreFoundAt}
+use Rattle.filter_apply.proofs.Bases.{founds_grown}
 use Rattle.filter_apply.proofs.Handing.{err_told}
 use Rattle.filter_apply.proofs.Shows.{both_grown, half_fault, left_held, right_held, halves_apart, halves_ok, halves_err, halves_store}
+use Rattle.filter_apply.proofs.Truths.{true_grown, true_joined, keeps_same, keeps_then}
 use Rattle.filter_apply.proofs.routes.+shown_between.Goals as goal
 
 pub returns-then-last-first-eq1-clause-ok : goal.returns-then-last-first-eq1-clause-ok
@@ -19,13 +23,25 @@ returns-then-last-first-eq1-clause-ok g t c =
     let next : c.args.first + 1 ≡ c.args.last = omega arith in
     subst (λ (n : ℕ). IfOk c.shown_by.result (IsDirectory c.shown_by.new.store (seen_between (shape c.args.table.now.filter) c.args.table.now.routes c.args.first n (flat c.args.store.now c.args.root.0)))) next c.shown_by.ensures.ok
 
+pub shown_by-requires-clause-found : goal.shown_by-requires-clause-found
+shown_by-requires-clause-found g t c =
+    let range = c.requires.range in
+    let within = c.requires.within in
+    let as_many = c.requires.founds.as_many in
+    c.requires.founds.each c.args.first (get_or c.args.founds.now c.args.first None) (slice_get-get_or c.args.founds.now c.args.first None (omega arith))
+
 pub shown_between-requires-2 : goal.shown_between-requires-2
 shown_between-requires-2 g t c κs within =
-    let held : has Tree c.shown_between.new.store c.args.root.0 ≡ true = has-grown c.args.store.now c.shown_between.new.store Tree c.args.root.0 c.in_ok-left.ensures.store c.requires.root in
+    let S0 = c.args.store.now in
+    let S1 = c.shown_between.new.store in
+    let made = IsShownObject (shape c.args.table.now.filter) (flat S0 c.args.root.0) in
+    let held : has Tree S1 c.args.root.0 ≡ true = has-grown {made = made} S0 S1 Tree c.args.root.0 c.in_ok-left.ensures.store c.requires.root in
+    let founds : AreFoundAt S1 (flat S1 c.args.root.0) c.args.table.now.routes c.args.founds.now =
+    founds_grown {made = made} S0 S1 (flat S0 c.args.root.0) (flat S1 c.args.root.0) c.args.table.now.routes c.args.founds.now (flat-grown {made = made} S0 S1 c.args.root.0 c.in_ok-left.ensures.store c.requires.root) c.in_ok-left.ensures.store c.requires.founds in
     let above = c.middle_of-middle.ensures.above in
     let below = c.middle_of-middle.ensures.below in
     let range = c.requires.range in
-    (search rules, (search rules, (held, (below, c.requires.within))))
+    (search rules, (search rules, (held, (founds, (below, (c.requires.within, c.in_ok-left.ensures.true_now))))))
 
 pub returns-in_err-right-clause-err : goal.returns-in_err-right-clause-err
 returns-in_err-right-clause-err g t c =
@@ -85,3 +101,21 @@ returns-clause-store g t c =
     let S1 = c.shown_between.new.store in
     let S2 = c.shown_between-2.new.store in
     halves_store (shape c.args.table.now.filter) c.args.table.now.routes c.table_law.ensures.list c.table_law.ensures.sound c.table_law.ensures.paths S0 S1 S2 c.args.root.0 c.store_law.ensures.store c.requires.root c.in_ok-left.ensures.store c.in_ok-right.ensures.store c.args.first c.middle_of-middle.result c.args.last c.in_ok-left.left c.in_ok-right.right c.in_ok-left.ensures.ok c.in_ok-right.ensures.ok c.joined.new.store c.joined.ensures.store
+
+pub returns-in_err-right-clause-others : goal.returns-in_err-right-clause-others
+returns-in_err-right-clause-others g t c =
+    keeps_then c.args.id c.args.memo.now c.shown_between.new.memo c.shown_between-2.new.memo c.in_ok-left.ensures.others c.in_err-right.ensures.others
+
+pub returns-clause-true_now : goal.returns-clause-true_now
+returns-clause-true_now g t c =
+    let S2 = c.shown_between-2.new.store in
+    let S3 = c.joined.new.store in
+    let memo = c.shown_between-2.new.memo in
+    true_joined c.args.table.now c.args.id S3 memo c.joined.new.memo c.joined.ensures.entries c.joined.ensures.joins
+    (true_grown c.args.table.now c.args.id S2 S3 memo c.joined.ensures.store c.in_ok-right.ensures.true_now)
+
+pub returns-clause-others : goal.returns-clause-others
+returns-clause-others g t c =
+    keeps_then c.args.id c.args.memo.now c.shown_between.new.memo c.joined.new.memo c.in_ok-left.ensures.others
+    (keeps_then c.args.id c.shown_between.new.memo c.shown_between-2.new.memo c.joined.new.memo c.in_ok-right.ensures.others
+    (keeps_same c.args.id c.shown_between-2.new.memo c.joined.new.memo c.joined.ensures.entries))

@@ -3,6 +3,7 @@ use Rattle.git_objects.specs.Names.{name}
 use Rattle.git_objects.specs.Paths.{Bytes}
 use Rattle.git_objects.specs.declared.kind.Kind.TheVariants.{Tree}
 use Rattle.object_store.specs.Unfolding.{flat, StandsFor}
+use Rattle.object_store.proofs.Growth.{grown_self}
 use Rattle.path_trees.specs.Levels.{IsDirectory}
 use Rattle.filter_text.specs.Shapes.{shape}
 use Rattle.filter_routes.specs.Lenses.{seen_through}
@@ -11,6 +12,7 @@ use Rattle.filter_apply.specs.Faults.{IsApplyFault, fault_of}
 use Rattle.filter_apply.specs.Hands.{IsShownObject}
 use Rattle.filter_apply.proofs.Handing.{err_told}
 use Rattle.filter_apply.proofs.Shows.{empty_fits, empty_taken, empty_refused}
+use Rattle.filter_apply.proofs.Truths.{true_grown}
 use Rattle.filter_apply.proofs.showing.made.Goals as goal
 
 pub returns-in-Some-clause-ok : goal.returns-in-Some-clause-ok
@@ -51,3 +53,13 @@ returns-in_ok-taken_in-in-None-clause-store g c =
     let t = flat S c.args.root.0 in
     let f = shape c.args.table.now.filter in
     (empty_taken f t S S1 c.in_ok-name.ensures.store c.taken_in.new.store c.taken_in.ensures.store c.in_ok-taken_in-in-None.ensures.ok.1).1
+
+pub returns-in_ok-taken_in-in-None-clause-true_now : goal.returns-in_ok-taken_in-in-None-clause-true_now
+returns-in_ok-taken_in-in-None-clause-true_now g c =
+    let S1 = c.shown_by_all.new.store in
+    let S2 = c.taken_in.new.store in
+    let t = flat c.args.store.now c.args.root.0 in
+    let f = shape c.args.table.now.filter in
+    let same = grown_self (IsShownObject f t) S1 c.in_ok-name.ensures.store.store in
+    let grown = (empty_taken f t S1 S1 same S2 c.taken_in.ensures.store c.in_ok-taken_in-in-None.ensures.ok.1).1 in
+    true_grown c.args.table.now c.args.id S1 S2 c.shown_by_all.new.memo grown c.in_ok-name.ensures.true_now
