@@ -1,5 +1,6 @@
 pub mod Parts
 pub mod Founds
+pub mod Cursors
 pub mod Ranges
 pub mod Hands
 pub mod Truth

@@ -1,6 +1,7 @@
 //! What a filter shows of a stored tree, over names of shared subtrees.
 #![tactic(auto)]
 
+mod cursor;
 mod fault;
 mod founds;
 mod holes;

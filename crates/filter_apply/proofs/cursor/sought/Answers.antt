@@ -1,0 +1,24 @@
+use Rattle.std.proofs.Common.{sym, subst, ◌∙◌}
+use Rattle.std.specs.Cmp.Lexicographic.{bytes_decides}
+use Rattle.git_objects.specs.Views.{entry_value}
+use Rattle.filter_apply.specs.Cursors.{IsFrom}
+use Rattle.filter_apply.proofs.Behind.{passed_by, behind_found, none_left}
+use Rattle.filter_apply.proofs.cursor.sought.Goals as goal
+
+pub returns-then-eq-clause-rest : goal.returns-then-eq-clause-rest
+returns-then-eq-clause-rest c =
+    let w = c.args.component.now in
+    let e = c.in-Some.entry in
+    behind_found w c.args.entries c.entries.ahead c.entries.rest c.next.new.self (entry_value e) c.entries.invariant.same c.in-Some.ensures.entry c.next.ensures.rest c.entries.invariant.from
+    ((bytes_decides w e.component.now).0 (sym c.eq.ensures ∙ c.if-eq.true))
+
+pub returns-then-is_below-clause-found : goal.returns-then-is_below-clause-found
+returns-then-is_below-clause-found c =
+    none_left c.args.component.now c.args.entries c.entries.ahead c.entries.rest c.next.new.self (entry_value c.in-Some.entry) c.entries.invariant.same c.in-Some.ensures.entry c.next.ensures.rest c.entries.invariant.from
+    (sym c.eq.ensures ∙ c.if-eq.false) (sym c.is_below.ensures ∙ c.if-is_below.true)
+
+pub entries-preserved : goal.entries-preserved
+entries-preserved c =
+    let passed = passed_by c.args.component.now c.args.entries c.entries.ahead c.entries.rest c.next.new.self (entry_value c.in-Some.entry) c.entries.invariant.same c.in-Some.ensures.entry c.next.ensures.rest c.entries.invariant.from
+    (sym c.eq.ensures ∙ c.if-eq.false) (sym c.is_below.ensures ∙ c.if-is_below.false) in
+    record { same = sym c.copy-rest.ensures; from = subst (IsFrom c.args.component.now c.args.entries) (sym c.copy-rest.ensures) passed }

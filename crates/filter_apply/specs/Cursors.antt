@@ -1,0 +1,39 @@
+-- Look-ups in a listing that go on where the last one ended.
+use Rattle.std.specs.Prelude.{◌≡◌, Bool, true, false, cond, ◌==◌, nat_lt, List, [], ◌∷◌, ◌++◌, Some}
+use Rattle.std.specs.Option.{option_map}
+use Rattle.git_objects.specs.Entries.{AreEntries}
+use Rattle.git_objects.specs.Paths.{Bytes, Path}
+use Rattle.git_objects.specs.Trees.{Flat, standing}
+use Rattle.git_objects.specs.declared.entry.Entry.{Entry}
+use Rattle.object_store.specs.Objects.{Object, has_child}
+use Rattle.path_trees.specs.Listed.{found_at}
+use Rattle.path_trees.specs.Standing.{node}
+use Rattle.path_trees.specs.declared.found.Found.{Found}
+use Rattle.filter_apply.specs.declared.cursor.Cursor.{Cursor}
+
+-- whether a has the lesser byte where the two first differ; neither is a front of the other
+abbrev pub is_below : Bytes → Bytes → Bool
+is_below [] b = false
+is_below (x ∷ a) [] = false
+is_below (x ∷ a) (y ∷ b) = cond (x == y) (is_below a b) (nat_lt x y)
+
+-- What is left of a listing has each component that is above this one as the whole listing has it.
+pub record IsBehind (c : Bytes) (all rest : List Entry) : Type 0 where
+  pub order : AreEntries rest
+  pub above : (d : Bytes) → is_below c d ≡ true → found_at d rest ≡ found_at d all
+
+-- and this one, too
+pub record IsFrom (c : Bytes) (all rest : List Entry) : Type 0 where
+  pub behind : IsBehind c all rest
+  pub here : found_at c rest ≡ found_at c all
+
+-- these entries are what the directory at the path lists; none, where none is there
+pub record IsListedAt (S : List Object) (t : Flat) (p : Path) (es : List Entry) : Type 0 where
+  pub order : AreEntries es
+  pub stands : (c : Bytes) → option_map (node S) (found_at c es) ≡ standing t (p ++ c ∷ [])
+  pub held : (c : Bytes) (f : Found) → found_at c es ≡ Some f → has_child S f.mode f.name.0 ≡ true
+
+-- a cursor in the directory at its path
+pub record IsCursor (S : List Object) (t : Flat) (k : Cursor) : Type 0 where
+  pub listed : IsListedAt S t k.parent.now k.all
+  pub behind : IsBehind k.last.now k.all k.rest
