@@ -7,8 +7,8 @@ use Rattle.object_store.proofs.Growth.{has-grown, flat-grown}
 use Rattle.path_trees.specs.Levels.{IsDirectory}
 use Rattle.filter_text.specs.Shapes.{shape}
 use Rattle.filter_apply.specs.Faults.{IsApplyFault}
-use Rattle.filter_apply.specs.Hands.{IsShownObject}
-use Rattle.filter_apply.specs.Ranges.{seen_between}
+use Rattle.filter_apply.specs.Hands.{IsJoinedObject, IsShownObject}
+use Rattle.filter_apply.specs.Ranges.{map_of, seen_between}
 use Rattle.filter_apply.specs.Founds.{AreFoundAt}
 use Rattle.filter_apply.proofs.Bases.{founds_grown}
 use Rattle.filter_apply.proofs.Handing.{err_told}
@@ -112,7 +112,7 @@ returns-clause-true_now g t c =
     let S3 = c.joined.new.store in
     let memo = c.shown_between-2.new.memo in
     true_joined c.args.table.now c.args.id S3 memo c.joined.new.memo c.joined.ensures.entries c.joined.ensures.joins
-    (true_grown c.args.table.now c.args.id S2 S3 memo c.joined.ensures.store c.in_ok-right.ensures.true_now)
+    (true_grown c.args.table.now c.args.id {made = IsJoinedObject (map_of S2 c.in_ok-left.left) (map_of S2 c.in_ok-right.right)} S2 S3 memo c.joined.ensures.store c.in_ok-right.ensures.true_now)
 
 pub returns-clause-others : goal.returns-clause-others
 returns-clause-others g t c =
