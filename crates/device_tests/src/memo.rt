@@ -1,4 +1,4 @@
-// The memo of what is shown of trees: it has what was shown last.
+// The memo of what is shown of trees: it has what was shown last, and the parts of which that was made.
 ghost use Rattle.std.specs.Prelude.{◌≡◌, ◌<◌};
 ghost use Rattle.filter_apply.specs.Truth.{IsTrueFor};
 
@@ -13,8 +13,8 @@ use std::marker::Brand;
 use std::sync::ledger::{Blank, Ledger};
 use std::test::Fail;
 
-// The file a/f and the directories above it, as Git writes them.
-const OBJECTS: [(Kind, &[u8]); 3] = [
+// The files a/f and b/f, the directory of each, a root that has a alone, and one that has both, as Git writes them.
+const OBJECTS: [(Kind, &[u8]); 4] = [
     (Kind::Blob, b"hello\n"),
     (
         Kind::Tree,
@@ -24,12 +24,26 @@ const OBJECTS: [(Kind, &[u8]); 3] = [
         Kind::Tree,
         b"40000 a\0\x10\x73\x1d\x0b\x17\x0b\x98\x48\x1a\x00\xbd\xca\x16\x1e\x87\x4e\x0a\xb9\x33\x77",
     ),
+    (
+        Kind::Tree,
+        b"40000 a\0\x10\x73\x1d\x0b\x17\x0b\x98\x48\x1a\x00\xbd\xca\x16\x1e\x87\x4e\x0a\xb9\x33\x77\
+          40000 b\0\x10\x73\x1d\x0b\x17\x0b\x98\x48\x1a\x00\xbd\xca\x16\x1e\x87\x4e\x0a\xb9\x33\x77",
+    ),
 ];
 
 // The names of the root and of what `:/a` shows of it.
 const ROOT: &[u8] = b"9e875c512d63c924f4d9470217af46b123963bf8";
 
 const BELOW: &[u8] = b"10731d0b170b98481a00bdca161e874e0ab93377";
+
+// The names of the root of both, of the trees that have its directories as x and as y, and of the tree that has both.
+const BOTH: &[u8] = b"03c63c265f7e6203a42c3b52dc2a21b673b59417";
+
+const X: &[u8] = b"f8091e7f21189147f5f6f843bf4586d832124b50";
+
+const Y: &[u8] = b"3f2cb05494b6ce00964c0704ec14bd09ba3ed569";
+
+const JOINED: &[u8] = b"df7d4cd6b600939a0988bf564683176395287aeb";
 
 fn table_of(alloc: Global, text: &[u8]) -> Option<Table> {
     let filter = parse(alloc, text).ok()?;
@@ -76,7 +90,7 @@ fn answer(alloc: Global, store: &mut Store, table: &Table, twice: bool) -> Optio
     } else {
         first
     };
-    if memo.get(0, &root) == Some(last) {
+    if memo.get(0, 0, &root) == Some(last) {
         Some(last)
     } else {
         None
@@ -94,5 +108,32 @@ fn what_was_shown_is_held(rt: HostRuntime) -> Result<(), Fail> {
     assert!(rt; below.is_some());
     assert!(rt; answer(alloc, &mut store, &table, false) == below);
     assert!(rt; answer(alloc, &mut store, &table, true) == below);
+    Ok(())
+}
+
+// What the memo has behind a call: the two entries' trees, and both joined.
+fn parts(alloc: Global, store: &mut Store, table: &Table) -> Option<[Option<Name>; 3]> {
+    let root = Name::from_hex(BOTH)?;
+    let below = Name::from_hex(BELOW)?;
+    let mut memo = Memo::new(alloc, 3).ok()?;
+    asked::<Brand>(alloc, store, table, &root, &mut memo, Blank::new(1))?;
+    let first = memo.get(0, 1, &below);
+    let second = memo.get(0, 2, &below);
+    let joined = memo.joined(&Name::from_hex(X)?, &Name::from_hex(Y)?);
+    Some([first, second, joined])
+}
+
+#[test]
+fn parts_are_held(rt: HostRuntime) -> Result<(), Fail> {
+    let alloc = rt.alloc();
+    let (Some(mut store), Some(table)) = (stored(alloc), table_of(alloc, b":[x=:/a,y=:/b]")) else {
+        return Err(Fail::from("no tree"));
+    };
+    let Some([first, second, joined]) = parts(alloc, &mut store, &table) else {
+        return Err(Fail::from("nothing is shown"));
+    };
+    assert!(rt; first.is_some() && first == Name::from_hex(X));
+    assert!(rt; second.is_some() && second == Name::from_hex(Y));
+    assert!(rt; joined.is_some() && joined == Name::from_hex(JOINED));
     Ok(())
 }

@@ -37,7 +37,8 @@ use Rattle.projection_ground.specs.declared.ground.Ground.{Ground}
 use Rattle.projection_ground.specs.declared.turning.Turn.TheVariants as turns
 use Rattle.projection_ground.proofs.Filling.{kept-append, kept-front}
 use Rattle.projection_ground.proofs.OwnChoices.{agrees-itself}
-use Rattle.projection_ground.proofs.Growing.{commit-there, extends-as, extends-map, extends-then, front-self, graph-grown, held-grown, maps-grown, memo-grown}
+use Rattle.filter_apply.proofs.Truths.{are_grown}
+use Rattle.projection_ground.proofs.Growing.{commit-there, extends-as, extends-map, extends-then, front-self, graph-grown, held-grown, maps-grown}
 use Rattle.history_ground.proofs.MadeHistories.{IsIn, found-in, made-grown, made-more}
 use Rattle.object_store.proofs.PutObjects.{commit_fits}
 use Rattle.history_ground.proofs.Steps.{Turns, kept-projected}
@@ -53,7 +54,7 @@ extends-store made g T w a = record {
   store = a;
   ground = record {
     graph = graph-grown g.store T a g.graph w.graph;
-    memo = memo-grown g.store T g.tables g.memo a w.memo;
+    memo = are_grown g.store T g.tables g.memo a w.memo;
     maps = maps-grown g.store T a g.graph w.graph g.true_maps w.maps;
   };
 }

@@ -22,6 +22,7 @@ use Rattle.filter_routes.specs.Origins.{lens_of}
 use Rattle.filter_apply.specs.Faults.{IsApplyFault}
 use Rattle.filter_apply.specs.Hands.{IsShownObject}
 use Rattle.filter_apply.specs.Truth.{IsTrueFor, KeepsOthers}
+use Rattle.filter_apply.proofs.Truths.{stay_true}
 use Rattle.filter_apply.specs.declared.fault.ApplyError.{ApplyError}
 use Rattle.filter_apply.specs.declared.fault.ApplyError.TheVariants.{OutOfMemory}
 use Rattle.commit_map.specs.Shown.{Entries}
@@ -33,7 +34,7 @@ use Rattle.projection_ground.specs.Grounds.{IsGround, AreInFront, Extends}
 use Rattle.projection_ground.specs.Asked.{IsNone, IsNumbered, IsShownBy, IsAskedFor}
 use Rattle.projection_ground.specs.declared.ground.Ground.{Ground}
 use Rattle.projection_ground.specs.declared.seeing.Asked.{Asked}
-use Rattle.projection_ground.proofs.Growing.{front-self, interned-front, has-front, graph-grown, ground-tables, maps-grown, true-grown, extends-self, extends-then, extends-as}
+use Rattle.projection_ground.proofs.Growing.{front-self, interned-front, has-front, graph-grown, ground-tables, maps-grown, extends-self, extends-then, extends-as}
 use Rattle.projection_ground.proofs.Leaves.{found-leaf-grown, leaf-held-grown}
 
 -- without a workspace place the filter is one for every tree
@@ -137,7 +138,7 @@ shown-of g f number root table S memo r w h e ok err grown own others =
         store = x.grown;
         ground = record {
           graph = graph-grown g.store S grown g.graph w.graph;
-          memo = true-grown g.store S g.tables number table g.memo memo grown e w.memo own others;
+          memo = stay_true g.store S g.tables number table g.memo memo grown e w.memo own others;
           maps = maps-grown g.store S grown g.graph w.graph g.true_maps w.maps;
         };
       };

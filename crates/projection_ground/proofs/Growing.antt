@@ -28,7 +28,8 @@ use Rattle.filter_routes.specs.Interned.{HasAt, HasNone, Interns}
 use Rattle.filter_routes.specs.TableValues.{Table}
 use Rattle.filter_routes.proofs.Interning.{other-at}
 use Rattle.filter_cache.specs.Memos.{Memo}
-use Rattle.filter_apply.specs.Truth.{IsShownAs, IsTrueFor, Holds, KeepsOthers, AreTrueFor}
+use Rattle.filter_apply.specs.Truth.{IsTrueFor, AreTrueFor}
+use Rattle.filter_apply.proofs.Truths.{are_grown}
 use Rattle.projection_laws.specs.StoredGraphs.{IsRowIn, IsGraphIn, graph_of, snapshot_named}
 use Rattle.projection_laws.proofs.HistoryLemmas.{each-map}
 use Rattle.projection_laws.proofs.StoredGraphs.{at-row, older-suc, older-all, row-at}
@@ -165,46 +166,22 @@ has-within ts f n h = slice_get_within ts n h.0 h.1
 
 -- ---- the memo
 
-pub shown-grown : {made : Object → Type 0} (S T : List Object) (t : Table) (tree shown : Bytes) → IsGrownBy made S T → IsShownAs S t tree shown → IsShownAs T t tree shown
-shown-grown S T t tree shown g h = record {
-  held = has-grown S T Tree tree g h.held;
-  seen = stands-grown S T shown _ g (subst (λ (u : Flat). StandsFor S shown (seen_through (lens_of (shape t.filter)) u)) (sym (flat-grown S T tree g h.held)) h.seen);
-}
-
-pub memo-grown : {made : Object → Type 0} (S T : List Object) (ts : List Table) (memo : Memo) → IsGrownBy made S T → AreTrueFor S ts memo → AreTrueFor T ts memo
-memo-grown S T ts memo g h = record { each = λ n t e tree shown held. shown-grown S T t tree shown g (h.each n t e tree shown held); within = h.within }
-
 pub true-tables : (S : List Object) (ts us : List Table) (memo : Memo) → AreInFront ts us → AreTrueFor S ts memo → AreTrueFor S us memo
 true-tables S ts us memo a h = record {
-  each = λ n t e tree shown held.
-      let l : n < length ts = h.within n tree shown held in
-      h.each n t (sym (get-within ts a.0 n l) ∙ subst (λ (vs : List Table). slice_get vs n ≡ Some t) (sym a.1) e) tree shown held;
-  within = λ n tree shown held.
-      let l : n < length ts = h.within n tree shown held in
+  each = λ n t e. record {
+    whole = λ tree shown held. (at-front n t e (h.within n 0 tree shown held)).whole tree shown held;
+    routes = λ i tree shown held. (at-front n t e (h.within n (i + 1) tree shown held)).routes i tree shown held;
+    joins = h.joins;
+  };
+  within = λ n part tree shown held.
+      let l : n < length ts = h.within n part tree shown held in
       let q : length us ≡ length ts + length a.0 = ap length (sym a.1) ∙ length-append ts a.0 in
       omega (arith, l, q);
-}
-
-pub true-grown : {made : Object → Type 0} (S T : List Object) (ts : List Table) (n : ℕ) (t : Table) (memo memo' : Memo) → IsGrownBy made S T → slice_get ts n ≡ Some t → AreTrueFor S ts memo → IsTrueFor T t n memo' → KeepsOthers n memo memo' → AreTrueFor T ts memo'
-true-grown S T ts n t memo memo' g e h own others = record {
-  each = λ m u q tree shown held. elim (decide m n) as (λ o. IsShownAs T u tree shown) [
-    | inl same ↦
-        let is : u ≡ t = same_Some u t (sym q ∙ ap (slice_get ts) same ∙ e) in
-        subst (λ (x : Table). IsShownAs T x tree shown) (sym is) (own tree shown (subst (λ i. Holds memo' i tree shown) same held))
-    | inr apart ↦ shown-grown S T u tree shown g (h.each m u q tree shown (others m tree shown held apart))
-  ];
-  within = λ m tree shown held. elim (decide m n) as (λ o. m < length ts) [
-    | inl same ↦ let l : n < length ts = slice_get_within ts n t e in omega (arith, l, same)
-    | inr apart ↦ h.within m tree shown (others m tree shown held apart)
-  ];
+  joins = h.joins;
 }
   where
-    decide : (m n : ℕ) → (m ≡ n) ⊎ (m ≡ n → ⊥)
-    decide m n = by (m == n) refl
-      where
-        by : (b : Bool) → (m == n) ≡ b → (m ≡ n) ⊎ (m ≡ n → ⊥)
-        by true e = inl (eqb-true m n e)
-        by false e = inr (eqb-false m n e)
+    at-front : (n : ℕ) (t : Table) → slice_get us n ≡ Some t → n < length ts → IsTrueFor S t n memo
+    at-front n t e l = h.each n t (sym (get-within ts a.0 n l) ∙ subst (λ (vs : List Table). slice_get vs n ≡ Some t) (sym a.1) e)
 
 -- ---- grounds
 

@@ -14,7 +14,8 @@ use Rattle.state_items.specs.Items.{Held}
 use Rattle.state_items.specs.KeptMaps.{entries_at}
 use Rattle.repo_ground.specs.Contents.{Contents, Spells, is_selected}
 use Rattle.repo_ground.specs.Laws.{GrownLaw}
-use Rattle.projection_ground.proofs.Growing.{graph-grown, maps-grown, memo-grown}
+use Rattle.filter_apply.proofs.Truths.{are_grown}
+use Rattle.projection_ground.proofs.Growing.{graph-grown, maps-grown}
 
 -- a map of which as many entries are kept as of another
 abbrev entries_by : Contents → Bytes → ℕ → Entries → Entries
@@ -58,7 +59,7 @@ ground-grown g newer S w s e =
     let a : IsGrownBy anything g.store S = grown g.store S newer s e in
     record {
       graph = graph-grown g.store S a g.graph w.graph;
-      memo = memo-grown g.store S g.tables g.memo a w.memo;
+      memo = are_grown g.store S g.tables g.memo a w.memo;
       maps = maps-grown g.store S a g.graph w.graph g.true_maps w.maps;
     }
 

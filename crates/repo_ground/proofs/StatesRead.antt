@@ -1,6 +1,5 @@
 -- A state of what was read has what items hold.
 use Rattle.std.proofs.Common.{◌≡◌, ℕ, zero, suc, ◌<◌, Bool, true, false, cond, ◌||◌, List, [], ◌∷◌, length, take, get_or, Contains, Option, Some, None, refl, sym, ap, subst, ◌∙◌, arith}
-use Rattle.std.proofs.lemmas.Option.{none-some}
 use Rattle.git_objects.specs.Paths.{Bytes, same_bytes}
 use Rattle.git_objects.specs.Refs.{Refs}
 use Rattle.git_objects.proofs.Basics.{same_bytes-back, same_bytes-self}
@@ -8,9 +7,8 @@ use Rattle.object_store.specs.Objects.{Object, object_name, find_named, has_name
 use Rattle.commit_map.specs.Rules.{rule_number}
 use Rattle.commit_map.specs.Shown.{Entries, kept_at}
 use Rattle.commit_graph.specs.Graphs.{Row}
-use Rattle.filter_apply.specs.Truth.{AreTrueFor}
-use Rattle.filter_cache.specs.Memos.{Key, Memo}
-use Rattle.filter_routes.specs.TableValues.{Table}
+use Rattle.filter_apply.proofs.Truths.{all_none_true}
+use Rattle.filter_cache.specs.Memos.{Memo}
 use Rattle.projection_laws.specs.StoredGraphs.{IsGraphIn}
 use Rattle.projection_ground.specs.Grounds.{IsGround, commits_of}
 use Rattle.projection_ground.specs.TrueMaps.{AreTrueMaps}
@@ -22,6 +20,7 @@ use Rattle.state_items.specs.KeptMaps.{RuleMaps, entries_at}
 use Rattle.state_items.specs.Readings.{Gathered, Holds}
 use Rattle.ref_store.specs.Refs.{AreDistinct}
 use Rattle.repo_ground.specs.Contents.{Contents, Spells, is_selected}
+use Rattle.repo_ground.specs.Loads.{new_memo}
 use Rattle.repo_ground.proofs.RowsGround.{rows_ground}
 
 or-left : (a b : Bool) → (a || b) ≡ false → a ≡ false
@@ -89,25 +88,16 @@ spells-read h v s r g =
       rising = g.rising;
     }
 
-true-nothing : (S : List Object) (memo : Memo) → memo.entries ≡ [] → AreTrueFor S [] memo
-true-nothing S memo e = record {
-  each = λ id table h. absurd (none-some table h);
-  within = λ n tree shown m. absurd (not-there [] ((n, tree), shown) refl (subst (λ (es : List (Key × Bytes)). Contains es ((n, tree), shown)) e m));
-}
-  where
-    not-there : (es : List (Key × Bytes)) (x : Key × Bytes) → length es ≡ 0 → Contains es x → ⊥
-    not-there es x z m = absurd (omega (arith, m.1, z))
-
--- its ground, with no tables yet and an empty memo
-ground-read : (h : Held) (v : Gathered) (s : Contents) → IsReadInto v s → Holds h v → s.basis.tables ≡ [] → s.basis.memo.entries ≡ [] → s.basis.true_maps ≡ [] → IsGround s.basis
-ground-read h v s r g t m n =
+-- its ground, with a new memo
+ground-read : (h : Held) (v : Gathered) (s : Contents) → IsReadInto v s → Holds h v → s.basis.memo ≡ new_memo → s.basis.true_maps ≡ [] → IsGround s.basis
+ground-read h v s r g m n =
     let of : IsGraphIn h.objects (rows_of h.objects) = rows_ground h.objects h.objects g.store g.store (found-in h.objects g.store) in
     let S : IsGraphIn s.basis.store (rows_of h.objects) = subst (λ (S : List Object). IsGraphIn S (rows_of h.objects)) (sym (r.store ∙ g.objects)) of in
     record {
       graph = subst (λ (rows : List Row). IsGraphIn s.basis.store rows) (sym (r.graph ∙ g.graph)) S;
-      memo = subst (λ (ts : List Table). AreTrueFor s.basis.store ts s.basis.memo) (sym t) (true-nothing s.basis.store s.basis.memo m);
+      memo = all_none_true s.basis.store s.basis.tables s.basis.memo (ap (λ (x : Memo). x.entries) m) (ap (λ (x : Memo). x.joins) m);
       maps = subst (λ (ms : List TrueMap). AreTrueMaps s.basis.store (commits_of s.basis) ms) (sym n) tt;
     }
 
-pub whole-read : (h : Held) (v : Gathered) (s : Contents) → IsReadInto v s → s.basis.tables ≡ [] → s.basis.memo.entries ≡ [] → s.basis.true_maps ≡ [] → Holds h v → Spells h s × IsGround s.basis
-whole-read h v s r t m n g = (spells-read h v s r g, ground-read h v s r g t m n)
+pub whole-read : (h : Held) (v : Gathered) (s : Contents) → IsReadInto v s → s.basis.memo ≡ new_memo → s.basis.true_maps ≡ [] → Holds h v → Spells h s × IsGround s.basis
+whole-read h v s r m n g = (spells-read h v s r g, ground-read h v s r g m n)

@@ -9,11 +9,11 @@ use Rattle.repo_ground.specs.Contents.{Contents, IsCurrent, Spells}
 use Rattle.repo_ground.specs.declared.state.LoadError.{LoadError}
 use Rattle.repo_ground.specs.declared.state.LoadError.TheVariants.{StoreFault, Damaged, Collision, OutOfMemory}
 
--- a memo with room for so many pairs, which has none
+-- a memo with room for so many entries of each kind, which has none
 abbrev pub new_memo : Memo
-new_memo = record { capacity = 65536; entries = [] }
+new_memo = record { capacity = 65536; entries = []; joins = [] }
 
--- nothing is held, nothing is in the store, there are no items, no filter is selected yet, and the memo has no pairs
+-- nothing is held, nothing is in the store, there are no items, no filter is selected yet, and the memo has nothing
 pub record IsEmpty (s : Contents) : Type 0 where
   pub spells : Spells nothing s
   pub ground : IsGround s.basis
@@ -25,7 +25,7 @@ pub record IsEmpty (s : Contents) : Type 0 where
   pub size : s.size ≡ 0
 
 -- it has what some items hold, which are the keeper's where it tells them, and nothing else; no filter is selected yet, and the memo has
--- no pairs
+-- nothing
 pub record IsLoaded (told : Option (List Bytes)) (number : ℕ) (s : Contents) : Type 0 where
   pub items : List Bytes
   pub keeps : IfSome told (λ all. items ≡ all)

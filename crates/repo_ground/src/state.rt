@@ -11,7 +11,7 @@ ghost use Rattle.ref_store.specs.Refs.{head_of};
 ghost use Rattle.state_items.specs.Items.{Held, read_items};
 ghost use Rattle.state_items.specs.Readings.{Holds};
 ghost use Rattle.repo_ground.specs.Contents.{Spells};
-ghost use Rattle.repo_ground.specs.Loads.{IsEmpty, IsLoaded, IsLoadFault};
+ghost use Rattle.repo_ground.specs.Loads.{IsEmpty, IsLoaded, IsLoadFault, new_memo};
 
 use crate::filter_maps::FilterMaps;
 use crate::loading::{load_items, reserve_items};
@@ -29,8 +29,8 @@ use std::alloc::{AllocError, Global};
 use std::marker::Model;
 use tag_objects::Tag;
 
-// How many pairs the memo of a new state may hold.
-const MEMO_PAIRS: usize = 65_536;
+// How many entries of each kind the memo of a new state may hold.
+const MEMO_CAPACITY: usize = 65_536;
 
 /// Why items are not loaded.
 #[derive(Clone, Copy, Debug, PartialEq, Eq)]
@@ -97,13 +97,13 @@ impl State {
     pub fn empty(alloc: Global) -> Result<State, AllocError>
         ensures { IfOk result IsEmpty }
     {
-        let memo = Memo::new(alloc, MEMO_PAIRS)?;
+        let memo = Memo::new(alloc, MEMO_CAPACITY)?;
         Ok(State::of(alloc, Reading::new(alloc), memo, 0, 0))
     }
 
     // The state of what was read of so many items, which have so many bytes.
     fn of(alloc: Global, reading: Reading, memo: Memo, number: u32, size: u64) -> State
-        requires { memo.entries ≡ [] }
+        requires { memo ≡ new_memo }
         ensures spells { (h : Held) → Holds h reading → Spells h result × IsGround result.basis }
         ensures store { result.basis.store ≡ reading.objects }
         ensures selected { result.selected ≡ None }
@@ -166,7 +166,7 @@ impl State {
             Err(e) => return Err(e),
             Ok(size) => size,
         };
-        match Memo::new(alloc, MEMO_PAIRS) {
+        match Memo::new(alloc, MEMO_CAPACITY) {
             Err(_) => Err(LoadError::OutOfMemory),
             Ok(memo) => Ok(State::of(alloc, reading, memo, count, size)),
         }

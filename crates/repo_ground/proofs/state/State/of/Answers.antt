@@ -8,4 +8,4 @@ returns-clause-spells c = λ h g.
     let e = c.finish-store.ensures in
     whole-read h c.args.reading _
     (record { store = e.store; names = e.names; graph = e.graph; known = e.blobs; refs = e.refs; maps = ap (λ (x : Selection). x.maps) c.of.ensures ∙ e.kept; rule = e.rule; tags = e.tags; none = ap (λ (x : Selection). x.selected) c.of.ensures; kept = refl })
-    c.new-2.ensures c.requires c.new-3.ensures g
+    c.requires c.new-3.ensures g
