@@ -80,7 +80,7 @@ fn asked<L: Ledger>(
     shown(alloc, store, table, 0, *root, memo, &mut steps).ok()
 }
 
-// What is shown of a tree with a new memo of one pair, once or twice. None: the memo has something else for it then.
+// What is shown of a tree with a new memo of one entry, once or twice. None: the memo has something else for it then.
 fn answer(alloc: Global, store: &mut Store, table: &Table, twice: bool) -> Option<Name> {
     let root = Name::from_hex(ROOT)?;
     let mut memo = Memo::new(alloc, 1).ok()?;
@@ -111,16 +111,19 @@ fn what_was_shown_is_held(rt: HostRuntime) -> Result<(), Fail> {
     Ok(())
 }
 
-// What the memo has behind a call: the two entries' trees, and both joined.
-fn parts(alloc: Global, store: &mut Store, table: &Table) -> Option<[Option<Name>; 3]> {
+// Whether the memo has behind a call what the two entries show, and both joined. None: nothing is shown.
+fn has_parts(alloc: Global, store: &mut Store, table: &Table) -> Option<bool> {
     let root = Name::from_hex(BOTH)?;
     let below = Name::from_hex(BELOW)?;
+    let x = Name::from_hex(X)?;
+    let y = Name::from_hex(Y)?;
+    let both = Name::from_hex(JOINED)?;
     let mut memo = Memo::new(alloc, 3).ok()?;
     asked::<Brand>(alloc, store, table, &root, &mut memo, Blank::new(1))?;
-    let first = memo.get(0, 1, &below);
-    let second = memo.get(0, 2, &below);
-    let joined = memo.joined(&Name::from_hex(X)?, &Name::from_hex(Y)?);
-    Some([first, second, joined])
+    let first = memo.get(0, 1, &below) == Some(x);
+    let second = memo.get(0, 2, &below) == Some(y);
+    let joined = memo.joined(&x, &y) == Some(both);
+    Some(first && second && joined)
 }
 
 #[test]
@@ -129,11 +132,6 @@ fn parts_are_held(rt: HostRuntime) -> Result<(), Fail> {
     let (Some(mut store), Some(table)) = (stored(alloc), table_of(alloc, b":[x=:/a,y=:/b]")) else {
         return Err(Fail::from("no tree"));
     };
-    let Some([first, second, joined]) = parts(alloc, &mut store, &table) else {
-        return Err(Fail::from("nothing is shown"));
-    };
-    assert!(rt; first.is_some() && first == Name::from_hex(X));
-    assert!(rt; second.is_some() && second == Name::from_hex(Y));
-    assert!(rt; joined.is_some() && joined == Name::from_hex(JOINED));
+    assert!(rt; has_parts(alloc, &mut store, &table) == Some(true));
     Ok(())
 }
