@@ -151,8 +151,9 @@ pub fn check(alloc: Global, subject: &Subject, state: &mut State) -> Result<Byte
     let Some(head) = state.head(&subject.refname) else {
         return Err(Outcome::UnknownRef);
     };
-    match checked(alloc, &mut state.ground, &subject.filter, &head) {
-        Err(error) => Err(apply_outcome(error)),
-        Ok(report) => Ok(Bytes::of(report)),
-    }
+    let report = match checked(alloc, &mut state.ground, &subject.filter, &head) {
+        Err(error) => return Err(apply_outcome(error)),
+        Ok(report) => report,
+    };
+    Ok(Bytes::of(report))
 }
