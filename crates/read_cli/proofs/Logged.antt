@@ -1,5 +1,5 @@
 -- A history's lines upon a state.
-use Rattle.std.proofs.Common.{◌≡◌, List, [], ◌∷◌, map, reverse, Option, None, refl, ap, ◌∙◌}
+use Rattle.std.proofs.Common.{◌≡◌, List, [], ◌∷◌, ◌++◌, map, reverse, Option, None, refl, ap, ◌∙◌}
 use Rattle.std.specs.Prelude.{flat_map, if◌then◌else◌, zip}
 use Rattle.std.specs.Option.{option_map}
 use Rattle.git_objects.specs.Parts.{name_bytes}
