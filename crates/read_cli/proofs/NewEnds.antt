@@ -10,8 +10,8 @@ use Rattle.object_store.specs.Objects.{IsStore}
 use Rattle.commit_map.specs.Shown.{Shown}
 use Rattle.fast_export.specs.ExportTexts.{is_among}
 use Rattle.filter_text.specs.Filters.{Filter}
+use Rattle.projection_laws.specs.ProjectionLaws.{HistoryLaw}
 use Rattle.projection_laws.specs.Projections.{shown_of}
-use Rattle.projection_laws.proofs.LastLemmas.{the_law}
 use Rattle.state_items.specs.Items.{Held}
 use Rattle.incremental_export.specs.Unreached.{unreached}
 use Rattle.proj_cli.proofs.Exports.{ends-at}
@@ -40,5 +40,5 @@ newest-last (c ∷ older) haves p e a =
     ∙ ap (option_map shown_of) (last-newest c (unreached older haves))
     ∙ ap Some same
 
-pub ends-new : (h : Held) (f : Filter) (n : Bytes) (haves : List Bytes) → IsStore h.objects → EndsNew h f n haves
-ends-new h f n haves store = λ apart p e absent. newest-last (projected_graph h f n) haves p (ends-at the_law h f n store apart ∙ e) absent
+pub ends-new : HistoryLaw → (h : Held) (f : Filter) (n : Bytes) (haves : List Bytes) → IsStore h.objects → EndsNew h f n haves
+ends-new law h f n haves store = λ apart p e absent. newest-last (projected_graph h f n) haves p (ends-at law h f n store apart ∙ e) absent

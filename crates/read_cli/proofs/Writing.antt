@@ -12,6 +12,7 @@ use Rattle.fast_export.specs.Histories.{snapshots_at}
 use Rattle.incremental_export.specs.ChangeTexts.{changes_text}
 use Rattle.incremental_export.specs.Histories.{tree_in}
 use Rattle.incremental_export.specs.Unreached.{unreached}
+use Rattle.projection_laws.specs.ProjectionLaws.{HistoryLaw}
 use Rattle.projection_ground.specs.Grounds.{commits_of}
 use Rattle.proj_io.specs.Views.{SinkView}
 use Rattle.tag_objects.specs.Tags.{tags_text}
@@ -73,11 +74,11 @@ module _ (tagged : Bool) (items : List Bytes) (h : Held) (s : Contents) (w : IsS
       looked-at s.basis.store (λ (r : Result Bytes Outcome). r >>= λ m. Ok (export_hand tagged h f m)) (λ m. new_output tagged h f refname m haves) refname h.refs before before n o e
       (unshown-looked s.basis.store (export_hand tagged h f n ∷ []) (new_output tagged h f refname n haves) before o u)
 
-  pub new-lawful : (S : List Object) (ns : List Bytes) (tags : List Tag) → AreNew tagged h f n haves S ns tags
+  pub new-lawful : HistoryLaw → (S : List Object) (ns : List Bytes) (tags : List Tag) → AreNew tagged h f n haves S ns tags
       → OfHead (Ok h) refname (λ h n. IsNewLawful h f refname n haves)
-  new-lawful S ns tags a =
+  new-lawful law S ns tags a =
       law-at items h s w refname (λ h n. IsNewLawful h f refname n haves) n e
-      (record { last = ends-new h f n haves w.spells.store; again = a.fresh.lawful refname (named items h s w refname n e) })
+      (record { last = ends-new law h f n haves w.spells.store; again = a.fresh.lawful refname (named items h s w refname n e) })
 
 -- ---- originals
 

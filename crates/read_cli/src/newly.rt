@@ -181,6 +181,7 @@ pub fn write_projected<O: Sink>(
     ensures write { Counts (O.faults out.old) (O.faults out.new) (result ≡ Outcome.WriteFault) }
     ensures memory { O.refusals out.old ≤ O.refusals out.new }
 {
+    history_law();
     let Some(head) = state.head(&subject.refname) else {
         return Outcome::UnknownRef;
     };

@@ -73,5 +73,5 @@ returns-clause-lawful g c = λ items h w done.
     let e = sym (c.in-Some.ensures.held h w.spells) in
     elim c.match-fresh.branch [
       | in-Err k ↦ absurd (unshown-undone s.basis.store (export_hand tagged h f n ∷ []) k.in-Err.outcome (k.in-Err.ensures.err items h w) (sym k.result-is ∙ done))
-      | in-Ok k ↦ new-lawful tagged items h s w f r n e haves c.fresh.new.state.basis.store (map name_bytes k.in-Ok.names.items) k.in-Ok.tags.items (k.in-Ok.ensures.ok items h w)
+      | in-Ok k ↦ new-lawful tagged items h s w f r n e haves c.history_law.ensures c.fresh.new.state.basis.store (map name_bytes k.in-Ok.names.items) k.in-Ok.tags.items (k.in-Ok.ensures.ok items h w)
     ]
