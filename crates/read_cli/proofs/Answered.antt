@@ -1,6 +1,5 @@
 -- Reading a store is answered: by how judging, loading and looking end.
-use Rattle.std.proofs.Common.{◌≡◌, ◌≢◌, ◌⊎◌, inl, inr, ℕ, zero, Bool, true, false, true≢false, length, get_or, List, [], ◌∷◌, Contains, Option, Some, None, Result, Ok, Err, refl, sym, ap, subst, ◌∙◌, append-nil, arith}
-use Rattle.std.specs.Prelude.{take}
+use Rattle.std.proofs.Common.{◌≡◌, ◌≢◌, ◌⊎◌, inl, inr, ℕ, zero, false, true≢false, List, [], ◌∷◌, Contains, Option, Some, None, Result, Ok, Err, refl, sym, ap, subst, ◌∙◌, append-nil, arith}
 use Rattle.std.specs.Io.KnownBytes.{Appends, Keeps}
 use Rattle.git_objects.specs.Lists.{Each}
 use Rattle.git_objects.specs.Paths.{Bytes}
@@ -18,7 +17,7 @@ use Rattle.proj_words.specs.declared.outcome.Outcome.{Outcome}
 use Rattle.proj_words.specs.declared.outcome.Outcome.TheVariants.{Collision, Done, OutOfMemory, ReadFault, StoreFault, Usage, WriteFault}
 use Rattle.proj_cli.specs.Cases.{break_outcome, is_verdict, loaded}
 use Rattle.proj_cli.specs.Forms.{IsEarly}
-use Rattle.proj_cli.specs.Hands.{Hand, HeldObject, IsInHand, IsInHands}
+use Rattle.proj_cli.specs.Hands.{Hand, HeldObject, IsInHands}
 use Rattle.proj_cli.specs.Judging.{IsOwn}
 use Rattle.proj_cli.specs.Makes.{IsStateOf}
 use Rattle.proj_cli.specs.Sent.{TakesMemory}

@@ -1,5 +1,5 @@
 -- What is asked of a state, by its reading.
-use Rattle.std.proofs.Common.{◌≡◌, ◌⊎◌, inl, inr, ℕ, Bool, true, List, [], ◌∷◌, map, Some, None, Result, Ok, Err, refl, sym, ap, subst, ◌∙◌}
+use Rattle.std.proofs.Common.{◌≡◌, Bool, true, List, [], map, Result, Ok, Err, refl, sym, ap, subst, ◌∙◌}
 use Rattle.std.specs.Prelude.{IfErr, IfOk, flat_map}
 use Rattle.std.specs.Global.{Vec}
 use Rattle.std.specs.Option.{option_to_list}
@@ -28,8 +28,8 @@ use Rattle.proj_cli.specs.Import.{ref_line}
 use Rattle.proj_cli.specs.Judging.{IsOwn}
 use Rattle.proj_cli.proofs.Refusing.{sound-own}
 use Rattle.read_cli.specs.Answers.{IsLawful, IsNewLawful, IsReadBackUpon, OfHead}
-use Rattle.read_cli.specs.Looks.{IsAsked, IsLooked, IsLookedFor, IsReport, IsSubject, IsUnreported}
-use Rattle.read_cli.specs.Outputs.{check_output, hand, hands, log_output, new_output, original_commits, originals_output, output, refs_output}
+use Rattle.read_cli.specs.Looks.{IsAsked, IsLooked, IsLookedFor, IsReport, IsUnreported}
+use Rattle.read_cli.specs.Outputs.{check_output, hands, log_output, new_output, original_commits, originals_output, output, refs_output}
 use Rattle.read_cli.specs.Readings.{Check, Log, New, Originals, Reading, Refs, Unknown, verdict}
 use Rattle.read_cli.specs.declared.judging.Asked.{Asked}
 use Rattle.read_cli.specs.declared.judging.Asked.TheVariants as asks

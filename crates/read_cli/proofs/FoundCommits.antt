@@ -1,9 +1,8 @@
 -- Commits that are found in a store under their names.
-use Rattle.std.proofs.Common.{◌≡◌, ◌≤◌, suc, Bool, true, false, cond, ◌||◌, true≢false, List, [], ◌∷◌, length, map, filter_map, reverse, Option, Some, None, refl, sym, ap, subst, ◌∙◌, arith}
-use Rattle.std.specs.List.{cons_option}
+use Rattle.std.proofs.Common.{◌≡◌, Bool, true, false, cond, ◌||◌, true≢false, List, [], ◌∷◌, map, reverse, Option, Some, None, refl, sym, ap, subst, ◌∙◌}
 use Rattle.std.specs.Option.{option_map, option_map_or}
 use Rattle.std.specs.Cmp.Lexicographic.{bytes_decides}
-use Rattle.std.proofs.lemmas.List.{length-map, reverse-reverse}
+use Rattle.std.proofs.lemmas.List.{reverse-reverse}
 use Rattle.git_objects.specs.Commits.{Commit}
 use Rattle.git_objects.specs.Lists.{Each}
 use Rattle.git_objects.specs.Paths.{Bytes}
@@ -11,7 +10,7 @@ use Rattle.git_objects.specs.Snapshots.{Graph, Snapshot, commit_at, has, has_nam
 use Rattle.object_store.specs.Objects.{Object}
 use Rattle.object_store.specs.StoredSnapshots.{commit_named, snapshot_of}
 use Rattle.object_store.specs.Unfolding.{flat}
-use Rattle.fast_export.specs.Histories.{parents_in, snapshots_at}
+use Rattle.fast_export.specs.Histories.{snapshots_at}
 use Rattle.incremental_export.specs.Histories.{tree_in}
 use Rattle.incremental_export.proofs.StoredUnreached.{IsFound, all_found, each_found}
 use Rattle.projection_laws.proofs.HistoryLemmas.{each-reverse}

@@ -4,13 +4,10 @@ use Rattle.git_objects.specs.Parts.{name_bytes}
 use Rattle.git_objects.specs.Paths.{Bytes}
 use Rattle.git_objects.specs.declared.name.Name.{Name}
 use Rattle.std.specs.Global.{Vec}
-use Rattle.filter_text.specs.Shapes.{shape}
-use Rattle.workspace.specs.Laws.{IsUsable}
 use Rattle.proj_words.specs.declared.outcome.Outcome.{Outcome}
-use Rattle.proj_words.specs.declared.outcome.Outcome.TheVariants.{OutOfMemory, Usage}
+use Rattle.proj_words.specs.declared.outcome.Outcome.TheVariants.{OutOfMemory}
 use Rattle.read_cli.specs.Looks.{IsAsked, IsSubject, IsUnjudged}
 use Rattle.read_cli.specs.Readings.{Check, Log, New, Originals, Reading, Refs, Unknown, new_of, originals_of, verdict}
-use Rattle.read_cli.specs.declared.judging.Asked.{Asked}
 use Rattle.read_cli.specs.declared.judging.Asked.TheVariants as asks
 use Rattle.read_cli.specs.declared.judging.Subject.{Subject}
 

@@ -1,20 +1,17 @@
 -- A history's lines upon a state.
-use Rattle.std.proofs.Common.{◌≡◌, List, [], ◌∷◌, ◌++◌, map, reverse, Option, None, refl, ap, ◌∙◌}
-use Rattle.std.specs.Prelude.{flat_map, if◌then◌else◌, zip}
+use Rattle.std.proofs.Common.{◌≡◌, List, [], ◌∷◌, ◌++◌, map, reverse, Option, refl, ap, ◌∙◌}
+use Rattle.std.specs.Prelude.{flat_map, zip}
 use Rattle.std.specs.Option.{option_map}
 use Rattle.git_objects.specs.Parts.{name_bytes}
 use Rattle.git_objects.specs.Paths.{Bytes}
-use Rattle.git_objects.specs.Snapshots.{Graph, ancestors, has, snapshot_name}
+use Rattle.git_objects.specs.Snapshots.{Graph, ancestors, snapshot_name}
 use Rattle.git_objects.specs.declared.name.Name.{Name}
 use Rattle.filter_text.specs.Filters.{Filter}
-use Rattle.workspace.specs.Workspaces.{shown}
-use Rattle.projection_laws.specs.Projections.{projection}
 use Rattle.projection_ground.specs.Grounds.{commits_of}
 use Rattle.history_ground.specs.Before as before
 use Rattle.state_items.specs.Items.{Held}
 use Rattle.repo_ground.specs.Contents.{Contents}
 use Rattle.proj_cli.specs.Makes.{IsStateOf}
-use Rattle.proj_cli.specs.Tags.{shown_before}
 use Rattle.proj_cli.proofs.Retargeting.{same-before}
 use Rattle.proj_cli.proofs.StatesShown.{commits-are}
 use Rattle.read_cli.specs.Outputs.{log_line, log_output, name_line}

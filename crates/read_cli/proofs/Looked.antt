@@ -1,6 +1,6 @@
 -- What was written of an output, by how looking at a state ends.
-use Rattle.std.proofs.Common.{◌≡◌, ◌≤◌, ◌⊎◌, inl, inr, ℕ, Bool, false, take, List, [], ◌∷◌, ◌++◌, Contains, Option, None, Some, Result, Ok, Err, append-nil, refl, sym, ap, subst, ◌∙◌, arith}
-use Rattle.std.specs.Prelude.{◌≢◌, IfErr, IfOk, IsErr}
+use Rattle.std.proofs.Common.{◌≡◌, ◌≤◌, inr, false, take, List, [], Option, None, Some, Result, Ok, Err, append-nil, refl, sym, ap, subst, ◌∙◌, arith}
+use Rattle.std.specs.Prelude.{◌≢◌, IfErr, IsErr}
 use Rattle.std.specs.FinMap.{find}
 use Rattle.std.specs.Option.{option_to_list}
 use Rattle.std.specs.Result.{result_ok}
@@ -20,7 +20,7 @@ use Rattle.proj_words.specs.declared.outcome.Outcome.TheVariants.{Collision, Don
 use Rattle.proj_cli.specs.Cases.{head_of, is_verdict}
 use Rattle.proj_cli.specs.Hands.{Hand, IsInHands}
 use Rattle.proj_cli.specs.Refusals.{apply_outcome}
-use Rattle.proj_cli.specs.Sent.{Fronts, IsConcluded, IsSent}
+use Rattle.proj_cli.specs.Sent.{IsConcluded, IsSent}
 use Rattle.read_cli.specs.Answers.{IsGiven, IsOutcome, text_of}
 use Rattle.read_cli.specs.Looks.{IsAtHand, IsEnd, IsLooked, IsLookedFor, IsReport, IsUnreported, IsUnshown, IsWriteOutcome}
 use Rattle.proj_cli.proofs.InHands.{twice-at}

@@ -1,7 +1,6 @@
 -- Words that are names, word by word.
-use Rattle.std.proofs.Common.{◌≡◌, ◌+◌, ◌<◌, ℕ, false, List, [], ◌∷◌, ◌++◌, map, drop, length, append_assoc, append-nil, Option, None, Some, refl, sym, ap, ◌∙◌}
+use Rattle.std.proofs.Common.{◌≡◌, ◌+◌, ℕ, List, [], ◌∷◌, ◌++◌, map, drop, append_assoc, append-nil, Option, None, Some, refl, sym, ap, ◌∙◌}
 use Rattle.std.specs.Option.{is_some, option_and_then, option_map}
-use Rattle.std.proofs.lemmas.List.{drop_more}
 use Rattle.git_objects.specs.CommitBodies.{digits_name}
 use Rattle.git_objects.specs.Paths.{Bytes}
 use Rattle.read_cli.specs.Readings.{names_of}

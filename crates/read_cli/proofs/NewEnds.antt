@@ -1,11 +1,11 @@
 -- The last commit that is written of a projected history.
-use Rattle.std.proofs.Common.{◌≡◌, Bool, false, cond, List, [], ◌∷◌, ◌++◌, reverse, Option, None, Some, refl, sym, ap, subst, ◌∙◌}
+use Rattle.std.proofs.Common.{◌≡◌, false, cond, List, [], ◌∷◌, ◌++◌, reverse, Option, None, Some, refl, sym, ap, ◌∙◌}
 use Rattle.std.specs.List.{last_or}
 use Rattle.std.specs.Option.{option_map}
 use Rattle.std.proofs.lemmas.List.{reverse-append}
 use Rattle.std.proofs.lemmas.Option.{none-some, same_Some}
 use Rattle.git_objects.specs.Paths.{Bytes}
-use Rattle.git_objects.specs.Snapshots.{Graph, Snapshot, is_wanted, wanted_below}
+use Rattle.git_objects.specs.Snapshots.{Graph, Snapshot, is_wanted}
 use Rattle.object_store.specs.Objects.{IsStore}
 use Rattle.commit_map.specs.Shown.{Shown}
 use Rattle.fast_export.specs.ExportTexts.{is_among}

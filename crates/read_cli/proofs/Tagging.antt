@@ -1,5 +1,5 @@
 -- Tags that pass a test, one after another.
-use Rattle.std.proofs.Common.{◌≡◌, ◌≤◌, ℕ, length, drop, map, arith, Bool, true, false, cond, List, [], ◌∷◌, ◌++◌, filter, append_assoc, append-nil, refl, sym, ap, ◌∙◌}
+use Rattle.std.proofs.Common.{◌≡◌, ◌≤◌, ℕ, length, drop, map, arith, Bool, true, false, cond, List, [], ◌∷◌, ◌++◌, filter, append_assoc, append-nil, sym, ap, ◌∙◌}
 use Rattle.std.proofs.lemmas.List.{length-map}
 use Rattle.std.specs.List.{list_any}
 use Rattle.git_objects.specs.Parts.{name_bytes}

@@ -1,6 +1,6 @@
 -- Commits of a graph that a store has: they may be written, their text is that by the graph's trees, and it is read again.
-use Rattle.std.proofs.Common.{◌≡◌, ◌≤◌, ℕ, Bool, true, false, List, [], ◌∷◌, map, reverse, length, Some, Ok, Err, refl, sym, ap, subst, ◌∙◌}
-use Rattle.std.specs.Prelude.{◌≢◌, replicate}
+use Rattle.std.proofs.Common.{◌≡◌, ◌≤◌, Bool, true, false, List, [], ◌∷◌, map, reverse, length, Some, Err, sym, ap, subst, ◌∙◌}
+use Rattle.std.specs.Prelude.{replicate}
 use Rattle.std.specs.List.{list_all}
 use Rattle.std.proofs.lemmas.Bool.{and_parts}
 use Rattle.git_objects.specs.Lists.{Each}
@@ -8,14 +8,12 @@ use Rattle.git_objects.specs.Paths.{Bytes, same_bytes}
 use Rattle.git_objects.specs.Snapshots.{Graph, Snapshot, has, is_graph, snapshot_name, tree_at}
 use Rattle.git_objects.specs.Trees.{Flat}
 use Rattle.git_objects.specs.declared.limits.TheConstants.{STREAM_BYTES}
-use Rattle.git_objects.specs.declared.quantity.Quantity.{Quantity}
 use Rattle.object_store.specs.Objects.{IsStore, Object}
 use Rattle.path_names.specs.RefNames.{is_ref_name}
 use Rattle.stream_reader.specs.declared.fault.StreamFault.TheVariants.{Limit}
 use Rattle.fast_import.specs.Replays.{Base, replay, value_at}
 use Rattle.fast_export.specs.ExportTexts.{is_among}
-use Rattle.fast_export.specs.Histories.{parents_in, snapshots_at}
-use Rattle.fast_export.specs.Laws.{has_no_zero}
+use Rattle.fast_export.specs.Histories.{snapshots_at}
 use Rattle.incremental_export.specs.ChangeTexts.{changes_text}
 use Rattle.incremental_export.specs.Histories.{AreCommitsIn, HasParents, IsThere, StoredNewLaw, tree_in}
 use Rattle.incremental_export.specs.Laws.{AreNewUpon, IsReadUpon, ReadUponLaw}

@@ -1,11 +1,10 @@
 -- When each outcome is answered, and what has then been written.
-use Rattle.std.specs.Prelude.{◌≡◌, ◌≢◌, ◌≤◌, ◌⊎◌, ⊤, ℕ, true, false, List, [], ◌++◌, length, map, replicate, None, Some, Result, Ok, Err, IsOk}
+use Rattle.std.specs.Prelude.{◌≡◌, ◌≢◌, ◌≤◌, ◌⊎◌, ⊤, ℕ, true, false, List, [], length, map, replicate, None, Some, Result, Ok, Err, IsOk}
 use Rattle.std.specs.List.{last_or}
 use Rattle.std.specs.Option.{option_map}
 use Rattle.std.specs.Io.KnownBytes.{Appends, Keeps}
 use Rattle.git_objects.specs.Lists.{Each}
 use Rattle.git_objects.specs.Paths.{Bytes, same_bytes}
-use Rattle.git_objects.specs.Results.{◌>>=◌}
 use Rattle.git_objects.specs.Snapshots.{Snapshot, snapshot_name, tree_at}
 use Rattle.git_objects.specs.Trees.{Flat}
 use Rattle.git_objects.specs.declared.limits.TheConstants.{STREAM_BYTES}
@@ -32,7 +31,7 @@ use Rattle.proj_cli.specs.Filters.{projected, sound}
 use Rattle.proj_cli.specs.Hands.{IsInHands, own}
 use Rattle.proj_cli.specs.Sent.{Fronts}
 use Rattle.read_cli.specs.Outputs.{hands, new_commits, original_commits, output, projected_graph}
-use Rattle.read_cli.specs.Readings.{Reading, Refs, Log, New, Originals, Unknown}
+use Rattle.read_cli.specs.Readings.{Reading, New, Originals}
 
 -- Which outcome there may be of an output, or of its refusal: it is done; there is no memory, or a device has failed; two objects in hand have
 -- one name; or it is the refusal.

@@ -1,5 +1,5 @@
 -- How the code looks into a state.
-use Rattle.std.specs.Prelude.{Bool, ◌≡◌, ◌⊎◌, ⊤, true, List, [], ◌++◌, codes, map, string_bytes, Contains, IsSome, Result, Ok, Err}
+use Rattle.std.specs.Prelude.{Bool, ◌≡◌, ◌⊎◌, ⊤, true, List, ◌++◌, codes, map, string_bytes, Contains, IsSome, Result, Ok, Err}
 use Rattle.std.specs.Option.{option_to_list}
 use Rattle.std.specs.Result.{result_ok}
 use Rattle.git_objects.specs.Paths.{Bytes}

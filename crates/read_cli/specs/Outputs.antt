@@ -1,5 +1,5 @@
 -- What a reading gives for what is held.
-use Rattle.std.specs.Prelude.{ℕ, Bool, if◌then◌else◌, List, [], ◌∷◌, ◌++◌, codes, decimal, filter, flat_map, length, map, reverse, Option, Some, None, Result, Ok, Err}
+use Rattle.std.specs.Prelude.{ℕ, Bool, List, [], ◌∷◌, ◌++◌, codes, decimal, filter, flat_map, length, map, reverse, Option, Some, None, Result, Ok, Err}
 use Rattle.std.specs.Option.{option_and_then, option_to_list}
 use Rattle.std.specs.Result.{result_ok}
 use Rattle.git_objects.specs.Commits.{hex}

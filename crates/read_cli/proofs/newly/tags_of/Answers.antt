@@ -1,11 +1,10 @@
 -- Proves what src/newly.rt needs of `tags_of`.
-use Rattle.std.proofs.Common.{◌≡◌, ◌∙◌, ◌++◌, ◌<◌, ◌≤◌, [], List, filter, length, map, ap, sym, append-nil, arith}
+use Rattle.std.proofs.Common.{◌∙◌, ◌++◌, ◌<◌, [], List, filter, length, map, ap, sym, append-nil, arith}
 use Rattle.std.specs.Vec.Iter.{into_iter_items}
-use Rattle.git_objects.specs.Paths.{Bytes}
 use Rattle.git_objects.specs.Parts.{name_bytes}
 use Rattle.git_objects.specs.declared.name.Name.{Name}
 use Rattle.fast_export.specs.ExportTexts.{is_among}
-use Rattle.incremental_export.proofs.WantedNames.{all_added, more_added, name_added, next_name}
+use Rattle.incremental_export.proofs.WantedNames.{more_added, name_added, next_name}
 use Rattle.tag_objects.specs.declared.tag.Tag.{Tag}
 use Rattle.read_cli.proofs.Tagging.{among, kept, passed}
 use Rattle.read_cli.proofs.newly.tags_of.Goals as goal

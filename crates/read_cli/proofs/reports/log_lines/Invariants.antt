@@ -1,9 +1,5 @@
-use Rattle.std.proofs.Common.{◌≡◌, ◌++◌, List, map}
-use Rattle.std.specs.Prelude.{flat_map, zip}
-use Rattle.std.specs.Option.{option_map}
 use Rattle.std.specs.Iterator.Adapters.{zip_first, zip_second}
 use Rattle.std.specs.Slice.Iter.{iter_rest}
-use Rattle.git_objects.specs.Parts.{name_bytes}
 use Rattle.read_cli.proofs.LogLines.{IsGoing}
 use Rattle.read_cli.proofs.reports.log_lines.Given as goal
 

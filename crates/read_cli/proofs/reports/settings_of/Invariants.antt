@@ -1,4 +1,4 @@
-use Rattle.std.proofs.Common.{◌≡◌, ◌++◌, [], ℕ, map, take}
+use Rattle.std.proofs.Common.{◌≡◌, ◌++◌, [], map, take}
 use Rattle.fast_import.specs.Replaying.{head_values, setting_value}
 use Rattle.state_items.specs.Changes.{with_refs}
 use Rattle.read_cli.proofs.reports.settings_of.Given as goal
