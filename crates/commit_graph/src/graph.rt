@@ -128,18 +128,29 @@ impl Graph {
         ensures rising { IfOk result (λ v. IsStrictlyIncreasing v.items) }
         ensures exact { IfOk result (λ v. (i : ℕ) → Contains v.items i ↔ Reaches self.now head i) }
     {
-        let marks = self.reached(head, 0)?;
+        self.ancestors_from(head, 0)
+    }
+
+    /// The commit and those of its ancestors that stand at the place `low` or behind it, ascending. It takes a byte
+    /// for each place from `low` to the commit's, and looks at no commit before `low`.
+    pub fn ancestors_from(&self, head: u32, low: u32) -> Result<Vec<u32>, AllocError>
+        requires there { head < length self.now }
+        requires low { low ≤ head }
+        ensures rising { IfOk result (λ v. IsStrictlyIncreasing v.items) }
+        ensures exact { IfOk result (λ v. (i : ℕ) → Contains v.items i ↔ ((low ≤ i) × Reaches self.now head i)) }
+    {
+        let marks = self.reached(head, low)?;
         let mut found = Vec::new(*self.nodes.allocator());
-        for i in 0..head + 1 {
-            if marks[i as usize] {
+        for i in low..head + 1 {
+            if marks[(i - low) as usize] {
                 found.push(i)?;
             }
         }
         Ok(found)
     }
 
-    /// Whether the old commit is the new one or an ancestor of it. It takes a byte for each place up to the new one's,
-    /// and looks at no commit before the old one.
+    /// Whether the old commit is the new one or an ancestor of it. It takes a byte for each place from the old one's
+    /// to the new one's, and looks at no commit before the old one.
     pub fn is_ancestor(&self, old: u32, new: u32) -> Result<bool, AllocError>
         requires old_is_there { old < length self.now }
         requires new_is_there { new < length self.now }
@@ -150,7 +161,7 @@ impl Graph {
             return Ok(false);
         }
         let marks = self.reached(new, old)?;
-        Ok(marks[old as usize])
+        Ok(marks[0])
     }
 
     // Marks what the head reaches from the place `low` on, in one sweep down from the head.
@@ -160,11 +171,11 @@ impl Graph {
         ensures { IfOk result (λ marks. MarksReached self.now head low marks.items) }
     {
         let alloc = *self.nodes.allocator();
-        let mut marks = vec![in alloc; false; head as usize + 1]?;
-        marks[head as usize] = true;
+        let mut marks = vec![in alloc; false; (head - low) as usize + 1]?;
+        marks[(head - low) as usize] = true;
         for i in (low..head + 1).rev() {
-            if marks[i as usize] {
-                mark_all(&mut marks, self.parents(i));
+            if marks[(i - low) as usize] {
+                mark_all(&mut marks, low, self.parents(i));
             }
         }
         Ok(marks)

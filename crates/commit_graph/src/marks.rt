@@ -1,13 +1,15 @@
 // Marks at places.
-ghost use Rattle.std.specs.Prelude.{◌<◌, length, All};
+ghost use Rattle.std.specs.Prelude.{◌+◌, ◌<◌, length, All};
 ghost use Rattle.commit_graph.specs.Marks.{AddsMarks};
 
-// Marks each of the places.
-pub(crate) fn mark_all(marks: &mut [bool], places: &[u32])
-    requires { All (λ p. p < length marks.old) places.now }
-    ensures { AddsMarks marks.old marks.new places.now }
+// Marks those of the places that stand at `low` or behind it. The first mark is that of `low`.
+pub(crate) fn mark_all(marks: &mut [bool], low: u32, places: &[u32])
+    requires { All (λ p. p < low + length marks.old) places.now }
+    ensures { AddsMarks low marks.old marks.new places.now }
 {
     for place in places {
-        marks[*place as usize] = true;
+        if *place >= low {
+            marks[(*place - low) as usize] = true;
+        }
     }
 }

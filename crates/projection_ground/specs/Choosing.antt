@@ -1,5 +1,6 @@
 -- What becomes of a commit, from what is kept of older ones.
 use Rattle.std.specs.Prelude.{◌≡◌, ◌<◌, ◌≤◌, ℕ, Bool, true, List, [], length, map, take, slice_get, is_some, Option, Some, None, All, Contains, IsSome}
+use Rattle.std.specs.List.{list_all}
 use Rattle.std.specs.Option.{option_map_or}
 use Rattle.git_objects.specs.Commits.{Letter}
 use Rattle.git_objects.specs.Paths.{Bytes}
@@ -7,7 +8,7 @@ use Rattle.git_objects.specs.Snapshots.{Snapshot, Graph, has}
 use Rattle.git_objects.specs.Trees.{Flat}
 use Rattle.commit_graph.specs.Graphs.{Row, Reaches}
 use Rattle.commit_map.specs.Shown.{Shown, Entries, kept_at, shown_value}
-use Rattle.projection_laws.specs.Projections.{add_shown, chosen, known_at, leads, members, own_commit}
+use Rattle.projection_laws.specs.Projections.{add_shown, chosen, is_reached, known_at, leads, members, own_commit}
 use Rattle.projection_laws.specs.Projections as projections
 use Rattle.projection_laws.specs.StoredGraphs.{name_at, graph_of}
 use Rattle.projection_ground.specs.Grounds.{commits_of}
@@ -63,6 +64,11 @@ pub record IsLacked (g : Ground) (ps : List ℕ) (q : ℕ) : Type 0 where
 pub record IsBehind (g : Ground) (ps : List ℕ) (place : ℕ) : Type 0 where
   pub within : place ≤ length g.graph
   pub behind : All (λ p. p < place) ps
+
+-- Whether each of these is the projection of the commit at the place `first` or of an ancestor of it, by what is known of the commits
+-- before a later place.
+abbrev pub reaches_each : Ground → ℕ → ℕ → List Shown → Entries → Bool
+reaches_each g place first ms ks = list_all (is_reached (commits_before g place) ks (name_at g.graph first)) ms
 
 -- whether a projection of the commits at these places leads the others, by what is known of those before a place
 abbrev pub leads_upon : Ground → ℕ → List ℕ → Entries → Shown → Bool

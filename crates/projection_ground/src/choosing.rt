@@ -1,6 +1,6 @@
 // What becomes of a commit, from what is kept of older ones.
-ghost use Rattle.std.specs.Prelude.{◌≡◌, ◌+◌, ◌<◌, ◌≤◌, ◌&&◌, ℕ, true, All};
-ghost use Rattle.std.specs.Prelude.{Contains, IfOk, IfSome, IfNone, None, OnOk, length, map, is_none};
+ghost use Rattle.std.specs.Prelude.{◌≡◌, ◌+◌, ◌<◌, ◌≤◌, ◌&&◌, ◌∷◌, [], ℕ, true, All};
+ghost use Rattle.std.specs.Prelude.{Contains, IfOk, IfSome, IfNone, IsSome, None, OnOk, length, map, is_none};
 ghost use Rattle.std.specs.List.{find, list_all, list_any};
 ghost use Rattle.std.specs.Option.{option_map};
 ghost use Rattle.git_objects.specs.Paths.{is_nil, same_bytes};
@@ -14,7 +14,8 @@ ghost use Rattle.projection_laws.specs.Projections.{chosen, is_shown_as, known_a
 ghost use Rattle.projection_laws.specs.StoredGraphs.{name_at};
 ghost use Rattle.projection_ground.specs.Grounds.{IsGround};
 ghost use Rattle.projection_ground.specs.Choosing.{AreKept, IsBehind, IsBelow, IsChoice, IsTest, KeepsAll};
-ghost use Rattle.projection_ground.specs.Choosing.{is_own_by, leads_upon, names_at, parents_at, with_known};
+ghost use Rattle.projection_ground.specs.Choosing.{is_own_by, leads_upon, names_at, parents_at, reaches_each};
+ghost use Rattle.projection_ground.specs.Choosing.{with_known};
 
 use crate::Ground;
 use commit_map::{Rule, Shown};
@@ -22,7 +23,10 @@ use git_objects::Name;
 use object_store::Store;
 use std::alloc::{AllocError, Global};
 
-// Whether a projection leads the others.
+// How many places before a commit are looked at for its ancestors, in this order, before all are.
+const WIDTHS: [u32; 8] = [16, 64, 256, 1024, 4096, 16384, 65536, 262144];
+
+// Whether a projection leads the others, or whether each of some projections is reached.
 pub(crate) enum Test {
     Is(bool),
     // The commit at this place has to be projected first.
@@ -134,13 +138,18 @@ fn first_shown_as(ground: &Ground, places: &[u32], m: &Shown) -> Option<u32>
     places.iter().copied().find(|p| is_shown_as(ground, *p, m))
 }
 
-// Whether one of the commits at these places is projected to m.
+// Whether one of the commits at these places is projected to m. The last places are looked at first.
 fn is_among(ground: &Ground, places: &[u32], m: &Shown) -> bool
     requires { All (λ p. p < length ground.now.graph) places.now }
     ensures { result ≡ list_any (λ p. is_shown_as ground.now.map (shown_value m.now)
         (name_at ground.now.graph p)) places.now }
 {
-    first_shown_as(ground, places, m).is_some()
+    for i in (0..places.len()).rev() {
+        if is_shown_as(ground, places[i], m) {
+            return true;
+        }
+    }
+    false
 }
 
 // Whether each of these is the projection of one of the commits at the places.
@@ -167,6 +176,55 @@ fn last_lacking(ground: &Ground, places: &[u32]) -> Option<u32>
     None
 }
 
+// Whether each of these is the projection of the commit at the place `first` or of an ancestor of it, as far as the
+// ancestors from the place `low` on decide it. From 0 on they always do.
+fn reaches_each_from(
+    ground: &Ground,
+    first: u32,
+    low: u32,
+    projected: &[Shown],
+) -> Result<Option<Test>, AllocError>
+    requires ground { IsGround ground.now }
+    requires first { first < length ground.now.graph }
+    requires low { low ≤ first }
+    ensures decided { IfOk result (λ o. low ≡ 0 → IsSome o) }
+    ensures test { (place : ℕ) → IsBehind ground.now (first ∷ []) place → IfOk result (λ o. IfSome o
+        (IsTest ground.now place (first ∷ []) (reaches_each ground.now place first (map shown_value projected.now)))) }
+{
+    let places = ground.graph.ancestors_from(first, low)?;
+    if let Some(place) = last_lacking(ground, &places) {
+        return Ok(Some(Test::Lacks(place)));
+    }
+    if are_among(ground, &places, projected) {
+        return Ok(Some(Test::Is(true)));
+    }
+    if low == 0 {
+        Ok(Some(Test::Is(false)))
+    } else {
+        Ok(None)
+    }
+}
+
+// Whether each of these is the projection of the commit at the place `first` or of an ancestor of it. The newest
+// ancestors are looked at first, and older ones only where the newer ones don't decide it.
+fn reaches_each(ground: &Ground, first: u32, projected: &[Shown]) -> Result<Test, AllocError>
+    requires ground { IsGround ground.now }
+    requires first { first < length ground.now.graph }
+    ensures { (place : ℕ) → IsBehind ground.now (first ∷ []) place → IfOk result
+        (IsTest ground.now place (first ∷ []) (reaches_each ground.now place first (map shown_value projected.now))) }
+{
+    for width in WIDTHS {
+        let low = first.saturating_sub(width);
+        if let Some(test) = reaches_each_from(ground, first, low, projected)? {
+            return Ok(test);
+        }
+    }
+    match reaches_each_from(ground, first, 0, projected)? {
+        None => unreachable!(),
+        Some(test) => Ok(test),
+    }
+}
+
 // Whether m leads the other projections of the commits at these places, from the first that is projected to it.
 fn leads(
     ground: &Ground,
@@ -181,13 +239,9 @@ fn leads(
     ensures { (place : ℕ) → IsBehind ground.now parents.now place → IfOk result (IsTest ground.now place parents.now
         (λ ks. leads_upon ground.now place parents.now ks (shown_value m.now))) }
 {
-    let Some(first) = first_shown_as(ground, parents, m) else {
-        return Ok(Test::Is(false));
-    };
-    let places = ground.graph.ancestors(first)?;
-    match last_lacking(ground, &places) {
-        Some(place) => Ok(Test::Lacks(place)),
-        None => Ok(Test::Is(are_among(ground, &places, projected))),
+    match first_shown_as(ground, parents, m) {
+        None => Ok(Test::Is(false)),
+        Some(first) => reaches_each(ground, first, projected),
     }
 }
 

@@ -255,18 +255,23 @@ module _ (S : List Object) (rows : List Row) (g : IsGraphIn S rows) where
       (reached-closed (older S rows g k) (older-graph S rows g k l) ws r.name a.0 (commit-older k l x r a.0 e (subst (λ y. y < k) here p.2) a.1) t))
       i j u h
 
+  -- a test that holds of a place that a commit reaches holds of one of its ancestors
+  pub any-reached : (h k : ℕ) → h < k → k ≤ length rows → (ps : List ℕ) → ((i : ℕ) → Contains ps i → Reaches rows h i) → (test : Bytes → Bool) →
+      list_any (λ i. test (name_at rows i)) ps ≡ true → list_any (λ d. test (snapshot_name d)) (ancestors (older S rows g k) (name_at rows h)) ≡ true
+  any-reached h k b l ps reach test e =
+      let G : Graph = older S rows g k in
+      let w = row-at S rows g h (omega (arith, b, l)) in
+      let p = place-any (name_at rows) test ps e in
+      let start : has (ancestors G (name_at rows h)) (name_at rows h) ≡ true =
+      reached-has G (name_at rows h ∷ []) (name_at rows h) (ap (has G) (name-is S rows g h w.0 w.1) ∙ older-has S rows g k l h w.0 w.1 b) (or_left (same_bytes (name_at rows h) (name_at rows h)) false (same_bytes-self (name_at rows h))) in
+      any-commit test (ancestors G (name_at rows h)) (name_at rows p.0) (reaches-reached k l (name_at rows h ∷ []) h p.0 b (reach p.0 p.1) start) p.2
+
   -- a test holds of one of the places that a commit reaches exactly where it holds of one of its ancestors
   pub same-reached : (h k : ℕ) → h < k → k ≤ length rows → (ps : List ℕ) → ((i : ℕ) → Contains ps i ↔ Reaches rows h i) → (test : Bytes → Bool) →
       list_any (λ i. test (name_at rows i)) ps ≡ list_any (λ d. test (snapshot_name d)) (ancestors (older S rows g k) (name_at rows h))
   same-reached h k b l ps exact test =
-      let G : Graph = older S rows g k in
-      let w = row-at S rows g h (omega (arith, b, l)) in
       same-bool _ _
+      (any-reached h k b l ps (λ i. (exact i).0) test)
       (λ e.
-      let p = place-any (name_at rows) test ps e in
-      let start : has (ancestors G (name_at rows h)) (name_at rows h) ≡ true =
-      reached-has G (name_at rows h ∷ []) (name_at rows h) (ap (has G) (name-is S rows g h w.0 w.1) ∙ older-has S rows g k l h w.0 w.1 b) (or_left (same_bytes (name_at rows h) (name_at rows h)) false (same_bytes-self (name_at rows h))) in
-      any-commit test (ancestors G (name_at rows h)) (name_at rows p.0) (reaches-reached k l (name_at rows h ∷ []) h p.0 b ((exact p.0).0 p.1) start) p.2)
-      (λ e.
-      let d = commit-any test (ancestors G (name_at rows h)) (ancestors-reach h k b l) e in
+      let d = commit-any test (ancestors (older S rows g k) (name_at rows h)) (ancestors-reach h k b l) e in
       any-place (name_at rows) test ps d.1.0 ((exact d.1.0).1 d.1.3) (ap test d.1.2 ∙ d.2))
