@@ -25,10 +25,12 @@ use Rattle.projection_laws.specs.Projections.{choice_of, own_commit, own_commits
 use Rattle.projection_laws.specs.StoredGraphs.{name_at, graph_of}
 use Rattle.projection_laws.proofs.HistoryLemmas.{any-behind, any-append, reverse-more}
 use Rattle.projection_laws.proofs.StoredGraphs.{at-row, name-is, older-all, older-suc, row-at, split-at, whole-graph}
+use Rattle.projection_ground.specs.Asked.{IsNone}
 use Rattle.projection_ground.specs.Choosing.{commits_before}
-use Rattle.projection_ground.specs.Grounds.{IsGround, IsShownOf, commits_of}
+use Rattle.projection_ground.specs.Grounds.{Extends, IsGround, IsShownOf, commits_of}
 use Rattle.projection_ground.specs.TrueMaps.{IsTrueMap}
 use Rattle.projection_ground.specs.declared.ground.Ground.{Ground}
+use Rattle.projection_ground.proofs.Asking.{extends-none}
 use Rattle.projection_ground.proofs.Filling.{projection-at}
 use Rattle.projection_ground.proofs.Growing.{commits-same, extends-as, extends-self, extends-then, tree-of-grown}
 use Rattle.history_ground.specs.Heads.{IsSeenObject}
@@ -36,6 +38,7 @@ use Rattle.history_ground.specs.Origins.{AreFirsts, First, Firsts, IsProjected, 
 use Rattle.history_ground.specs.TrueWalks.{IsMade, IsTrueWalk}
 use Rattle.history_ground.proofs.FirstLookups.{AreFirstIn, each-with, firsts-more, firsts-still}
 use Rattle.history_ground.proofs.TakenTurns.{fault-as}
+use Rattle.history_ground.proofs.TrueHeads.{tables-still}
 use Rattle.history_ground.proofs.Waiting.{has-named}
 
 -- ---- what projecting one commit makes, projecting all makes too
@@ -178,9 +181,13 @@ pub record AreProjected (f : Filter) (g h : Ground) (p : ℕ) (os : Firsts) : Ty
   pub first : AreFirstIn (entries_before f g p) os
   pub there : Each (λ e. IsTreeOf h.store e.0 e.1.tree) os
 
-pub projected-start : (f : Filter) (g : Ground) → IsGround g → IsTrueMap g.store (commits_of g) g.rule f g.map → AreProjected f g g 0 []
-projected-start f g w t = record {
-  done = record { same = extends-self (IsProjectionObject f g) g w; map = t };
+-- behind more tables
+pub projected-tables : (f : Filter) (g h : Ground) → IsGround g → Extends IsNone g h → h.map ≡ g.map → IsTrueMap g.store (commits_of g) g.rule f g.map → IsProjected f g h
+projected-tables f g h w a m t = record { same = extends-none (IsProjectionObject f g) g h a; map = (tables-still f [] g h w a m t).map }
+
+pub projected-start : (f : Filter) (g h : Ground) → IsGround g → IsProjected f g h → AreProjected f g h 0 []
+projected-start f g h w d = record {
+  done = d;
   first = λ n. ap (first_at (is_shown_by n)) (sym (entries-none f g w));
   there = tt;
 }
@@ -190,6 +197,10 @@ projected-end f g h p os w e v = record {
   first = λ n. v.first n ∙ ap (λ (es : Entries). first_at (is_shown_by n) es) (ap (entries_before f g) e ∙ entries-all f g w);
   there = v.there;
 }
+
+-- of no commits
+pub projected-nothing : (f : Filter) (g : Ground) → IsGround g → IsTrueMap g.store (commits_of g) g.rule f g.map → length g.graph ≡ 0 → AreFirsts f g g.store []
+projected-nothing f g w t e = projected-end f g g 0 [] w (sym e) (projected-start f g g w (projected-tables f g g w (extends-self IsNone g w) refl t))
 
 module _ (f : Filter) (g h : Ground) (w : IsGround g) (v : IsProjected f g h) where
   commits : commits_of h ≡ commits_of g

@@ -37,7 +37,7 @@ use Rattle.history_ground.proofs.AllProjections.{added-from, nothing-in}
 use Rattle.history_ground.proofs.HeadLemmas.{more-map, more-seen, more-seen-fault}
 use Rattle.history_ground.proofs.Standing.{IsLine, line-stands}
 use Rattle.history_ground.proofs.TakenTurns.{fault-as}
-use Rattle.history_ground.proofs.TrueHeads.{made-held, walk-nothing}
+use Rattle.history_ground.proofs.TrueHeads.{made-held}
 
 -- ---- what projecting an ancestor makes, projecting the head makes too
 
@@ -115,8 +115,8 @@ pub record AreBefore (f : Filter) (h : Bytes) (g k : Ground) (ns : List Name) (o
   pub are : map (option_map name_bytes) os ≡ map (λ (n : Name). shown_before f g h n.0) ns
   pub there : Each (λ o. IfSome o (λ (n : Name). objects.has CommitKind k.store n.0 ≡ true)) os
 
-pub before-start : (f : Filter) (h : Bytes) (g : Ground) → IsGround g → IsTrueMap g.store (commits_of g) g.rule f g.map → AreBefore f h g g [] []
-before-start f h g w t = record { walked = walk-nothing f h g w t; are = refl; there = tt }
+pub before-start : (f : Filter) (h : Bytes) (g k : Ground) → IsTrueWalk f h g k → AreBefore f h g k [] []
+before-start f h g k v = record { walked = v; are = refl; there = tt }
 
 -- a map of projections of the same commits
 pub walked-map : (f : Filter) (h : Bytes) (g k : Ground) → IsGround g → IsTrueWalk f h g k → IsTrueMap k.store (commits_of k) k.rule f k.map

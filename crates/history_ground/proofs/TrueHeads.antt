@@ -1,5 +1,5 @@
 -- The projection of a head from scratch, with the commit that it is.
-use Rattle.std.proofs.Common.{◌≡◌, ℕ, true, List, Option, Some, None, IfSome, sym, ap, subst, ◌∙◌}
+use Rattle.std.proofs.Common.{◌≡◌, true, List, Option, Some, None, IfSome, sym, ap, subst, ◌∙◌}
 use Rattle.std.specs.Option.{option_map}
 use Rattle.git_objects.specs.Paths.{Bytes}
 use Rattle.git_objects.specs.Snapshots.{Graph, has}
@@ -8,12 +8,9 @@ use Rattle.object_store.specs.StoredSnapshots.{IsTreeOf}
 use Rattle.commit_map.specs.Shown.{Entries, kept_at, shown_value}
 use Rattle.commit_map.specs.declared.commit_map.Shown as code
 use Rattle.commit_map.specs.declared.rule.Rule.{Rule}
-use Rattle.filter_apply.specs.Faults.{IsApplyFault}
-use Rattle.filter_apply.specs.declared.fault.ApplyError.{ApplyError}
 use Rattle.filter_text.specs.Filters.{Filter}
 use Rattle.workspace.specs.Workspaces.{shown}
 use Rattle.projection_laws.specs.Projections.{projection}
-use Rattle.projection_laws.specs.StoredGraphs.{name_at}
 use Rattle.projection_ground.specs.Asked.{IsNone}
 use Rattle.projection_ground.specs.Grounds.{IsGround, Extends, commits_of}
 use Rattle.history_ground.specs.Heads.{IsSeenObject}
@@ -22,8 +19,8 @@ use Rattle.history_ground.specs.TrueWalks.{IsMade, IsTrueWalk}
 use Rattle.projection_ground.specs.declared.ground.Ground.{Ground}
 use Rattle.projection_ground.specs.declared.true_maps.TrueMap.{TrueMap}
 use Rattle.projection_ground.proofs.Asking.{extends-none}
-use Rattle.projection_ground.proofs.Growing.{commits-same, extends-self}
-use Rattle.history_ground.proofs.HeadLemmas.{more-map, more-seen, more-seen-fault, still-map}
+use Rattle.projection_ground.proofs.Growing.{commits-same}
+use Rattle.history_ground.proofs.HeadLemmas.{more-map, more-seen, still-map}
 use Rattle.projection_ground.proofs.TrueEntries.{true-behind, true-out}
 
 -- what a map of projections from scratch has of a commit
@@ -45,9 +42,6 @@ projection-same f n g h w a = λ i. projection (a.rule i) (shown f) (commits-sam
 
 -- ---- a walk from a head
 
-pub walk-nothing : (f : Filter) (n : Bytes) (g : Ground) → IsGround g → IsTrueMap g.store (commits_of g) g.rule f g.map → IsTrueWalk f n g g
-walk-nothing f n g w t = record { same = extends-self (IsSeenObject f g n) g w; map = t }
-
 -- one call after another
 module _ (f : Filter) (n : Bytes) (g h : Ground) (w : IsGround g) (a : Extends (IsSeenObject f g n) g h) (m : h.map ≡ g.map) (t : IsTrueMap g.store (commits_of g) g.rule f g.map) where
   pub walk-map : IsTrueMap h.store (commits_of h) h.rule f h.map
@@ -60,21 +54,8 @@ module _ (f : Filter) (n : Bytes) (g h : Ground) (w : IsGround g) (a : Extends (
   walk-then k x = record { same = more-seen f g n w h a k x.same; map = more-map f g n w h a k.store k.map x.map }
 
 -- behind more tables
-module _ (f : Filter) (n : Bytes) (g h : Ground) (place : ℕ) (w : IsGround g) (a : Extends IsNone g h) (m : h.map ≡ g.map) (named : name_at h.graph place ≡ n) (t : IsTrueMap g.store (commits_of g) g.rule f g.map) where
-  tables : Extends (IsSeenObject f g n) g h
-  tables = extends-none (IsSeenObject f g n) g h a
-
-  pub tables-map : IsTrueMap h.store (commits_of h) h.rule f h.map
-  tables-map = walk-map f n g h w tables m t
-
-  pub tables-still : IsTrueWalk f n g h
-  tables-still = walk-still f n g h w tables m t
-
-  pub tables-walk : (k : Ground) → IsTrueWalk f (name_at h.graph place) h k → IsTrueWalk f n g k
-  tables-walk k x = walk-then f n g h w tables m t k (subst (λ b. IsTrueWalk f b h k) named x)
-
-  pub tables-fault : (S : List Object) (e : ApplyError) → IsApplyFault (IsSeenObject f h (name_at h.graph place)) S e → IsApplyFault (IsSeenObject f g n) S e
-  tables-fault S e x = more-seen-fault f g n w h tables S e (subst (λ b. IsApplyFault (IsSeenObject f h b) S e) named x)
+pub tables-still : (f : Filter) (n : Bytes) (g h : Ground) → IsGround g → Extends IsNone g h → h.map ≡ g.map → IsTrueMap g.store (commits_of g) g.rule f g.map → IsTrueWalk f n g h
+tables-still f n g h w a m t = walk-still f n g h w (extends-none (IsSeenObject f g n) g h a) m t
 
 -- ---- with the map of the filter in the place of the kept one
 

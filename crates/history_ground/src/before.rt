@@ -10,6 +10,7 @@ ghost use Rattle.commit_graph.specs.Graphs.{place_of};
 ghost use Rattle.filter_apply.specs.Faults.{IsApplyFault};
 ghost use Rattle.filter_text.specs.Shapes.{shape};
 ghost use Rattle.workspace.specs.Laws.{IsUsable};
+ghost use Rattle.projection_ground.specs.Asked.{IsAskedFor};
 ghost use Rattle.projection_ground.specs.Grounds.{Extends, IsGround, commits_of};
 ghost use Rattle.projection_ground.specs.TrueMaps.{IsTrueMap};
 ghost use Rattle.history_ground.specs.Before.{IsSeenAt, IsWalkAt, shown_at, shown_before, stands_at};
@@ -20,7 +21,7 @@ use crate::making::made_to;
 use filter_apply::ApplyError;
 use filter_text::Filter;
 use git_objects::Name;
-use projection_ground::Ground;
+use projection_ground::{Asked, Ground};
 use std::alloc::{AllocError, Global};
 use std::mem;
 
@@ -77,9 +78,11 @@ fn before_upon(
         unreachable!()
     };
     let places = ground.graph.ancestors(place)?;
+    let root = ground.graph.tree(place);
+    let mut asked = Asked::new(alloc, ground, filter, root)?;
     let mut found = Vec::new(alloc);
     for name in commits {
-        let projected = shown_among(alloc, ground, filter, &places, name)?;
+        let projected = shown_among(alloc, ground, filter, &mut asked, &places, name)?;
         add_found(&mut found, projected)?;
     }
     Ok(found)
@@ -98,6 +101,7 @@ fn shown_among(
     alloc: Global,
     ground: &mut Ground,
     filter: &Filter,
+    asked: &mut Asked,
     places: &[u32],
     name: &Name,
 ) -> Result<Option<Name>, ApplyError>
@@ -105,18 +109,20 @@ fn shown_among(
     requires ground { IsGround ground.old }
     requires map { IsTrueMap ground.old.store (commits_of ground.old) ground.old.rule (shape filter.now)
         ground.old.map }
+    requires asked { IsAskedFor (shape filter.now) ground.old asked.old }
     requires placed { All (λ p. p < length ground.old.graph) places.now }
     requires rising { IsStrictlyIncreasing places.now }
     ensures ok { IfOk result (λ o.
         option_map name_bytes o ≡ shown_at (shape filter.now) ground.old places.now name.now.0) }
     ensures there { IfOk result (λ o. IfSome o (λ n. has Commit ground.new.store n.0 ≡ true)) }
     ensures walked { IsWalkAt (shape filter.now) places.now ground.old ground.new }
+    ensures asked { IsAskedFor (shape filter.now) ground.new asked.new }
     ensures err { IfErr result (IsApplyFault (IsSeenAt (shape filter.now) ground.old places.now) ground.new.store) }
 {
     if !stands_among(ground, places, name) {
         return Ok(None);
     }
-    let Some(shown) = made_to(alloc, ground, filter, name)? else {
+    let Some(shown) = made_to(alloc, ground, filter, asked, name)? else {
         return Ok(None);
     };
     Ok(Some(shown.commit))

@@ -5,6 +5,7 @@ ghost use Rattle.git_objects.specs.declared.kind.Kind.TheVariants.{Tree};
 ghost use Rattle.commit_graph.specs.Graphs.{place_of};
 ghost use Rattle.filter_apply.specs.Faults.{IsApplyFault};
 ghost use Rattle.filter_text.specs.Shapes.{shape};
+ghost use Rattle.projection_ground.specs.Asked.{IsAskedFor};
 ghost use Rattle.projection_ground.specs.Grounds.{Extends, IsGround, IsShownOf, commits_of};
 ghost use Rattle.projection_ground.specs.TrueMaps.{IsTrueMap};
 ghost use Rattle.history_ground.specs.TrueWalks.{IsTrueWalk};
@@ -73,8 +74,8 @@ fn shown_upon(
     ensures walked { IsTrueWalk (shape filter.now) head.now.0 ground.old ground.new }
     ensures err { IfErr result (IsApplyFault (IsSeenObject (shape filter.now) ground.old head.now.0) ground.new.store) }
 {
-    let tree = shown_tree(alloc, ground, filter, head)?;
-    let Some(shown) = made_to(alloc, ground, filter, head)? else {
+    let (tree, mut asked) = shown_first(alloc, ground, filter, head)?;
+    let Some(shown) = made_to(alloc, ground, filter, &mut asked, head)? else {
         return Ok(Seen { from: None, tree });
     };
     Ok(Seen {
@@ -113,10 +114,32 @@ pub fn shown_tree(
     ensures same { Extends (IsShownOf (shape filter.now) (commits_of ground.old)) ground.old ground.new }
     ensures err { IfErr result (IsApplyFault (IsShownOf (shape filter.now) (commits_of ground.old)) ground.new.store) }
 {
+    let (tree, _) = shown_first(alloc, ground, filter, head)?;
+    Ok(tree)
+}
+
+// The tree that a filter shows of the commit of that name, put into the store, and what is known of the filter then.
+fn shown_first(
+    alloc: Global,
+    ground: &mut Ground,
+    filter: &Filter,
+    head: &Name,
+) -> Result<(Name, Asked), ApplyError>
+    requires usable { IsUsable (shape filter.now) }
+    requires ground { IsGround ground.old }
+    requires head { IsSome (place_of head.now.0 ground.old.graph) }
+    ensures ok { IfOk result (λ p.
+        StandsFor ground.new.store p.0.0 (shown (shape filter.now) (tree_at (commits_of ground.old) head.now.0))) }
+    ensures asked { IfOk result (λ p. IsAskedFor (shape filter.now) ground.new p.1) }
+    ensures map { ground.new.map ≡ ground.old.map }
+    ensures same { Extends (IsShownOf (shape filter.now) (commits_of ground.old)) ground.old ground.new }
+    ensures err { IfErr result (IsApplyFault (IsShownOf (shape filter.now) (commits_of ground.old)) ground.new.store) }
+{
     let Some(place) = ground.graph.index_of(head) else {
         unreachable!()
     };
     let root = ground.graph.tree(place);
     let mut asked = Asked::new(alloc, ground, filter, root)?;
-    seen(alloc, ground, filter, &mut asked, root)
+    let tree = seen(alloc, ground, filter, &mut asked, root)?;
+    Ok((tree, asked))
 }

@@ -91,6 +91,7 @@ fn walk(
         ground.old.map }
     requires asked { IsAskedFor (shape filter.now) ground.old asked.old }
     ensures walked { IsTrueWalk (shape filter.now) (name_at ground.old.graph head) ground.old ground.new }
+    ensures asked { IsAskedFor (shape filter.now) ground.new asked.new }
     ensures ok { OnOk result (IsSome (kept_at (name_at ground.old.graph head) ground.new.map)) }
     ensures err { IfErr result
         (IsApplyFault (IsSeenObject (shape filter.now) ground.old (name_at ground.old.graph head)) ground.new.store) }
@@ -111,6 +112,7 @@ pub(crate) fn made_to(
     alloc: Global,
     ground: &mut Ground,
     filter: &Filter,
+    asked: &mut Asked,
     head: &Name,
 ) -> Result<Option<Shown>, ApplyError>
     requires usable { IsUsable (shape filter.now) }
@@ -118,9 +120,11 @@ pub(crate) fn made_to(
     requires head { IsSome (place_of head.now.0 ground.old.graph) }
     requires map { IsTrueMap ground.old.store (commits_of ground.old) ground.old.rule (shape filter.now)
         ground.old.map }
+    requires asked { IsAskedFor (shape filter.now) ground.old asked.old }
     ensures ok { IfOk result (λ o. IsMade ground.new.store
         (projection ground.old.rule (shown (shape filter.now)) (commits_of ground.old) head.now.0) o) }
     ensures walked { IsTrueWalk (shape filter.now) head.now.0 ground.old ground.new }
+    ensures asked { IsAskedFor (shape filter.now) ground.new asked.new }
     ensures err { IfErr result (IsApplyFault (IsSeenObject (shape filter.now) ground.old head.now.0) ground.new.store) }
 {
     if let Some(kept) = ground.map.get(head) {
@@ -129,9 +133,7 @@ pub(crate) fn made_to(
     let Some(place) = ground.graph.index_of(head) else {
         unreachable!()
     };
-    let root = ground.graph.tree(place);
-    let mut asked = Asked::new(alloc, ground, filter, root)?;
-    walk(alloc, ground, filter, &mut asked, place)?;
+    walk(alloc, ground, filter, asked, place)?;
     match ground.map.get(head) {
         None => unreachable!(),
         Some(kept) => Ok(kept),

@@ -15,7 +15,7 @@ use filter_apply::ApplyError;
 use filter_text::Filter;
 use git_objects::Name;
 use indexmap::IndexMap;
-use projection_ground::Ground;
+use projection_ground::{Asked, Ground};
 use std::alloc::{AllocError, Global};
 use std::marker::Model;
 use std::mem;
@@ -115,9 +115,14 @@ fn firsts_upon(alloc: Global, ground: &mut Ground, filter: &Filter) -> Result<Or
     let mut origins = Origins {
         firsts: IndexMap::new(alloc),
     };
+    if ground.graph.is_empty() {
+        return Ok(origins);
+    }
+    let root = ground.graph.tree(0);
+    let mut asked = Asked::new(alloc, ground, filter, root)?;
     for place in 0..ground.graph.len() {
         let name = ground.graph.name(place);
-        if let Some(shown) = made_to(alloc, ground, filter, &name)? {
+        if let Some(shown) = made_to(alloc, ground, filter, &mut asked, &name)? {
             let first = First {
                 place,
                 tree: shown.tree,
