@@ -14,6 +14,7 @@ pub mod Inserting
 pub mod Expanding
 pub mod Opening
 pub mod OnWay
+pub mod Onward
 pub mod Walking
 pub mod Clearing
 pub mod Ticking

@@ -21,12 +21,12 @@ use Rattle.stage_nodes.specs.declared.nodes.Content.TheVariants.{Held, Open}
 use Rattle.stage_nodes.specs.declared.nodes.Link.{Link}
 use Rattle.stage_nodes.specs.declared.nodes.Link.TheVariants.{First}
 use Rattle.stage_nodes.specs.Forests.{Forest, Nil, Bin, one, count, IsCell, Reads, forest, target, is_link, sought, Sound}
-use Rattle.stage_nodes.specs.Frames.{Frame, Below, Behind, plug, link_of, path_of, count_up, ReadsUp, Fits, FitsTop, Fills, SoundUp}
+use Rattle.stage_nodes.specs.Frames.{Frame, Below, Behind, dirs_of, plug, link_of, path_of, count_up, ReadsUp, Fits, FitsTop, Fills, SoundUp}
 use Rattle.stage_nodes.specs.Pools.{IsPool, hanging, inside, spare, Walks}
 use Rattle.stage_nodes.specs.Directories.{any, IsDirectory}
 use Rattle.stage_nodes.specs.Leaves.{leaf_in, leaf_below, is_held}
 use Rattle.stage_nodes.specs.Expanding.{IsClosed, IsExpanded, IsWaste}
-use Rattle.stage_nodes.specs.Ways.{IsAlone, named_first, kids_of, IsOpen, IsStill, IsBlocked, IsPlaceOf, IsDirOf, IsWay}
+use Rattle.stage_nodes.specs.Ways.{IsAlone, named_first, kids_of, IsOpen, IsStill, IsBlocked, IsPlaceOf, IsDirOf, IsInside, IsWay}
 use Rattle.stage_nodes.proofs.Seeking.{inside_link}
 use Rattle.stage_nodes.proofs.Framing.{reads_kept, up_kept, target_up, count_plug, ReadsAll, reads_plug}
 use Rattle.stage_nodes.proofs.Pools.{own_count, one_most, forest_is, walk_is}
@@ -59,7 +59,7 @@ module _ (S : List Object) (s : Nodes) (base : IsDirectory s 0 (kids_of s)) (up 
 
 -- ---- the root
 
-pub at_root : (S : List Object) (s : Nodes) → IsDirectory s 0 (kids_of s) → Sound (is_held S) (kids_of s) → IsDirOf S s [] 0
+unfoldable pub at_root : (S : List Object) (s : Nodes) → IsDirectory s 0 (kids_of s) → Sound (is_held S) (kids_of s) → IsDirOf S s [] 0
 at_root S s o sound = record {
   frames = [];
   number = o.node.first;
@@ -190,6 +190,11 @@ dir_in S s q c up k n e = record {
   link_is = refl;
   fits = λ d. tt;
 }
+
+-- the same, with the numbers of the directories on the way
+pub inside_in : (S : List Object) (s : Nodes) (q : Path) (c : Bytes) (up : List Frame) (k : ℕ) (n : IsNamed S s q c up k) → n.content ≡ Open → IsInside S s (q ++ c ∷ []) (dirs_of up ++ k ∷ []) k
+unfolding dir_in
+inside_in S s q c up k n e = record { directory = dir_in S s q c up k n e; numbers = refl }
 
 pub still_same : (S : List Object) (s : Nodes) → IsOpen S s → IsStill S s s
 still_same S s o = record { opened = o; leaves = λ p. refl }
@@ -357,9 +362,9 @@ module _ (S : List Object) (s : Nodes) (opened : IsOpen S s) (q : Path) (c : Byt
       path = n.path;
     }
 
-    pub dir_new : IsDirOf S s' (q ++ c ∷ []) k
+    pub inside_new : IsInside S s' (q ++ c ∷ []) (dirs_of up ++ k ∷ []) k
     unfolding named_new
-    dir_new = dir_in S s' q c up k named_new refl
+    inside_new = inside_in S s' q c up k named_new refl
 
 -- nothing but free nodes has changed
 module _ (S : List Object) (s s' : Nodes) (opened : IsOpen S s) (w : IsWaste s s') where
@@ -418,8 +423,10 @@ module _ (S : List Object) (s : Nodes) (q : Path) (c : Bytes) (link : Link) (chi
   read_is n h = read ∙ Rattle.std.proofs.lemmas.Option.get_or_from_slice_get s.cells.items k n v h
 
   -- an open directory
-  pub open_dir : v.content ≡ Open → IsDirOf S s (q ++ c ∷ []) k
-  open_dir h = let n = (named_of S s q c link k at_k).0 in dir_in S s q c at_k.frames k n (sym n.cell.content ∙ ap (λ (x : Node). x.content) (sym (read_is n.node n.there)) ∙ h)
+  pub open_dir : v.content ≡ Open → IsInside S s (q ++ c ∷ []) (dirs_of here.frames ++ k ∷ []) k
+  open_dir h =
+      subst (λ (o : Option ℕ). (w : IsPlaceOf S s q c link o) → IsInside S s (q ++ c ∷ []) (dirs_of w.frames ++ k ∷ []) k) (sym e)
+      (λ w. let n = (named_of S s q c link k w).0 in inside_in S s q c w.frames k n (sym n.cell.content ∙ ap (λ (x : Node). x.content) (sym (read_is n.node n.there)) ∙ h)) here
 
   -- a leaf
   pub leaf_blocks : (f : Found) → v.content ≡ Held f → is_dir f.mode ≡ false → IsBlocked c here.rest
@@ -441,8 +448,11 @@ module _ (S : List Object) (s : Nodes) (q : Path) (c : Bytes) (link : Link) (chi
           ] refl g
 
   module _ (opened : IsOpen S s) (f : Found) (h : v.content ≡ Held f) (d : is_dir f.mode ≡ true) where
+    held_dir : (n : Node) → slice_get s.cells.items k ≡ Some n → (x : Content) → n.content ≡ x → x ≡ Held (record { mode = Dir; name = f.name })
+    held_dir n there x e = sym e ∙ ap (λ (y : Node). y.content) (sym (read_is n there)) ∙ h ∙ ap Held (dir_mode f d)
+
     pub content_is : (n : IsNamed S s q c at_k.frames k) → n.content ≡ Held (record { mode = Dir; name = f.name })
-    content_is n = sym n.cell.content ∙ ap (λ (x : Node). x.content) (sym (read_is n.node n.there)) ∙ h ∙ ap Held (dir_mode f d)
+    content_is n = held_dir n.node n.there n.content n.cell.content
 
     pub child_closed : IsClosed s k f.name
     child_closed = let n = (named_of S s q c link k at_k).0 in is_closed S s opened q c at_k.frames k n f.name (content_is n)
@@ -453,8 +463,10 @@ module _ (S : List Object) (s : Nodes) (q : Path) (c : Bytes) (link : Link) (chi
     pub child_still : (s' : Nodes) → IsExpanded S s s' k f.name → IsStore S → IsStill S s s'
     child_still s' x st = let n = (named_of S s q c link k at_k).0 in still_new S s opened q c at_k.frames k n f.name (content_is n) s' x st
 
-    pub child_dir : (s' : Nodes) → IsExpanded S s s' k f.name → IsStore S → IsDirOf S s' (q ++ c ∷ []) k
-    child_dir s' x st = let n = (named_of S s q c link k at_k).0 in dir_new S s opened q c at_k.frames k n f.name (content_is n) s' x st
+    pub child_dir : (s' : Nodes) → IsExpanded S s s' k f.name → IsStore S → IsInside S s' (q ++ c ∷ []) (dirs_of here.frames ++ k ∷ []) k
+    child_dir s' x st =
+        subst (λ (o : Option ℕ). (w : IsPlaceOf S s q c link o) → IsInside S s' (q ++ c ∷ []) (dirs_of w.frames ++ k ∷ []) k) (sym e)
+        (λ w. let n = (named_of S s q c link k w).0 in inside_new S s opened q c w.frames k n f.name (held_dir n.node n.there n.content n.cell.content) s' x st) here
 
 pub nothing_blocks : (S : List Object) (s : Nodes) (q : Path) (c : Bytes) (link : Link) (child : Option ℕ) (here : IsPlaceOf S s q c link child) → child ≡ None → IsBlocked c here.rest
 nothing_blocks S s q c link child here e = by here.rest (sym here.child_is ∙ e)

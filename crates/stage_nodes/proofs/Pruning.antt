@@ -6,17 +6,18 @@ use Rattle.git_objects.specs.Trees.{Flat, at, remove}
 use Rattle.object_store.specs.Objects.{Object}
 use Rattle.stage_nodes.specs.declared.nodes.Nodes.{Nodes}
 use Rattle.stage_nodes.specs.declared.ways.Way.{Way}
-use Rattle.stage_nodes.specs.Branches.{CanCut, IsCut, IsRemoved, Stands, is_alone, reached}
+use Rattle.stage_nodes.specs.Branches.{CanCut, IsCut, IsCutAt, IsRemoved, Stands, after_named, is_alone, reached}
 use Rattle.stage_nodes.specs.declared.nodes.Content.{Content}
 use Rattle.stage_nodes.specs.declared.nodes.Content.TheVariants.{Held, Open}
 use Rattle.stage_nodes.specs.Forests.{Forest, Nil, Bin, is_link}
 use Rattle.stage_nodes.specs.declared.nodes.Link.{Link}
 use Rattle.stage_nodes.specs.declared.nodes.Link.TheVariants.{Next}
+use Rattle.stage_nodes.specs.Frames.{plug}
 use Rattle.stage_nodes.specs.Ways.{IsOpen, IsStill, IsWay, kids_of}
 use Rattle.stage_nodes.specs.Walks.{CanPrune, IsStop, IsWalkable, clear_below, is_clear}
 use Rattle.stage_nodes.proofs.Clearing.{clear_place}
 use Rattle.stage_nodes.proofs.OnWay.{still_same}
-use Rattle.stage_nodes.proofs.Removing.{can_cut, child_link, cut_removed, nothing_removed}
+use Rattle.stage_nodes.proofs.Removing.{can_cut, child_link, cut_removed, cut_whole, nothing_removed}
 use Rattle.stage_nodes.proofs.Walking.{way_of}
 
 -- the way to what a path begins with is clear too
@@ -63,8 +64,8 @@ module _ (S : List Object) (s t : Nodes) (p : Path) (o : IsOpen S s) (w : Way) (
   same : (f : Flat) → Stands S s f → (y : Path) → at (remove f (take (length p) p)) y ≡ at (remove f p) y
   same f st y = ap (λ (q : Path). at (remove f q) y) all
 
-  pub none_removed : None ≡ reached (length p) w → IsRemoved S s t p
-  none_removed = nothing_removed S s s t p (length p) (omega arith) (still_same S s o) same w whole
+  pub none_cut : None ≡ reached (length p) w → IsCutAt S s t p way.place.frames
+  none_cut e = record { removed = nothing_removed S s s t p (length p) (omega arith) (still_same S s o) same w whole e; rest = way.place.rest; whole = way.place.whole }
 
   -- its ways are clear, so what stands at the path may be removed from here on
   pub prunes : CanPrune t p
@@ -81,5 +82,10 @@ module _ (S : List Object) (s t : Nodes) (p : Path) (o : IsOpen S s) (w : Way) (
     pub whole_cut : is_alone t.cells.items w.spot.link child ≡ false → CanCut t w.spot.link child
     whole_cut = can_cut S s s t p (length p) (omega arith) (still_same S s o) same w whole child e
 
-    pub whole_removed : (v : Nodes) → is_alone t.cells.items w.spot.link child ≡ false → ((h : CanCut t w.spot.link child) → IsCut t v w.spot.link child h) → IsRemoved S s v p
-    whole_removed v = cut_removed S s s t p (length p) (omega arith) (still_same S s o) same w whole child e v
+    pub whole_cut_at : (v : Nodes) → is_alone t.cells.items w.spot.link child ≡ false → ((h : CanCut t w.spot.link child) → IsCut t v w.spot.link child h) → IsCutAt S s v p way.place.frames
+    whole_cut_at v g made = record {
+      removed = cut_removed S s s t p (length p) (omega arith) (still_same S s o) same w whole child e v g made;
+      rest = after_named way.component way.place.rest;
+      whole = subst (λ (q : Path). (x : IsWay S s t q w.level w.spot.link w.spot.child) → plug x.place.frames (after_named x.component x.place.rest) ≡ kids_of v) all
+      (λ x. sym (cut_whole S s s t p (length p) (omega arith) (still_same S s o) same w x child e v g made)) way;
+    }

@@ -10,7 +10,7 @@ use Rattle.stage_nodes.specs.declared.nodes.Content.{Content}
 use Rattle.stage_nodes.specs.declared.nodes.Content.TheVariants.{Held, Open}
 use Rattle.stage_nodes.specs.declared.nodes.Link.{Link}
 use Rattle.stage_nodes.specs.Forests.{Forest, Nil, Bin, one, count, IsCell, Reads, Sound, IsSound, target}
-use Rattle.stage_nodes.specs.Frames.{plug, Fills}
+use Rattle.stage_nodes.specs.Frames.{Frame, plug, Fills}
 use Rattle.stage_nodes.specs.declared.ways.Way.{Way}
 use Rattle.stage_nodes.specs.declared.nodes.Link.TheVariants.{First, Next}
 use Rattle.std.specs.Option.{is_none}
@@ -90,6 +90,12 @@ pub record CanCut (s : Nodes) (link : Link) (child : ℕ) : Type 0 where
 pub record IsCut (s s' : Nodes) (link : Link) (child : ℕ) (h : CanCut s link child) : Type 0 where
   pub opened : IsOpen h.objects s'
   pub whole : kids_of s' ≡ plug h.place.frames (after_named h.component h.place.rest)
+
+-- what stood at a path is removed, and what stands around its place is as it was
+pub record IsCutAt (S : List Object) (s s' : Nodes) (p : Path) (around : List Frame) : Type 0 where
+  pub removed : IsRemoved S s s' p
+  pub rest : Forest
+  pub whole : plug around rest ≡ kids_of s'
 
 -- what is at the end of a way through so many components: nothing, unless a node has the last of them
 abbrev pub reached : ℕ → Way → Option ℕ

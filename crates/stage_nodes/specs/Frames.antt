@@ -32,6 +32,12 @@ path_of [] = []
 path_of (Below k c r ∷ up) = path_of up ++ c ∷ []
 path_of (Behind k c x l ∷ up) = path_of up
 
+-- the numbers of the directories on the way
+abbrev pub dirs_of : List Frame → List ℕ
+dirs_of [] = []
+dirs_of (Below k c r ∷ up) = dirs_of up ++ k ∷ []
+dirs_of (Behind k c x l ∷ up) = dirs_of up
+
 -- no directory was entered
 abbrev pub AreSiblings : List Frame → Type 0
 AreSiblings [] = Unit

@@ -1,5 +1,5 @@
 -- The way to a path, from the root down.
-use Rattle.std.specs.Prelude.{◌≡◌, ℕ, ◌+◌, ◌⊎◌, Bool, false, cond, ◌==◌, List, [], ◌∷◌, ◌++◌, length, Option, Some, None, slice_get}
+use Rattle.std.specs.Prelude.{◌≡◌, ℕ, ◌+◌, ◌⊎◌, Bool, false, cond, ◌==◌, List, [], ◌∷◌, ◌++◌, ◌<◌, length, take, get_or, Option, Some, None, slice_get}
 use Rattle.std.specs.Ordering.{is_lt}
 use Rattle.git_objects.specs.Paths.{Bytes, Path, same_bytes}
 use Rattle.git_objects.specs.Entries.{is_dir}
@@ -11,7 +11,7 @@ use Rattle.stage_nodes.specs.declared.nodes.Content.TheVariants.{Held, Open}
 use Rattle.stage_nodes.specs.declared.nodes.Link.{Link}
 use Rattle.stage_nodes.specs.declared.nodes.Link.TheVariants.{First}
 use Rattle.stage_nodes.specs.Forests.{Forest, Nil, Bin, one, count, Reads, Sound, bytes_cmp}
-use Rattle.stage_nodes.specs.Frames.{Frame, plug, link_of, path_of, ReadsUp, Fits, FitsTop, SoundUp}
+use Rattle.stage_nodes.specs.Frames.{Frame, dirs_of, plug, link_of, path_of, ReadsUp, Fits, FitsTop, SoundUp}
 use Rattle.stage_nodes.specs.Pools.{hanging, inside, spare}
 use Rattle.stage_nodes.specs.Directories.{IsDirectory}
 use Rattle.stage_nodes.specs.Leaves.{leaf_in, is_held}
@@ -91,10 +91,15 @@ pub record HasPlace (S : List Object) (s : Nodes) (child : Option ℕ) : Type 0 
   pub link : Link
   pub place : IsPlaceOf S s path component link child
 
+-- a directory of the path, with the numbers of the directories on the way to it, its own coming last
+pub record IsInside (S : List Object) (s : Nodes) (q : Path) (ns : List ℕ) (d : ℕ) : Type 0 where
+  pub directory : IsDirOf S s q d
+  pub numbers : dirs_of directory.frames ≡ ns
+
 -- the directory is entered
 abbrev pub IsEntered : List Object → Nodes → Nodes → Option ℕ → Option ℕ → Type 0
 IsEntered S s s' child None = (s' ≡ s) × ((q : Path) (c : Bytes) (link : Link) → (at : IsPlaceOf S s q c link child) → IsBlocked c at.rest)
-IsEntered S s s' child (Some d) = IsStill S s s' × ((q : Path) (c : Bytes) (link : Link) → IsPlaceOf S s q c link child → IsDirOf S s' (q ++ c ∷ []) d)
+IsEntered S s s' child (Some d) = IsStill S s s' × ((q : Path) (c : Bytes) (link : Link) → (at : IsPlaceOf S s q c link child) → IsInside S s' (q ++ c ∷ []) (dirs_of at.frames ++ d ∷ []) d)
 
 -- how far the way to a path goes
 pub record IsWay (S : List Object) (s s' : Nodes) (p : Path) (level : ℕ) (link : Link) (child : Option ℕ) : Type 0 where
@@ -106,3 +111,22 @@ pub record IsWay (S : List Object) (s s' : Nodes) (p : Path) (level : ℕ) (link
   pub level_is : length before ≡ level
   pub place : IsPlaceOf S s' before component link child
   pub ended : (behind ≡ []) ⊎ IsBlocked component place.rest
+
+-- how far the way to a path goes, with the numbers of the directories on it
+pub record IsWayBy (S : List Object) (s s' : Nodes) (p : Path) (ns : List ℕ) (level : ℕ) (link : Link) (child : Option ℕ) : Type 0 where
+  pub way : IsWay S s s' p level link child
+  pub numbers : dirs_of way.place.frames ≡ ns
+
+-- A link in the directory of a path's first components, of which these are the numbers. The next component doesn't stand
+-- before it.
+pub record IsStart (S : List Object) (s : Nodes) (p : Path) (ns : List ℕ) (start : Link) : Type 0 where
+  pub within : length ns < length p
+  pub frames : List Frame
+  pub number : Option ℕ
+  pub rest : Forest
+  pub here : IsHere (is_held S) s.names.items s.cells.items 0 frames number rest
+  pub whole : plug frames rest ≡ kids_of s
+  pub path : path_of frames ≡ take (length ns) p
+  pub link_is : start ≡ link_of 0 frames
+  pub fits : (c : Bytes) → c ≡ get_or p (length ns) c → Fits frames c
+  pub numbers : dirs_of frames ≡ ns

@@ -1,21 +1,20 @@
 // Edits at a path.
-ghost use Rattle.std.specs.Prelude.{◌≡◌, ◌<◌, true, drop, length, IfOk, OnErr, OnOk};
+ghost use Rattle.std.specs.Prelude.{◌≡◌, ◌<◌, List, true, false, drop, length, IfOk, OnErr};
 ghost use Rattle.git_objects.specs.Paths.{is_path};
-ghost use Rattle.stage_nodes.specs.Branches.{CanCut, HasSpot, IsBranch, IsCut, IsRemoved, IsReplaced};
+ghost use Rattle.object_store.specs.Objects.{Object};
+ghost use Rattle.stage_nodes.specs.Branches.{CanCut, HasSpot, IsBranch, IsCut, IsCutAt, IsRemoved, IsReplaced};
 ghost use Rattle.stage_nodes.specs.Branches.{is_alone, reached};
 ghost use Rattle.stage_nodes.specs.Expanding.{IsWaste};
 ghost use Rattle.stage_nodes.specs.Pools.{IsPool};
 ghost use Rattle.stage_nodes.specs.Walks.{CanPrune};
-ghost use Rattle.stage_nodes.specs.Ways.{IsOpen, IsStill};
+ghost use Rattle.stage_nodes.specs.Ways.{IsWay};
 ghost use Rattle.stage_nodes.specs.Forests.{is_link};
 
 use crate::nodes::{Content, Link, Nodes};
 use crate::ways::Way;
 use git_objects::Component;
-use object_store::Store;
-use path_names::Path;
 use path_trees::Found;
-use std::alloc::{AllocError, Global};
+use std::alloc::AllocError;
 
 impl Nodes {
     /// Makes a node for each component from a level on: each but the last a directory with the next as its only child.
@@ -77,7 +76,7 @@ impl Nodes {
     }
 
     // Whether a node is its directory's only child.
-    pub(crate) fn is_alone(&self, link: Link, child: usize) -> bool
+    fn is_alone(&self, link: Link, child: usize) -> bool
         requires { is_link self.now.cells.items (Link.Next child) ≡ true }
         ensures { result ≡ is_alone self.now.cells.items link child }
     {
@@ -98,23 +97,23 @@ impl Nodes {
         self.free_all(Some(child));
     }
 
-    /// Removes a path and all below it, and the directories that would be left empty.
-    pub fn remove(&mut self, alloc: Global, store: &Store, path: &Path) -> Result<(), AllocError>
-        requires { IsOpen store.now self.old }
-        ensures ok { OnOk result (IsRemoved store.now self.old self.new path.now) }
-        ensures err { OnErr result (IsStill store.now self.old self.new) }
+    /// Takes out what stands at the end of a way to a path, if its directory keeps another child. Whether nothing stands
+    /// at the path then. Needs no memory.
+    pub fn cut_end(&mut self, way: Way, components: &[Component]) -> bool
+        requires { (S : List Object) × IsWay S self.old self.old components.now way.level way.spot.link way.spot.child }
+        ensures cut { result ≡ true → (S : List Object)
+            → (w : IsWay S self.old self.old components.now way.level way.spot.link way.spot.child)
+            → IsCutAt S self.old self.new components.now w.place.frames }
+        ensures same { result ≡ false → self.new ≡ self.old }
     {
-        let components = path.components();
-        let way = self.way(alloc, store, components)?;
         let Some(child) = self.reached(way, components.len()) else {
-            return Ok(());
+            return true;
         };
-        if !self.is_alone(way.spot.link, child) {
-            self.cut(way.spot.link, child);
-            return Ok(());
+        if self.is_alone(way.spot.link, child) {
+            return false;
         }
-        self.prune(components);
-        Ok(())
+        self.cut(way.spot.link, child);
+        true
     }
 
     /// Removes a path and all below it, and the directories that would be left empty, where no stored directory stands

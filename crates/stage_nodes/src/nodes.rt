@@ -98,8 +98,8 @@ impl Nodes {
         compare_bytes(&self.names[node.at..node.at + node.len], component).is_lt()
     }
 
-    // Whether a node has a component.
-    pub(crate) fn is_named(&self, node: Node, component: &[u8]) -> bool
+    /// Whether a node has a component.
+    pub fn is_named(&self, node: Node, component: &[u8]) -> bool
         requires { node.at + node.len ≤ length self.now.names.items }
         ensures { result ≡ same_bytes component.now (node_component self.now.names.items node) }
     {

@@ -5,7 +5,7 @@ ghost use Rattle.git_objects.specs.Entries.{is_dir};
 ghost use Rattle.object_store.specs.Objects.{IsStore};
 ghost use Rattle.stage_nodes.specs.Forests.{is_link, sought, target};
 ghost use Rattle.stage_nodes.specs.Pools.{Walks, hanging};
-ghost use Rattle.stage_nodes.specs.Ways.{HasPlace, IsEntered, IsOpen, IsStill, IsWay, named_first};
+ghost use Rattle.stage_nodes.specs.Ways.{HasPlace, IsEntered, IsOpen, IsStart, IsStill, IsWayBy, named_first};
 
 use crate::nodes::{Content, Link, Nodes};
 use git_objects::{Component, Mode};
@@ -99,29 +99,37 @@ impl Nodes {
         }
     }
 
-    /// Goes down to a path, as far as there are directories, and makes nodes of the entries of each stored one.
+    /// Goes down to a path from a link in the directory of its first components, as far as there are directories, and
+    /// makes nodes of the entries of each stored one. `passed` has the numbers of the directories of these components,
+    /// and gets those of the directories that are entered.
     pub fn way(
         &mut self,
         alloc: Global,
         store: &Store,
         components: &[Component],
+        start: Link,
+        passed: &mut Vec<usize>,
     ) -> Result<Way, AllocError>
         requires opened { IsOpen store.now self.old }
         requires path { is_path components.now ≡ true }
-        ensures ok { IfOk result (λ w. IsWay store.now self.old self.new components.now
+        requires start { IsStart store.now self.old components.now passed.old.items start }
+        ensures ok { IfOk result (λ w. IsWayBy store.now self.old self.new components.now passed.new.items
             w.level w.spot.link w.spot.child) }
         ensures err { OnErr result (IsStill store.now self.old self.new) }
     {
         let last = components.len() - 1;
-        let mut directory = 0;
-        for level in 0..last {
-            let spot = self.spot(directory, components[level].bytes());
+        let mut link = start;
+        for level in passed.len()..last {
+            let spot = self.spot_from(link, components[level].bytes());
             match self.entered(alloc, store, spot.child)? {
-                Some(number) => directory = number,
+                Some(number) => {
+                    passed.push(number)?;
+                    link = Link::First(number);
+                }
                 None => return Ok(Way { level, spot }),
             }
         }
-        let spot = self.spot(directory, components[last].bytes());
+        let spot = self.spot_from(link, components[last].bytes());
         Ok(Way { level: last, spot })
     }
 }

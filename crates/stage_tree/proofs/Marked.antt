@@ -10,18 +10,14 @@ use Rattle.stage_nodes.specs.Roots.{IsOpened, IsRooted, IsStage, items_of}
 use Rattle.stage_tree.proofs.FromLast.{root_is_open}
 use Rattle.stage_nodes.proofs.Rooting.{already_open}
 
-pub child_in : (s : Nodes) (o : Option ℕ) (q r : Path) (k : ℕ) → IfSome o (IsChildOf s q) → o ≡ Some k → q ≡ r → IsChildOf s r k
-child_in s o q r k h e f = subst (λ (x : Path). IsChildOf s x k) f (subst (λ (x : Option ℕ). IfSome x (IsChildOf s q)) e h)
+pub child_in : (s : Nodes) (o : Option ℕ) (q r : Path) (ns : List ℕ) (k : ℕ) → IfSome o (IsChildOf s q ns) → o ≡ Some k → q ≡ r → IsChildOf s r ns k
+child_in s o q r ns k h e f = subst (λ (x : Path). IsChildOf s x ns k) f (subst (λ (x : Option ℕ). IfSome x (IsChildOf s q ns)) e h)
 
-pub beside_in : (s : Nodes) (o b : Option ℕ) (q r : Path) → IfSome o (IsChildOf s q) → IfSome b (λ k. (o ≡ Some k) × (q ≡ r)) → IfSome b (IsChildOf s r)
-beside_in s o None q r h g = tt
-beside_in s o (Some k) q r h g = child_in s o q r k h g.0 g.1
-
-pub none_known : (s : Nodes) (o : Option ℕ) (q : Path) → o ≡ None → IfSome o (IsChildOf s q)
-none_known s o q e = subst (λ (x : Option ℕ). IfSome x (IsChildOf s q)) (sym e) tt
+pub none_known : (s : Nodes) (o : Option ℕ) (q : Path) (ns : List ℕ) → o ≡ None → IfSome o (IsChildOf s q ns)
+none_known s o q ns e = subst (λ (x : Option ℕ). IfSome x (IsChildOf s q ns)) (sym e) tt
 
 pub rooted_in : (S : List Object) (s : Nodes) (m : ℕ) (v : Staged) → staged s m ≡ v → (t : Flat) → Shows S v t → IsRooted S (items_of s)
 rooted_in S s m v e t h = subst (λ (x : Staged). IsRooted S x.items) (sym e) h.held
 
-pub opened_in : (S : List Object) (s : Nodes) (m : ℕ) (v : Staged) → staged s m ≡ v → IsStage s → (q : Path) (k : ℕ) → IsChildOf s q k → (t : Flat) → Shows S v t → IsOpened S s s
-opened_in S s m v e stage q k h t g = already_open S s stage (rooted_in S s m v e t g) (root_is_open s stage q k h)
+pub opened_in : (S : List Object) (s : Nodes) (m : ℕ) (v : Staged) → staged s m ≡ v → IsStage s → (q : Path) (ns : List ℕ) (k : ℕ) → IsChildOf s q ns k → (t : Flat) → Shows S v t → IsOpened S s s
+opened_in S s m v e stage q ns k h t g = already_open S s stage (rooted_in S s m v e t g) (root_is_open s stage q ns k h)

@@ -1,5 +1,5 @@
 -- A leaf set in a stage.
-use Rattle.std.proofs.Common.{◌≡◌, ℕ, suc, ◌+◌, ◌-◌, ◌<◌, ◌≤◌, ◌⊎◌, inl, inr, Bool, true, false, not, List, [], ◌∷◌, ◌++◌, length, take, Result, Ok, Err, Option, Some, None, IfSome, refl, sym, ap, subst, ◌∙◌, arith}
+use Rattle.std.proofs.Common.{◌≡◌, ℕ, suc, ◌+◌, ◌<◌, ◌≤◌, ◌⊎◌, inl, inr, true, false, not, List, [], ◌∷◌, ◌++◌, length, take, Result, Ok, Err, Option, Some, None, IfSome, refl, sym, ap, subst, ◌∙◌, arith}
 use Rattle.std.specs.Prelude.{nat_le, IsOkAnd, if◌then◌else◌}
 use Rattle.std.specs.List.{list_all}
 use Rattle.std.specs.Cmp.{second_so}
@@ -19,7 +19,7 @@ use Rattle.stage_nodes.specs.declared.nodes.Nodes.{Nodes}
 use Rattle.stage_nodes.specs.declared.nodes.Content.TheVariants.{Held}
 use Rattle.stage_nodes.specs.declared.nodes.Link.{Link}
 use Rattle.stage_nodes.specs.Forests.{Forest, Bin, Sound}
-use Rattle.stage_nodes.specs.Frames.{plug, path_of}
+use Rattle.stage_nodes.specs.Frames.{dirs_of, plug, path_of}
 use Rattle.stage_nodes.specs.Leaves.{leaf_in, is_held}
 use Rattle.stage_nodes.specs.Expanding.{IsWaste}
 use Rattle.stage_nodes.specs.Ways.{IsOpen, IsWay, kids_of}
@@ -32,6 +32,7 @@ use Rattle.stage_tree.specs.Stages.{Staged, Shows, staged}
 use Rattle.stage_tree.proofs.CountLeaves.{length_files, files_plug}
 use Rattle.stage_tree.proofs.Fewer.{one_leaf}
 use Rattle.stage_tree.proofs.FromLast.{unmoved_open}
+use Rattle.stage_nodes.proofs.Onward.{dirs_long}
 use Rattle.stage_nodes.proofs.OnWay.{waste_still}
 use Rattle.stage_nodes.proofs.Places.{sound_plug}
 use Rattle.stage_nodes.proofs.PutLeaves.{put_there, stem_new}
@@ -123,7 +124,7 @@ module _ (S : List Object) (s : Nodes) (m : ℕ) (v : Staged) (e : staged s m �
     few = most_stays S s m v t t e h (omega arith);
   }
 
-  module _ (s1 : Nodes) (p : Path) (level : ℕ) (link : Link) (child : Option ℕ) (a : IsArrived S s s1 p level link child) where
+  module _ (s1 : Nodes) (p : Path) (ns : List ℕ) (level : ℕ) (link : Link) (child : Option ℕ) (a : IsArrived S s s1 p ns level link child) where
     arrived_open : IsOpen S s1
     arrived_open = a.way.still.opened
 
@@ -178,32 +179,34 @@ module _ (S : List Object) (s : Nodes) (m : ℕ) (v : Staged) (e : staged s m �
 
 -- ---- what was set last
 
-pub child_set : (S : List Object) (s s' : Nodes) (p : Path) (level : ℕ) (link : Link) (child : Option ℕ) (f : Found) (k : ℕ) (w : IsWay S s s p level link child) → IsPutAt S s s' p level link child f k w → level + 1 ≡ length p → IsChildOf s' (take level p) k
-child_set S s s' p level link child f k w g last = record {
+-- the components before the end of a way, and the numbers of their directories
+module _ (S : List Object) (s s' : Nodes) (p : Path) (level : ℕ) (link : Link) (child : Option ℕ) (w : IsWay S s s' p level link child) where
+  pub way_before : path_of w.place.frames ≡ take level p
+  way_before = w.place.path ∙ sym (ap (take level) (sym w.path) ∙ front w.before (w.component ∷ w.behind) level w.level_is)
+    where
+      front : (a b : Path) (n : ℕ) → length a ≡ n → take n (a ++ b) ≡ a
+      front a b n e = ap (λ i. take i (a ++ b)) (sym e) ∙ Rattle.std.proofs.Math.Seq.take-append_seam a b
+
+  pub numbers_long : (ns : List ℕ) → dirs_of w.place.frames ≡ ns → length ns ≡ level
+  numbers_long ns e = ap length (sym e) ∙ dirs_long w.place.frames ∙ ap length w.place.path ∙ w.level_is
+
+pub child_set : (S : List Object) (s s' : Nodes) (p : Path) (ns : List ℕ) (level : ℕ) (link : Link) (child : Option ℕ) (f : Found) (k : ℕ) (w : IsWay S s s p level link child) → dirs_of w.place.frames ≡ ns → IsPutAt S s s' p level link child f k w → IsChildOf s' (take level p) ns k
+child_set S s s' p ns level link child f k w e g = record {
   frames = w.place.frames;
   component = w.component;
   content = stem_content w.behind f;
   children = stem g.below w.behind f;
   siblings = after_named w.component w.place.rest;
   whole = sym g.whole;
-  path = w.place.path ∙ sym (ap (take level) (sym w.path) ∙ front w.before (w.component ∷ w.behind) level w.level_is);
+  path = way_before S s s p level link child w;
+  numbers = e;
 }
-  where
-    front : (a b : Path) (n : ℕ) → length a ≡ n → take n (a ++ b) ≡ a
-    front a b n e = ap (λ i. take i (a ++ b)) (sym e) ∙ Rattle.std.proofs.Math.Seq.take-append_seam a b
 
-pub remembered : (s : Nodes) (o : Option ℕ) (q r : Path) (k : ℕ) → IfSome o (λ j. (j ≡ k) × (q ≡ r)) → IsChildOf s r k → IfSome o (IsChildOf s q)
-remembered s None q r k h g = tt
-remembered s (Some j) q r k h g = subst (λ (i : ℕ). IsChildOf s q i) (sym h.0) (subst (λ (x : Path). IsChildOf s x k) (sym h.1) g)
-
--- the directory of a path that was given up
-pub child_kept : (s : Nodes) (o : Option ℕ) (q p x : Path) (level k : ℕ) → o ≡ Some k → q ≡ take (length p - 1) p → x ≡ p → level + 1 ≡ length x →
-    IsChildOf s (take level x) k → IfSome o (IsChildOf s q)
-child_kept s o q p x level k e d same last g =
-    let first : length p - 1 ≡ level = omega (arith, last, ap length same) in
-    let is : take level x ≡ q = ap (take level) same ∙ ap (λ n. take n p) (sym first) ∙ sym d in
-    subst (λ (y : Option ℕ). IfSome y (IsChildOf s q)) (sym e) (subst (λ (y : Path). IsChildOf s y k) is g)
+pub remembered : (s : Nodes) (o : Option ℕ) (q r : Path) (ns ms : List ℕ) (k : ℕ) → IfSome o (λ j. (j ≡ k) × (q ≡ r)) → ns ≡ ms → IsChildOf s r ms k → IfSome o (IsChildOf s q ns)
+remembered s None q r ns ms k h e g = tt
+remembered s (Some j) q r ns ms k h e g =
+    subst (λ (i : ℕ). IsChildOf s q ns i) (sym h.0) (subst (λ (x : Path). IsChildOf s x ns k) (sym h.1) (subst (λ (x : List ℕ). IsChildOf s r x k) (sym e) g))
 
 -- the same way, where its path is spelled in another way
-pub arrived_at : (S : List Object) (s s1 : Nodes) (p q : Path) (level : ℕ) (link : Link) (child : Option ℕ) → p ≡ q → IsArrived S s s1 p level link child → IsArrived S s s1 q level link child
-arrived_at S s s1 p q level link child e a = subst (λ (x : Path). IsArrived S s s1 x level link child) e a
+pub arrived_at : (S : List Object) (s s1 : Nodes) (p q : Path) (ns : List ℕ) (level : ℕ) (link : Link) (child : Option ℕ) → p ≡ q → IsArrived S s s1 p ns level link child → IsArrived S s s1 q ns level link child
+arrived_at S s s1 p q ns level link child e a = subst (λ (x : Path). IsArrived S s s1 x ns level link child) e a

@@ -1,5 +1,5 @@
 -- A leaf put at a path, seen node by node.
-use Rattle.std.specs.Prelude.{◌≡◌, ℕ, Bool, false, not, List, ◌∷◌, ◌++◌, length, slice_get, Option, Some, None, IfSome}
+use Rattle.std.specs.Prelude.{◌≡◌, ℕ, Bool, false, not, List, length, slice_get, Option, Some, None, IfSome}
 use Rattle.git_objects.specs.Paths.{Bytes, Path}
 use Rattle.git_objects.specs.Trees.{at}
 use Rattle.git_objects.specs.Entries.{is_dir}
@@ -12,9 +12,9 @@ use Rattle.stage_nodes.specs.declared.nodes.Content.TheVariants.{Held, Open}
 use Rattle.stage_nodes.specs.declared.nodes.Link.{Link}
 use Rattle.stage_tree.specs.declared.last.Last.{Last}
 use Rattle.stage_nodes.specs.Forests.{Forest, Bin}
-use Rattle.stage_nodes.specs.Frames.{Frame, Behind, plug, path_of, AreSiblings}
+use Rattle.stage_nodes.specs.Frames.{Frame, dirs_of, plug, path_of}
 use Rattle.stage_nodes.specs.Leaves.{leaf_in}
-use Rattle.stage_nodes.specs.Ways.{IsOpen, IsPlaceOf, IsWay, kids_of}
+use Rattle.stage_nodes.specs.Ways.{IsOpen, IsWay, kids_of}
 use Rattle.stage_nodes.specs.Branches.{stem, stem_content, after_named}
 use Rattle.stage_nodes.specs.Items.{tree_of}
 use Rattle.stage_nodes.specs.Roots.{IsStage, IsRooted, items_of}
@@ -39,8 +39,8 @@ pub record IsPutAt (S : List Object) (s s' : Nodes) (p : Path) (level : ℕ) (li
   pub long : length below ≡ length w.behind
   pub whole : kids_of s' ≡ plug w.place.frames (Bin k w.component (stem_content w.behind f) (stem below w.behind f) (after_named w.component w.place.rest))
 
--- a node of this number stands in the directory of a path
-pub record IsChildOf (s : Nodes) (q : Path) (k : ℕ) : Type 0 where
+-- A node of this number stands in the directory of a path, and these are the numbers of the directories on the way to it.
+pub record IsChildOf (s : Nodes) (q : Path) (ns : List ℕ) (k : ℕ) : Type 0 where
   pub frames : List Frame
   pub component : Bytes
   pub content : Content
@@ -48,18 +48,13 @@ pub record IsChildOf (s : Nodes) (q : Path) (k : ℕ) : Type 0 where
   pub siblings : Forest
   pub whole : plug frames (Bin k component content children siblings) ≡ kids_of s
   pub path : path_of frames ≡ q
+  pub numbers : dirs_of frames ≡ ns
 
--- a place behind a node of its directory
-pub record IsPlaceBehind (S : List Object) (s : Nodes) (q : Path) (c : Bytes) (link : Link) (child : Option ℕ) (k : ℕ) (h : IsChildOf s q k) : Type 0 where
-  pub place : IsPlaceOf S s q c link child
-  pub passed : List Frame
-  pub siblings : AreSiblings passed
-  pub frames_are : place.frames ≡ passed ++ Behind k h.component h.content h.children ∷ h.frames
-
--- the nodes stand for what the stage stood for, and this is the way to the path
-pub record IsArrived (S : List Object) (s s' : Nodes) (p : Path) (level : ℕ) (link : Link) (child : Option ℕ) : Type 0 where
+-- The nodes stand for what the stage stood for, and this is the way to the path, with the numbers of the directories on it.
+pub record IsArrived (S : List Object) (s s' : Nodes) (p : Path) (ns : List ℕ) (level : ℕ) (link : Link) (child : Option ℕ) : Type 0 where
   pub leaves : (y : Path) → leaf_in S (kids_of s') y ≡ at (tree_of S (items_of s)) y
   pub way : IsWay S s' s' p level link child
+  pub numbers : dirs_of way.place.frames ≡ ns
 
 -- a stage that stands for what it stood for
 pub record IsUnmoved (S : List Object) (s s' : Nodes) : Type 0 where
@@ -70,4 +65,4 @@ pub record IsUnmoved (S : List Object) (s s' : Nodes) : Type 0 where
 -- a stage, and the node that was set last in it
 pub record IsMarked (s : Nodes) (last : Last) : Type 0 where
   pub stage : IsStage s
-  pub last_there : IfSome last.child (IsChildOf s last.directory.items)
+  pub last_there : IfSome last.child (IsChildOf s last.directory.items last.numbers.items)

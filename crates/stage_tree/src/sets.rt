@@ -8,6 +8,7 @@ ghost use Rattle.object_store.specs.Sizes.{held_number};
 ghost use Rattle.stage_tree.specs.declared.fault.StageFault.TheVariants.{OutOfMemory, TooMany};
 ghost use Rattle.stage_tree.specs.Counts.{IsRoom, files, files_but};
 ghost use Rattle.stage_nodes.specs.Expanding.{IsWaste};
+ghost use Rattle.stage_nodes.specs.Frames.{dirs_of};
 ghost use Rattle.stage_nodes.specs.Leaves.{is_held};
 ghost use Rattle.stage_tree.specs.Sets.{IsChildOf, IsPutAt, is_leaf_at};
 ghost use Rattle.stage_nodes.specs.Ways.{HasPlace, IsOpen, IsWay, kids_of};
@@ -88,7 +89,8 @@ fn put_on(
     Ok(number)
 }
 
-// Puts a leaf or a stored directory at the end of a way, and remembers its node where its directory was there.
+// Puts a leaf or a stored directory at the end of a way, and remembers its node. The numbers that are known are those
+// of the directories on the way.
 pub fn put_last(
     nodes: &mut Nodes,
     last: &mut Last,
@@ -98,8 +100,8 @@ pub fn put_last(
     found: Found,
 ) -> Result<(), AllocError>
     requires way { (S : List Object)
-        × IsWay S nodes.old nodes.old components.now way.level way.spot.link way.spot.child
-        × (is_held S (Content.Held found) ≡ true) }
+        × (w : IsWay S nodes.old nodes.old components.now way.level way.spot.link way.spot.child)
+        × (is_held S (Content.Held found) ≡ true) × (dirs_of w.place.frames ≡ last.old.numbers.items) }
     requires components { list_all is_component components.now ≡ true }
     requires forgotten { last.old.child ≡ None }
     ensures ok { OnOk result ((S : List Object)
@@ -107,17 +109,16 @@ pub fn put_last(
         → is_held S (Content.Held found) ≡ true
         → (k : ℕ) × IsPutAt S nodes.old nodes.new components.now way.level way.spot.link way.spot.child found k w) }
     ensures err { OnErr result (IsWaste nodes.old nodes.new) }
-    ensures child { IfSome last.new.child (IsChildOf nodes.new last.new.directory.items) }
+    ensures child { IfSome last.new.child
+        (IsChildOf nodes.new last.new.directory.items last.new.numbers.items) }
 {
     let number = put_on(nodes, way, components, found)?;
-    if way.level + 1 == components.len() {
-        last.remember(alloc, &components[..way.level], number);
-    }
+    last.remember(alloc, &components[..way.level], number);
     Ok(())
 }
 
-// Puts a leaf or a stored directory at the end of a way, and remembers its node where its directory was there. The path
-// is given up: its directory is kept and not copied.
+// Puts a leaf or a stored directory at the end of a way, and remembers its node. The path is given up: its directory is
+// kept and not copied. The numbers that are known are those of the directories on the way.
 pub fn put_kept(
     nodes: &mut Nodes,
     last: &mut Last,
@@ -126,8 +127,8 @@ pub fn put_kept(
     found: Found,
 ) -> Result<(), AllocError>
     requires way { (S : List Object)
-        × IsWay S nodes.old nodes.old components.items way.level way.spot.link way.spot.child
-        × (is_held S (Content.Held found) ≡ true) }
+        × (w : IsWay S nodes.old nodes.old components.items way.level way.spot.link way.spot.child)
+        × (is_held S (Content.Held found) ≡ true) × (dirs_of w.place.frames ≡ last.old.numbers.items) }
     requires components { list_all is_component components.items ≡ true }
     requires forgotten { last.old.child ≡ None }
     ensures ok { OnOk result ((S : List Object)
@@ -135,11 +136,10 @@ pub fn put_kept(
         → is_held S (Content.Held found) ≡ true
         → (k : ℕ) × IsPutAt S nodes.old nodes.new components.items way.level way.spot.link way.spot.child found k w) }
     ensures err { OnErr result (IsWaste nodes.old nodes.new) }
-    ensures child { IfSome last.new.child (IsChildOf nodes.new last.new.directory.items) }
+    ensures child { IfSome last.new.child
+        (IsChildOf nodes.new last.new.directory.items last.new.numbers.items) }
 {
     let number = put_on(nodes, way, &components, found)?;
-    if way.level + 1 == components.len() {
-        last.keep(components, number);
-    }
+    last.keep(components, way.level, number);
     Ok(())
 }

@@ -11,7 +11,7 @@ ghost use Rattle.stage_tree.specs.Finished.{IsFinished};
 ghost use Rattle.stage_tree.specs.Stages.{Shows};
 
 use crate::StageFault;
-use crate::last::{Last, arrive, remove_behind};
+use crate::last::{Last, arrive};
 use crate::sets::{most_with_leaf, put_kept, put_last};
 use git_objects::{Name, name_bytes_law};
 use object_store::{Store, store_law};
@@ -59,10 +59,7 @@ impl Stage {
             alloc,
             nodes: Nodes::of_root(alloc, root)?,
             most,
-            last: Last {
-                directory: Vec::new(alloc),
-                child: None,
-            },
+            last: Last::new(alloc),
         })
     }
 
@@ -76,18 +73,14 @@ impl Stage {
             alloc,
             nodes,
             most: 0,
-            last: Last {
-                directory: Vec::new(alloc),
-                child: None,
-            },
+            last: Last::new(alloc),
         };
         stage.clear();
         Ok(stage)
     }
 
-    /// Puts a leaf at a path, where every path that is comparable with it goes. A path behind the one that was set or
-    /// put last, in its directory, is looked for from there on. The path is copied: `set_owned` takes it without a
-    /// copy.
+    /// Puts a leaf at a path, where every path that is comparable with it goes. Paths in the order of their bytes cost
+    /// their depth and the entries between them. The path is copied: `set_owned` takes it without a copy.
     pub fn set(&mut self, store: &Store, path: &Path, leaf: Leaf) -> Result<(), StageFault>
         requires leaf { has_child store.now leaf.mode leaf.name.0 ≡ true }
         requires shows { (t : Flat) × Shows store.now self.old t }
@@ -126,8 +119,7 @@ impl Stage {
     }
 
     /// Puts a leaf or a stored directory at a path, where every path that is comparable with it goes. No number of
-    /// files is refused: they are counted by the next `set` or `copy` and not here. A path behind the one that was set
-    /// or put last, in its directory, is looked for from there on.
+    /// files is refused: they are counted by the next `set` or `copy` and not here.
     pub fn put(&mut self, store: &Store, path: &Path, found: Found) -> Result<(), AllocError>
         requires found { has_child store.now found.mode found.name.0 ≡ true }
         requires shows { (t : Flat) × Shows store.now self.old t }
@@ -164,14 +156,19 @@ impl Stage {
         ensures err { OnErr result ((t : Flat) → Shows store.now self.old t → Shows store.now self.new t) }
     {
         let components = path.components();
-        if let Some(number) = self.last.taken(components) {
-            if remove_behind(&mut self.nodes, number, components) {
-                self.last.child = Some(number);
-                return Ok(());
-            }
+        let way = arrive(
+            &mut self.nodes,
+            &mut self.last,
+            self.alloc,
+            store,
+            components,
+        )?;
+        if self.nodes.cut_end(way, components) {
+            self.last.remember_before(self.alloc, components, way);
+        } else {
+            self.nodes.prune(components);
         }
-        self.nodes.open_root(self.alloc, store)?;
-        self.nodes.remove(self.alloc, store, path)
+        Ok(())
     }
 
     /// Removes all paths. Needs no memory.

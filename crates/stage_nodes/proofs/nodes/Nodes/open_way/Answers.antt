@@ -51,7 +51,7 @@ loop-level-preserved g c =
     record {
       still = still_on S c.args.self.now c.loop-level.self c.enter.new.self i.still e.0;
       kept = λ q h. c.in_ok-number.ensures.clear q (i.kept q h);
-      dir = subst (λ (q : Path). IsDirOf S c.enter.new.self q c.in-Some.number) (one_longer p c.loop-level.level c.bytes.result.now within own) (e.1 (take c.loop-level.level p) c.bytes.result.now c.spot-spot.result.link here);
+      dir = subst (λ (q : Path). IsDirOf S c.enter.new.self q c.in-Some.number) (one_longer p c.loop-level.level c.bytes.result.now within own) (e.1 (take c.loop-level.level p) c.bytes.result.now c.spot-spot.result.link here).directory;
       paid = paid_further S c.args.self.now c.loop-level.self p c.loop-level.level c.loop-level.directory i.dir i.still i.kept c.bytes.result.now (omega arith) own c.spot-spot.result.link c.spot-spot.result.child c.spot-spot.ensures.link c.spot-spot.ensures.child c.args.steps.now c.loop-level.steps c.enter.new.steps i.paid c.enter.ensures.paid;
     }
 

@@ -1,74 +1,72 @@
-use Rattle.std.proofs.Common.{◌≡◌, ◌<◌, ℕ, ◌-◌, length, refl, subst, arith, take}
-use Rattle.std.proofs.lemmas.Result.{err_from_is_err_and}
+use Rattle.std.proofs.Common.{◌≡◌, ◌+◌, ◌-◌, ℕ, List, [], ◌∷◌, length, take, get_or, refl, sym, ap, subst, ◌∙◌, arith, length-append}
 use Rattle.path_trees.proofs.Lookups.{read_at, path_long}
-use Rattle.git_objects.specs.Paths.{Path}
-use Rattle.stage_nodes.specs.Ways.{IsEntered, IsDirOf}
-use Rattle.stage_nodes.proofs.OnWay.{still_same, still_on, at_root, dir_link, dir_walk, here_now, way_last, way_blocked, one_longer}
+use Rattle.stage_nodes.specs.declared.nodes.Link.TheVariants.{First}
+use Rattle.stage_nodes.specs.Ways.{IsEntered, IsStart, IsWayBy}
+use Rattle.stage_nodes.proofs.OnWay.{still_on}
+use Rattle.stage_nodes.proofs.Onward.{start_link, start_walk, place_on, on_last, on_blocked, on_entered}
 use Rattle.stage_nodes.proofs.nodes.Nodes.way.Goals as goal
 
-pub loop-level-init : goal.loop-level-init
-loop-level-init c = let S = c.args.store.now in record { still = still_same S c.args.self.now c.requires.opened; dir = at_root S c.args.self.now c.requires.opened.directory c.requires.opened.sound }
+pub spot_from-spot-requires-clause-link : goal.spot_from-spot-requires-clause-link
+spot_from-spot-requires-clause-link c = let i = c.loop-level.invariant in start_link c.args.store.now c.loop-level.self c.args.components.now c.loop-level.passed.items c.loop-level.link i.still.opened i.start
 
-pub spot-spot-requires-clause-link : goal.spot-spot-requires-clause-link
-spot-spot-requires-clause-link c = dir_link c.args.store.now c.loop-level.self (take c.loop-level.level c.args.components.now) c.loop-level.directory c.loop-level.invariant.still.opened.directory c.loop-level.invariant.dir
-
-pub spot-spot-requires-clause-walk : goal.spot-spot-requires-clause-walk
-spot-spot-requires-clause-walk c = dir_walk c.args.store.now c.loop-level.self (take c.loop-level.level c.args.components.now) c.loop-level.directory c.loop-level.invariant.still.opened.directory c.loop-level.invariant.dir
+pub spot_from-spot-requires-clause-walk : goal.spot_from-spot-requires-clause-walk
+spot_from-spot-requires-clause-walk c = let i = c.loop-level.invariant in start_walk c.args.store.now c.loop-level.self c.args.components.now c.loop-level.passed.items c.loop-level.link i.still.opened i.start
 
 pub entered-requires-clause-place : goal.entered-requires-clause-place
 entered-requires-clause-place c =
+    let i = c.loop-level.invariant in
     let p = c.args.components.now in
     let own = read_at p p c.loop-level.level c.index-components-level.result c.bytes.result.now refl c.bytes.ensures.bytes c.index-components-level.is in
     record {
-      path = take c.loop-level.level p;
+      path = take (length c.loop-level.passed.items) p;
       component = c.bytes.result.now;
-      link = c.spot-spot.result.link;
-      place = here_now c.args.store.now c.args.self.now c.loop-level.self p c.loop-level.level c.loop-level.directory c.loop-level.invariant.dir c.loop-level.invariant.still c.bytes.result.now (omega arith) own c.spot-spot.result.link c.spot-spot.result.child c.spot-spot.ensures.link c.spot-spot.ensures.child;
+      link = c.spot_from-spot.result.link;
+      place = place_on c.args.store.now c.loop-level.self p c.loop-level.passed.items c.loop-level.link i.still.opened i.start c.bytes.result.now (own ∙ ap (λ k. get_or p k c.bytes.result.now) i.level_is) c.spot_from-spot.result.link c.spot_from-spot.result.child c.spot_from-spot.ensures.link c.spot_from-spot.ensures.child;
     }
 
 pub returns-in-None-clause-ok : goal.returns-in-None-clause-ok
 returns-in-None-clause-ok c =
     let S = c.args.store.now in
+    let i = c.loop-level.invariant in
     let p = c.args.components.now in
     let own = read_at p p c.loop-level.level c.index-components-level.result c.bytes.result.now refl c.bytes.ensures.bytes c.index-components-level.is in
-    let e = subst (IsEntered S c.loop-level.self c.entered.new.self c.spot-spot.result.child) c.in-None.is c.in_ok-number.ensures.ok in
-    way_blocked S c.args.self.now c.loop-level.self p c.loop-level.level c.loop-level.directory c.loop-level.invariant.dir c.loop-level.invariant.still c.bytes.result.now (omega arith) own c.spot-spot.result.link c.spot-spot.result.child c.spot-spot.ensures.link c.spot-spot.ensures.child
-    c.entered.new.self e.0 e.1
+    let e = subst (IsEntered S c.loop-level.self c.entered.new.self c.spot_from-spot.result.child) c.in-None.is c.in_ok-number.ensures.ok in
+    subst (λ k. IsWayBy S c.args.self.now c.entered.new.self p c.loop-level.passed.items k c.spot_from-spot.result.link c.spot_from-spot.result.child) (sym i.level_is)
+    (on_blocked S c.loop-level.self p c.loop-level.passed.items c.loop-level.link i.still.opened i.start c.bytes.result.now (own ∙ ap (λ k. get_or p k c.bytes.result.now) i.level_is) c.spot_from-spot.result.link c.spot_from-spot.result.child c.spot_from-spot.ensures.link c.spot_from-spot.ensures.child
+    c.args.self.now i.still c.entered.new.self e)
 
 pub loop-level-preserved : goal.loop-level-preserved
 loop-level-preserved c =
     let S = c.args.store.now in
+    let i = c.loop-level.invariant in
     let p = c.args.components.now in
     let own = read_at p p c.loop-level.level c.index-components-level.result c.bytes.result.now refl c.bytes.ensures.bytes c.index-components-level.is in
-    let here = here_now S c.args.self.now c.loop-level.self p c.loop-level.level c.loop-level.directory c.loop-level.invariant.dir c.loop-level.invariant.still c.bytes.result.now (omega arith) own c.spot-spot.result.link c.spot-spot.result.child c.spot-spot.ensures.link c.spot-spot.ensures.child in
-    let e = subst (IsEntered S c.loop-level.self c.entered.new.self c.spot-spot.result.child) c.in-Some.is c.in_ok-number.ensures.ok in
-    let within : c.loop-level.level < length p = omega arith in
+    let e = subst (IsEntered S c.loop-level.self c.entered.new.self c.spot_from-spot.result.child) c.in-Some.is c.in_ok-number.ensures.ok in
+    let pushed = c.in_ok-push-in-Some.ensures.items in
     record {
-      still = still_on S c.args.self.now c.loop-level.self c.entered.new.self c.loop-level.invariant.still e.0;
-      dir = subst (λ (q : Path). IsDirOf S c.entered.new.self q c.in-Some.number) (one_longer p c.loop-level.level c.bytes.result.now within own) (e.1 (take c.loop-level.level p) c.bytes.result.now c.spot-spot.result.link here);
+      still = still_on S c.args.self.now c.loop-level.self c.entered.new.self i.still e.0;
+      level_is = ap (λ k. k + 1) i.level_is ∙ sym (length-append c.loop-level.passed.items (c.in-Some.number ∷ [])) ∙ ap length (sym pushed);
+      start = subst (λ (ns : List ℕ). IsStart S c.entered.new.self p ns (First c.in-Some.number)) (sym pushed)
+      (on_entered S c.loop-level.self p c.loop-level.passed.items c.loop-level.link i.still.opened i.start c.bytes.result.now (own ∙ ap (λ k. get_or p k c.bytes.result.now) i.level_is) c.spot_from-spot.result.link c.spot_from-spot.result.child c.spot_from-spot.ensures.link c.spot_from-spot.ensures.child
+      c.entered.new.self c.in-Some.number (let l = i.level_is in omega (arith, l)) e);
     }
 
-pub spot-spot-requires-2-clause-link : goal.spot-spot-requires-2-clause-link
-spot-spot-requires-2-clause-link c = dir_link c.args.store.now c.loop-level.self (take c.loop-level.level c.args.components.now) c.loop-level.directory c.loop-level.invariant.still.opened.directory c.loop-level.invariant.dir
+pub spot_from-spot-requires-2-clause-link : goal.spot_from-spot-requires-2-clause-link
+spot_from-spot-requires-2-clause-link c = let i = c.loop-level.invariant in start_link c.args.store.now c.loop-level.self c.args.components.now c.loop-level.passed.items c.loop-level.link i.still.opened i.start
 
-pub spot-spot-requires-2-clause-walk : goal.spot-spot-requires-2-clause-walk
-spot-spot-requires-2-clause-walk c = dir_walk c.args.store.now c.loop-level.self (take c.loop-level.level c.args.components.now) c.loop-level.directory c.loop-level.invariant.still.opened.directory c.loop-level.invariant.dir
+pub spot_from-spot-requires-2-clause-walk : goal.spot_from-spot-requires-2-clause-walk
+spot_from-spot-requires-2-clause-walk c = let i = c.loop-level.invariant in start_walk c.args.store.now c.loop-level.self c.args.components.now c.loop-level.passed.items c.loop-level.link i.still.opened i.start
 
 pub returns-clause-ok : goal.returns-clause-ok
 returns-clause-ok c =
     let S = c.args.store.now in
+    let i = c.loop-level.invariant in
     let p = c.args.components.now in
     let long = path_long p c.requires.path in
-    let same : c.loop-level.level ≡ length p - 1 = omega arith in
-    let dir : IsDirOf S c.loop-level.self (take (length p - 1) p) c.loop-level.directory = subst (λ (k : ℕ). IsDirOf S c.loop-level.self (take k p) c.loop-level.directory) same c.loop-level.invariant.dir in
+    let l = i.level_is in
+    let within = i.start.within in
+    let same : length p - 1 ≡ length c.loop-level.passed.items = omega (arith, l, within, long) in
     let own = read_at p p (length p - 1) c.index-components-last.result c.bytes-2.result.now refl c.bytes-2.ensures.bytes c.index-components-last.is in
-    way_last S c.args.self.now c.loop-level.self p (length p - 1) c.loop-level.directory dir c.loop-level.invariant.still c.bytes-2.result.now (omega arith) own c.spot-spot-2.result.link c.spot-spot-2.result.child c.spot-spot-2.ensures.link c.spot-spot-2.ensures.child (omega arith)
-
-pub returns-in_err-number-clause-ok : goal.returns-in_err-number-clause-ok
-returns-in_err-number-clause-ok c = let p = err_from_is_err_and c.from_residual.result c.from_residual.ensures.1 in rw (p.1) tt
-
-pub returns-in-None-clause-err : goal.returns-in-None-clause-err
-returns-in-None-clause-err c = tt
-
-pub returns-clause-err : goal.returns-clause-err
-returns-clause-err c = tt
+    subst (λ k. IsWayBy S c.args.self.now c.loop-level.self p c.loop-level.passed.items k c.spot_from-spot-2.result.link c.spot_from-spot-2.result.child) (sym same)
+    (on_last S c.loop-level.self p c.loop-level.passed.items c.loop-level.link i.still.opened i.start c.bytes-2.result.now (own ∙ ap (λ k. get_or p k c.bytes-2.result.now) same) c.spot_from-spot-2.result.link c.spot_from-spot-2.result.child c.spot_from-spot-2.ensures.link c.spot_from-spot-2.ensures.child
+    c.args.self.now i.still (omega (arith, same, long)))

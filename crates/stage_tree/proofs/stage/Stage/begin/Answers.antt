@@ -2,10 +2,11 @@ use Rattle.std.proofs.Common.{sym, ◌∙◌}
 use Rattle.std.proofs.lemmas.Result.{err_from_is_err_and}
 use Rattle.stage_tree.proofs.Staging.{begun, begun_nodes, begun_shows}
 use Rattle.stage_tree.proofs.Fewer.{stats_files}
+use Rattle.stage_tree.proofs.Marked.{none_known}
 use Rattle.stage_tree.proofs.stage.Stage.begin.Goals as goal
 
 pub invariant_of-result : goal.invariant_of-result
-invariant_of-result c = let o = c.in_ok-of_root.ensures in record { stage = begun c.in_ok-of_root.field-0 c.args.root o; last_there = tt }
+invariant_of-result c = let o = c.in_ok-of_root.ensures in record { stage = begun c.in_ok-of_root.field-0 c.args.root o; last_there = none_known c.in_ok-of_root.field-0 c.new.result.child c.new.result.directory.items c.new.result.numbers.items c.new.ensures }
 
 pub returns-clause-nodes : goal.returns-clause-nodes
 returns-clause-nodes c = begun_nodes c.in_ok-of_root.field-0 c.args.root c.in_ok-of_root.ensures

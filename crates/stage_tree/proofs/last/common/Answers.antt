@@ -2,7 +2,7 @@ use Rattle.std.proofs.Common.{◌≡◌, ◌+◌, ◌++◌, ◌∷◌, [], Bool,
 use Rattle.std.specs.Cmp.Lexicographic.{bytes_decides}
 use Rattle.std.proofs.lemmas.List.{take_more}
 use Rattle.git_objects.specs.Paths.{same_bytes}
-use Rattle.stage_tree.proofs.last.are_same.Goals as goal
+use Rattle.stage_tree.proofs.last.common.Goals as goal
 
 not_back : (b : Bool) → false ≡ not b → b ≡ true
 not_back true h = Rattle.std.proofs.Common.refl
