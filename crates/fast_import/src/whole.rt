@@ -51,8 +51,8 @@ pub fn replay_all<S: Source, B: Base>(
     }
 }
 
-/// Replays a stream upon what is there, and gives its tags, too. It is read in pieces, up to its end, its `done` line or
-/// its first fault.
+/// Replays a stream upon what is there, and gives its tags, too. It is read in pieces, up to its end, its `done` line
+/// or its first fault.
 pub fn replay_tagged<S: Source, B: Base>(
     alloc: Global,
     input: &mut S,

@@ -21,7 +21,7 @@ use Rattle.path_trees.specs.Standing.{node}
 use Rattle.path_trees.specs.declared.found.Found.{Found}
 use Rattle.path_trees.proofs.Lookups.{under_front, leaf_under, nothing_at, found_held, step_down}
 use Rattle.path_trees.proofs.Trees.{tree_listed}
-use Rattle.filter_apply.specs.Cursors.{is_below, IsBehind, IsFrom, IsListedAt}
+use Rattle.filter_apply.specs.Cursors.{precedes, IsBehind, IsFrom, IsListedAt}
 use Rattle.filter_apply.proofs.Places.{dir_node, leaf_node, dir_held}
 
 -- ---- components below others
@@ -44,12 +44,12 @@ less_heads x y r l = by (x == y) refl
     by true e = let same = eqb-true x y e in absurd (omega arith)
     by false e = lt-ltb x y l
 
-none_below : (a : Bytes) → is_below a [] ≡ false
+none_below : (a : Bytes) → precedes a [] ≡ false
 none_below [] = refl
 none_below (x ∷ a) = refl
 
 -- where the shorter one ends, none is below the other
-pub below_end : (a b : Bytes) (i : ℕ) → min (length a) (length b) ≤ i → is_below (drop i a) (drop i b) ≡ false
+pub below_end : (a b : Bytes) (i : ℕ) → min (length a) (length b) ≤ i → precedes (drop i a) (drop i b) ≡ false
 below_end [] b zero l = refl
 below_end [] b (suc i) l = refl
 below_end (x ∷ a) [] zero l = refl
@@ -57,33 +57,33 @@ below_end (x ∷ a) [] (suc i) l = none_below (drop i a)
 below_end (x ∷ a) (y ∷ b) zero l = absurd (omega arith)
 below_end (x ∷ a) (y ∷ b) (suc i) l = below_end a b i (omega arith)
 
-pub not_below : (c : Bytes) → is_below c c ≡ false
+pub not_below : (c : Bytes) → precedes c c ≡ false
 not_below [] = refl
-not_below (x ∷ c) = same_heads x x (is_below c c) refl ∙ not_below c
+not_below (x ∷ c) = same_heads x x (precedes c c) refl ∙ not_below c
 
-below_then : (a b c : Bytes) → is_below a b ≡ true → is_below b c ≡ true → is_below a c ≡ true
+below_then : (a b c : Bytes) → precedes a b ≡ true → precedes b c ≡ true → precedes a c ≡ true
 below_then [] b c h k = absurd (true≢false (sym h))
 below_then (x ∷ a) [] c h k = absurd (true≢false (sym h))
 below_then (x ∷ a) (y ∷ b) [] h k = absurd (true≢false (sym k))
-below_then (x ∷ a) (y ∷ b) (z ∷ c) h k = by (below_then a b c) (heads x y (is_below a b) h) (heads y z (is_below b c) k)
+below_then (x ∷ a) (y ∷ b) (z ∷ c) h k = by (below_then a b c) (heads x y (precedes a b) h) (heads y z (precedes b c) k)
   where
-    by : (is_below a b ≡ true → is_below b c ≡ true → is_below a c ≡ true) → ((x ≡ y) × (is_below a b ≡ true)) ⊎ (x < y) → ((y ≡ z) × (is_below b c ≡ true)) ⊎ (y < z) → cond (x == z) (is_below a c) (nat_lt x z) ≡ true
-    by then (inl m) (inl n) = same_heads x z (is_below a c) (m.0 ∙ n.0) ∙ then m.1 n.1
-    by then (inl m) (inr l) = let same = m.0 in less_heads x z (is_below a c) (omega arith)
-    by then (inr l) (inl n) = let same = n.0 in less_heads x z (is_below a c) (omega arith)
-    by then (inr l) (inr m) = less_heads x z (is_below a c) (omega arith)
+    by : (precedes a b ≡ true → precedes b c ≡ true → precedes a c ≡ true) → ((x ≡ y) × (precedes a b ≡ true)) ⊎ (x < y) → ((y ≡ z) × (precedes b c ≡ true)) ⊎ (y < z) → cond (x == z) (precedes a c) (nat_lt x z) ≡ true
+    by then (inl m) (inl n) = same_heads x z (precedes a c) (m.0 ∙ n.0) ∙ then m.1 n.1
+    by then (inl m) (inr l) = let same = m.0 in less_heads x z (precedes a c) (omega arith)
+    by then (inr l) (inl n) = let same = n.0 in less_heads x z (precedes a c) (omega arith)
+    by then (inr l) (inr m) = less_heads x z (precedes a c) (omega arith)
 
 -- it stands before, whatever follows the two
-below_before : (c d u v : Bytes) → is_below c d ≡ true → slice_cmp nat_cmp (d ++ u) (c ++ v) ≡ Greater
+below_before : (c d u v : Bytes) → precedes c d ≡ true → slice_cmp nat_cmp (d ++ u) (c ++ v) ≡ Greater
 below_before [] d u v h = absurd (true≢false (sym h))
 below_before (x ∷ c) [] u v h = absurd (true≢false (sym h))
-below_before (x ∷ c) (y ∷ d) u v h = by (below_before c d u v) (heads x y (is_below c d) h)
+below_before (x ∷ c) (y ∷ d) u v h = by (below_before c d u v) (heads x y (precedes c d) h)
   where
-    by : (is_below c d ≡ true → slice_cmp nat_cmp (d ++ u) (c ++ v) ≡ Greater) → ((x ≡ y) × (is_below c d ≡ true)) ⊎ (x < y) → slice_cmp nat_cmp (y ∷ d ++ u) (x ∷ c ++ v) ≡ Greater
+    by : (precedes c d ≡ true → slice_cmp nat_cmp (d ++ u) (c ++ v) ≡ Greater) → ((x ≡ y) × (precedes c d ≡ true)) ⊎ (x < y) → slice_cmp nat_cmp (y ∷ d ++ u) (x ∷ c ++ v) ≡ Greater
     by rest (inl m) = ap (λ o. ordering_then o (slice_cmp nat_cmp (d ++ u) (c ++ v))) (sym (nat_cmp_is y x Equal (sym m.0))) ∙ rest m.1
     by rest (inr l) = ap (λ o. ordering_then o (slice_cmp nat_cmp (d ++ u) (c ++ v))) (sym (nat_cmp_is y x Greater l))
 
-keys_before : (c d : Bytes) (s t : Bool) → is_below c d ≡ true → slice_cmp nat_cmp (dir_key d s) (dir_key c t) ≡ Greater
+keys_before : (c d : Bytes) (s t : Bool) → precedes c d ≡ true → slice_cmp nat_cmp (dir_key d s) (dir_key c t) ≡ Greater
 keys_before c d s t h = (λ i. slice_cmp nat_cmp (key_is d s i) (key_is c t i)) ∙ below_before c d (tail s) (tail t) h
   where
     tail : Bool → Bytes
@@ -104,14 +104,14 @@ other c d h = by (same_bytes c d) refl
     by false e = refl
 
 -- an entry that the component is not below is of none above it
-behind_next : (c : Bytes) (all es : List Entry) (e : Entry) → is_below c e.component ≡ false → IsBehind c all (e ∷ es) → IsBehind c all es
+behind_next : (c : Bytes) (all es : List Entry) (e : Entry) → precedes c e.component ≡ false → IsBehind c all (e ∷ es) → IsBehind c all es
 behind_next c all es e n h = record {
   order = h.order.2;
-  above = λ d b. ap (λ v. option_map found (cond v (Some e) (entry_at d es))) (sym (other d e.component (λ same. true≢false (sym b ∙ ap (is_below c) same ∙ n)))) ∙ h.above d b;
+  above = λ d b. ap (λ v. option_map found (cond v (Some e) (entry_at d es))) (sym (other d e.component (λ same. true≢false (sym b ∙ ap (precedes c) same ∙ n)))) ∙ h.above d b;
 }
 
 -- no entry behind one that the component is below has the component
-none_later : (c : Bytes) (e : Entry) (es : List Entry) → is_below c e.component ≡ true → Before entry_component entry_dir e es → found_at c es ≡ None
+none_later : (c : Bytes) (e : Entry) (es : List Entry) → precedes c e.component ≡ true → Before entry_component entry_dir e es → found_at c es ≡ None
 none_later c e [] b h = refl
 none_later c e (d ∷ es) b h = ap (λ v. option_map found (cond v (Some d) (entry_at c es))) (other c d.component apart) ∙ none_later c e es b h.2
   where
@@ -130,16 +130,16 @@ module _ (c : Bytes) (all ahead rest more : List Entry) (e : Entry) (same : ahea
   at_entry : IsFrom c all (e ∷ more)
   at_entry = subst (IsFrom c all) rest_is from
 
-  pub passed_by : same_bytes c e.component ≡ false → is_below c e.component ≡ false → IsFrom c all more
+  pub passed_by : same_bytes c e.component ≡ false → precedes c e.component ≡ false → IsFrom c all more
   passed_by s n = record {
     behind = behind_next c all more e n at_entry.behind;
     here = ap (λ v. option_map found (cond v (Some e) (entry_at c more))) (sym s) ∙ at_entry.here;
   }
 
   pub behind_found : c ≡ e.component → IsBehind c all more
-  behind_found here = behind_next c all more e (ap (is_below c) (sym here) ∙ not_below c) at_entry.behind
+  behind_found here = behind_next c all more e (ap (precedes c) (sym here) ∙ not_below c) at_entry.behind
 
-  pub none_left : same_bytes c e.component ≡ false → is_below c e.component ≡ true → None ≡ found_at c all
+  pub none_left : same_bytes c e.component ≡ false → precedes c e.component ≡ true → None ≡ found_at c all
   none_left s b =
       sym (none_later c e more b at_entry.behind.order.1)
       ∙ ap (λ v. option_map found (cond v (Some e) (entry_at c more))) (sym s)
@@ -148,7 +148,7 @@ module _ (c : Bytes) (all ahead rest more : List Entry) (e : Entry) (same : ahea
 -- ---- where a search begins and ends
 
 -- what is left serves, where the component is above the last one
-pub from_rest : (last c : Bytes) (all rest : List Entry) → is_below last c ≡ true → IsBehind last all rest → IsFrom c all rest
+pub from_rest : (last c : Bytes) (all rest : List Entry) → precedes last c ≡ true → IsBehind last all rest → IsFrom c all rest
 from_rest last c all rest b h = record {
   behind = record { order = h.order; above = λ d k. h.above d (below_then last c d b k) };
   here = h.above c b;

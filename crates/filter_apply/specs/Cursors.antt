@@ -12,15 +12,15 @@ use Rattle.path_trees.specs.declared.found.Found.{Found}
 use Rattle.filter_apply.specs.declared.cursor.Cursor.{Cursor}
 
 -- whether a has the lesser byte where the two first differ; neither is a front of the other
-abbrev pub is_below : Bytes → Bytes → Bool
-is_below [] b = false
-is_below (x ∷ a) [] = false
-is_below (x ∷ a) (y ∷ b) = cond (x == y) (is_below a b) (nat_lt x y)
+abbrev pub precedes : Bytes → Bytes → Bool
+precedes [] b = false
+precedes (x ∷ a) [] = false
+precedes (x ∷ a) (y ∷ b) = cond (x == y) (precedes a b) (nat_lt x y)
 
 -- What is left of a listing has each component that is above this one as the whole listing has it.
 pub record IsBehind (c : Bytes) (all rest : List Entry) : Type 0 where
   pub order : AreEntries rest
-  pub above : (d : Bytes) → is_below c d ≡ true → found_at d rest ≡ found_at d all
+  pub above : (d : Bytes) → precedes c d ≡ true → found_at d rest ≡ found_at d all
 
 -- and this one, too
 pub record IsFrom (c : Bytes) (all rest : List Entry) : Type 0 where

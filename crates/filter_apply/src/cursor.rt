@@ -7,7 +7,7 @@ ghost use Rattle.git_objects.specs.declared.kind.Kind.TheVariants.{Tree};
 ghost use Rattle.object_store.specs.Objects.{has};
 ghost use Rattle.object_store.specs.Unfolding.{flat};
 ghost use Rattle.path_trees.specs.Listed.{found_at};
-ghost use Rattle.filter_apply.specs.Cursors.{IsBehind, IsCursor, IsFrom, is_below};
+ghost use Rattle.filter_apply.specs.Cursors.{IsBehind, IsCursor, IsFrom, precedes};
 
 use crate::standing::found_at;
 use git_objects::{Component, Name, Steps, TreeView};
@@ -25,8 +25,8 @@ pub struct Cursor<'a, 'b> {
 }
 
 // Whether `a` has the lesser byte where the two first differ.
-fn is_below(a: &[u8], b: &[u8]) -> bool
-    ensures { result ≡ is_below a.now b.now }
+fn precedes(a: &[u8], b: &[u8]) -> bool
+    ensures { result ≡ precedes a.now b.now }
 {
     let n = a.len().min(b.len());
     for i in 0..n {
@@ -69,7 +69,7 @@ fn sought<'a>(entries: TreeView<'a>, component: &[u8]) -> (Option<Found>, TreeVi
             };
             return (Some(found), ahead);
         }
-        if is_below(component, entry.component) {
+        if precedes(component, entry.component) {
             return (None, rest);
         }
         rest = ahead.copy();
@@ -90,7 +90,7 @@ impl<'a, 'b> Cursor<'a, 'b> {
             last,
             rest,
         } = self;
-        if is_below(last, component) { rest } else { all }
+        if precedes(last, component) { rest } else { all }
     }
 
     // What a component has in the directory, and where the next look-up goes on.

@@ -41,7 +41,8 @@ fn made_at<L: Ledger>(
 ) -> Result<Option<Name>, ApplyError>
     requires root { has Tree store.old root.0 ≡ true }
     requires target { target_of (slice_get table.now.routes route) ≡ Some target.now }
-    requires base { IsFoundAt store.old (flat store.old root.0) (base_in (slice_get table.now.routes route)) (Some base) }
+    requires base { IsFoundAt store.old (flat store.old root.0)
+        (base_in (slice_get table.now.routes route)) (Some base) }
     ensures ok { IfOk result (IsDirectory store.new (routed table.now.routes route (rests (node store.old base)))) }
     ensures err { IfErr result (IsApplyFault
         (IsShownObject (shape table.now.filter) (flat store.old root.0)) store.new) }

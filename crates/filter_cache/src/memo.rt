@@ -74,8 +74,8 @@ impl Memo {
     }
 
     /// The tree that a part of the table shows of a tree, where the memo has it; it is then the entry that was used
-    /// last. Part 0 is the whole table, and part i + 1 the entry at i of its list, of which `tree` is what stands at its
-    /// base. Needs no memory.
+    /// last. Part 0 is the whole table, and part i + 1 the entry at i of its list, of which `tree` is what stands at
+    /// its base. Needs no memory.
     pub fn get(&mut self, table: usize, part: usize, tree: &Name) -> Option<Name>
         ensures found { option_map name_bytes result ≡ found same_key ((table, part), tree.now.0) self.old.entries }
         ensures used { self.new
@@ -89,9 +89,9 @@ impl Memo {
         self.places.get(&place).copied()
     }
 
-    /// Holds that a part of the table shows `shown` of the tree `tree`, as the entry that was used last: in the place of
-    /// one of the same table, part and tree, and otherwise behind dropping the entry that was used least where there is
-    /// no room. For want of memory nothing changes.
+    /// Holds that a part of the table shows `shown` of the tree `tree`, as the entry that was used last: in the place
+    /// of one of the same table, part and tree, and otherwise behind dropping the entry that was used least where
+    /// there is no room. For want of memory nothing changes.
     pub fn put(&mut self, table: usize, part: usize, tree: Name, shown: Name)
         ensures entered { (self.new ≡ record self.old {
           entries = entered same_key self.old.capacity ((table, part), tree.0) shown.0 self.old.entries;
@@ -116,9 +116,9 @@ impl Memo {
         self.joins.get(&pair).copied()
     }
 
-    /// Holds that `name` is of the two trees joined, as the join that was used last: in the place of one of the same two
-    /// trees, and otherwise behind dropping the join that was used least where there is no room. For want of memory
-    /// nothing changes.
+    /// Holds that `name` is of the two trees joined, as the join that was used last: in the place of one of the same
+    /// two trees, and otherwise behind dropping the join that was used least where there is no room. For want of
+    /// memory nothing changes.
     pub fn put_joined(&mut self, first: Name, second: Name, name: Name)
         ensures entered { (self.new ≡ record self.old {
           joins = entered same_join self.old.capacity (first.0, second.0) name.0 self.old.joins;

@@ -169,8 +169,8 @@ fn shown_by<L: Ledger>(
     )
 }
 
-/// The tree that a filter shows of a tree of the store, which has it then. Of the tree that was asked of last nothing is
-/// worked out again.
+/// The tree that a filter shows of a tree of the store, which has it then. Of the tree that was asked of last nothing
+/// is worked out again.
 pub fn seen(
     alloc: Global,
     ground: &mut Ground,

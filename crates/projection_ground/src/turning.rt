@@ -86,8 +86,8 @@ fn turn_upon(
     }
 }
 
-/// What becomes by a filter of the commit at a place of the graph, unless another commit has to be projected first. Trees
-/// that are shown are put into the store; nothing is kept.
+/// What becomes by a filter of the commit at a place of the graph, unless another commit has to be projected first.
+/// Trees that are shown are put into the store; nothing is kept.
 pub fn take_turn(
     alloc: Global,
     ground: &mut Ground,

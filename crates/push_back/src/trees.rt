@@ -38,7 +38,8 @@ fn laid_within(
     requires base { has Tree store.old base.0 ≡ true }
     requires pushed { has Tree store.old pushed.0 ≡ true }
     ensures { IsTreeAnswer
-        (judged None (laid_through (lens_of (shape table.now.filter)) (flat store.old base.0) (flat store.old pushed.0)))
+        (judged None
+        (laid_through (lens_of (shape table.now.filter)) (flat store.old base.0) (flat store.old pushed.0)))
         (IsLaidMade (shape table.now.filter) (flat store.old base.0) (flat store.old pushed.0))
         store.old store.new result }
 {

@@ -13,8 +13,8 @@ use proj_io::Sink;
 use proj_journal::Journal;
 use std::alloc::Global;
 
-/// Reads from the journal on the disk what the words ask for. The status is the number of the outcome, or says why there
-/// is no journal, as of proj_cli's `serve`; an empty disk has none.
+/// Reads from the journal on the disk what the words ask for. The status is the number of the outcome, or says why
+/// there is no journal, as of proj_cli's `serve`; an empty disk has none.
 pub fn read_on<O: Sink, E: Sink, D: Disk>(
     alloc: Global,
     words: &[String],

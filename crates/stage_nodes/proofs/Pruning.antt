@@ -87,5 +87,5 @@ module _ (S : List Object) (s t : Nodes) (p : Path) (o : IsOpen S s) (w : Way) (
       removed = cut_removed S s s t p (length p) (omega arith) (still_same S s o) same w whole child e v g made;
       rest = after_named way.component way.place.rest;
       whole = subst (λ (q : Path). (x : IsWay S s t q w.level w.spot.link w.spot.child) → plug x.place.frames (after_named x.component x.place.rest) ≡ kids_of v) all
-      (λ x. sym (cut_whole S s s t p (length p) (omega arith) (still_same S s o) same w x child e v g made)) way;
+          (λ x. sym (cut_whole S s s t p (length p) (omega arith) (still_same S s o) same w x child e v g made)) way;
     }

@@ -78,8 +78,8 @@ impl Last {
         }
     }
 
-    // Something was put or removed at a place on the way to a path. What is remembered is the sibling before that place,
-    // or else the place's directory.
+    // Something was put or removed at a place on the way to a path. What is remembered is the sibling before that
+    // place, or else the place's directory.
     pub fn remember_before(&mut self, alloc: Global, components: &[Component], way: Way)
         requires level { way.level < length components.now }
         requires numbers { length self.old.numbers.items ≤ length components.now }

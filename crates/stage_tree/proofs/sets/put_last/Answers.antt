@@ -32,4 +32,3 @@ put_on-requires-clause-way c = (c.requires.way.0, c.requires.way.1, c.requires.w
 
 pub put_on-requires-clause-components : goal.put_on-requires-clause-components
 put_on-requires-clause-components c = c.requires.components
-

@@ -47,8 +47,8 @@ loop-level-preserved c =
       still = still_on S c.args.self.now c.loop-level.self c.entered.new.self i.still e.0;
       level_is = ap (λ k. k + 1) i.level_is ∙ sym (length-append c.loop-level.passed.items (c.in-Some.number ∷ [])) ∙ ap length (sym pushed);
       start = subst (λ (ns : List ℕ). IsStart S c.entered.new.self p ns (First c.in-Some.number)) (sym pushed)
-      (on_entered S c.loop-level.self p c.loop-level.passed.items c.loop-level.link i.still.opened i.start c.bytes.result.now (own ∙ ap (λ k. get_or p k c.bytes.result.now) i.level_is) c.spot_from-spot.result.link c.spot_from-spot.result.child c.spot_from-spot.ensures.link c.spot_from-spot.ensures.child
-      c.entered.new.self c.in-Some.number (let l = i.level_is in omega (arith, l)) e);
+          (on_entered S c.loop-level.self p c.loop-level.passed.items c.loop-level.link i.still.opened i.start c.bytes.result.now (own ∙ ap (λ k. get_or p k c.bytes.result.now) i.level_is) c.spot_from-spot.result.link c.spot_from-spot.result.child c.spot_from-spot.ensures.link c.spot_from-spot.ensures.child
+          c.entered.new.self c.in-Some.number (let l = i.level_is in omega (arith, l)) e);
     }
 
 pub spot_from-spot-requires-2-clause-link : goal.spot_from-spot-requires-2-clause-link

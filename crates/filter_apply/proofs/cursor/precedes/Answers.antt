@@ -1,6 +1,6 @@
 use Rattle.std.proofs.Common.{◌≤◌, length, min, sym, ◌∙◌, arith}
 use Rattle.filter_apply.proofs.Behind.{below_end}
-use Rattle.filter_apply.proofs.cursor.is_below.Goals as goal
+use Rattle.filter_apply.proofs.cursor.precedes.Goals as goal
 
 pub returns : goal.returns
 returns c =
