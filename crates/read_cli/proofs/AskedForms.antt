@@ -127,7 +127,7 @@ module _ (h : Held) where
   lawful-check Unknown s w = absurd w
 
   pub lawful-new : (form : Reading) (b : Bool) (s : Subject) (haves : Vec Name) → IsAsked form (asks.New b s haves)
-      → OfHead (Ok h) s.refname (λ h n. IsNewLawful h (shape s.filter) s.refname n (map name_bytes haves.items))
+      → OfHead (Ok h) s.refname (λ h n. IsNewLawful b h (shape s.filter) s.refname n (map name_bytes haves.items))
       → IsLawful form (Ok h)
   lawful-new Refs b s haves w law = absurd w
   lawful-new (Log r t) b s haves w law = absurd w
@@ -135,9 +135,10 @@ module _ (h : Held) where
   lawful-new (Originals r ns) b s haves w law = absurd w
   lawful-new Unknown b s haves w law = absurd w
   lawful-new (New k r t ns) b s haves w law = λ f is.
-      subst (λ (g : Filter). OfHead (Ok h) r (λ h n. IsNewLawful h g r n ns)) (ok-same (shape s.filter) f (sym w.1.sound_is ∙ is))
-      (subst (λ (z : List Bytes). OfHead (Ok h) r (λ h n. IsNewLawful h (shape s.filter) r n z)) w.2
-      (subst (λ (q : Bytes). OfHead (Ok h) q (λ h n. IsNewLawful h (shape s.filter) q n (map name_bytes haves.items))) w.1.refname law))
+      subst (λ (g : Filter). OfHead (Ok h) r (λ h n. IsNewLawful k h g r n ns)) (ok-same (shape s.filter) f (sym w.1.sound_is ∙ is))
+      (subst (λ (z : List Bytes). OfHead (Ok h) r (λ h n. IsNewLawful k h (shape s.filter) r n z)) w.2
+      (subst (λ (q : Bytes). OfHead (Ok h) q (λ h n. IsNewLawful k h (shape s.filter) q n (map name_bytes haves.items))) w.1.refname
+      (subst (λ (v : Bool). OfHead (Ok h) s.refname (λ h n. IsNewLawful v h (shape s.filter) s.refname n (map name_bytes haves.items))) w.0 law)))
 
   pub lawful-originals : (form : Reading) (refname : Bytes) (haves : Vec Name) → IsAsked form (asks.Originals refname haves)
       → OfHead (Ok h) refname (λ h n. IsReadBackUpon (tree_at (repo h).commits) (original_commits h n (map name_bytes haves.items)) refname) → IsLawful form (Ok h)

@@ -8,6 +8,7 @@ use Rattle.object_store.specs.Objects.{IsStore, Object}
 use Rattle.fast_export.specs.Histories.{snapshots_at}
 use Rattle.incremental_export.specs.Histories.{StoredNewLaw}
 use Rattle.incremental_export.specs.Laws.{ReadUponLaw}
+use Rattle.incremental_export.specs.TagLaws.{TaggedUponLaw}
 use Rattle.incremental_export.specs.Unreached.{StoredUnreachedLaw, unreached, unreached_in}
 use Rattle.commit_graph.specs.Graphs.{Row}
 use Rattle.git_objects.specs.Snapshots.{ancestors}
@@ -20,9 +21,9 @@ use Rattle.read_cli.specs.Looks.{AreFresh}
 use Rattle.incremental_export.proofs.StoredUnreached.{IsFound}
 use Rattle.read_cli.proofs.FoundCommits.{found-of, snapshots-of}
 use Rattle.read_cli.proofs.GraphParts.{IsPart, held-names, names, part-each, part-of-part, reached-part, unreached-part}
-use Rattle.read_cli.proofs.WrittenCommits.{commits-in, read-back, text-is}
+use Rattle.read_cli.proofs.WrittenCommits.{commits-in, read-back, tagged-back, text-is}
 
-module _ (read : ReadUponLaw) (stored : StoredNewLaw) (S : List Object) (store : IsStore S) where
+module _ (read : ReadUponLaw) (tagged : TaggedUponLaw) (stored : StoredNewLaw) (S : List Object) (store : IsStore S) where
   -- commits of a graph that a store has
   pub fresh-of : (g : Graph) → is_graph g ≡ true → Each (IsFound S) g → (cs : Graph) → IsPart cs g → (ns : List Bytes) → ns ≡ names cs → AreFresh S (tree_at g) (reverse cs) ns
   fresh-of g graph found cs part ns e = subst (AreFresh S (tree_at g) (reverse cs)) (sym e) (record {
@@ -30,6 +31,7 @@ module _ (read : ReadUponLaw) (stored : StoredNewLaw) (S : List Object) (store :
     named = refl;
     text = text-is S store g graph found cs part;
     lawful = read-back S store g graph found cs part read stored;
+    with_tags = tagged-back S store g graph found cs part tagged stored;
   })
 
   -- of a history that is made
@@ -58,12 +60,12 @@ module _ (S : List Object) (rows : List Row) (g : IsGraphIn S rows) where
   pub ancestors-held : (n : Bytes) (ms : List Bytes) → ms ≡ map snapshot_name (reverse (ancestors (graph_of S rows) n)) → list_all (has Commit S) ms ≡ true
   ancestors-held n ms e = ap (list_all (has Commit S)) e ∙ held-names S (ancestors (graph_of S rows) n) (ancestors-found n)
 
-  pub fresh-among : ReadUponLaw → StoredNewLaw → StoredUnreachedLaw → (n : Bytes) (ms : List Bytes) → ms ≡ map snapshot_name (reverse (ancestors (graph_of S rows) n)) → (haves ns : List Bytes) → ns ≡ unreached_in S haves ms
+  pub fresh-among : ReadUponLaw → TaggedUponLaw → StoredNewLaw → StoredUnreachedLaw → (n : Bytes) (ms : List Bytes) → ms ≡ map snapshot_name (reverse (ancestors (graph_of S rows) n)) → (haves ns : List Bytes) → ns ≡ unreached_in S haves ms
       → AreFresh S (tree_at (graph_of S rows)) (reverse (unreached (ancestors (graph_of S rows) n) haves)) ns
-  fresh-among read stored law n ms e haves ns q =
+  fresh-among read tagged stored law n ms e haves ns q =
       let A : Graph = ancestors (graph_of S rows) n in
       let held : snapshots_at S (map snapshot_name (reverse A)) ≡ reverse A = snapshots-of S A (ancestors-found n) in
-      fresh-of read stored S g.store (graph_of S rows) (whole-graph S rows g) all-found (unreached A haves)
+      fresh-of read tagged stored S g.store (graph_of S rows) (whole-graph S rows g) all-found (unreached A haves)
       (part-of-part (graph_of S rows) (unreached A haves) A (unreached-part A haves) (reached-part (graph_of S rows) (n ∷ [])))
       ns (q ∙ ap (unreached_in S haves) e ∙ (law S A haves held).0)
 

@@ -14,6 +14,7 @@ mod FreshNames
 mod Freshness
 mod JudgedForms
 mod NewEnds
+mod NewTags
 mod AskedForms
 mod Answered
 mod Writing

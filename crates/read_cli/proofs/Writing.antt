@@ -28,9 +28,10 @@ use Rattle.proj_cli.specs.Hands.{still_hand}
 use Rattle.proj_cli.specs.Makes.{IsStateOf}
 use Rattle.read_cli.specs.Answers.{IsGiven, IsNewLawful, IsReadBackUpon, OfHead}
 use Rattle.read_cli.specs.Looks.{AreFresh, AreNew, IsAtHand, IsLookedFor, IsUnshown, IsWriteOutcome, at_head}
-use Rattle.read_cli.specs.Outputs.{new_output, original_commits, originals_output}
+use Rattle.read_cli.specs.Outputs.{new_output, new_tags, original_commits, originals_output}
 use Rattle.proj_cli.proofs.Exports.{found-name}
 use Rattle.read_cli.proofs.NewEnds.{ends-new}
+use Rattle.read_cli.proofs.NewTags.{tags-new}
 use Rattle.read_cli.proofs.Looked.{looked-at, unshown-looked, written-looked}
 use Rattle.repo_ground.proofs.GroundLaws.{ground-law}
 
@@ -75,10 +76,14 @@ module _ (tagged : Bool) (items : List Bytes) (h : Held) (s : Contents) (w : IsS
       (unshown-looked s.basis.store (export_hand tagged h f n ∷ []) (new_output tagged h f refname n haves) before o u)
 
   pub new-lawful : HistoryLaw → (S : List Object) (ns : List Bytes) (tags : List Tag) → AreNew tagged h f n haves S ns tags
-      → OfHead (Ok h) refname (λ h n. IsNewLawful h f refname n haves)
+      → OfHead (Ok h) refname (λ h n. IsNewLawful tagged h f refname n haves)
   new-lawful law S ns tags a =
-      law-at items h s w refname (λ h n. IsNewLawful h f refname n haves) n e
-      (record { last = ends-new law h f n haves w.spells.store; again = a.fresh.lawful refname (named items h s w refname n e) })
+      let named-ref = named items h s w refname n e in
+      law-at items h s w refname (λ h n. IsNewLawful tagged h f refname n haves) n e (record {
+        last = ends-new law h f n haves w.spells.store;
+        again = a.fresh.lawful refname named-ref;
+        with_tags = λ z. a.fresh.with_tags refname named-ref (new_tags tagged h f n haves) (tags-new law tagged h f n haves w.spells.store (read-law.sound items h w.current.read).tags z);
+      })
 
 -- ---- originals
 

@@ -1,5 +1,5 @@
 -- Commits of a graph that a store has: they may be written, their text is that by the graph's trees, and it is read again.
-use Rattle.std.proofs.Common.{◌≡◌, ◌≤◌, Bool, true, false, List, [], ◌∷◌, map, reverse, length, Some, Err, sym, ap, subst, ◌∙◌}
+use Rattle.std.proofs.Common.{◌≡◌, ◌≤◌, Bool, true, false, List, [], ◌∷◌, ◌++◌, map, reverse, length, Some, Err, sym, ap, subst, ◌∙◌}
 use Rattle.std.specs.Prelude.{replicate}
 use Rattle.std.specs.List.{list_all}
 use Rattle.std.proofs.lemmas.Bool.{and_parts}
@@ -11,14 +11,18 @@ use Rattle.git_objects.specs.declared.limits.TheConstants.{STREAM_BYTES}
 use Rattle.object_store.specs.Objects.{IsStore, Object}
 use Rattle.path_names.specs.RefNames.{is_ref_name}
 use Rattle.stream_reader.specs.declared.fault.StreamFault.TheVariants.{Limit}
-use Rattle.fast_import.specs.Replays.{Base, replay, value_at}
+use Rattle.fast_import.specs.Replays.{Base, replay, tagged_replay, value_at}
 use Rattle.fast_export.specs.ExportTexts.{is_among}
 use Rattle.fast_export.specs.Histories.{snapshots_at}
 use Rattle.incremental_export.specs.ChangeTexts.{changes_text}
 use Rattle.incremental_export.specs.Histories.{AreCommitsIn, HasParents, IsThere, StoredNewLaw, tree_in}
 use Rattle.incremental_export.specs.Laws.{AreNewUpon, IsReadUpon, ReadUponLaw}
+use Rattle.incremental_export.specs.TagLaws.{IsTaggedUpon, TaggedUponLaw, tagged_changes}
+use Rattle.tag_objects.specs.Tags.{tags_text}
+use Rattle.tag_objects.specs.declared.tag.Tag.{Tag}
+use Rattle.fast_export.specs.TagLaws.{AreTagsOf}
 use Rattle.projection_laws.proofs.HistoryLemmas.{each-map, each-reverse}
-use Rattle.read_cli.specs.Answers.{HasOthers, IsReadBackUpon}
+use Rattle.read_cli.specs.Answers.{HasOthers, IsReadBackUpon, IsTaggedBackUpon}
 use Rattle.incremental_export.proofs.StoredUnreached.{IsFound, own_parents}
 use Rattle.read_cli.proofs.FoundCommits.{snapshots-of, tree-same}
 use Rattle.read_cli.proofs.GraphParts.{IsPart, held-names, names, parents-within, part-behind, part-distinct, part-each}
@@ -75,12 +79,24 @@ module _ (S : List Object) (store : IsStore S) (g : Graph) (graph : is_graph g �
       (λ c h a. each-both (Other base (tree_at g)) (λ p. tree_in S p ≡ tree_at g p) (Other base (tree_in S)) (λ p x e. (λ k. x.0 k ∙ ap Some (sym e), x.1)) c.parents h a)
       (reverse cs) others agree))
 
+  upon-others : StoredNewLaw → (base : Base) → HasOthers (tree_at g) base (reverse cs) → AreNewUpon (tree_in S) base [] (reverse cs)
+  upon-others stored base others =
+      let new = stored S base (names cs) store commits-in (part-behind S g cs graph found part) (others-there base others) in
+      subst (AreNewUpon (tree_in S) base []) snapshots-are new.upon
+
   pub read-back : ReadUponLaw → StoredNewLaw → (refname : Bytes) → is_ref_name refname ≡ true → IsReadBackUpon (tree_at g) (reverse cs) refname
   read-back law stored refname named = λ base others zeros short limits.
-      let new = stored S base (names cs) store commits-in (part-behind S g cs graph found part) (others-there base others) in
-      let upon : AreNewUpon (tree_in S) base [] (reverse cs) = subst (AreNewUpon (tree_in S) base []) snapshots-are new.upon in
+      let upon = upon-others stored base others in
       let same : changes_text (tree_in S) (reverse cs) refname ≡ changes_text (tree_at g) (reverse cs) refname = text-same (tree_in S) (tree_at g) (reverse cs) refname agree in
       subst (λ (t : Bytes). IsReadUpon base t (reverse cs) refname) same
       (law (tree_in S) base (reverse cs) refname upon named zeros
       (subst (λ (t : Bytes). length t ≤ STREAM_BYTES) (sym same) short)
       (λ at which e. limits at which (subst (λ (t : Bytes). replay base t ≡ Err (Limit at which)) same e)))
+
+  pub tagged-back : TaggedUponLaw → StoredNewLaw → (refname : Bytes) → is_ref_name refname ≡ true → (ts : List Tag) → AreTagsOf (reverse cs) ts → IsTaggedBackUpon (tree_at g) (reverse cs) refname ts
+  tagged-back law stored refname named ts tags = λ base others zeros short limits.
+      let same : tagged_changes (tree_in S) (reverse cs) refname ts ≡ tagged_changes (tree_at g) (reverse cs) refname ts = λ i. text-same (tree_in S) (tree_at g) (reverse cs) refname agree i ++ tags_text ts in
+      subst (λ (t : Bytes). IsTaggedUpon base t (reverse cs) refname ts) same
+      (law (tree_in S) base (reverse cs) refname ts (upon-others stored base others) named zeros tags
+      (subst (λ (t : Bytes). length t ≤ STREAM_BYTES) (sym same) short)
+      (λ at which e. limits at which (subst (λ (t : Bytes). tagged_replay base t ≡ Err (Limit at which)) same e)))

@@ -1,5 +1,5 @@
 -- When each outcome is answered, and what has then been written.
-use Rattle.std.specs.Prelude.{◌≡◌, ◌≢◌, ◌≤◌, ◌⊎◌, ⊤, ℕ, true, false, List, [], length, map, replicate, None, Some, Result, Ok, Err, IsOk}
+use Rattle.std.specs.Prelude.{◌≡◌, ◌≢◌, ◌≤◌, ◌⊎◌, ⊤, ℕ, Bool, true, false, List, [], length, map, replicate, None, Some, Result, Ok, Err, IsOk}
 use Rattle.std.specs.List.{last_or}
 use Rattle.std.specs.Option.{option_map}
 use Rattle.std.specs.Io.KnownBytes.{Appends, Keeps}
@@ -11,7 +11,7 @@ use Rattle.git_objects.specs.declared.limits.TheConstants.{STREAM_BYTES}
 use Rattle.git_objects.specs.declared.quantity.Quantity.{Quantity}
 use Rattle.object_store.specs.Objects.{Object}
 use Rattle.stream_reader.specs.declared.fault.StreamFault.TheVariants.{Limit}
-use Rattle.fast_import.specs.Replays.{Base, replay, value_at}
+use Rattle.fast_import.specs.Replays.{Base, replay, tagged_replay, value_at}
 use Rattle.fast_export.specs.ExportTexts.{is_among}
 use Rattle.fast_export.specs.Laws.{has_no_zero}
 use Rattle.proj_io.specs.Views.{SinkView}
@@ -24,13 +24,16 @@ use Rattle.state_items.specs.Items.{Held}
 use Rattle.state_items.specs.Repos.{repo}
 use Rattle.incremental_export.specs.ChangeTexts.{changes_text}
 use Rattle.incremental_export.specs.Laws.{IsReadUpon}
+use Rattle.incremental_export.specs.TagLaws.{IsTaggedUpon, tagged_changes}
+use Rattle.tag_objects.specs.declared.tag.Tag.{Tag}
 use Rattle.proj_words.specs.declared.outcome.Outcome.{Outcome}
 use Rattle.proj_words.specs.declared.outcome.Outcome.TheVariants.{Done, OutOfMemory, Collision, ReadFault, WriteFault, StoreFault}
 use Rattle.proj_cli.specs.Cases.{head_of, loaded}
+use Rattle.proj_cli.specs.Export.{tags_beside}
 use Rattle.proj_cli.specs.Filters.{projected, sound}
 use Rattle.proj_cli.specs.Hands.{IsInHands, own}
 use Rattle.proj_cli.specs.Sent.{Fronts}
-use Rattle.read_cli.specs.Outputs.{hands, new_commits, original_commits, output, projected_graph}
+use Rattle.read_cli.specs.Outputs.{hands, new_commits, new_tags, original_commits, output, projected_graph}
 use Rattle.read_cli.specs.Readings.{Reading, New, Originals}
 
 -- Which outcome there may be of an output, or of its refusal: it is done; there is no memory, or a device has failed; two objects in hand have
@@ -71,6 +74,13 @@ IsReadBackUpon tree_of cs refname =
     → ((at : ℕ) (which : Quantity) → replay base (changes_text tree_of cs refname) ≢ Err (Limit at which))
     → IsReadUpon base (changes_text tree_of cs refname) cs refname
 
+-- So is the text with tags behind it, as these commits, ref and tags.
+abbrev pub IsTaggedBackUpon : (Bytes → Flat) → List Snapshot → Bytes → List Tag → Type 0
+IsTaggedBackUpon tree_of cs refname ts =
+    (base : Base) → HasOthers tree_of base cs → has_no_zero cs ≡ true → length (tagged_changes tree_of cs refname ts) ≤ STREAM_BYTES
+    → ((at : ℕ) (which : Quantity) → tagged_replay base (tagged_changes tree_of cs refname ts) ≢ Err (Limit at which))
+    → IsTaggedUpon base (tagged_changes tree_of cs refname ts) cs refname ts
+
 -- ---- where it ends
 
 -- Where the ref's commit has a projection that isn't there yet, it is the last commit that is written. So it is where no two different
@@ -81,10 +91,13 @@ EndsNew h f n haves =
     → (p : Shown) → projected h f n ≡ Some p → is_among p.commit haves ≡ false
     → option_map shown_of (last_or None (new_commits h f n haves)) ≡ Some p
 
--- what is said of a projected history that is written
-pub record IsNewLawful (h : Held) (f : Filter) (refname n : Bytes) (haves : List Bytes) : Type 0 where
+-- What is said of a projected history that is written, with its tags where they are asked for. Of the tags nothing is said where a tagged
+-- commit has the name of zeros alone.
+pub record IsNewLawful (tagged : Bool) (h : Held) (f : Filter) (refname n : Bytes) (haves : List Bytes) : Type 0 where
   pub last : EndsNew h f n haves
   pub again : IsReadBackUpon (tree_at (projected_graph h f n)) (new_commits h f n haves) refname
+  pub with_tags : Each (λ t. same_bytes t.target.0 (replicate 20 0) ≡ false) (tags_beside tagged h f n)
+      → IsTaggedBackUpon (tree_at (projected_graph h f n)) (new_commits h f n haves) refname (new_tags tagged h f n haves)
 
 -- a law of a head's history, where it comes up
 abbrev pub OfHead : Result Held Outcome → Bytes → (Held → Bytes → Type 0) → Type 0
@@ -94,7 +107,7 @@ OfHead (Ok h) r Law = (n : Bytes) → head_of r h.refs ≡ Ok n → Law h n
 -- of what is done
 abbrev pub IsLawful : Reading → Result Held Outcome → Type 0
 IsLawful (New tagged r text haves) loading =
-    (f : Filter) → sound text ≡ Ok f → OfHead loading r (λ h n. IsNewLawful h f r n haves)
+    (f : Filter) → sound text ≡ Ok f → OfHead loading r (λ h n. IsNewLawful tagged h f r n haves)
 IsLawful (Originals r haves) loading = OfHead loading r (λ h n. IsReadBackUpon (tree_at (repo h).commits) (original_commits h n haves) r)
 IsLawful other loading = ⊤
 

@@ -11,6 +11,7 @@ use Rattle.object_store.specs.Objects.{Object}
 use Rattle.git_objects.specs.Snapshots.{Snapshot, snapshot_name, tree_at}
 use Rattle.git_objects.specs.Trees.{Flat}
 use Rattle.fast_export.specs.Histories.{snapshots_at}
+use Rattle.fast_export.specs.TagLaws.{AreTagsOf}
 use Rattle.filter_text.specs.Filters.{Filter}
 use Rattle.incremental_export.specs.ChangeTexts.{changes_text}
 use Rattle.incremental_export.specs.Histories.{AreCommitsIn, tree_in}
@@ -25,7 +26,7 @@ use Rattle.proj_words.specs.declared.outcome.Outcome.TheVariants.{Collision, Don
 use Rattle.proj_cli.specs.Cases.{head_of}
 use Rattle.proj_cli.specs.Filters.{sound}
 use Rattle.proj_cli.specs.Hands.{Hand, IsInHands}
-use Rattle.read_cli.specs.Answers.{IsGiven, IsOutcome, IsReadBackUpon, text_of}
+use Rattle.read_cli.specs.Answers.{IsGiven, IsOutcome, IsReadBackUpon, IsTaggedBackUpon, text_of}
 use Rattle.read_cli.specs.Outputs.{new_commits, new_tags, projected_graph}
 use Rattle.read_cli.specs.Readings.{Reading, Refs, Log, Check, New, Originals, Unknown, names_of, new_of, originals_of, verdict}
 use Rattle.read_cli.specs.declared.words.Form.{Form}
@@ -123,12 +124,14 @@ IsUnshown at_hand OutOfMemory = ⊤
 IsUnshown at_hand (Collision n) = IsTwice at_hand n.0
 IsUnshown at_hand outcome = ⊥
 
--- These names are of commits of a store that may be written; their text is that of these commits by a graph's trees, which is read again.
+-- These names are of commits of a store that may be written; their text is that of these commits by a graph's trees, which is read again, also
+-- with tags of these behind it.
 pub record AreFresh (S : List Object) (tree_of : Bytes → Flat) (cs : List Snapshot) (names : List Bytes) : Type 0 where
   pub commits : AreCommitsIn S names
   pub named : names ≡ map snapshot_name cs
   pub text : (refname : Bytes) → changes_text (tree_in S) (snapshots_at S names) refname ≡ changes_text tree_of cs refname
   pub lawful : (refname : Bytes) → is_ref_name refname ≡ true → IsReadBackUpon tree_of cs refname
+  pub with_tags : (refname : Bytes) → is_ref_name refname ≡ true → (ts : List Tag) → AreTagsOf cs ts → IsTaggedBackUpon tree_of cs refname ts
 
 -- these commits and these tags are what is new beside others
 pub record AreNew (tagged : Bool) (h : Held) (f : Filter) (n : Bytes) (haves : List Bytes) (S : List Object) (names : List Bytes) (tags : List Tag) : Type 0 where

@@ -37,7 +37,7 @@ use filter_text::Filter;
 use git_objects::Name;
 use history_ground::history;
 use incremental_export::{
-    read_upon_law, stored_new_law, stored_unreached_law, unreached, write_changes,
+    read_upon_law, stored_new_law, stored_unreached_law, tagged_upon_law, unreached, write_changes,
 };
 use indexmap::IndexSet;
 use object_store::Store;
@@ -118,6 +118,7 @@ fn fresh_names(
     stored_unreached_law();
     stored_new_law();
     read_upon_law();
+    tagged_upon_law();
     let names = history(alloc, ground, filter, head)?;
     let left = unreached(alloc, &ground.store, &names, haves)?;
     Ok(left)
@@ -176,7 +177,7 @@ pub fn write_projected<O: Sink>(
         (map name_bytes haves.now))) (seen out.old) (seen out.new) result }
     ensures lawful { (items : List Bytes) (h : Held) → IsStateOf items h state.old → result ≡ Outcome.Done →
         OfHead (Ok h) subject.now.refname (λ h n.
-        IsNewLawful h (shape subject.now.filter) subject.now.refname n (map name_bytes haves.now)) }
+        IsNewLawful tagged h (shape subject.now.filter) subject.now.refname n (map name_bytes haves.now)) }
     ensures ends { IsEnd result }
     ensures write { Counts (O.faults out.old) (O.faults out.new) (result ≡ Outcome.WriteFault) }
     ensures memory { O.refusals out.old ≤ O.refusals out.new }
@@ -210,6 +211,7 @@ fn fresh_originals(
     stored_unreached_law();
     stored_new_law();
     read_upon_law();
+    tagged_upon_law();
     let names = history_of(alloc, ground, head)?;
     unreached(alloc, &ground.store, &names, haves)
 }

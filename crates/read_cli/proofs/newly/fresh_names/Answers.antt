@@ -18,7 +18,7 @@ returns-clause-ok c =
     let f = shape c.args.filter.now in
     let n = c.args.head.now.0 in
     let made = history_graph g.rule (shown f) (commits_of g) n in
-    fresh-made c.read_upon_law.ensures c.stored_new_law.ensures S c.in_ok-names.ensures.same.store.store c.stored_unreached_law.ensures made
+    fresh-made c.read_upon_law.ensures c.tagged_upon_law.ensures c.stored_new_law.ensures S c.in_ok-names.ensures.same.store.store c.stored_unreached_law.ensures made
     (c.history_law.ensures.graph g.rule (shown f) (commits_of g) n (whole-graph g.store g.graph c.requires.ground.graph))
     (map name_bytes c.deref.result.now) (subst (λ (ns : List Name). AreMade S made (map name_bytes ns)) (sym c.deref.ensures.value) c.in_ok-names.ensures.ok)
     (map name_bytes c.args.haves.now) (map name_bytes c.in_ok-left.left.items) c.in_ok-left.ensures

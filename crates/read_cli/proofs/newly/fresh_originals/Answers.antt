@@ -26,5 +26,5 @@ returns c =
     let haves = map name_bytes c.args.haves.now in
     let ms = map name_bytes c.deref.result.now in
     ok-as (λ (v : Vec Name). map name_bytes v.items ≡ unreached_in g.store haves ms) (λ (v : Vec Name). AreFresh g.store (tree_at (commits_of g)) (reverse (unreached (ancestors (commits_of g) n) haves)) (map name_bytes v.items))
-    (λ v e. fresh-among g.store g.graph c.requires.ground.graph c.read_upon_law.ensures c.stored_new_law.ensures c.stored_unreached_law.ensures n ms (ap (λ (ns : List Name). map name_bytes ns) c.deref.ensures.value ∙ c.in_ok-names.ensures) haves (map name_bytes v.items) e)
+    (λ v e. fresh-among g.store g.graph c.requires.ground.graph c.read_upon_law.ensures c.tagged_upon_law.ensures c.stored_new_law.ensures c.stored_unreached_law.ensures n ms (ap (λ (ns : List Name). map name_bytes ns) c.deref.ensures.value ∙ c.in_ok-names.ensures) haves (map name_bytes v.items) e)
     c.unreached.result c.unreached.ensures

@@ -12,11 +12,12 @@ use Rattle.repo_ground.specs.Contents.{Contents}
 use Rattle.proj_cli.specs.Export.{export_hand}
 use Rattle.proj_cli.specs.Hands.{still_hand}
 use Rattle.proj_cli.specs.Import.{ref_line}
+use Rattle.read_cli.specs.Answers.{IsNewLawful, OfHead}
 use Rattle.read_cli.specs.Looks.{IsAsked, IsLookedFor, at_head}
 use Rattle.read_cli.specs.Outputs.{new_output, originals_output, refs_output}
 use Rattle.read_cli.specs.Readings.{Reading}
 use Rattle.read_cli.specs.declared.judging.Subject.{Subject}
-use Rattle.read_cli.proofs.AskedForms.{look-new, look-originals, look-refs, refs-report, refs-unreported}
+use Rattle.read_cli.proofs.AskedForms.{lawful-new, look-new, look-originals, look-refs, refs-report, refs-unreported}
 use Rattle.read_cli.proofs.Looked.{concluded-looked}
 use Rattle.read_cli.proofs.program.look.Goals as goal
 
@@ -55,3 +56,11 @@ returns-in-Originals-clause-looked g c = λ (form : Reading) (items : List Bytes
     look-originals S h (seen c.args.out.now) (seen does.new.out) does.result form r a.haves (subst (IsAsked form) a.is w)
     (subst (λ (ns : List Name). IsLookedFor S (Ok (still_hand h.objects [] [])) (at_head r h (λ n. originals_output h r n (map name_bytes ns))) (seen c.args.out.now) (seen does.new.out) does.result)
     c.deref-in-Originals.ensures.value (does.ensures.looked items h st))
+
+pub returns-in-New-clause-lawful : goal.returns-in-New-clause-lawful
+returns-in-New-clause-lawful g c = λ (form : Reading) (items : List Bytes) (h : Held) w st done.
+    let does = c.write_projected in
+    let a = c.in-New in
+    let s : Subject = a.subject in
+    lawful-new h form a.tagged s a.haves (subst (IsAsked form) a.is w)
+    (subst (λ (ns : List Name). OfHead (Ok h) s.refname (λ h n. IsNewLawful a.tagged h (shape s.filter) s.refname n (map name_bytes ns))) c.deref.ensures.value (does.ensures.lawful items h st done))
