@@ -29,6 +29,13 @@ stream() {
     # by `proj` alone.
     files) awk "$head"' BEGIN { head(1); for (i = 0; i < 20000; i++) file(sprintf("f%07d", i), i % 1000) }' ;;
     million) awk "$head"' BEGIN { head(1); for (i = 0; i < 1000000; i++) file(sprintf("f%07d", i), i % 1000) }' ;;
+    # directories beside one another with a file each, in order; `wide` has so many that it is imported by `proj` alone
+    siblings | wide) awk -v n="$([ "$1" = wide ] && echo 200000 || echo 20000)" "$head"' BEGIN { head(1)
+        for (i = 0; i < n; i++) file(sprintf("p%06d/f", i), i % 1000) }' ;;
+    # of 20,000 directories of two files one file each is changed, and then removed
+    sweep) awk "$head"' BEGIN { head(1); for (i = 0; i < 40000; i++) file(sprintf("p%05d/f%d", int(i / 2), i % 2), i); print ""
+        head(2, 1); for (i = 0; i < 20000; i++) file(sprintf("p%05d/f0", i), "again"); print ""
+        head(3, 2); for (i = 0; i < 20000; i++) printf "D p%05d/f0\n", i; print "" }' ;;
     deep) awk "$head"' BEGIN { p = "a"; for (i = 0; i < 126; i++) p = p "/a"
         for (n = 1; n <= 2000; n++) { head(n, n - 1); for (i = 0; i < 10; i++) file(p "/f" (n + i) % 50, n " " i); print "" } }' ;;
     renames) awk "$head"' BEGIN { head(1); for (i = 0; i < 1000; i++) file("a/f" i, i); print ""
@@ -55,10 +62,10 @@ here() {
     "$proj" "$room/store" import <"$room/stream"
 }
 
-for kind in ${1:-blobs commits directories files million deep renames}; do
+for kind in ${1:-blobs commits directories files million siblings wide sweep deep renames}; do
     stream "$kind" >"$room/stream"
     git=0
-    [ "$kind" = million ] || git=$(seconds by_git)
+    [ "$kind" = million ] || [ "$kind" = wide ] || git=$(seconds by_git)
     own=$(seconds here)
     echo "$kind $(wc -c <"$room/stream") $git $own" |
         awk '{ printf "%-12s %11d bytes: git %7.2f s, here %7.2f s, ratio %.1f\n", $1, $2, $3, $4, $3 / ($4 + 0.005) }'
