@@ -14,7 +14,7 @@ ghost use Rattle.repo_ground.specs.Growing.{Extends, IsReady, IsStep};
 
 use crate::Batch;
 use crate::walk::{hold, hold_tree};
-use git_objects::{Kind, Name};
+use git_objects::{CommitView, Kind, Name, tree_in_commit};
 use indexmap::IndexSet;
 use object_store::{Store, tree_of};
 use std::alloc::{AllocError, Global};
@@ -41,7 +41,15 @@ fn hold_commit(
     Ok(tree)
 }
 
-// Holds these commits and the objects of their trees, one commit after another.
+// The tree of a commit's first parent, where the store has both.
+fn parents_tree(store: &Store, commit: &Name) -> Option<Name> {
+    let object = store.get(commit)?;
+    let parent = CommitView::of(object.body)?.parent(0)?;
+    tree_in_commit(store.get(&parent)?.body)
+}
+
+// Holds these commits and the objects of their trees, one commit after another. What the first commit's tree shares with
+// its first parent's isn't looked up either, if that is held.
 fn hold_commits(
     alloc: Global,
     store: &Store,
@@ -54,7 +62,10 @@ fn hold_commits(
         IsStep S held.old.keys held.new.keys (flat_map commit_objects cs) []) }
     ensures extends { Extends held.old.keys held.new.keys }
 {
-    let mut beside = None;
+    let mut beside = match names.first() {
+        None => None,
+        Some(name) => parents_tree(store, name),
+    };
     for name in names {
         beside = Some(hold_commit(alloc, store, held, *name, beside)?);
     }
