@@ -22,6 +22,7 @@ mod BlockSteps
 mod HandTrees
 mod Lays
 mod Layings
+mod BelowFilters
 mod Nears
 pub mod LayingLemmas
 mod Hidings

@@ -20,20 +20,21 @@ ghost use Rattle.decision_lists.specs.Cells.{cells};
 ghost use Rattle.decision_lists.specs.Lists.{Fine};
 
 use crate::LayFault;
-use crate::below::first_path;
+use crate::below::{first_path, laid_below};
 use crate::blocking::first_block;
 use crate::parts::{joined, parts_of};
 use crate::routing::unplaced;
 use crate::sifting::{empty, sifted};
 use decision_lists::Entry;
 use filter_routes::{Table, table_law};
+use filter_text::Filter;
 use git_objects::Name;
 use object_store::{Store, store_law};
 use std::alloc::Global;
 
 /// Lays the tree `pushed` into `base` through a filter: in the place of all that the filter shows of `base`. Whole
 /// directories are taken by their names, and only those on the way to the filter's places, and those in which something
-/// of both stands, are made anew.
+/// of both stands, are made anew. Of a filter `:/place` it is only the directories on the way to the place.
 pub fn laid(
     alloc: Global,
     store: &mut Store,
@@ -55,6 +56,9 @@ pub fn laid(
 {
     store_law(store);
     table_law(table);
+    if let Filter::Sub(place) = table.filter() {
+        return laid_below(alloc, store, place, base, pushed);
+    }
     let entries = table.entries();
     let rest = unplaced(alloc, store, entries, pushed)?;
     if let Some(path) = first_path(alloc, store, rest)? {

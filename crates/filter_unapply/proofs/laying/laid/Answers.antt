@@ -1,4 +1,4 @@
-use Rattle.std.proofs.Common.{◌≡◌, None, [], sym, ap, ◌∙◌}
+use Rattle.std.proofs.Common.{◌≡◌, None, [], sym, ap, ◌∙◌, subst}
 use Rattle.git_objects.specs.declared.kind.Kind.TheVariants.{Tree}
 use Rattle.object_store.specs.Unfolding.{flat}
 use Rattle.object_store.proofs.Growth.{grown_as, grown_then, has-grown}
@@ -9,11 +9,17 @@ use Rattle.filter_unapply.specs.Hands.{IsIn, IsMadeOf}
 use Rattle.filter_unapply.specs.Laying.{laid_through, pre}
 use Rattle.filter_unapply.specs.Parts.{IsAmong, with_parts}
 use Rattle.filter_unapply.specs.Routed.{IsOfBoth, unplaced}
-use Rattle.filter_unapply.specs.Stored.{first_of}
+use Rattle.filter_unapply.specs.Stored.{first_of, IsLaidBody, IsLaidTree, IsLayFault}
 use Rattle.filter_unapply.proofs.Layings.{Laid, among-made, begun, both-grown, both-made, kept-apart, kept-is, kept-leaves, parts-are, rest-grown, rest-made}
 use Rattle.filter_unapply.proofs.Lays.{blocked-is, laid-tree-is, not-held}
 use Rattle.filter_unapply.proofs.MadeTrees.{err-told}
 use Rattle.filter_unapply.proofs.Nears.{block-path, nothing-some, parts-path, put-told, tree-told}
+use Rattle.std.specs.Prelude.{IfErr, IfOk}
+use Rattle.path_trees.specs.Made.{IsGrown}
+use Rattle.filter_text.specs.Filters.{sub}
+use Rattle.filter_routes.specs.Lenses.{Lens}
+use Rattle.filter_unapply.proofs.BelowFilters.{below-err, below-grown, below-is}
+use Rattle.filter_unapply.proofs.Told.{is_tree}
 use Rattle.filter_unapply.proofs.laying.laid.Goals as goal
 
 pub returns-in_err-rest-clause-err : goal.returns-in_err-rest-clause-err
@@ -80,7 +86,7 @@ returns-clause-ok c =
     let P = c.taken_apart.new.store in let k = c.in_ok-kept.kept in let ns = c.as_slice.result.now in
     let kept = kept-is f es S b n R h P k.0 c.in_ok-kept.ensures.ok.0 in
     let parts = parts-are f es S b n R h P c.in_ok-kept.parts.items ns c.as_slice.ensures.value c.in_ok-kept.ensures.ok.1 in
-    let none : None ≡ first_of (unplaced (cells [] es) (flat S n)) = nothing-some c.in_ok-path.field-0 c.in_default.not-Some ∙ c.in_ok-path.ensures ∙ ap first_of c.in_ok-rest.ensures.ok.map in
+    let none : None ≡ first_of (unplaced (cells [] es) (flat S n)) = nothing-some c.in_ok-path.field-0 c.in_default-2.not-Some ∙ c.in_ok-path.ensures ∙ ap first_of c.in_ok-rest.ensures.ok.map in
     tree-told (laid_through (lens_of f) (flat S b) (flat S n)) (pre (lens_of f) (flat S b) (flat S n)) c.put_together.new.store c.put_together.result (with_parts P k ns)
     (λ m l. laid-tree-is f h.paths h.sound es h.list (flat S b) (flat S n) h.base_tree h.pushed_tree P k ns (kept-leaves f es S b n R h P k ns kept parts) parts.leaves c.put_together.new.store c.put_together.ensures.store.store m.0 l none) c.put_together.ensures.ok
 
@@ -92,7 +98,7 @@ returns-clause-err c =
     let P = c.taken_apart.new.store in let k = c.in_ok-kept.kept in let ns = c.as_slice.result.now in
     let kept = kept-is f es S b n R h P k.0 c.in_ok-kept.ensures.ok.0 in
     let parts = parts-are f es S b n R h P c.in_ok-kept.parts.items ns c.as_slice.ensures.value c.in_ok-kept.ensures.ok.1 in
-    let none : None ≡ first_of (unplaced (cells [] es) (flat S n)) = nothing-some c.in_ok-path.field-0 c.in_default.not-Some ∙ c.in_ok-path.ensures ∙ ap first_of c.in_ok-rest.ensures.ok.map in
+    let none : None ≡ first_of (unplaced (cells [] es) (flat S n)) = nothing-some c.in_ok-path.field-0 c.in_default-2.not-Some ∙ c.in_ok-path.ensures ∙ ap first_of c.in_ok-rest.ensures.ok.map in
     put-told (laid_through (lens_of f) (flat S b) (flat S n)) P k ns (Laid f S b n) (among-made f es S b n R h P k ns kept parts)
     (λ p q least. blocked-is f h.paths h.sound es h.list (flat S b) (flat S n) h.base_tree h.pushed_tree P k ns (kept-leaves f es S b n R h P k ns kept parts) parts.leaves p q
     (block-path P c.taken_apart.ensures.store.store ns parts.trees p least.0.path) (parts-path P c.taken_apart.ensures.store.store k ns kept.held parts.trees q least.0.by) none least)
@@ -108,3 +114,32 @@ returns-clause-store c =
     let parts = parts-are f es S b n R h P c.in_ok-kept.parts.items ns c.as_slice.ensures.value c.in_ok-kept.ensures.ok.1 in
     grown_then (Laid f S b n) S P c.put_together.new.store (both-grown f es S b n R h P c.taken_apart.ensures.store)
     (grown_as (IsMadeOf (IsAmong P k ns)) (Laid f S b n) P c.put_together.new.store (among-made f es S b n R h P k ns kept parts) c.put_together.ensures.store)
+
+pub returns-in-Sub-clause-ok : goal.returns-in-Sub-clause-ok
+returns-in-Sub-clause-ok c =
+    let S = c.args.store.now in
+    let a = c.in-Sub.place in
+    let is : shape c.args.table.now.filter ≡ sub a = ap shape (sym c.filter.ensures.filter ∙ c.in-Sub.is) in
+    subst (λ (x : Lens). IfOk c.laid_below.result (IsLaidTree c.laid_below.new.store (laid_through x (flat S c.args.base.0) (flat S c.args.pushed.0)))) (below-is a ∙ ap lens_of (sym is)) c.laid_below.ensures.ok
+
+pub returns-in-Sub-clause-err : goal.returns-in-Sub-clause-err
+returns-in-Sub-clause-err c =
+    let S = c.args.store.now in
+    let R = c.laid_below.new.store in
+    let t = flat S c.args.base.0 in
+    let n = flat S c.args.pushed.0 in
+    let a = c.in-Sub.place in
+    let is : shape c.args.table.now.filter ≡ sub a = ap shape (sym c.filter.ensures.filter ∙ c.in-Sub.is) in
+    below-err (shape c.args.table.now.filter) c.filter.ensures.paths c.filter.ensures.sound t n (is_tree S c.store_law.ensures.store c.args.base.0 c.requires.base) (is_tree S c.store_law.ensures.store c.args.pushed.0 c.requires.pushed) a R c.laid_below.result
+    (subst (λ (x : Lens). IfErr c.laid_below.result (IsLayFault (laid_through x t n) a R)) (below-is a ∙ ap lens_of (sym is)) c.laid_below.ensures.err)
+
+pub returns-in-Sub-clause-store : goal.returns-in-Sub-clause-store
+returns-in-Sub-clause-store c =
+    let S = c.args.store.now in
+    let R = c.laid_below.new.store in
+    let t = flat S c.args.base.0 in
+    let n = flat S c.args.pushed.0 in
+    let a = c.in-Sub.place in
+    let is : shape c.args.table.now.filter ≡ sub a = ap shape (sym c.filter.ensures.filter ∙ c.in-Sub.is) in
+    below-grown (shape c.args.table.now.filter) c.filter.ensures.paths c.filter.ensures.sound t n (is_tree S c.store_law.ensures.store c.args.base.0 c.requires.base) (is_tree S c.store_law.ensures.store c.args.pushed.0 c.requires.pushed) a S R
+    (subst (λ (x : Lens). IsGrown (IsLaidBody (laid_through x t n) a) S R) (below-is a ∙ ap lens_of (sym is)) c.laid_below.ensures.store)
