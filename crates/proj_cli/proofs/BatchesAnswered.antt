@@ -1,5 +1,6 @@
 -- What came of reading a batch, loading the store and answering its entries is the answer of the batch.
-use Rattle.std.proofs.Common.{◌≡◌, ◌≢◌, ◌⊎◌, inl, inr, ◌+◌, ◌^◌, ◌++◌, ◌<◌, ℕ, Bool, true, false, true≢false, List, [], length, Option, None, Some, Result, Ok, Err, IfSome, refl, sym, ap, subst, ◌∙◌, arith}
+use Rattle.std.proofs.Common.{◌≡◌, ◌≢◌, ◌⊎◌, inl, inr, ◌+◌, ◌^◌, ◌++◌, ◌<◌, ◌≤◌, ℕ, Bool, true, false, true≢false, List, [], length, Option, None, Some, Result, Ok, Err, IfSome, refl, sym, ap, subst, ◌∙◌, arith}
+use Rattle.std.specs.Io.KnownBytes.{Consumes}
 use Rattle.std.proofs.lemmas.Bool.{lt-leb}
 use Rattle.std.proofs.KnownBytes.{Appends-nil, Keeps-refl}
 use Rattle.git_objects.specs.Paths.{Bytes}
@@ -166,10 +167,12 @@ leaves-run items b es e list w = subst (λ (x : Result (List Entry) Outcome). Ba
 
 -- nothing was written, and no entry begun
 pub early-answer : (i j : SourceView) (o : SinkView) (k l : KeeperView) (outcome : Outcome) → Counts i.faults j.faults (outcome ≡ ReadFault) → Counts k.faults l.faults (outcome ≡ StoreFault) → outcome ≢ WriteFault → is_verdict outcome ≡ false
+    → ((given : Bytes) × (length given ≤ 2 ^ 29 + 1) × Consumes i.left j.left given)
     → ((items : List Bytes) → k.items ≡ Some items → ForInput i.left (λ all. IsBatchBy items (begun items all) (before i j o o k l) (after i j o o k l) outcome))
     → IsBatchAnswer (before i j o o k l) (after i j o o k l) outcome
-early-answer i j o k l outcome read keep write judged run = record {
+early-answer i j o k l outcome read keep write judged taken run = record {
   judged = judged;
+  taken = taken;
   cause = record { read = read; write = counts-without o.faults o.faults (outcome ≡ WriteFault) (omega arith) write; keep = keep; memory = omega arith };
   run = λ items told. has-run items i j o o k l outcome (run items told);
 }

@@ -165,6 +165,7 @@ batch-memory : (b a : Devices) (outcome : Outcome) → TakesMemory outcome → I
 batch-memory b a outcome t answer = record {
   cause = no-cause b a outcome answer.cause;
   judged = refl;
+  taken = answer.taken;
   run = λ items told.
       let h = answer.run items told in record { input = h.input; told = h.told; run = run-memory items (begun items h.input) b a outcome t h.run };
 }

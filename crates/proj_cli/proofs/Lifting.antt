@@ -109,6 +109,7 @@ module _ (f : ℕ) (i j : SourceView) (o q : SinkView) (k l : KeeperView) where
   batch-earlier outcome le answer = record {
     cause = cause-earlier outcome le answer.cause;
     judged = answer.judged;
+    taken = answer.taken;
     run = λ items told.
         let h = answer.run items told in record { input = h.input; told = h.told; run = run-earlier items (begun items h.input) outcome h.run };
   }

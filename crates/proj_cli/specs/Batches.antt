@@ -1,5 +1,6 @@
 -- What comes of a batch: which of its entries were answered, what has then been written, and what the store has got.
-use Rattle.std.specs.Prelude.{◌≡◌, ◌≢◌, ◌⊎◌, ℕ, false, List, [], ◌∷◌, ◌++◌, take, Option, Some, None, Result, Ok, Err, IfSome}
+use Rattle.std.specs.Prelude.{◌≡◌, ◌≢◌, ◌⊎◌, ◌+◌, ◌^◌, ◌≤◌, ℕ, false, List, [], ◌∷◌, ◌++◌, length, take, Option, Some, None, Result, Ok, Err, IfSome}
+use Rattle.std.specs.Io.KnownBytes.{Consumes}
 use Rattle.git_objects.specs.Paths.{Bytes}
 use Rattle.proj_io.specs.Counts.{Rose}
 use Rattle.proj_words.specs.Entries.{Entry}
@@ -60,11 +61,13 @@ pub record HasRun (items : List Bytes) (before after : Devices) (outcome : Outco
   pub told : IfSome before.input.left (λ l. input ≡ l)
   pub run : IsBatchBy items (begun items input) before after outcome
 
--- what `run` says of the outcome of a batch, of items that the store tells
+-- what `run` says of the outcome of a batch, and of its run upon items that the store tells
 pub record IsBatchAnswer (before after : Devices) (outcome : Outcome) : Type 0 where
   pub cause : IsCaused before after outcome
   -- words without a form and faults of a filter are told of entries
   pub judged : is_verdict outcome ≡ false
+  -- It takes at most 2^29 bytes of its input and one more, whatever the items are: they are loaded after it is read.
+  pub taken : (given : Bytes) × (length given ≤ 2 ^ 29 + 1) × Consumes before.input.left after.input.left given
   pub run : (items : List Bytes) → before.store.items ≡ Some items → HasRun items before after outcome
 
 -- that it is done, or the first refusal before its entries

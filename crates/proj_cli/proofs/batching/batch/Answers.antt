@@ -27,7 +27,7 @@ returns-in-Err-clause-answer g c =
     let o = shown c.args.out.now in
     let e = c.in-Err.outcome in
     let does = c.in-Err.ensures in
-    early-answer i j o k k e (record { later = does.cause.later; rose = λ f. does.cause.rose (ap Err f) }) (counts-without k.faults k.faults _ (omega arith) (unread-store i.left e does.err)) (unread-write i.left e does.err) (unread-other i.left e does.err)
+    early-answer i j o k k e (record { later = does.cause.later; rose = λ f. does.cause.rose (ap Err f) }) (counts-without k.faults k.faults _ (omega arith) (unread-store i.left e does.err)) (unread-write i.left e does.err) (unread-other i.left e does.err) does.taken
     (λ (items : List Bytes) told. unread-run items i j o k k (keeps-self k) e does.err)
 
 pub returns-in-Err-clause-adds : goal.returns-in-Err-clause-adds
@@ -47,7 +47,7 @@ returns-in-Err-read_entries-clause-answer g c =
     let e = c.in-Err-read_entries.outcome in
     let does = c.in-Err-read_entries.ensures in
     let own = entry-own e does.cause in
-    early-answer i j o k k e (counts-without i.faults j.faults _ c.in-Ok.ensures.cause.later own.0) (counts-without k.faults k.faults _ (omega arith) own.2) own.1 (entry-verdict e does.cause)
+    early-answer i j o k k e (counts-without i.faults j.faults _ c.in-Ok.ensures.cause.later own.0) (counts-without k.faults k.faults _ (omega arith) own.2) own.1 (entry-verdict e does.cause) c.in-Ok.ensures.taken
     (λ (items : List Bytes) told. unspelled-run items i j o k k (keeps-self k) c.bytes.result.now e (subst (λ (b : Bytes). IfSome i.left (λ l. b ≡ l)) (sym c.bytes.ensures) c.in-Ok.ensures.ok) does.value)
 
 pub returns-in-Err-read_entries-clause-adds : goal.returns-in-Err-read_entries-clause-adds
@@ -73,6 +73,7 @@ returns-clause-answer g c =
     c.in-Ok-read_entries.ensures.value ∙ ap (λ (xs : List ReadEntry). Ok (map entry_value xs)) (sym c.deref.ensures.value) in
     record {
       judged = does.other;
+      taken = c.in-Ok.ensures.taken;
       cause = record { read = counts-without i.faults j.faults _ c.in-Ok.ensures.cause.later does.early; write = does.write; keep = does.cause; memory = does.memory };
       run = λ (items : List Bytes) told. record {
         input = b;
