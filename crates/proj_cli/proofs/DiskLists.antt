@@ -1,5 +1,5 @@
 -- A call of the program on a disk.
-use Rattle.std.proofs.Common.{◌≡◌, ◌⊎◌, ◌+◌, ◌≤◌, ◌≢◌, inl, inr, ⊎_elim, ◌++◌, [], ◌∷◌, ℕ, suc, List, length, Option, Some, None, Ok, Err, Result, IfSome, ◌↔◌, refl, sym, ap, subst, ◌∙◌, arith, length-append, replicate}
+use Rattle.std.proofs.Common.{◌≡◌, ◌⊎◌, ◌+◌, ◌≤◌, ◌≢◌, inl, inr, ⊎_elim, ◌++◌, [], ◌∷◌, ℕ, suc, List, append-nil, length, Option, Some, None, Ok, Err, Result, IfSome, ◌↔◌, refl, sym, ap, subst, ◌∙◌, arith, length-append, replicate}
 use Rattle.std.proofs.lemmas.List.{length-replicate}
 use Rattle.std.specs.Prelude.{IfErr, IfOk, IsSome, MatchResult, ⊤}
 use Rattle.std.specs.Option.{option_map}
@@ -9,7 +9,7 @@ use Rattle.state_items.specs.Items.{Break, Held, read_item, read_items}
 use Rattle.state_items.specs.Changes.{ChangePlan, KeepPlan, NoPlan, Plan, RulePlan, TagPlan, plan_items}
 use Rattle.proj_io.specs.Stops.{OnlyAdds, Nothing}
 use Rattle.proj_disk.specs.Disks.{DiskView, IsImage, IsLeftBy, IsTornIfKnown, furthest, stable}
-use Rattle.proj_journal.specs.Journals.{IsBrokenAt, IsEmpty, IsSameOrSynced, ListsLeft, SpellsItsItems, TellsWhy, items_of}
+use Rattle.proj_journal.specs.Journals.{IsBrokenAt, IsEmpty, IsNew, IsSameOrSynced, ListsLeft, SpellsItsItems, TellsWhy, items_of}
 use Rattle.proj_journal.specs.Rest.{Leaves, new_bytes}
 use Rattle.proj_journal.specs.Spelling.{list_in, listed, spelled}
 use Rattle.proj_journal.specs.Spelled.{spelled-other}
@@ -20,8 +20,8 @@ use Rattle.proj_words.specs.Words.{Batch, Command, Trial}
 use Rattle.proj_words.specs.declared.outcome.Outcome.{Outcome}
 use Rattle.proj_cli.specs.Batches.{BatchLeaves}
 use Rattle.proj_cli.specs.Runs.{MayLeave}
-use Rattle.proj_cli.specs.Served.{HasList, IsBegun, IsOnlySynced, IsSteady, IsWhole, KeepsBytes, LeavesList, LeavesWhole, SaysWhy, Spells}
-use Rattle.proj_cli.specs.Stopped.{ForInput, IsLengthened}
+use Rattle.proj_cli.specs.Served.{HasList, IsBegun, IsOnlyOpened, IsSteady, IsWhole, KeepsBytes, LeavesKind, LeavesList, LeavesWhole, SaysWhy, Spells}
+use Rattle.proj_cli.specs.Stopped.{ForInput, IsBetween, IsLengthened, OnlyGrows}
 use Rattle.proj_cli.specs.Turns.{AreTurns, IsSafeTurn, Turn, begun, items_after}
 use Rattle.proj_cli.proofs.ListLengths.{list_short}
 use Rattle.proj_cli.proofs.Lengthening.{for-any}
@@ -76,12 +76,12 @@ new_list o p none same = by o (subst (λ (x : Option DiskView). IfSome x (λ dis
     by None none = tt
     by (Some d) none = inl none
 
-pub new_synced : (o p q : Option DiskView) → IfSome p (λ disk. disk.bytes ≡ []) → p ≡ o → IsOnlySynced o q
-new_synced o p q none same = by o (subst (λ (x : Option DiskView). IfSome x (λ disk. disk.bytes ≡ [])) same none)
+new_fresh : (o p q : Option DiskView) → IfSome p (λ disk. disk.bytes ≡ []) → p ≡ o → IsNew q → IsOnlyOpened o q
+new_fresh o p q none same new = by o (subst (λ (x : Option DiskView). IfSome x (λ disk. disk.bytes ≡ [])) same none)
   where
-    by : (x : Option DiskView) → IfSome x (λ disk. disk.bytes ≡ []) → IsOnlySynced x q
+    by : (x : Option DiskView) → IfSome x (λ disk. disk.bytes ≡ []) → IsOnlyOpened x q
     by None none = tt
-    by (Some d) none = λ some. absurd (some none)
+    by (Some d) none = ((λ some. absurd (some none)), (λ empty. new))
 
 -- ---- a journal that was there
 
@@ -99,9 +99,12 @@ open_items o p q synced same = ap items_of synced ∙ by p ∙ ap items_of same
     by None = refl
     by (Some d) = refl
 
-pub open_synced : (o p q : Option DiskView) → q ≡ option_map (λ disk. stable disk.bytes) p → p ≡ o → IsOnlySynced o q
-open_synced None p q synced same = tt
-open_synced (Some d) p q synced same = λ some. synced ∙ ap (λ (x : Option DiskView). option_map (λ disk. stable disk.bytes) x) same
+open_fresh : (o p q : Option DiskView) (n : ℕ) → IfSome o (λ disk. n ≡ length disk.bytes) → (n ≡ 0 → ⊥) → q ≡ option_map (λ disk. stable disk.bytes) p → p ≡ o → IsOnlyOpened o q
+open_fresh None p q n count some synced same = tt
+open_fresh (Some d) p q n count some synced same = (
+  (λ not_empty. synced ∙ ap (λ (x : Option DiskView). option_map (λ disk. stable disk.bytes) x) same),
+  (λ empty. absurd (some (count ∙ ap length empty))),
+)
 
 pub open_why : (o p : Option DiskView) (n : ℕ) (error : JournalError) → IfSome o (λ disk. n ≡ length disk.bytes) → (n ≡ 0 → ⊥) → p ≡ o → TellsWhy p error → SaysWhy o error
 open_why o p n Failed count some same why = tt
@@ -250,6 +253,12 @@ none_so_many : (asked : Command) (input : Bytes) (disk : DiskView) → Spells di
 none_so_many asked input disk (inl is) = omega (arith, ap length is.2, many_long disk, list_short is.0, is.1.no_longer)
 none_so_many asked input disk (inr leaves) = none_left asked input disk leaves
 
+-- a list that is longer than another isn't between it and a third
+none_between : (disk : DiskView) (all : List Bytes) → Spells disk (all ++ many disk) ⊎ IsBetween (listed disk.bytes) all (all ++ many disk) → ⊥
+none_between disk all (inl is) = omega (arith, ap length is.2, length-append all (many disk), many_long disk, list_short is.0, is.1.no_longer)
+none_between disk all (inr between) =
+    omega (arith, ap length between.1.1, length-append (all ++ many disk) between.1.0, length-append all (many disk), many_long disk)
+
 -- a list that a whole disk leaves is one of its lists
 whole_list : (disk : DiskView) (whole : IsWhole disk) (image : List ℕ) (list : List Bytes) → IsImage disk image → Leaves image list → Spells disk list
 whole_list disk whole image list is leaves =
@@ -261,21 +270,56 @@ module _ (left : Option Bytes) (asked : Command) (view : DiskView) (o : Option D
   at_entry : (image : List ℕ) → y d image → IsImage view image
   at_entry image since = subst (λ (p : Option DiskView). IsLeftBy p image) told (⊎_elim (λ was. only image was) (λ new. absurd new) (opened.each d image (omega arith) since))
 
-  -- a stop during a call on the journal
+  -- A stop during a call on the journal that only adds lists of a kind, which isn't every list, leaves one of them or one that it would have
+  -- left at entry.
+  stops_as : (e : ℕ) (z : ℕ → List ℕ → Type 0) (Kind : List Bytes → Type 0) (other : List Bytes) → (Spells view other ⊎ Kind other → ⊥) → OnlyAdds j e (ListsLeft y) (ListsLeft z) Kind
+      → (image : List ℕ) → z d image → LeavesKind Kind view image
+  stops_as e z Kind other never adds image since =
+      whole_as (spelled image) (λ list. Spells view list ⊎ Kind list) other never (λ list leaves.
+      ⊎_elim (λ was. inl (whole_list view whole was.0 list (at_entry was.0 was.1) was.2)) (λ new. inr new) (adds.each d list opened.later (image, since, leaves)))
+
   pub run_stops : (e : ℕ) (z : ℕ → List ℕ → Type 0) → ForInput left (λ all. OnlyAdds j e (ListsLeft y) (ListsLeft z) (MayLeave asked (listed view.bytes) all))
       → ForInput left (λ all. (image : List ℕ) → z d image → LeavesWhole asked all view image)
   run_stops e z adds = record {
     all = adds.all;
     told = adds.told;
-    says = λ image since.
-        whole_as (spelled image) (λ list. Spells view list ⊎ MayLeave asked (listed view.bytes) adds.all list) (many view) (none_so_many asked adds.all view) (λ list leaves.
-        ⊎_elim (λ was. inl (whole_list view whole was.0 list (at_entry was.0 was.1) was.2)) (λ new. inr new) (adds.says.each d list opened.later (image, since, leaves)));
+    says = stops_as e z (MayLeave asked (listed view.bytes) adds.all) (many view) (none_so_many asked adds.all view) adds.says;
   }
 
+  -- A stop during such a call that didn't answer a fault leaves a list between those at entry and at the end.
+  pub run_fronts : (e : ℕ) (z : ℕ → List ℕ → Type 0) (all : List Bytes) → OnlyAdds j e (ListsLeft y) (ListsLeft z) (IsBetween (listed view.bytes) all)
+      → (image : List ℕ) → z d image → LeavesKind (IsBetween (listed view.bytes) all) view image
+  run_fronts e z all adds = stops_as e z (IsBetween (listed view.bytes) all) (all ++ many view) (none_between view all) adds
+
   -- a stop where there is no journal
+  pub unopened_left : (Kind : List Bytes → Type 0) (image : List ℕ) → y d image → LeavesKind Kind view image
+  unopened_left Kind image since = (whole image (at_entry image since), inl (image, at_entry image since, refl))
+
   pub unopened_stops : ForInput left (λ all. (image : List ℕ) → y d image → LeavesWhole asked all view image)
-  unopened_stops = for-any left (λ all. (image : List ℕ) → y d image → LeavesWhole asked all view image)
-      (λ all image since. (whole image (at_entry image since), inl (image, at_entry image since, refl)))
+  unopened_stops = for-any left (λ all. (image : List ℕ) → y d image → LeavesWhole asked all view image) (λ all. unopened_left (MayLeave asked (listed view.bytes) all))
+
+-- where a call of the disk adds no image, it adds no list
+pub lists_add : (d j : ℕ) (x y : ℕ → List ℕ → Type 0) (Kind : List Bytes → Type 0) → OnlyAdds d j x y Nothing → OnlyAdds d j (ListsLeft x) (ListsLeft y) Kind
+lists_add d j x y Kind opened = record {
+  later = opened.later;
+  each = λ t list le since. ⊎_elim (λ was. inl (since.0, was, since.2)) (λ new. absurd new) (opened.each t since.0 le since.1);
+}
+
+-- where there is no journal, and the disk hasn't failed, it has the items that it had
+unopened_items : (view : DiskView) (q : Option DiskView) (e : JournalError) (bytes : List ℕ) → view.bytes ≡ bytes → e ≢ Failed → KeepsBytes (Some view) q → IsBegun (Some view) q e
+    → items_of q ≡ Some (listed view.bytes)
+unopened_items view q e [] empty apart kept begun = ⊎_elim (λ same. ap items_of same) (λ torn. absurd (apart torn.0)) (begun empty)
+unopened_items view q e (b ∷ bytes) some apart kept begun =
+    ⊎_elim (λ same. ap items_of same) (λ synced. ap items_of synced) (kept (λ empty. let no : [] ≡ b ∷ bytes = sym empty ∙ some in cc))
+
+pub unopened_grows : (o q : Option DiskView) (view : DiskView) (e : JournalError) (Adds : (List Bytes → Type 0) → Type 0) → o ≡ Some view → e ≢ Failed → KeepsBytes o q → IsBegun o q e
+    → Adds (IsBetween (listed view.bytes) (listed view.bytes)) → OnlyGrows (listed view.bytes) (items_of q) Adds
+unopened_grows o q view e Adds told apart kept begun adds = record {
+  all = listed view.bytes;
+  told = unopened_items view q e view.bytes refl apart (subst (λ (x : Option DiskView). KeepsBytes x q) told kept) (subst (λ (x : Option DiskView). IsBegun x q e) told begun);
+  behind = ([], sym (append-nil (listed view.bytes)));
+  stops = adds;
+}
 
 -- a steady disk is whole
 pub steady_whole : (disk : DiskView) → IsSteady disk → IsWhole disk
@@ -303,3 +347,13 @@ pub new_items_in : {T E : Type 0} (result : Result T E) (content : T → Option 
     → IfOk result (λ journal. IsSome (content journal) ↔ IsSome p) → IfOk result (λ journal. IsEmpty (content journal)) → IfOk result (λ journal. items_of (content journal) ≡ items_of o)
 new_items_in (Ok journal) content o p none same told empty = new_items o p (content journal) none same told empty
 new_items_in (Err e) content o p none same told empty = tt
+
+pub new_fresh_in : {T E : Type 0} (result : Result T E) (content : T → Option DiskView) (o p : Option DiskView) → IfSome p (λ disk. disk.bytes ≡ []) → p ≡ o
+    → IfOk result (λ journal. IsNew (content journal)) → IfOk result (λ journal. IsOnlyOpened o (content journal))
+new_fresh_in (Ok journal) content o p none same new = new_fresh o p (content journal) none same new
+new_fresh_in (Err e) content o p none same new = tt
+
+pub open_fresh_in : {T E : Type 0} (result : Result T E) (content : T → Option DiskView) (o p : Option DiskView) (n : ℕ) → IfSome o (λ disk. n ≡ length disk.bytes) → (n ≡ 0 → ⊥) → p ≡ o
+    → IfOk result (λ journal. content journal ≡ option_map (λ disk. stable disk.bytes) p) → IfOk result (λ journal. IsOnlyOpened o (content journal))
+open_fresh_in (Ok journal) content o p n count some same synced = open_fresh o p (content journal) n count some synced same
+open_fresh_in (Err e) content o p n count some same synced = tt

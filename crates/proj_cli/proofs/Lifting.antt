@@ -1,5 +1,5 @@
 -- What is said of a journal, said of the disk that it stands on.
-use Rattle.std.proofs.Common.{◌≡◌, ◌≢◌, ◌≤◌, ℕ, false, List, [], length, None, Option, Some, IfSome, Result, Ok, Err, sym, subst, arith}
+use Rattle.std.proofs.Common.{◌≡◌, ◌≢◌, ◌≤◌, ℕ, true, false, List, [], length, None, Option, Some, IfSome, Result, Ok, Err, IsErr, sym, subst, arith}
 use Rattle.git_objects.specs.Paths.{Bytes}
 use Rattle.proj_io.specs.Counts.{Counts}
 use Rattle.proj_io.specs.Views.{SourceView, SinkView, KeeperView}
@@ -13,10 +13,10 @@ use Rattle.proj_words.specs.declared.outcome.Outcome.{Outcome}
 use Rattle.proj_words.specs.declared.outcome.Outcome.TheVariants.{Done, OutOfMemory, ReadFault, StoreFault, Usage, WriteFault}
 use Rattle.proj_cli.specs.Answers.{Devices, GetsText, HasAnswer, IsCaused, IsCommandAnswer, IsDelivered, IsRecalledCase, IsStepDelivered}
 use Rattle.proj_cli.specs.Batches.{IsBatchAnswer, IsBatchBy, IsEnded}
-use Rattle.proj_cli.specs.Cases.{Case, ProjectCase, Made, loaded}
+use Rattle.proj_cli.specs.Cases.{Case, ProjectCase, Made, is_one, loaded, verdict}
 use Rattle.proj_cli.specs.Steps.{case, step}
 use Rattle.proj_cli.specs.Runs.{IsAnswer}
-use Rattle.proj_cli.specs.Served.{HasList, IsOnlySynced, IsRan, IsSteady, Seen, over_disk}
+use Rattle.proj_cli.specs.Served.{HasList, IsOnlyOpened, IsRan, IsSteady, Seen, over_disk}
 use Rattle.proj_cli.specs.Trials.{IsTrialAnswer, trial_made}
 use Rattle.proj_cli.specs.Turns.{Turn, begun}
 use Rattle.proj_cli.proofs.Delivering.{after, before}
@@ -151,13 +151,14 @@ module _ (asked : Command) (i j : SourceView) (o p : SinkView) (e f : SinkView) 
       subst (λ (items : Option (List Bytes)). IsAnswer asked (record { input = i; out = o; store = record { items = items; number = number; faults = faults } }) (over_disk seen-after number_now) outcome) same
       (answer-earlier faults i j o p (record { items = items_of opened; number = number; faults = faults_then }) (record { items = items_of end; number = number_now; faults = faults_now }) asked outcome le answer)
 
-  pub ran_on : (exit : ℕ) → exit ≡ code_of outcome → HasList entry → IsOnlySynced entry opened → faults ≤ faults_then
+  pub ran_on : (exit : ℕ) → exit ≡ code_of outcome → HasList entry → IsOnlyOpened entry opened → faults ≤ faults_then
       → IfSome (items_of opened) (λ all. length all ≡ number) → IfSome (items_of end) (λ all. length all ≡ number_now)
       → IsAnswer asked journal-then (over_disk seen-after number_now) outcome
       → (loads asked ≡ false → end ≡ opened)
+      → (is_one asked ≡ true → IsErr (verdict asked) → end ≡ opened)
       → (asked ≡ Unknown → outcome ≡ Usage)
       → GetsText e f (text_of outcome) → (outcome ≢ StoreFault → IfSome end IsSteady) → IsRan asked seen-before seen-after exit
-  ran_on exit status list synced le counted counted_now answer unloaded idle text settled = record {
+  ran_on exit status list fresh le counted counted_now answer unloaded unjudged idle text settled = record {
     outcome = outcome;
     status = status;
     list = list;
@@ -167,7 +168,8 @@ module _ (asked : Command) (i j : SourceView) (o p : SinkView) (e f : SinkView) 
     counted_now = counted_now;
     answer = answer-on le answer;
     complete = complete asked (over_disk seen-before number) (over_disk seen-after number_now) outcome (answer-on le answer);
-    unloaded = λ no_load. subst (IsOnlySynced entry) (sym (unloaded no_load)) synced;
+    unloaded = λ no_load. subst (IsOnlyOpened entry) (sym (unloaded no_load)) fresh;
+    unjudged = λ one refused. subst (IsOnlyOpened entry) (sym (unjudged one refused)) fresh;
     idle = idle;
     text = text;
     settled = settled;

@@ -1,5 +1,5 @@
 -- What comes of a call of the program on a disk.
-use Rattle.std.specs.Prelude.{◌≡◌, ◌≢◌, ◌⊎◌, ◌++◌, [], ◌∷◌, ℕ, false, List, length, codes, decimal, None, Some, Ok, Err, IfSome, ⊤}
+use Rattle.std.specs.Prelude.{◌≡◌, ◌≢◌, ◌⊎◌, ◌++◌, [], ◌∷◌, ℕ, true, false, List, length, codes, decimal, None, Some, Ok, Err, IsErr, IfSome, ⊤}
 use Rattle.std.specs.declared.option.Option.{Option}
 use Rattle.git_objects.specs.Paths.{Bytes}
 use Rattle.proj_io.specs.Counts.{Counts}
@@ -7,7 +7,7 @@ use Rattle.proj_io.specs.Views.{SourceView, SinkView, source_view, sink_view}
 use Rattle.proj_disk.specs.Disks.{DiskView, IsImage, IsTornIfKnown, stable}
 use Rattle.proj_journal.specs.Rest.{new_bytes}
 use Rattle.proj_journal.specs.Spelling.{listed, spelled}
-use Rattle.proj_journal.specs.Journals.{items_of}
+use Rattle.proj_journal.specs.Journals.{IsNew, items_of}
 use Rattle.proj_journal.specs.declared.opening.JournalError.{JournalError}
 use Rattle.proj_journal.specs.declared.opening.JournalError.TheVariants.{Failed, Broken, OutOfMemory as NoMemory}
 use Rattle.proj_words.specs.Words.{Command, Unknown, loads}
@@ -15,6 +15,7 @@ use Rattle.proj_words.specs.Outcomes.{code_of, text_of}
 use Rattle.proj_words.specs.declared.outcome.Outcome.{Outcome}
 use Rattle.proj_words.specs.declared.outcome.Outcome.TheVariants.{OutOfMemory, StoreFault, Usage}
 use Rattle.proj_cli.specs.Answers.{Devices, GetsText}
+use Rattle.proj_cli.specs.Cases.{is_one, verdict}
 use Rattle.proj_cli.specs.Runs.{IsAnswer, IsComplete, MayLeave}
 
 -- what a call sees of its devices at one moment
@@ -44,10 +45,11 @@ abbrev pub HasList : Option DiskView → Type 0
 HasList None = ⊤
 HasList (Some disk) = (disk.bytes ≡ []) ⊎ (spelled disk.bytes ≡ Ok (listed disk.bytes))
 
--- a known disk that wasn't empty has the same bytes, and all of them are stable
-abbrev pub IsOnlySynced : Option DiskView → Option DiskView → Type 0
-IsOnlySynced None now = ⊤
-IsOnlySynced (Some disk) now = disk.bytes ≢ [] → now ≡ Some (stable disk.bytes)
+-- The journal on a known disk was opened, and nothing else was done: one that wasn't empty has the same bytes, and all of them are stable;
+-- one that was empty has the bytes of a new journal.
+abbrev pub IsOnlyOpened : Option DiskView → Option DiskView → Type 0
+IsOnlyOpened None now = ⊤
+IsOnlyOpened (Some disk) now = (disk.bytes ≢ [] → now ≡ Some (stable disk.bytes)) × (disk.bytes ≡ [] → IsNew now)
 
 -- ---- stops
 
@@ -63,10 +65,13 @@ IsWhole disk = (image : List ℕ) → IsImage disk image → spelled image ≡ O
 abbrev pub Spells : DiskView → List Bytes → Type 0
 Spells disk list = (image : List ℕ) × IsImage disk image × (listed image ≡ list)
 
+-- the bytes spell a list, which is one that a stop may have left of the disk before, or is of this kind
+abbrev pub LeavesKind : (List Bytes → Type 0) → DiskView → List ℕ → Type 0
+LeavesKind Kind disk image = (spelled image ≡ Ok (listed image)) × (Spells disk (listed image) ⊎ Kind (listed image))
+
 -- the bytes spell a list, which is one that a stop may have left of the disk before, or may leave during the command with this input
 abbrev pub LeavesWhole : Command → Bytes → DiskView → List ℕ → Type 0
-LeavesWhole asked input disk image =
-    (spelled image ≡ Ok (listed image)) × (Spells disk (listed image) ⊎ MayLeave asked (listed disk.bytes) input (listed image))
+LeavesWhole asked input disk image = LeavesKind (MayLeave asked (listed disk.bytes) input) disk image
 
 -- the bytes spell a list, which is one that a stop during the command may leave
 abbrev pub LeavesList : Command → Bytes → List Bytes → List ℕ → Type 0
@@ -87,7 +92,8 @@ pub record IsRan (asked : Command) (before after : Seen) (exit : ℕ) : Type 0 w
   pub counted_now : IfSome (items_of after.content) (λ all. length all ≡ number_now)
   pub answer : IsAnswer asked (over_disk before number) (over_disk after number_now) outcome
   pub complete : IsComplete asked (over_disk before number) (over_disk after number_now) outcome
-  pub unloaded : loads asked ≡ false → IsOnlySynced before.content after.content
+  pub unloaded : loads asked ≡ false → IsOnlyOpened before.content after.content
+  pub unjudged : is_one asked ≡ true → IsErr (verdict asked) → IsOnlyOpened before.content after.content
   pub idle : asked ≡ Unknown → outcome ≡ Usage
   pub text : GetsText before.err after.err (text_of outcome)
   pub settled : outcome ≢ StoreFault → IfSome after.content IsSteady

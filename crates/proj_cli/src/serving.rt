@@ -1,17 +1,18 @@
 // The program on a disk.
 ghost use Rattle.std.specs.Prelude.{◌≡◌, ◌≢◌, ◌≤◌, ◌⊎◌, [], ℕ, List, map, string_bytes};
-ghost use Rattle.std.specs.Prelude.{false, Some, IfErr, IfOk, MatchResult};
+ghost use Rattle.std.specs.Prelude.{true, false, Some, IfErr, IfOk, IsErr, MatchResult};
 ghost use Rattle.proj_io.specs.Counts.{Counts};
 ghost use Rattle.proj_io.specs.Stops.{OnlyAdds, Nothing};
 ghost use Rattle.proj_io.specs.Views.{sink_view};
 ghost use Rattle.proj_disk.specs.Disks.{DiskView};
-ghost use Rattle.proj_journal.specs.Journals.{IsOpen, disk_of, items_of};
+ghost use Rattle.proj_journal.specs.Journals.{IsOpen, ListsLeft, disk_of, items_of};
 ghost use Rattle.proj_journal.specs.Spelling.{listed};
 ghost use Rattle.proj_words.specs.Words.{Unknown, command, reads};
 ghost use Rattle.proj_cli.specs.Answers.{GetsText};
-ghost use Rattle.proj_cli.specs.Stopped.{ForInput};
-ghost use Rattle.proj_cli.specs.Served.{HasList, IsBegun, IsOnlySynced, IsServed, IsSteady, IsWhole};
-ghost use Rattle.proj_cli.specs.Served.{KeepsBytes, LeavesList, LeavesWhole, SaysWhy, error_code, error_text, seen};
+ghost use Rattle.proj_cli.specs.Cases.{is_one, verdict};
+ghost use Rattle.proj_cli.specs.Stopped.{ForInput, OnlyGrows};
+ghost use Rattle.proj_cli.specs.Served.{HasList, IsBegun, IsOnlyOpened, IsServed, IsSteady, IsWhole, KeepsBytes};
+ghost use Rattle.proj_cli.specs.Served.{LeavesKind, LeavesList, LeavesWhole, SaysWhy, error_code, error_text, seen};
 
 use crate::deliver::{tell, tell_plain};
 use crate::program::run;
@@ -34,7 +35,7 @@ fn journal_on<D: Disk>(alloc: Global, disk: D) -> Result<Journal<D>, NoJournal<D
     ensures opened { IfOk result (λ journal. IsOpen D.content journal) }
     ensures list { IfOk result (λ _. HasList (D.content disk)) }
     ensures items { IfOk result (λ journal. items_of (D.content (disk_of journal)) ≡ items_of (D.content disk)) }
-    ensures synced { IfOk result (λ journal. IsOnlySynced (D.content disk) (D.content (disk_of journal))) }
+    ensures fresh { IfOk result (λ journal. IsOnlyOpened (D.content disk) (D.content (disk_of journal))) }
     ensures why { IfErr result (λ none. SaysWhy (D.content disk) none.error) }
     ensures kept { IfErr result (λ none. KeepsBytes (D.content disk) (D.content none.disk)) }
     ensures begun { IfErr result (λ none. IsBegun (D.content disk) (D.content none.disk) none.error) }
@@ -128,8 +129,11 @@ pub fn serve<S: Source, O: Sink, E: Sink, D: Disk>(
         D.content D.faults in
         IsServed (command (map (λ word. string_bytes word) words.now)) ((input.new ≡ input.old) × (out.new ≡ out.old))
         (at input.old out.old err.old disk) (at input.new out.new err.new result.disk) result.status }
-    // A form that doesn't read leaves the input, and for words without a form nothing is written.
+    // A form that doesn't read leaves the input, and so does a command whose filter is refused; for words without a
+    // form nothing is written.
     ensures unread { reads (command (map (λ word. string_bytes word) words.now)) ≡ false → input.new ≡ input.old }
+    ensures unjudged { let asked = command (map (λ word. string_bytes word) words.now) in
+        is_one asked ≡ true → IsErr (verdict asked) → input.new ≡ input.old }
     ensures idle { command (map (λ word. string_bytes word) words.now) ≡ Unknown → out.new ≡ out.old }
     // Of a disk of which no stop at entry leaves a broken journal, a stop at any moment since leaves none: it leaves a
     // list that a stop at entry might have left, or the list that the bytes spell, or this with the command's item
@@ -143,6 +147,16 @@ pub fn serve<S: Source, O: Sink, E: Sink, D: Disk>(
         (view : DiskView) → D.content disk ≡ Some view → IsSteady view → ForInput (S.left input.old) (λ all.
         (image : List ℕ) → D.left_since result.disk (D.moment disk) image →
         LeavesList asked all (listed view.bytes) image) }
+    // Unless the store failed, which has status 24, the list that the bytes spell at entry is there still, with others
+    // behind it or none. Of a disk of which no stop at entry leaves a broken journal, a stop at any moment since leaves
+    // a list that a stop at entry might have left, or one that is between the two: the first is in front of it, and it
+    // is a front of the list on the disk handed back. Since a moment before the call a disk that wasn't empty leaves a
+    // list that it might have left then, or one between the two.
+    ensures fronts { (view : DiskView) → D.content disk ≡ Some view → result.status ≢ 24 →
+        OnlyGrows (listed view.bytes) (items_of (D.content result.disk)) (λ Between. (IsWhole view →
+        (image : List ℕ) → D.left_since result.disk (D.moment disk) image → LeavesKind Between view image) ×
+        (view.bytes ≢ [] → OnlyAdds (D.moment disk) (D.moment result.disk) (ListsLeft (D.left_since disk))
+        (ListsLeft (D.left_since result.disk)) Between)) }
 {
     match journal_on(alloc, disk) {
         Ok(mut journal) => {
