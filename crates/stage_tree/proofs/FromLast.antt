@@ -1,4 +1,4 @@
--- The way to a path from what was set last.
+-- The way to a path from a node that is known.
 use Rattle.std.proofs.Common.{◌≡◌, ℕ, ◌+◌, ◌≤◌, List, [], ◌∷◌, length, Option, Some, refl, sym, ap, subst, ◌∙◌}
 use Rattle.std.specs.Prelude.{slice_get}
 use Rattle.git_objects.specs.Paths.{Bytes, Path}

@@ -1,4 +1,4 @@
--- A stage with a node that was set last.
+-- A stage with a node that is known.
 use Rattle.std.proofs.Common.{◌≡◌, ℕ, List, Option, Some, None, IfSome, sym, subst}
 use Rattle.git_objects.specs.Paths.{Path}
 use Rattle.git_objects.specs.Trees.{Flat}

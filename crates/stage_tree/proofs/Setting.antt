@@ -177,7 +177,7 @@ module _ (S : List Object) (s : Nodes) (m : ℕ) (v : Staged) (e : staged s m �
   pub memory_refused : {A : Type 0} (s2 : Nodes) (x : StageFault) (left : Result Flat StageFault) → IsUnmoved S s s2 → x ≡ OutOfMemory → IsEdited {A = A} S (staged s2 m) t left (Err x)
   memory_refused s2 x left u g = record { done = tt; refused = (shows_unmoved s2 u, inl g) }
 
--- ---- what was set last
+-- ---- the node that is known then
 
 -- the components before the end of a way, and the numbers of their directories
 module _ (S : List Object) (s s' : Nodes) (p : Path) (level : ℕ) (link : Link) (child : Option ℕ) (w : IsWay S s s' p level link child) where

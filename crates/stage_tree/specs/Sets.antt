@@ -62,7 +62,7 @@ pub record IsUnmoved (S : List Object) (s s' : Nodes) : Type 0 where
   pub held : IsRooted S (items_of s')
   pub leaves : (y : Path) → at (tree_of S (items_of s')) y ≡ at (tree_of S (items_of s)) y
 
--- a stage, and the node that was set last in it
+-- a stage, and the node that is known in it, if one is
 pub record IsMarked (s : Nodes) (last : Last) : Type 0 where
   pub stage : IsStage s
   pub last_there : IfSome last.child (IsChildOf s last.directory.items last.numbers.items)

@@ -1,4 +1,4 @@
-// What was set last: the way to the next path begins where that leaves the way to it.
+// The way to the path that was set, put or removed last. The way to the next path goes on from it.
 ghost use Rattle.std.specs.Prelude.{◌≡◌, ◌<◌, ◌≤◌, ◌++◌, ℕ, true, get_or, length, take};
 ghost use Rattle.std.specs.Prelude.{List, Some, None, IfOk, IfSome, OnErr, OnOk};
 ghost use Rattle.git_objects.specs.Paths.{Path, is_path};
@@ -14,8 +14,8 @@ use object_store::Store;
 use stage_nodes::{Content, Link, Nodes, Way};
 use std::alloc::{AllocError, Global};
 
-// The node that was set or put last, if it may still be there, the path of its directory, and the numbers of the
-// directories on the way to it.
+// A node, if one is known: the one that was set or put last, or one beside or above what was removed last. With it the
+// path of its directory, and the numbers of the directories on the way to it.
 #[derive(Drop)]
 pub struct Last {
     pub directory: Vec<Component>,
@@ -78,8 +78,8 @@ impl Last {
         }
     }
 
-    // Something was put or removed at a place on the way to a path. What is remembered is the sibling before that
-    // place, or else the place's directory.
+    // What stood at the end of a way was removed. What is remembered is the sibling before that place, or, where there
+    // is none, its directory.
     pub fn remember_before(&mut self, alloc: Global, components: &[Component], way: Way)
         requires level { way.level < length components.now }
         requires numbers { length self.old.numbers.items ≤ length components.now }
@@ -159,8 +159,8 @@ fn at_level(numbers: &[usize], child: usize, level: usize) -> usize
     }
 }
 
-// The node at the first level at which a path differs from the path of the node that was set last. The numbers become
-// those of the directories above it.
+// The known node, or the directory on the way to it, that stands at the first level at which a path leaves that way.
+// The numbers become those of the directories above this level.
 fn cut(last: &mut Last, child: usize, components: &[Component]) -> usize
     requires { 0 < length components.now }
     ensures node { (s : Nodes) → IsChildOf s last.old.directory.items last.old.numbers.items child
@@ -174,7 +174,7 @@ fn cut(last: &mut Last, child: usize, components: &[Component]) -> usize
     number
 }
 
-// The link from which a path is looked for, where a node was set last.
+// The link from which a path is looked for, where a node is known.
 fn start_beside(
     nodes: &Nodes,
     last: &mut Last,
@@ -198,7 +198,7 @@ fn start_beside(
     Ok(link_beside(nodes, &last.numbers, number, component))
 }
 
-// The link from which a path is looked for, in open nodes. The node that was set last is forgotten.
+// The link from which a path is looked for, in open nodes. The node that is known is forgotten.
 fn start(
     nodes: &mut Nodes,
     last: &mut Last,
@@ -222,8 +222,7 @@ fn start(
     Ok(Link::First(0))
 }
 
-// The way to a path, from the level on at which the path differs from the one that was set last. The node that was set
-// last is forgotten.
+// The way to a path, from the level on at which it leaves the way to the node that is known. That node is forgotten.
 pub fn arrive(
     nodes: &mut Nodes,
     last: &mut Last,
