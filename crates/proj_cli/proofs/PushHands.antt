@@ -1,12 +1,12 @@
 -- What a push makes is in hand.
-use Rattle.std.proofs.Common.{◌≡◌, ◌⊎◌, inl, inr, ℕ, Bool, true, false, cond, List, [], ◌∷◌, ◌++◌, Contains, Option, None, Some, Result, Ok, Err, ⊎_elim, refl, sym, subst, ◌∙◌, arith}
+use Rattle.std.proofs.Common.{◌≡◌, inl, inr, ℕ, Bool, true, false, cond, List, [], ◌∷◌, ◌++◌, Contains, Option, None, Some, Result, Ok, Err, ⊎_elim, refl, sym, ◌∙◌}
 use Rattle.std.specs.List.{flat_map}
 use Rattle.std.specs.Option.{option_map, option_map_or}
-use Rattle.std.proofs.lemmas.List.Elements.{Contains-append_cases, Contains-append_left, Contains-append_right, Contains-push, Contains-push_cases}
+use Rattle.std.proofs.lemmas.List.Elements.{Contains-append_left, Contains-append_right, Contains-push}
 use Rattle.git_objects.specs.Lists.{Each}
 use Rattle.git_objects.specs.Paths.{Bytes}
 use Rattle.git_objects.specs.Results.{◌>>=◌, or_refuse, refused_by}
-use Rattle.git_objects.specs.Snapshots.{Graph, Snapshot, add, add_all, commit_at, has, has_name, snapshot_name, tree_at}
+use Rattle.git_objects.specs.Snapshots.{Graph, Snapshot, commit_at, has, has_name, snapshot_name, tree_at}
 use Rattle.git_objects.specs.Trees.{Flat, IsTree, Leaf}
 use Rattle.object_store.specs.Hands.{IsComponentOf, IsLeafOf}
 use Rattle.object_store.specs.Objects.{Object}

@@ -1,5 +1,5 @@
 -- What projections make, each by itself, is in hand.
-use Rattle.std.proofs.Common.{◌≡◌, inl, inr, true, false, Bool, List, [], ◌∷◌, Contains, ⊎_elim, subst}
+use Rattle.std.proofs.Common.{inl, inr, true, false, Bool, List, [], ◌∷◌, Contains, ⊎_elim, subst}
 use Rattle.git_objects.specs.Paths.{Bytes}
 use Rattle.git_objects.specs.Snapshots.{Graph, Snapshot}
 use Rattle.object_store.specs.Objects.{Object}
@@ -7,7 +7,6 @@ use Rattle.commit_map.specs.declared.rule.Rule.{Rule}
 use Rattle.filter_text.specs.Filters.{Filter}
 use Rattle.workspace.specs.Workspaces.{shown}
 use Rattle.projection_laws.specs.Projections.{history_graph}
-use Rattle.projection_ground.specs.Grounds.{commits_of}
 use Rattle.history_ground.specs.Heads.{IsSeenObject}
 use Rattle.history_ground.specs.Histories.{IsOfHistory}
 use Rattle.state_items.specs.Items.{Held}

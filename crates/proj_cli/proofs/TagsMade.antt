@@ -6,7 +6,6 @@ use Rattle.git_objects.specs.Paths.{Bytes}
 use Rattle.git_objects.specs.Refs.{bytes_cmp}
 use Rattle.git_objects.specs.Results.{◌>>=◌, or_refuse}
 use Rattle.object_store.specs.Growth.{IsGrownBy}
-use Rattle.object_store.specs.Objects.{Object}
 use Rattle.object_store.proofs.Growth.{grown_as, grown_self}
 use Rattle.filter_text.specs.Filters.{Filter}
 use Rattle.filter_apply.specs.Faults.{IsApplyFault}

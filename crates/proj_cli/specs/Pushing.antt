@@ -30,7 +30,7 @@ use Rattle.repo_ground.specs.Contents.{Contents}
 use Rattle.repo_ground.specs.declared.commit.Batch.{Batch}
 use Rattle.proj_words.specs.Faults.{stream_outcome}
 use Rattle.proj_words.specs.declared.outcome.Outcome.{Outcome}
-use Rattle.proj_words.specs.declared.outcome.Outcome.TheVariants.{ReadFault, OtherRef, NotAtHead, MergePushed, RepeatedParent, NoChange, BadWorkspace, Unseen, NotHeld, Blocked, Limit, Collision, OutOfMemory}
+use Rattle.proj_words.specs.declared.outcome.Outcome.TheVariants.{ReadFault, OtherRef, NotAtHead, RepeatedParent, NoChange, BadWorkspace, Unseen, NotHeld, Blocked, Limit, Collision, OutOfMemory}
 use Rattle.proj_cli.specs.Filters.{rule_by}
 use Rattle.proj_cli.specs.Makes.{IsStateOf}
 use Rattle.proj_cli.specs.Push.{parents_refusal, pushed_by, pushed_upon, told_digits}

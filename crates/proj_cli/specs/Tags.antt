@@ -5,7 +5,7 @@ use Rattle.std.specs.Prelude.{Result, Ok, if◌then◌else◌, List, [], ◌∷�
 use Rattle.git_objects.specs.Commits.{hex}
 use Rattle.git_objects.specs.Paths.{Bytes}
 use Rattle.git_objects.specs.Results.{◌>>=◌}
-use Rattle.git_objects.specs.Snapshots.{Snapshot, ancestors, has}
+use Rattle.git_objects.specs.Snapshots.{ancestors, has}
 use Rattle.filter_text.specs.Filters.{Filter}
 use Rattle.state_items.specs.Items.{Held}
 use Rattle.state_items.specs.Repos.{repo}

@@ -3,7 +3,7 @@ use Rattle.std.proofs.Common.{ap, ◌∙◌}
 use Rattle.std.proofs.lemmas.Slice.Zip.{either_empty_from_Zip}
 use Rattle.std.specs.Iterator.Adapters.{zip_first, zip_second}
 use Rattle.std.specs.Slice.Iter.{iter_rest}
-use Rattle.proj_cli.proofs.Retargeting.{going-end, going-first, going-none, going-some}
+use Rattle.proj_cli.proofs.Retargeting.{going-end, going-first}
 use Rattle.proj_cli.proofs.tagging.retargeted_all.Goals as goal
 
 pub loop-tag-init : goal.loop-tag-init

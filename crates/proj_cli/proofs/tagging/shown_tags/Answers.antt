@@ -1,5 +1,5 @@
 -- Proves what src/tagging.rt needs of `shown_tags`.
-use Rattle.std.proofs.Common.{List, ap, map, sym, subst, ◌∙◌}
+use Rattle.std.proofs.Common.{ap, map, sym, subst, ◌∙◌}
 use Rattle.std.specs.Prelude.{zip}
 use Rattle.std.specs.List.{filter_map}
 use Rattle.std.specs.Option.{option_map}
