@@ -14,17 +14,17 @@ use Rattle.repo_ground.specs.Changes.{GetsItems, KeepsItems}
 use Rattle.proj_words.specs.Words.{Command}
 use Rattle.proj_words.specs.declared.outcome.Outcome.{Outcome}
 use Rattle.proj_words.specs.declared.outcome.Outcome.TheVariants.{Done, StoreFault}
-use Rattle.proj_cli.specs.Answers.{ArePlanned, Follows, IsAnswered, IsDelivered, IsLonger, IsOutcome, IsSafe, IsStepDelivered}
-use Rattle.proj_cli.specs.Cases.{Case, ProjectCase, Made, loaded}
-use Rattle.proj_cli.specs.Steps.{case, made, IsLawful, IsPlanOf, cases, step}
-use Rattle.proj_cli.specs.Forms.{FormPlan, IsFormMade, IsFormPlanned}
-use Rattle.proj_cli.specs.Hands.{IsInHands}
-use Rattle.proj_cli.specs.Makes.{IsGoodPlan, IsPlanned, IsRefusal, IsReported, IsStored, hands_of, recalled_made, step_in}
-use Rattle.proj_cli.specs.Plans.{HoldWhatTheyShould, RecallLaw}
+use Rattle.proj_cli.specs.Answers.{Follows, IsAnswered, IsDelivered, IsLonger, IsOutcome, IsSafe, IsStepDelivered}
+use Rattle.proj_commands.specs.Cases.{Case, ProjectCase, Made, loaded}
+use Rattle.proj_commands.specs.Steps.{case, made, IsLawful, IsPlanOf, cases, step, ArePlanned}
+use Rattle.proj_commands.specs.Forms.{FormPlan, IsFormMade, IsFormPlanned}
+use Rattle.proj_commands.specs.Hands.{IsInHands}
+use Rattle.proj_commands.specs.Makes.{IsGoodPlan, IsPlanned, IsRefusal, IsReported, IsStored, hands_of, recalled_made, step_in}
+use Rattle.proj_commands.specs.Plans.{HoldWhatTheyShould, RecallLaw}
 use Rattle.proj_cli.specs.Sent.{IsSent}
-use Rattle.proj_cli.proofs.CasePlans.{all-one, from, kept-plan, lawful-plan, own-planned, own_plan, recalled-made, stays-plan}
+use Rattle.proj_commands.proofs.CasePlans.{all-one, from, kept-plan, lawful-plan, own-planned, own_plan, recalled-made, stays-plan}
 use Rattle.proj_cli.proofs.Delivering.{after, before, done-outcome, fault-delivered, got-follows, got-if, idle-delivered, idle-step, kept-follows, kept-if, longer, refusal-outcome, sent-delivered, sent-outcome}
-use Rattle.proj_cli.proofs.Refusing.{refusal-of}
+use Rattle.proj_commands.proofs.Refusing.{refusal-of}
 
 -- ---- a refusal of the step is one of the command, also where what is kept isn't taken
 
@@ -95,6 +95,19 @@ plan-longer asked items all p w good h read =
     longer items p good asked h read
     (λ no. stays-plan asked items (room_of items) w.planned.case w.planned.step p (from asked items all w.planned.case w.planned.came_up) w.planned.done w.planned.planned no h)
 
+-- the report of a plan's step
+pub planned-output : (H : Object → Type 0) (room : Room) (r : Result Case Outcome) (p : Plan) (report : Bytes) (w : IsPlanned room r p) → IsReported H (step_in room r) (Ok report) → w.step.output ≡ report
+planned-output H room r p report w told = subst (λ (s : Result Made Outcome). IsReported H s (Ok report)) (ap (step_in room) w.came_up ∙ w.done) told
+
+-- where nothing is planned, the store has what it had
+pub still : (k l : KeeperView) (e : Outcome) (p : Plan) → p ≡ NoPlan → IsStored (Err e) p k l → KeepsItems k l
+still k l e p n g = by e (subst (λ (x : Plan). IsStored (Err e) x k l) n g)
+  where
+    by : (x : Outcome) → IsStored (Err x) NoPlan k l → KeepsItems k l
+    by StoreFault (inl s) = s
+    by StoreFault (inr s) = s
+    by _ s = s
+
 -- ---- answers
 
 module _ (law : RecallLaw) (asked : Command) (items : List Bytes) (all : Bytes) (kept : HoldWhatTheyShould asked items) (i j : SourceView) (o : SinkView) (k l : KeeperView) where
@@ -152,20 +165,12 @@ module _ (law : RecallLaw) (asked : Command) (items : List Bytes) (all : Bytes) 
       output : f.planned.planned.step.output ≡ report
       output = subst (λ (s : Result Made Outcome). IsReported (IsInHands (hands_of (case asked (loaded items) all))) s (Ok report)) came f.reported
 
-  quiet : (e : Outcome) (p : Plan) → p ≡ NoPlan → IsStored (Err e) p k l → KeepsItems k l
-  quiet e p n g = by e (subst (λ (x : Plan). IsStored (Err e) x k l) n g)
-    where
-      by : (x : Outcome) → IsStored (Err x) NoPlan k l → KeepsItems k l
-      by StoreFault (inl s) = s
-      by StoreFault (inr s) = s
-      by _ s = s
-
   refused-answer : (q : SinkView) (p : Plan) (e : Outcome) → q ≡ o → IsRefusal (IsInHands (hands_of (case asked (loaded items) all))) e (step_in (room_of items) (case asked (loaded items) all))
       → FormPlan (room_of items) (case asked (loaded items) all) p (Err e) → ((h : Held) → read_items items ≡ Ok h → IsGoodPlan items h (room_of items) p) → IsStored (Err e) p k l
       → IsAnswered asked items all (before i j o q k l) (after i j o q k l) e
-  refused-answer q p StoreFault same h (inl n) good g = idle-answer q StoreFault same h (quiet StoreFault p n g)
+  refused-answer q p StoreFault same h (inl n) good g = idle-answer q StoreFault same h (still k l StoreFault p n g)
   refused-answer q p StoreFault same h (inr w) good g = fault-answer q p same w good g
-  refused-answer q p e same h n good g = idle-answer q e same h (quiet e p n g)
+  refused-answer q p e same h n good g = idle-answer q e same h (still k l e p n g)
 
   pub form-answered : (q : SinkView) (p : Plan) (result : Result Bytes Outcome) (outcome : Outcome) → IsFormMade (case asked (loaded items) all) items k l p result
       → ((report : Bytes) → result ≡ Ok report → IsSent outcome report o q) → ((e : Outcome) → result ≡ Err e → (outcome ≡ e) × (q ≡ o))
@@ -211,22 +216,14 @@ module _ (asked : Command) (items : List Bytes) (all : Bytes) (i j : SourceView)
     spelled = spelled p f.planned f.good (inr f.stored);
   }
 
-  still : (e : Outcome) (p : Plan) → p ≡ NoPlan → IsStored (Err e) p k l → KeepsItems k l
-  still e p n g = by e (subst (λ (x : Plan). IsStored (Err e) x k l) n g)
-    where
-      by : (x : Outcome) → IsStored (Err x) NoPlan k l → KeepsItems k l
-      by StoreFault (inl s) = s
-      by StoreFault (inr s) = s
-      by _ s = s
-
   refused-safe : (q : SinkView) (p : Plan) (e : Outcome) → q ≡ o → IsRefusal (IsInHands (hands_of (case asked (loaded items) all))) e (step_in (room_of items) (case asked (loaded items) all))
       → FormPlan (room_of items) (case asked (loaded items) all) p (Err e) → ((g : Held) → read_items items ≡ Ok g → IsGoodPlan items g (room_of items) p) → IsStored (Err e) p k l
       → IsSafe asked items h (before i j o q k l) (after i j o q k l) e
   refused-safe q p StoreFault same r (inl n) good g =
-      idle-safe q StoreFault same (IsInHands (hands_of (case asked (loaded items) all))) (step_in (room_of items) (case asked (loaded items) all)) r (still StoreFault p n g)
+      idle-safe q StoreFault same (IsInHands (hands_of (case asked (loaded items) all))) (step_in (room_of items) (case asked (loaded items) all)) r (still k l StoreFault p n g)
   refused-safe q p StoreFault same r (inr w) good g = fault-safe q p same w good g
   refused-safe q p e same r n good g =
-      idle-safe q e same (IsInHands (hands_of (case asked (loaded items) all))) (step_in (room_of items) (case asked (loaded items) all)) r (still e p n g)
+      idle-safe q e same (IsInHands (hands_of (case asked (loaded items) all))) (step_in (room_of items) (case asked (loaded items) all)) r (still k l e p n g)
 
   pub form-safe : (q : SinkView) (p : Plan) (result : Result Bytes Outcome) (outcome : Outcome) → IsFormMade (case asked (loaded items) all) items k l p result
       → ((report : Bytes) → result ≡ Ok report → IsSent outcome report o q) → ((e : Outcome) → result ≡ Err e → (outcome ≡ e) × (q ≡ o))

@@ -17,15 +17,14 @@ use Rattle.proj_words.specs.declared.outcome.Outcome.{Outcome}
 use Rattle.proj_words.specs.declared.outcome.Outcome.TheVariants.{Done, Limit, OutOfMemory, ReadFault, Syntax, WriteFault, StoreFault}
 use Rattle.proj_cli.specs.Answers.{GetsAll}
 use Rattle.proj_cli.specs.Batches.{BatchLeaves, all_turns, HasRun, IsBatchAnswer, IsBatchBy, IsEnded, IsLeftBy, IsRun, IsUnbegun}
-use Rattle.proj_cli.specs.Cases.{break_outcome, is_verdict, loaded}
-use Rattle.proj_cli.specs.Forms.{IsEarly}
-use Rattle.proj_cli.specs.Inputs.{IsUnread}
-use Rattle.proj_cli.specs.Stopped.{ForInput}
+use Rattle.proj_commands.specs.Cases.{break_outcome, is_verdict, loaded}
+use Rattle.proj_commands.specs.Forms.{IsEarly}
+use Rattle.proj_commands.specs.Inputs.{IsUnread, ForInput}
 use Rattle.proj_cli.specs.Turns.{Turn, appended, begun, loading}
 use Rattle.proj_cli.proofs.BatchesRun.{counts-without, got-none}
 use Rattle.proj_cli.proofs.Delivering.{after, before}
-use Rattle.proj_cli.proofs.Forming.{adds-nothing}
-use Rattle.proj_cli.proofs.InputsRead.{for-every}
+use Rattle.proj_commands.proofs.Forming.{adds-nothing}
+use Rattle.proj_commands.proofs.InputsRead.{for-any}
 
 -- ---- nothing was begun
 
@@ -92,8 +91,8 @@ batch-unloaded items i j o k l kept es e (inr (inr broken)) = batch-refused item
 
 pub unread-run : (items : List Bytes) (i j : SourceView) (o : SinkView) (k l : KeeperView) → KeepsItems k l → (e : Outcome) → IsUnread i.left e
     → ForInput i.left (λ all. IsBatchBy items (begun items all) (before i j o o k l) (after i j o o k l) e)
-unread-run items i j o k l kept e (inl m) = for-every i.left _ (λ all. batch-early items i j o k l kept (begun items all) e (inl m))
-unread-run items i j o k l kept e (inr (inl r)) = for-every i.left _ (λ all. batch-early items i j o k l kept (begun items all) e (inr (inl r)))
+unread-run items i j o k l kept e (inl m) = for-any i.left _ (λ all. batch-early items i j o k l kept (begun items all) e (inl m))
+unread-run items i j o k l kept e (inr (inl r)) = for-any i.left _ (λ all. batch-early items i j o k l kept (begun items all) e (inr (inl r)))
 unread-run items i j o k l kept e (inr (inr (is, w))) =
     record {
       all = w.all;
@@ -178,4 +177,4 @@ early-answer i j o k l outcome read keep write judged taken run = record {
 }
 
 pub early-adds : (left : Option Bytes) (items : List Bytes) (a b : ℕ) (x y : ℕ → List Bytes → Type 0) → OnlyAdds a b x y Nothing → ForInput left (λ all. OnlyAdds a b x y (BatchLeaves items (begun items all)))
-early-adds left items a b x y none = for-every left (λ all. OnlyAdds a b x y (BatchLeaves items (begun items all))) (λ all. adds-nothing a b x y (BatchLeaves items (begun items all)) none)
+early-adds left items a b x y none = for-any left (λ all. OnlyAdds a b x y (BatchLeaves items (begun items all))) (λ all. adds-nothing a b x y (BatchLeaves items (begun items all)) none)

@@ -18,13 +18,13 @@ use Rattle.proj_words.specs.Entries.{Entry}
 use Rattle.proj_words.specs.declared.outcome.Outcome.{Outcome}
 use Rattle.proj_words.specs.declared.outcome.Outcome.TheVariants.{Done, OutOfMemory, ReadFault, WriteFault, StoreFault}
 use Rattle.proj_cli.specs.Answers.{Devices, GetsAll}
-use Rattle.proj_cli.specs.Cases.{is_verdict}
+use Rattle.proj_commands.specs.Cases.{is_verdict}
 use Rattle.proj_cli.specs.Batches.{BeganReply, IsLeftBy, IsRun, RepliesUnlessFailed}
-use Rattle.proj_cli.specs.Makes.{IsStateOf}
+use Rattle.proj_commands.specs.Makes.{IsStateOf}
 use Rattle.proj_cli.specs.Running.{BeganTurn, IsBehind, IsEntryAnswered, IsStateBehind, IsTurnOf, IsTurnStop}
 use Rattle.proj_cli.specs.Turns.{AreTurns, IsSafeTurn, IsTurn, Turn, appended, entries_of, items_after, turn_text, turn_texts}
 use Rattle.proj_cli.proofs.Delivering.{after, before}
-use Rattle.proj_cli.proofs.Forming.{Stays-self}
+use Rattle.proj_commands.proofs.Forming.{Stays-self}
 
 -- ---- what a keeper gets in several turns
 
@@ -328,10 +328,3 @@ counts-since f g h Answered le counts = record { later = omega (arith, le, count
 -- at no fault
 pub counts-without : (f g : ℕ) (Answered : Type 0) → f ≤ g → (Answered → ⊥) → Counts f g Answered
 counts-without f g Answered le none = record { later = le; rose = λ e. absurd (none e) }
-
--- a list of no more than that is its own front
-pub take-all : {A : Type 0} (n : ℕ) (l : List A) → length l ≤ n → take n l ≡ l
-take-all zero [] le = refl
-take-all (suc n) [] le = refl
-take-all zero (x ∷ l) le = absurd (omega (arith, le))
-take-all {A = A} (suc n) (x ∷ l) le = let less : length l ≤ n = omega (arith, le) in ap (λ (t : List A). x ∷ t) (take-all n l less)

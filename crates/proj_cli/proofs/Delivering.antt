@@ -12,9 +12,10 @@ use Rattle.repo_ground.specs.Changes.{GetsItems, KeepsItems}
 use Rattle.proj_words.specs.Words.{Command}
 use Rattle.proj_words.specs.declared.outcome.Outcome.{Outcome}
 use Rattle.proj_words.specs.declared.outcome.Outcome.TheVariants.{Done, OutOfMemory, Collision, ReadFault, WriteFault, StoreFault}
-use Rattle.proj_cli.specs.Answers.{Devices, Follows, GetsAll, Got, IsDelivered, IsLonger, IsOutcome, IsSameState, IsStepDelivered, changes_state}
-use Rattle.proj_cli.specs.Cases.{Made}
-use Rattle.proj_cli.specs.Makes.{IsGoodPlan, IsRefusal}
+use Rattle.proj_cli.specs.Answers.{Devices, Follows, GetsAll, Got, IsDelivered, IsLonger, IsOutcome, IsStepDelivered}
+use Rattle.proj_commands.specs.Cases.{Made}
+use Rattle.proj_commands.specs.Makes.{IsGoodPlan, IsRefusal}
+use Rattle.proj_commands.specs.Plans.{IsSameState, changes_state}
 use Rattle.proj_cli.specs.Sent.{IsSent}
 
 -- ---- items

@@ -21,10 +21,11 @@ use Rattle.proj_words.specs.declared.outcome.Outcome.{Outcome}
 use Rattle.proj_cli.specs.Batches.{BatchLeaves}
 use Rattle.proj_cli.specs.Runs.{MayLeave}
 use Rattle.proj_cli.specs.Served.{HasList, IsBegun, IsOnlyOpened, IsSteady, IsWhole, KeepsBytes, LeavesKind, LeavesList, LeavesWhole, SaysWhy, Spells}
-use Rattle.proj_cli.specs.Stopped.{ForInput, IsBetween, IsLengthened, OnlyGrows}
+use Rattle.proj_cli.specs.Stopped.{IsBetween, IsLengthened, OnlyGrows}
 use Rattle.proj_cli.specs.Turns.{AreTurns, IsSafeTurn, Turn, begun, items_after}
 use Rattle.proj_cli.proofs.ListLengths.{list_short}
-use Rattle.proj_cli.proofs.Lengthening.{for-any}
+use Rattle.proj_commands.specs.Inputs.{ForInput}
+use Rattle.proj_commands.proofs.InputsRead.{for-any}
 
 -- ---- an empty disk
 

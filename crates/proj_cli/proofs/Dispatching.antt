@@ -14,21 +14,22 @@ use Rattle.proj_words.specs.declared.outcome.Outcome.{Outcome}
 use Rattle.proj_words.specs.declared.outcome.Outcome.TheVariants.{Done, OutOfMemory, ReadFault, WriteFault, StoreFault}
 use Rattle.proj_cli.specs.Answers.{Devices, IsCaused, IsCommandAnswer, IsOutcome, IsStepDelivered}
 use Rattle.proj_cli.specs.Batches.{BatchLeaves, IsBatchAnswer, IsBatchBy, IsBatchComplete, IsEnded, IsUnbegun, begun_outcome}
-use Rattle.proj_cli.specs.Cases.{Made, is_one}
-use Rattle.proj_cli.specs.Hands.{IsInHands}
-use Rattle.proj_cli.specs.Judging.{IsJudged}
-use Rattle.proj_cli.specs.Makes.{IsRefusal, IsReported}
+use Rattle.proj_commands.specs.Cases.{Made, is_one}
+use Rattle.proj_commands.specs.Hands.{IsInHands}
+use Rattle.proj_commands.specs.Judging.{IsJudged}
+use Rattle.proj_commands.specs.Makes.{IsRefusal, IsReported}
 use Rattle.proj_cli.specs.Runs.{IsAnswer, IsComplete, MayLeave}
 use Rattle.proj_cli.specs.Sent.{IsConcluded, TakesMemory}
-use Rattle.proj_cli.specs.Stopped.{CommandLeaves, ForInput}
+use Rattle.proj_cli.specs.Stopped.{CommandLeaves}
 use Rattle.proj_cli.specs.Trials.{IsTrialAnswer, IsTrialCollision, IsTrialComplete, trial_hands, trial_made}
 use Rattle.proj_cli.specs.Turns.{Turn, begun}
-use Rattle.proj_cli.specs.declared.judging.Judged.{Judged}
-use Rattle.proj_cli.specs.declared.judging.Judged.TheVariants as judged
+use Rattle.proj_commands.specs.declared.judging.Judged.{Judged}
+use Rattle.proj_commands.specs.declared.judging.Judged.TheVariants as judged
 use Rattle.proj_cli.proofs.Delivering.{after, before, idle-step, refusal-outcome, sent-delivered, sent-outcome}
-use Rattle.proj_cli.proofs.Forming.{keeps-self}
+use Rattle.proj_commands.proofs.Forming.{keeps-self}
 use Rattle.proj_cli.proofs.Joining.{command-complete, command-finished, not-kept, not-read, settled, step-memory}
-use Rattle.proj_cli.proofs.Refusing.{refusal-of}
+use Rattle.proj_commands.proofs.Refusing.{refusal-of}
+use Rattle.proj_commands.specs.Inputs.{ForInput}
 
 -- ---- single commands
 

@@ -9,28 +9,23 @@ use Rattle.proj_io.specs.Counts.{Counts, Rose}
 use Rattle.proj_io.specs.Stops.{OnlyAdds, adds_as}
 use Rattle.proj_io.specs.Views.{SourceView, SinkView, KeeperView}
 use Rattle.state_items.specs.Items.{Held, read_items}
-use Rattle.state_items.specs.Changes.{NoPlan, Plan, Room, held_after, plan_items, room_of}
-use Rattle.object_store.specs.Objects.{Object}
+use Rattle.state_items.specs.Changes.{NoPlan, Plan, held_after, plan_items, room_of}
 use Rattle.repo_ground.specs.Changes.{GetsItems, IsStopOf, KeepsItems}
 use Rattle.repo_ground.specs.Contents.{Contents}
 use Rattle.proj_words.specs.Entries.{Entry, reply_text}
 use Rattle.proj_words.specs.declared.outcome.Outcome.{Outcome}
 use Rattle.proj_words.specs.declared.outcome.Outcome.TheVariants.{Done, OutOfMemory, ReadFault, WriteFault, StoreFault}
 use Rattle.proj_cli.specs.Answers.{Got}
-use Rattle.proj_cli.specs.Cases.{Case, Made}
-use Rattle.proj_cli.specs.Hands.{IsInHands}
-use Rattle.proj_cli.specs.Makes.{IsGoodPlan, IsPlanned, IsReported, IsStateOf, PlansFor, hands_of, step_in}
-use Rattle.proj_cli.specs.Plans.{RecallLaw}
-use Rattle.proj_cli.specs.Running.{HasTurn, IsBrokenOf, IsCommandMade, IsEntryAnswered, IsStateBehind, IsTurnOf, IsTurnStop}
+use Rattle.proj_commands.specs.Hands.{IsInHands}
+use Rattle.proj_commands.specs.Makes.{IsGoodPlan, IsPlanned, IsStateOf, PlansFor, hands_of, step_in, IsCommandMade}
+use Rattle.proj_commands.specs.Plans.{RecallLaw}
+use Rattle.proj_cli.specs.Running.{HasTurn, IsBrokenOf, IsEntryAnswered, IsStateBehind, IsTurnOf, IsTurnStop}
 use Rattle.proj_cli.specs.Sent.{IsReplied, IsSent}
 use Rattle.proj_cli.specs.Turns.{Turn, asked_by, items_after, turn_case, turn_hands, turn_text}
 use Rattle.proj_cli.proofs.Delivering.{after, before, got}
-use Rattle.proj_cli.proofs.Refusing.{refusal-of}
+use Rattle.proj_commands.proofs.Refusing.{refusal-of}
 use Rattle.proj_cli.proofs.TurnsMade.{GoesOn, broken_turn, done_turn, good-behind, plans-behind, refused-keeps, refused-state, refused_turn, reported-behind, state-behind, store-behind, turn-broken, turn-done, turn-failed, turn-refused}
-
--- the report of a plan's step
-planned-output : (H : Object → Type 0) (room : Room) (r : Result Case Outcome) (p : Plan) (report : Bytes) (w : IsPlanned room r p) → IsReported H (step_in room r) (Ok report) → w.step.output ≡ report
-planned-output H room r p report w told = subst (λ (s : Result Made Outcome). IsReported H s (Ok report)) (ap (step_in room) w.came_up ∙ w.done) told
+use Rattle.proj_cli.proofs.Answering.{planned-output}
 
 no-more : (items : List Bytes) (p : Plan) → p ≡ NoPlan → items ++ plan_items p ≡ items
 no-more items p none = ap (λ (x : Plan). items ++ plan_items x) none ∙ append-nil items

@@ -1,8 +1,7 @@
 -- An export, and what it wrote, is an answer.
-use Rattle.std.proofs.Common.{◌≡◌, ◌≢◌, ◌⊎◌, inl, inr, ◌≤◌, ℕ, List, [], Some, Result, Ok, Err, refl, sym, ap, subst, ◌∙◌, Bool, true, false, true≢false, arith}
+use Rattle.std.proofs.Common.{◌≡◌, ◌≢◌, ◌⊎◌, inl, inr, ◌≤◌, List, [], Some, Result, Ok, Err, refl, sym, subst, ◌∙◌, Bool, true, false, true≢false, arith}
 use Rattle.std.specs.Option.{option_to_list}
 use Rattle.std.specs.Result.{result_ok}
-use Rattle.std.proofs.KnownBytes.{Keeps-refl}
 use Rattle.git_objects.specs.Paths.{Bytes}
 use Rattle.git_objects.specs.Results.{◌>>=◌}
 use Rattle.object_store.specs.Objects.{Object}
@@ -16,22 +15,20 @@ use Rattle.repo_ground.specs.Changes.{KeepsItems}
 use Rattle.proj_words.specs.Words.{Command, As, Export, ExportTags, loads}
 use Rattle.proj_words.specs.declared.outcome.Outcome.{Outcome}
 use Rattle.proj_words.specs.declared.outcome.Outcome.TheVariants.{Done, OutOfMemory, ReadFault, WriteFault, StoreFault}
-use Rattle.proj_cli.specs.Answers.{ArePlanned, Devices, Follows, IsCommandAnswer, IsAnswered, IsDelivered, IsLonger, IsOutcome, IsRecalledCase, IsSafe, IsStepDelivered, flows}
-use Rattle.proj_cli.specs.Cases.{Case, ExportCase, IsJudgedRightly, Made, head_of, loaded, unchanged}
-use Rattle.proj_cli.specs.Steps.{case, made, IsPlanOf, step}
-use Rattle.proj_cli.specs.Export.{export_output}
-use Rattle.proj_cli.specs.Filters.{sound}
-use Rattle.proj_cli.specs.Policy.{granted}
-use Rattle.proj_cli.specs.Forms.{IsEarly, IsExport, IsFormFlowed}
-use Rattle.proj_cli.specs.Hands.{IsInHands}
-use Rattle.proj_cli.specs.Intake.{waited_by}
-use Rattle.repo_ground.specs.Contents.{Contents, room_in}
-use Rattle.proj_cli.specs.Makes.{IsAtHand, IsExported, IsFlowed, IsRefusal, hands_of, step_in}
-use Rattle.proj_cli.proofs.CasePlans.{all-one}
+use Rattle.proj_cli.specs.Answers.{Follows, IsCommandAnswer, IsAnswered, IsDelivered, IsLonger, IsOutcome, IsSafe, IsStepDelivered, flows, IsRecalledDone}
+use Rattle.proj_commands.specs.Cases.{Case, ExportCase, IsJudgedRightly, Made, head_of, loaded, unchanged}
+use Rattle.proj_commands.specs.Steps.{case, made, IsPlanOf, step, ArePlanned}
+use Rattle.proj_commands.specs.Export.{export_output}
+use Rattle.proj_commands.specs.Filters.{sound}
+use Rattle.proj_commands.specs.Policy.{granted}
+use Rattle.proj_commands.specs.Forms.{IsExport, IsFormFlowed}
+use Rattle.proj_commands.specs.Hands.{IsInHands}
+use Rattle.proj_commands.specs.Intake.{waited_by}
+use Rattle.proj_commands.specs.Makes.{IsFlowed, hands_of, step_in, OfProject}
+use Rattle.proj_commands.proofs.CasePlans.{all-one}
 use Rattle.proj_cli.proofs.Delivering.{after, before, got, idle-delivered, idle-step, kept-if, refusal-outcome}
-use Rattle.proj_cli.proofs.Intaking.{takes-none}
-use Rattle.proj_cli.proofs.Lengthening.{told-input}
-use Rattle.proj_cli.proofs.Refusing.{early-refusal, loaded-own}
+use Rattle.proj_commands.proofs.Intaking.{takes-none}
+use Rattle.proj_commands.proofs.InputsRead.{told-input}
 use Rattle.std.specs.Prelude.{unwrap_or}
 
 -- ---- exports
@@ -82,10 +79,10 @@ none-planned items room (Ok (ExportCase tagged h f refname n)) w =
 none-planned items room (Ok _) w = absurd w
 none-planned items room (Err e) w = tt
 
-none-recalled : (b a : Devices) (r : Result Case Outcome) → IsExportCase r → IsRecalledCase r b a
-none-recalled b a (Ok (ExportCase tagged h f refname n)) w = tt
-none-recalled b a (Ok _) w = absurd w
-none-recalled b a (Err e) w = tt
+none-recalled : (Says : Held → Filter → Bytes → Type 0) (r : Result Case Outcome) → IsExportCase r → OfProject r Says
+none-recalled Says (Ok (ExportCase tagged h f refname n)) w = tt
+none-recalled Says (Ok _) w = absurd w
+none-recalled Says (Err e) w = tt
 
 -- ---- what was written
 
@@ -100,41 +97,6 @@ flowed-only H o q (Err x) e h = refusal-outcome H e (Err x) h.0
 flowed-outcome : (H : Object → Type 0) (o q : SinkView) (s : Result Made Outcome) (outcome : Outcome) → IsFormFlowed H s o q outcome → IsOutcome H outcome s
 flowed-outcome H o q s outcome (inl h) = refusal-outcome H outcome s h.0
 flowed-outcome H o q s outcome (inr h) = flowed-only H o q s outcome h
-
--- neither the input nor the store
-pub flowed-not-read : (H : Object → Type 0) (o q : SinkView) (s : Result Made Outcome) → IsFlowed H s o q ReadFault → ⊥
-flowed-not-read H o q (Ok m) h = h.1
-flowed-not-read H o q (Err e) h = h.1
-
-pub flowed-not-store : (H : Object → Type 0) (o q : SinkView) (s : Result Made Outcome) → IsFlowed H s o q StoreFault → ⊥
-flowed-not-store H o q (Ok m) h = h.1
-flowed-not-store H o q (Err e) h = h.1
-
--- of an export that was made upon a state
-module _ (r : Result Case Outcome) (items : List Bytes) (h : Held) (s s' : Contents) (o q : SinkView) (outcome : Outcome) (made : IsExported r items h s s' o q outcome) where
-  pub no-read : outcome ≢ ReadFault
-  no-read e = flowed-not-read (IsAtHand s.basis.store r) o q (step_in (room_in s) r) (subst (IsFlowed (IsAtHand s.basis.store r) (step_in (room_in s) r) o q) e made.flowed)
-
-  pub not-store : outcome ≢ StoreFault
-  not-store e = flowed-not-store (IsAtHand s.basis.store r) o q (step_in (room_in s) r) (subst (IsFlowed (IsAtHand s.basis.store r) (step_in (room_in s) r) o q) e made.flowed)
-
-  pub no-store : (f g : ℕ) (R : Type 0) → Counts f g R → Counts f g (outcome ≡ StoreFault)
-  no-store f g R counts = record { later = counts.later; rose = λ e. absurd (not-store e) }
-
--- of one that is refused before there is a case
-pub refused-export : (r : Result Case Outcome) (items : List Bytes) (e : Outcome) (o : SinkView) → IsRefusal (IsInHands (hands_of r)) e (step_in (room_of items) r) → IsExport r items o o e
-refused-export r items e o refused = record {
-  flowed = inl (refused, Keeps-refl o.written);
-  lawful = λ is. absurd (subst (λ (x : Outcome). IsRefusal (IsInHands (hands_of r)) x (step_in (room_of items) r)) is refused);
-}
-
--- of one whose items are not loaded
-pub unloaded-export : (exports : Result Held Outcome → Result Case Outcome) → ((x : Outcome) → exports (Err x) ≡ Err x) → (items : List Bytes) (e : Outcome) (o : SinkView) → IsEarly (loaded items) e
-    → IsExport (exports (loaded items)) items o o e
-unloaded-export exports first items e o early =
-    refused-export (exports (loaded items)) items e o
-    (early-refusal (IsInHands (hands_of (exports (loaded items)))) (step_in (room_of items) (exports (loaded items))) (loaded items) e
-    (λ g. (ap (λ (l : Result Held Outcome). step_in (room_of items) (exports l)) g ∙ ap (step_in (room_of items)) (first e), loaded-own items e g)) early)
 
 module _ (asked : Command) (flow : flows asked ≡ true) (i : SourceView) (o q : SinkView) (k l : KeeperView) (g : KeepsItems k l) (H : Object → Type 0) where
   flowed-step : (s : Result Made Outcome) (outcome : Outcome) → IsFlowed H s o q outcome → IsStepDelivered asked s NoPlan (before i i o q k l) (after i i o q k l) outcome
@@ -208,5 +170,5 @@ module _ (asked : Command) (flow : flows asked ≡ true) (may : loads asked ≡ 
     safe = λ items h told read. export-safe items [] h told g (exported items [] told);
     taken = λ items told. takes-none (waited_by (case asked (loaded items))) i.left;
     caseless = λ items told none. refl;
-    recalled = λ items told e. none-recalled (before i i o q k l) (after i i o q k l) (case asked (loaded items) []) (up items []);
+    recalled = λ items told. none-recalled (IsRecalledDone asked items (before i i o q k l) (after i i o q k l) outcome) (case asked (loaded items) []) (up items []);
   }

@@ -13,14 +13,13 @@ use Rattle.proj_words.specs.Words.{Command}
 use Rattle.proj_words.specs.declared.outcome.Outcome.{Outcome}
 use Rattle.proj_words.specs.declared.outcome.Outcome.TheVariants.{StoreFault}
 use Rattle.proj_cli.specs.Answers.{GetsAll}
-use Rattle.proj_cli.specs.Cases.{Case}
-use Rattle.proj_cli.specs.Forms.{FormPlan, IsForm, IsFormStop}
-use Rattle.proj_cli.specs.Makes.{IsStored, PlansFor}
-use Rattle.proj_cli.specs.Running.{IsCommandMade}
+use Rattle.proj_commands.specs.Cases.{Case}
+use Rattle.proj_commands.specs.Forms.{FormPlan, IsForm, IsFormStop}
+use Rattle.proj_commands.specs.Makes.{IsStored, PlansFor, IsCommandMade}
 use Rattle.proj_cli.specs.Stopped.{IsBetween, IsFront, OnlyGrows}
 use Rattle.proj_cli.proofs.BatchesRun.{got-none}
 use Rattle.proj_cli.proofs.Delivering.{got}
-use Rattle.proj_cli.proofs.Forming.{adds-nothing}
+use Rattle.proj_commands.proofs.Forming.{adds-nothing}
 
 -- ---- fronts
 

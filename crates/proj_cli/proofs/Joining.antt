@@ -1,30 +1,32 @@
 -- What a single command made, what came of writing it, and the text of the outcome are together the answer.
 use Rattle.std.proofs.Common.{◌≡◌, ◌≢◌, ◌⊎◌, inl, inr, ◌≤◌, List, [], Option, Some, Result, Ok, Err, IfSome, IsErr, refl, sym, ap, subst, ◌∙◌, arith, false, true≢false}
 use Rattle.std.specs.Prelude.{IsOk}
-use Rattle.std.specs.Io.KnownBytes.{Appends}
+use Rattle.std.proofs.KnownBytes.{Keeps-refl}
 use Rattle.git_objects.specs.Paths.{Bytes}
 use Rattle.git_objects.specs.declared.name.Name.{Name as NameOf}
 use Rattle.object_store.specs.Objects.{Object}
 use Rattle.proj_io.specs.Views.{SourceView, SinkView, KeeperView}
 use Rattle.state_items.specs.Items.{Held, read_items}
-use Rattle.state_items.specs.Changes.{Plan, Room, plan_items, room_of}
+use Rattle.state_items.specs.Changes.{Plan, plan_items, room_of, NoPlan}
 use Rattle.state_items.specs.Hands.{IsTwice}
 use Rattle.proj_words.specs.Words.{Command, As, Import, Project, Push, PushMerges, Export, ExportTags, Tags, Name, Batch, Trial, Rule, Audit, Verify, Unknown}
 use Rattle.proj_words.specs.declared.outcome.Outcome.{Outcome}
 use Rattle.proj_words.specs.declared.outcome.Outcome.TheVariants.{Done, OutOfMemory, Collision, ReadFault, WriteFault, StoreFault}
-use Rattle.proj_cli.specs.Answers.{AreItems, Devices, IsCommandAnswer, IsCollision, IsCommandComplete, IsDelivered, IsOutcome, IsRecalled, IsRecalledCase, IsSafe, IsStepDelivered, HasAnswer, outcome_of}
-use Rattle.proj_cli.specs.Cases.{Case, ProjectCase, IsJudgedRightly, Made, loaded}
-use Rattle.proj_cli.specs.Steps.{case, step}
-use Rattle.proj_cli.specs.Forms.{IsForm, IsMade}
-use Rattle.proj_cli.specs.Hands.{IsInHands}
-use Rattle.proj_cli.specs.Makes.{IsReported, hands_of, step_in}
-use Rattle.proj_cli.specs.Plans.{RecallLaw, recalls}
+use Rattle.proj_cli.specs.Answers.{AreItems, Devices, IsCommandAnswer, IsCollision, IsCommandComplete, IsDelivered, IsOutcome, IsRecalled, IsSafe, IsStepDelivered, HasAnswer, outcome_of, IsRecalledDone}
+use Rattle.proj_commands.specs.Cases.{Case, ProjectCase, IsJudgedRightly, Made, loaded}
+use Rattle.proj_commands.specs.Steps.{case, step}
+use Rattle.proj_commands.specs.Forms.{IsForm, IsMade, FormPlan, IsFormMade, IsFormPlanned}
+use Rattle.proj_commands.specs.Hands.{IsInHands}
+use Rattle.proj_commands.specs.Makes.{hands_of, step_in, IsKeepPlanOf, IsPlanned, IsRefusal, IsStored, OfProject, recalled_line}
+use Rattle.proj_commands.specs.Plans.{RecallLaw, recalls}
 use Rattle.proj_cli.specs.Sent.{IsConcluded, IsSent, TakesMemory}
-use Rattle.proj_cli.specs.Stopped.{ForInput}
-use Rattle.proj_cli.proofs.Answering.{form-allowed, form-answered, form-safe}
-use Rattle.proj_cli.proofs.CasePlans.{IsFrom, from}
-use Rattle.proj_cli.proofs.Delivering.{after, before}
-use Rattle.proj_cli.proofs.Refusing.{refusal-of}
+use Rattle.proj_cli.proofs.Answering.{form-allowed, form-answered, form-safe, planned-output, still}
+use Rattle.proj_commands.proofs.CasePlans.{IsFrom, from, for-project, of-project, recalled-plan}
+use Rattle.proj_cli.proofs.Delivering.{after, before, fault-delivered, idle-delivered, sent-delivered}
+use Rattle.proj_commands.proofs.Refusing.{refusal-of}
+use Rattle.proj_commands.specs.Inputs.{ForInput}
+use Rattle.repo_ground.specs.Changes.{GetsItems, KeepsItems}
+use Rattle.filter_text.specs.Filters.{Filter}
 
 -- ---- outcomes of reports that are written
 
@@ -47,50 +49,83 @@ not-verdict asked WriteFault report o q h = λ e. absurd (true≢false (sym e))
 not-verdict asked OutOfMemory report o q h = λ e. absurd (true≢false (sym e))
 not-verdict asked _ report o q h = absurd h
 
--- ---- a projection that is done
+-- ---- projections, whatever is kept
 
-recalled-one : (room : Room) (r : Result Case Outcome) (i j : SourceView) (o q : SinkView) (k l : KeeperView) (H : Object → Type 0) (report : Bytes) → IsReported H (step_in room r) (Ok report)
-    → Appends o.written q.written report → IsRecalledCase r (before i j o q k l) (after i j o q k l)
-recalled-one room (Ok (ProjectCase h f n)) i j o q k l H report e w = subst (Appends o.written q.written) (sym e) w
-recalled-one room _ i j o q k l H report e w = tt
+-- a form that takes nothing that is kept is none
+not-recalling : (asked : Command) (items : List Bytes) (Says : Held → Filter → Bytes → Type 0) → recalls asked ≡ false → OfProject (case asked (loaded items) []) Says
+not-recalling asked items Says none = by (case asked (loaded items) []) (λ c e. from asked items [] c e)
+  where
+    by : (r : Result Case Outcome) → ((c : Case) → r ≡ Ok c → IsFrom asked items c) → OfProject r Says
+    by (Ok (ProjectCase h f n)) of = let w = of (ProjectCase h f n) refl in absurd (true≢false (sym w.takes_kept ∙ none))
+    by _ of = tt
 
-recalled-none : (asked : Command) (items : List Bytes) (b a : Devices) → recalls asked ≡ false → (r : Result Case Outcome) → ((c : Case) → r ≡ Ok c → IsFrom asked items c)
-    → IsRecalledCase r b a
-recalled-none asked items b a none (Ok (ProjectCase h f n)) f' = let w = f' (ProjectCase h f n) refl in absurd (true≢false (sym w.takes_kept ∙ none))
-recalled-none asked items b a none _ f' = tt
+-- its case is that of every input
+any-input : (asked : Command) (items : List Bytes) (all : Bytes) (Says : Held → Filter → Bytes → Type 0) → OfProject (case asked (loaded items) all) Says → OfProject (case asked (loaded items) []) Says
+any-input (Project r t) items all Says w = w
+any-input (As u (Project r t)) items all Says w = w
+any-input (As u (Push x y)) items all Says w = not-recalling (As u (Push x y)) items Says refl
+any-input (As u (Export x y)) items all Says w = not-recalling (As u (Export x y)) items Says refl
+any-input (As u _) items all Says w = tt
+any-input (Import force) items all Says w = not-recalling (Import force) items Says refl
+any-input (Export x y) items all Says w = not-recalling (Export x y) items Says refl
+any-input (ExportTags x y) items all Says w = not-recalling (ExportTags x y) items Says refl
+any-input (Tags x y) items all Says w = not-recalling (Tags x y) items Says refl
+any-input (Push x y) items all Says w = not-recalling (Push x y) items Says refl
+any-input (PushMerges x y) items all Says w = not-recalling (PushMerges x y) items Says refl
+any-input (Name x y) items all Says w = not-recalling (Name x y) items Says refl
+any-input (Rule n) items all Says w = not-recalling (Rule n) items Says refl
+any-input (Audit x y z) items all Says w = not-recalling (Audit x y z) items Says refl
+any-input (Verify x y z) items all Says w = not-recalling (Verify x y z) items Says refl
+any-input Batch items all Says w = not-recalling Batch items Says refl
+any-input (Trial n) items all Says w = not-recalling (Trial n) items Says refl
+any-input Unknown items all Says w = not-recalling Unknown items Says refl
 
-module _ (items : List Bytes) (all : Bytes) (i j : SourceView) (o q : SinkView) (k l : KeeperView) (report : Bytes) (w : Appends o.written q.written report) where
-  other : (asked : Command) → recalls asked ≡ false → IsRecalledCase (case asked (loaded items) []) (before i j o q k l) (after i j o q k l)
-  other asked none = recalled-none asked items (before i j o q k l) (after i j o q k l) none (case asked (loaded items) []) (λ c e. from asked items [] c e)
+module _ (asked : Command) (items : List Bytes) (r : Result Case Outcome) (i j : SourceView) (o : SinkView) (k l : KeeperView) (p : Plan) where
+  abbrev Kept : IsPlanned (room_of items) r p → Held → Filter → Bytes → Type 0
+  Kept w h f n = IsKeepPlanOf h f n (room_of items) p × (w.step.output ≡ recalled_line h f n)
 
-  recalled-of : (asked : Command) → IsReported (IsInHands (hands_of (case asked (loaded items) all))) (step_in (room_of items) (case asked (loaded items) all)) (Ok report)
-      → IsRecalledCase (case asked (loaded items) []) (before i j o q k l) (after i j o q k l)
-  recalled-of (Project r t) e =
-      recalled-one (room_of items) (case (Project r t) (loaded items) all) i j o q k l (IsInHands (hands_of (case (Project r t) (loaded items) all))) report e w
-  recalled-of (As u (Project r t)) e =
-      recalled-one (room_of items) (case (As u (Project r t)) (loaded items) all) i j o q k l (IsInHands (hands_of (case (As u (Project r t)) (loaded items) all))) report e w
-  recalled-of (As u (Push x y)) e = other (As u (Push x y)) refl
-  recalled-of (As u (Export x y)) e = other (As u (Export x y)) refl
-  recalled-of (As u _) e = tt
-  recalled-of (Import force) e = other (Import force) refl
-  recalled-of (Export x y) e = other (Export x y) refl
-  recalled-of (ExportTags x y) e = other (ExportTags x y) refl
-  recalled-of (Tags x y) e = other (Tags x y) refl
-  recalled-of (Push x y) e = other (Push x y) refl
-  recalled-of (PushMerges x y) e = other (PushMerges x y) refl
-  recalled-of (Name x y) e = other (Name x y) refl
-  recalled-of (Rule n) e = other (Rule n) refl
-  recalled-of (Audit x y z) e = other (Audit x y z) refl
-  recalled-of (Verify x y z) e = other (Verify x y z) refl
-  recalled-of Batch e = other Batch refl
-  recalled-of (Trial n) e = other (Trial n) refl
-  recalled-of Unknown e = other Unknown refl
+  abbrev Recalled : SinkView → Outcome → Type 0
+  Recalled q outcome = OfProject r (IsRecalledDone asked items (before i j o q k l) (after i j o q k l) outcome)
 
-done-sent : (outcome : Outcome) (report : Bytes) (o q : SinkView) → IsSent outcome report o q → outcome ≡ Done → Appends o.written q.written report
-done-sent outcome report o q h e = subst (λ (x : Outcome). IsSent x report o q) e h
+  sent-recalled : (q : SinkView) (report : Bytes) (outcome : Outcome) → IsFormMade r items k l p (Ok report) → IsSent outcome report o q → Recalled q outcome
+  sent-recalled q report outcome w sent =
+      of-project r (Kept w.planned.planned) (IsRecalledDone asked items (before i j o q k l) (after i j o q k l) outcome)
+      (λ h f n x. record {
+        plan = p;
+        planned = inr x.0;
+        done = λ _. x.0;
+        delivered =
+            subst (λ (line : Bytes). IsDelivered asked line (plan_items p) (before i j o q k l) (after i j o q k l) outcome)
+            (sym (planned-output (IsInHands (hands_of r)) (room_of items) r p report w.planned.planned w.reported) ∙ x.1)
+            (sent-delivered i j o q k l asked report p outcome sent w.stored);
+      })
+      (recalled-plan (room_of items) r p w.planned.planned)
 
-not-done : (H : Object → Type 0) (s : Result Made Outcome) (e : Outcome) → IsReported H s (Err e) → e ≢ Done
-not-done H s e h g = refusal-of H s Done (subst (λ (x : Outcome). IsReported H s (Err x)) g h)
+  idle-recalled : (e : Outcome) → IsRefusal (IsInHands (hands_of r)) e (step_in (room_of items) r) → KeepsItems k l → Recalled o e
+  idle-recalled e h g =
+      for-project r (IsRecalledDone asked items (before i j o o k l) (after i j o o k l) e)
+      (λ x f n. record {
+        plan = NoPlan;
+        planned = inl refl;
+        done = λ is. absurd (subst (λ (y : Outcome). IsRefusal (IsInHands (hands_of r)) y (step_in (room_of items) r)) is h);
+        delivered = idle-delivered i j o o k l asked (recalled_line x f n) [] (IsInHands (hands_of r)) (step_in (room_of items) r) e h (Keeps-refl o.written) g;
+      })
+
+  fault-recalled : IsFormPlanned (room_of items) r p → KeepsItems k l ⊎ GetsItems (plan_items p) k l → Recalled o StoreFault
+  fault-recalled w g =
+      of-project r (Kept w.planned) (IsRecalledDone asked items (before i j o o k l) (after i j o o k l) StoreFault)
+      (λ h f n x. record {
+        plan = p;
+        planned = inr x.0;
+        done = λ is. absurd (let no : ⊥ = cc in no);
+        delivered = fault-delivered i j o o k l asked (recalled_line h f n) p (Keeps-refl o.written) g;
+      })
+      (recalled-plan (room_of items) r p w.planned)
+
+  refused-recalled : (e : Outcome) → IsRefusal (IsInHands (hands_of r)) e (step_in (room_of items) r) → FormPlan (room_of items) r p (Err e) → IsStored (Err e) p k l → Recalled o e
+  refused-recalled StoreFault h (inl n) g = idle-recalled StoreFault h (still k l StoreFault p n g)
+  refused-recalled StoreFault h (inr w) g = fault-recalled w g
+  refused-recalled e h n g = idle-recalled e h (still k l e p n g)
 
 -- ---- reports
 
@@ -104,14 +139,22 @@ module _ (law : RecallLaw) (asked : Command) (i j : SourceView) (o q : SinkView)
   ends (Err e) outcome c same = (λ x g. absurd (let no : ⊥ = cc in no), λ x g. let d : e ≡ x = cc in (c ∙ d, same refl))
 
   recalled-made : (result : Result Bytes Outcome) (outcome : Outcome) → IsMade asked i j k l Adds result → Ends result outcome → IsRecalled asked (before i j o q k l) (after i j o q k l) outcome
-  recalled-made result outcome made ended items told done = by result ended form.says
+  recalled-made result outcome made ended items told =
+      any-input asked items form.all (IsRecalledDone asked items (before i j o q k l) (after i j o q k l) outcome) (by result ended form.says)
     where
       form : ForInput i.left (λ all. IsForm asked items all k l Adds result)
       form = made.formed items (λ _. told)
 
-      by : (x : Result Bytes Outcome) → Ends x outcome → IsForm asked items form.all k l Adds x → IsRecalledCase (case asked (loaded items) []) (before i j o q k l) (after i j o q k l)
-      by (Ok report) end f = recalled-of items form.all i j o q k l report (done-sent outcome report o q (end.0 report refl) done) asked f.made.reported
-      by (Err e) end f = absurd (not-done _ _ e f.made.reported (sym (end.1 e refl).0 ∙ done))
+      by : (x : Result Bytes Outcome) → Ends x outcome → IsForm asked items form.all k l Adds x
+          → OfProject (case asked (loaded items) form.all) (IsRecalledDone asked items (before i j o q k l) (after i j o q k l) outcome)
+      by (Ok report) end f = sent-recalled asked items (case asked (loaded items) form.all) i j o k l f.plan q report outcome f.made (end.0 report refl)
+      by (Err e) end f =
+          let refused = end.1 e refl in
+          subst (λ (x : Outcome). OfProject (case asked (loaded items) form.all) (IsRecalledDone asked items (before i j o q k l) (after i j o q k l) x)) (sym refused.0)
+          (subst (λ (y : SinkView). OfProject (case asked (loaded items) form.all) (IsRecalledDone asked items (before i j o y k l) (after i j o y k l) e)) (sym refused.1)
+          (refused-recalled asked items (case asked (loaded items) form.all) i j o k l f.plan e
+          (refusal-of (IsInHands (hands_of (case asked (loaded items) form.all))) (step_in (room_of items) (case asked (loaded items) form.all)) e f.made.reported)
+          f.made.planned f.made.stored))
 
   module _ (result : Result Bytes Outcome) (outcome : Outcome) (made : IsMade asked i j k l Adds result) (ended : Ends result outcome) where
     answered : (items : List Bytes) → AreItems asked (before i j o q k l) items → HasAnswer asked items (before i j o q k l) (after i j o q k l) outcome
@@ -215,7 +258,15 @@ module _ (asked : Command) (b a : Devices) where
     safe = λ items h told read.
         let s = answer.safe items h told read in
         record { report = s.report; more = s.more; delivered = idle-memory outcome s.report s.more t s.delivered; spelled = s.spelled };
-    recalled = λ items told e. absurd (let no : ⊥ = cc in no);
+    recalled = λ items told.
+        of-project (case asked (loaded items) []) (IsRecalledDone asked items b a outcome) (IsRecalledDone asked items b a OutOfMemory)
+        (λ h f n w. record {
+          plan = w.plan;
+          planned = w.planned;
+          done = λ is. absurd (let no : ⊥ = cc in no);
+          delivered = idle-memory outcome (recalled_line h f n) (plan_items w.plan) t w.delivered;
+        })
+        (answer.recalled items told);
     taken = answer.taken;
     caseless = answer.caseless;
   }

@@ -1,6 +1,5 @@
 -- What a stop may leave during a command.
-use Rattle.std.proofs.Common.{◌≡◌, ◌≢◌, ◌⊎◌, inl, inr, ⊎_elim, ◌++◌, ℕ, List, [], append-nil, Option, None, Some, Result, Ok, Err, IfSome, refl, sym, ap, subst, ◌∙◌, arith, true≢false}
-use Rattle.std.specs.Prelude.{unwrap_or}
+use Rattle.std.proofs.Common.{◌≡◌, ◌≢◌, ◌⊎◌, inl, inr, ⊎_elim, ◌++◌, ℕ, List, [], append-nil, Option, Some, Result, Ok, Err, sym, ap, subst, ◌∙◌, arith, true≢false}
 use Rattle.git_objects.specs.Paths.{Bytes}
 use Rattle.proj_io.specs.Stops.{OnlyAdds, IsPresent, adds_as}
 use Rattle.proj_io.specs.Views.{KeeperView}
@@ -10,15 +9,17 @@ use Rattle.proj_words.specs.Outcomes.{is_plain}
 use Rattle.proj_words.specs.Words.{Command}
 use Rattle.proj_words.specs.declared.outcome.Outcome.{Outcome}
 use Rattle.proj_words.specs.declared.outcome.Outcome.TheVariants.{OutOfMemory, StoreFault, Usage}
-use Rattle.proj_cli.specs.Answers.{ArePlanned, IsLonger}
-use Rattle.proj_cli.specs.Cases.{Made, loaded}
-use Rattle.proj_cli.specs.Steps.{case, cases}
-use Rattle.proj_cli.specs.Forms.{FormPlan, IsForm, IsFormMade, IsFormPlanned, IsFormStop}
-use Rattle.proj_cli.specs.Makes.{IsGoodPlan}
-use Rattle.proj_cli.specs.Plans.{AreKept, RecallLaw}
+use Rattle.proj_cli.specs.Answers.{IsLonger}
+use Rattle.proj_commands.specs.Cases.{Made, loaded}
+use Rattle.proj_commands.specs.Steps.{case, cases, ArePlanned}
+use Rattle.proj_commands.specs.Forms.{FormPlan, IsForm, IsFormMade, IsFormPlanned, IsFormStop}
+use Rattle.proj_commands.specs.Makes.{IsGoodPlan, IsKeepPlanOf, recalled_line}
+use Rattle.proj_commands.specs.Plans.{AreKept, RecallLaw}
+use Rattle.proj_commands.specs.Inputs.{ForInput}
+use Rattle.proj_commands.proofs.CasePlans.{of-project, recalled-plan}
 use Rattle.proj_cli.specs.Runs.{MayLeave}
 use Rattle.proj_cli.specs.Sent.{TakesMemory}
-use Rattle.proj_cli.specs.Stopped.{ForInput, IsLengthened, CommandLeaves}
+use Rattle.proj_cli.specs.Stopped.{IsLengthened, CommandLeaves}
 use Rattle.proj_cli.proofs.Answering.{plan-allowed, plan-longer, plan-planned, step-done}
 
 module _ (law : RecallLaw) (asked : Command) (items : List Bytes) (all : Bytes) where
@@ -38,6 +39,9 @@ module _ (law : RecallLaw) (asked : Command) (items : List Bytes) (all : Bytes) 
         subst (λ (s : Result Made Outcome). ArePlanned items (cases asked items all) s p) (step-done law asked items all kept p w) (plan-planned law asked items all kept p w),
       );
       kept = λ h holds. subst (λ (xs : List Bytes). AreKept xs (held_after h p)) (sym behind) ((good h holds.spelled).kept holds);
+      recalled =
+          of-project (case asked (loaded items) all) (λ h f n. IsKeepPlanOf h f n (room_of items) p × (w.planned.step.output ≡ recalled_line h f n)) (λ h f n. IsKeepPlanOf h f n (room_of items) p) (λ h f n x. x.0)
+          (recalled-plan (room_of items) (case asked (loaded items) all) p w.planned);
     }
 
   one-more : (p : Plan) → IsFormPlanned (room_of items) (case asked (loaded items) all) p → ((h : Held) → read_items items ≡ Ok h → IsGoodPlan items h (room_of items) p) → (list : List Bytes)
@@ -73,14 +77,6 @@ form-adds law asked items left k l result a b x y f = record {
 }
 
 -- ---- the input
-
-pub told-input : (left : Option Bytes) → IfSome left (λ l. unwrap_or left [] ≡ l)
-told-input None = tt
-told-input (Some l) = refl
-
--- what holds of every input
-pub for-any : (left : Option Bytes) (Says : Bytes → Type 0) → ((all : Bytes) → Says all) → ForInput left Says
-for-any left Says h = record { all = unwrap_or left []; told = told-input left; says = h (unwrap_or left []) }
 
 -- what is said of an input says more
 pub for-later : (left : Option Bytes) (Says Other : Bytes → Type 0) → ((all : Bytes) → Says all → Other all) → ForInput left Says → ForInput left Other

@@ -11,10 +11,12 @@ use Rattle.proj_words.specs.Words.{Batch, Command, Trial, Unknown, loads}
 use Rattle.proj_words.specs.Outcomes.{code_of, text_of}
 use Rattle.proj_words.specs.declared.outcome.Outcome.{Outcome}
 use Rattle.proj_words.specs.declared.outcome.Outcome.TheVariants.{Done, OutOfMemory, ReadFault, StoreFault, Usage, WriteFault}
-use Rattle.proj_cli.specs.Answers.{Devices, GetsText, HasAnswer, IsCaused, IsCommandAnswer, IsDelivered, IsRecalledCase, IsStepDelivered}
+use Rattle.proj_cli.specs.Answers.{Devices, GetsText, HasAnswer, IsCaused, IsCommandAnswer, IsDelivered, IsStepDelivered, IsRecalledDone}
 use Rattle.proj_cli.specs.Batches.{IsBatchAnswer, IsBatchBy, IsEnded}
-use Rattle.proj_cli.specs.Cases.{Case, ProjectCase, Made, is_one, loaded, verdict}
-use Rattle.proj_cli.specs.Steps.{case, step}
+use Rattle.proj_commands.specs.Cases.{Case, Made, is_one, loaded, verdict}
+use Rattle.proj_commands.specs.Steps.{case, step}
+use Rattle.proj_commands.specs.Makes.{OfProject, recalled_line}
+use Rattle.proj_commands.proofs.CasePlans.{of-project}
 use Rattle.proj_cli.specs.Runs.{IsAnswer}
 use Rattle.proj_cli.specs.Served.{HasList, IsOnlyOpened, IsRan, IsSteady, Seen, over_disk}
 use Rattle.proj_cli.specs.Trials.{IsTrialAnswer, trial_made}
@@ -44,9 +46,11 @@ module _ (f : ℕ) (i j : SourceView) (o q : SinkView) (k l : KeeperView) where
   step-earlier asked (Ok m) p outcome h = delivered-earlier asked m.output (plan_items p) outcome h
   step-earlier asked (Err e) p outcome h = h
 
-  recalled-earlier : (r : Result Case Outcome) → IsRecalledCase r (before i j o q k l) (after i j o q k l) → IsRecalledCase r (before i j o q (earlier f k) l) (after i j o q k l)
-  recalled-earlier (Ok (ProjectCase h x n)) w = w
-  recalled-earlier _ w = w
+  recalled-earlier : (asked : Command) (items : List Bytes) (outcome : Outcome) (r : Result Case Outcome) → OfProject r (IsRecalledDone asked items (before i j o q k l) (after i j o q k l) outcome)
+      → OfProject r (IsRecalledDone asked items (before i j o q (earlier f k) l) (after i j o q k l) outcome)
+  recalled-earlier asked items outcome r =
+      of-project r (IsRecalledDone asked items (before i j o q k l) (after i j o q k l) outcome) (IsRecalledDone asked items (before i j o q (earlier f k) l) (after i j o q k l) outcome)
+      (λ h x n w. record { plan = w.plan; planned = w.planned; done = w.done; delivered = delivered-earlier asked (recalled_line h x n) (plan_items w.plan) outcome w.delivered })
 
   has-earlier : (asked : Command) (items : List Bytes) (outcome : Outcome) → HasAnswer asked items (before i j o q k l) (after i j o q k l) outcome
       → HasAnswer asked items (before i j o q (earlier f k) l) (after i j o q k l) outcome
@@ -75,7 +79,7 @@ module _ (f : ℕ) (i j : SourceView) (o q : SinkView) (k l : KeeperView) where
         let s = answer.safe items h told read in record { report = s.report; more = s.more; delivered = delivered-earlier asked s.report s.more outcome s.delivered; spelled = s.spelled };
     taken = answer.taken;
     caseless = answer.caseless;
-    recalled = λ items told e. recalled-earlier (case asked (loaded items) []) (answer.recalled items told e);
+    recalled = λ items told. recalled-earlier asked items outcome (case asked (loaded items) []) (answer.recalled items told);
   }
 
   ended-earlier : (ts : List Turn) (last : Option Turn) (left : List Entry) (outcome : Outcome) → IsEnded ts last left (before i j o q k l) (after i j o q k l) outcome

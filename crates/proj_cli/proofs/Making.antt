@@ -11,20 +11,20 @@ use Rattle.repo_ground.proofs.Stopping.{adds_none}
 use Rattle.proj_words.specs.Words.{Command, loads, reads, writes}
 use Rattle.proj_words.specs.declared.outcome.Outcome.{Outcome}
 use Rattle.proj_words.specs.declared.outcome.Outcome.TheVariants.{ReadFault, StoreFault, WriteFault}
-use Rattle.proj_cli.specs.Cases.{Case, IsJudgedRightly, is_verdict, loaded}
-use Rattle.proj_cli.specs.Steps.{case}
-use Rattle.proj_cli.specs.Forms.{IsForm, IsFormMade, IsFormStop, IsMade}
-use Rattle.proj_cli.specs.Hands.{IsInHands}
-use Rattle.proj_cli.specs.Intake.{TakesUpTo, waited_by, waited_if, waited_in}
-use Rattle.proj_cli.specs.Judging.{IsUnjudged}
-use Rattle.proj_cli.specs.Makes.{IsRefusal, IsReportOf, hands_of, step_in}
-use Rattle.proj_cli.specs.Stopped.{ForInput}
-use Rattle.proj_cli.proofs.AloneForms.{IsAlone, alone-formed}
-use Rattle.proj_cli.proofs.Forming.{keeps-self}
-use Rattle.proj_cli.proofs.Intaking.{takes-as, takes-none}
-use Rattle.proj_cli.proofs.Lengthening.{for-any}
-use Rattle.proj_cli.proofs.Refusing.{refused-made, unjudged-refusal}
-use Rattle.proj_cli.proofs.Verdicts.{apart-judged, loaded-other, reported-judged, unjudged-judged}
+use Rattle.proj_commands.specs.Cases.{Case, IsJudgedRightly, is_verdict, loaded}
+use Rattle.proj_commands.specs.Steps.{case}
+use Rattle.proj_commands.specs.Forms.{IsForm, IsFormMade, IsFormStop, IsMade}
+use Rattle.proj_commands.specs.Hands.{IsInHands}
+use Rattle.proj_commands.specs.Intake.{TakesUpTo, waited_by, waited_if, waited_in}
+use Rattle.proj_commands.specs.Judging.{IsUnjudged}
+use Rattle.proj_commands.specs.Makes.{IsRefusal, IsReportOf, hands_of, step_in}
+use Rattle.proj_commands.proofs.AloneForms.{IsAlone, alone-formed}
+use Rattle.proj_commands.proofs.Forming.{keeps-self}
+use Rattle.proj_commands.proofs.Intaking.{takes-as, takes-none}
+use Rattle.proj_commands.proofs.Refusing.{refused-made, unjudged-refusal}
+use Rattle.proj_commands.proofs.Verdicts.{apart-judged, loaded-other, reported-judged, unjudged-judged}
+use Rattle.proj_commands.specs.Inputs.{ForInput}
+use Rattle.proj_commands.proofs.InputsRead.{for-any}
 
 abbrev said : Outcome → Result Bytes Outcome
 said e = Err e

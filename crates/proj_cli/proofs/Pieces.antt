@@ -12,7 +12,8 @@ use Rattle.proj_words.specs.Entries.{reply_text}
 use Rattle.proj_words.specs.Outcomes.{code_of}
 use Rattle.proj_words.specs.declared.outcome.Outcome.{Outcome}
 use Rattle.proj_words.specs.declared.outcome.Outcome.TheVariants.{Done, OutOfMemory, WriteFault}
-use Rattle.proj_cli.specs.Sent.{Fronts, IsSent, reply_head}
+use Rattle.proj_cli.specs.Sent.{IsSent, reply_head}
+use Rattle.proj_commands.specs.Makes.{Fronts}
 
 -- ---- lists
 

@@ -35,23 +35,23 @@ use Rattle.repo_ground.specs.Contents.{Contents}
 use Rattle.proj_words.specs.Words.{Export}
 use Rattle.proj_words.specs.declared.outcome.Outcome.{Outcome}
 use Rattle.proj_words.specs.declared.outcome.Outcome.TheVariants.{OutOfMemory, UnknownRef}
-use Rattle.proj_cli.specs.Cases.{Case, ExportCase, PushCase, break_outcome, head_of, loaded}
-use Rattle.proj_cli.specs.Steps.{case}
-use Rattle.proj_cli.specs.Push.{push_case}
-use Rattle.proj_cli.specs.declared.lines.Telling.TheVariants.{Both}
-use Rattle.proj_cli.specs.Filters.{history, projected, rule_by, sound}
-use Rattle.proj_cli.specs.Hands.{Hand, IsInHands}
-use Rattle.proj_cli.specs.Makes.{IsStateOf, hands_of}
-use Rattle.proj_cli.specs.Pushing.{IsSeenOver}
-use Rattle.proj_cli.specs.Refusals.{apply_outcome}
+use Rattle.proj_commands.specs.Cases.{Case, ExportCase, PushCase, break_outcome, head_of, loaded}
+use Rattle.proj_commands.specs.Steps.{case}
+use Rattle.proj_commands.specs.Push.{push_case}
+use Rattle.proj_commands.specs.declared.lines.Telling.TheVariants.{Both}
+use Rattle.proj_commands.specs.Filters.{history, projected, rule_by, sound}
+use Rattle.proj_commands.specs.Hands.{Hand, IsInHands}
+use Rattle.proj_commands.specs.Makes.{IsStateOf, hands_of}
+use Rattle.proj_commands.specs.Pushing.{IsSeenOver}
+use Rattle.proj_commands.specs.Refusals.{apply_outcome}
 use Rattle.proj_cli.specs.Trials.{history_line}
 use Rattle.proj_cli.specs.Trying.{IsEnded, IsFrom, IsTried, from_of, line_of}
 use Rattle.repo_ground.proofs.CommitGraphs.{names-are}
-use Rattle.proj_cli.proofs.InHands.{in-hands, twice-at}
-use Rattle.proj_cli.proofs.PushHands.{push_hand, seen-in}
-use Rattle.proj_cli.proofs.StatesShown.{commits-are, history-at, history-is, rule-is, state-grown}
-use Rattle.proj_cli.proofs.TrialSteps.{brought-on, ended-on, hands-left, hands-right, twice-as, unsound-ended}
-use Rattle.proj_cli.specs.declared.pushing.Manner.TheVariants.{InLine}
+use Rattle.proj_commands.proofs.InHands.{in-hands, twice-at, twice-as}
+use Rattle.proj_commands.proofs.PushHands.{push_hand, seen-in}
+use Rattle.proj_commands.proofs.StatesShown.{commits-are, history-at, history-is, rule-is, state-grown}
+use Rattle.proj_cli.proofs.TrialSteps.{brought-on, ended-on, hands-left, hands-right, unsound-ended}
+use Rattle.proj_commands.specs.declared.pushing.Manner.TheVariants.{InLine}
 
 -- ---- a ground that has grown
 

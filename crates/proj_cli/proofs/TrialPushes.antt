@@ -19,18 +19,18 @@ use Rattle.proj_words.specs.TrialTexts.{TrialPush, first_push, main, push_stream
 use Rattle.proj_words.specs.Words.{Command, Import, Push}
 use Rattle.proj_words.specs.declared.outcome.Outcome.{Outcome}
 use Rattle.proj_words.specs.declared.outcome.Outcome.TheVariants.{OutOfMemory, ReadFault, StoreFault}
-use Rattle.proj_cli.specs.Cases.{Case, ImportCase, PushCase, break_outcome, head_of, loaded}
-use Rattle.proj_cli.specs.Steps.{case}
-use Rattle.proj_cli.specs.Push.{push_case}
-use Rattle.proj_cli.specs.declared.lines.Telling.TheVariants.{Both}
-use Rattle.proj_cli.specs.Filters.{projected, rule_by, sound}
-use Rattle.proj_cli.specs.Hands.{Hand, IsInHands}
-use Rattle.proj_cli.specs.Import.{tagged_ran}
-use Rattle.proj_cli.specs.Makes.{IsMadeOf, IsStateOf, hands_of}
+use Rattle.proj_commands.specs.Cases.{Case, ImportCase, PushCase, break_outcome, head_of, loaded}
+use Rattle.proj_commands.specs.Steps.{case}
+use Rattle.proj_commands.specs.Push.{push_case}
+use Rattle.proj_commands.specs.declared.lines.Telling.TheVariants.{Both}
+use Rattle.proj_commands.specs.Filters.{projected, rule_by, sound}
+use Rattle.proj_commands.specs.Hands.{Hand, IsInHands}
+use Rattle.proj_commands.specs.Import.{tagged_ran}
+use Rattle.proj_commands.specs.Makes.{IsMadeOf, IsStateOf, hands_of}
 use Rattle.proj_cli.specs.Trials.{first_hands, first_left, hands_on, import_hands, import_left, left_by, push_hands, push_input, push_left, second_hands, second_left, third_hands, third_left}
 use Rattle.proj_cli.specs.Trying.{IsEnded, IsLeft, IsTried, from_of}
 use Rattle.proj_cli.proofs.TrialSteps.{command-counted, command-done, command-ended, ended-as, ended-left, ended-on, hands-both, hands-left, hands-right, import-plain, left-on, push-plain, unsound-ended}
-use Rattle.proj_cli.specs.declared.pushing.Manner.TheVariants.{InLine}
+use Rattle.proj_commands.specs.declared.pushing.Manner.TheVariants.{InLine}
 
 -- ---- the ref
 

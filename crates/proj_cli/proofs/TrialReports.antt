@@ -11,10 +11,10 @@ use Rattle.proj_words.specs.Words.{Export}
 use Rattle.proj_words.specs.TrialTexts.{first_push, main, second_push, third_push}
 use Rattle.proj_words.specs.declared.outcome.Outcome.{Outcome}
 use Rattle.proj_words.specs.declared.outcome.Outcome.TheVariants.{Done, OutOfMemory, Collision, ReadFault, WriteFault, StoreFault}
-use Rattle.proj_cli.specs.Cases.{Made, break_outcome, head_of, loaded, unchanged}
-use Rattle.proj_cli.specs.Steps.{case}
-use Rattle.proj_cli.specs.Hands.{Hand, IsInHands}
-use Rattle.proj_cli.specs.Makes.{IsRefusal, IsReported, hands_of}
+use Rattle.proj_commands.specs.Cases.{Made, break_outcome, head_of, loaded, unchanged}
+use Rattle.proj_commands.specs.Steps.{case}
+use Rattle.proj_commands.specs.Hands.{Hand, IsInHands}
+use Rattle.proj_commands.specs.Makes.{IsRefusal, IsReported, hands_of}
 use Rattle.proj_cli.specs.Trials.{hands_on, history_line, report_hands, report_of, third_hands, third_left, trial_hands, trial_made}
 use Rattle.proj_cli.specs.Trying.{IsEnded, IsLeft, IsLine, IsToldOf, IsTried, line_of}
 use Rattle.proj_cli.proofs.TrialSteps.{ended-as, ended-left, ended-on, hands-both, hands-left, hands-right}

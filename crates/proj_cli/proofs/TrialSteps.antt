@@ -9,7 +9,6 @@ use Rattle.filter_text.specs.Filters.{Filter}
 use Rattle.proj_io.specs.Counts.{Counts}
 use Rattle.proj_io.specs.Views.{KeeperView}
 use Rattle.push_laws.specs.Pushes.{pushing}
-use Rattle.state_items.specs.Hands.{IsTwice}
 use Rattle.state_items.specs.Items.{Held}
 use Rattle.state_items.specs.Repos.{repo}
 use Rattle.state_items.specs.Changes.{Plan, Room, held_after, plan_items, room_of}
@@ -18,21 +17,22 @@ use Rattle.import_laws.specs.Bases.{base_of}
 use Rattle.proj_words.specs.Words.{Command}
 use Rattle.proj_words.specs.declared.outcome.Outcome.{Outcome}
 use Rattle.proj_words.specs.declared.outcome.Outcome.TheVariants.{Done, OutOfMemory, Collision, ReadFault, WriteFault, StoreFault}
-use Rattle.proj_cli.specs.Cases.{Case, ImportCase, Made, PushCase, head_of, loaded}
-use Rattle.proj_cli.specs.Steps.{case, made, step}
-use Rattle.proj_cli.specs.Push.{push_case}
-use Rattle.proj_cli.specs.declared.lines.Telling.TheVariants.{Both}
-use Rattle.proj_cli.specs.Filters.{rule_by, sound}
-use Rattle.proj_cli.specs.Hands.{Hand, IsInHands}
-use Rattle.proj_cli.specs.Makes.{IsAtHand, IsMadeOf, IsPlanIn, IsRefusal, IsReported, hands_of, step_in}
+use Rattle.proj_commands.specs.Cases.{Case, ImportCase, Made, PushCase, head_of, loaded}
+use Rattle.proj_commands.specs.Steps.{case, made, step}
+use Rattle.proj_commands.specs.Push.{push_case}
+use Rattle.proj_commands.specs.declared.lines.Telling.TheVariants.{Both}
+use Rattle.proj_commands.specs.Filters.{rule_by, sound}
+use Rattle.proj_commands.specs.Hands.{Hand, IsInHands}
+use Rattle.proj_commands.specs.Makes.{IsAtHand, IsMadeOf, IsPlanIn, IsRefusal, IsReported, hands_of, step_in}
 use Rattle.proj_cli.specs.Trials.{hands_on, left_by}
 use Rattle.proj_cli.specs.Trying.{IsEnded, IsLeft, IsTried}
 use Rattle.proj_cli.proofs.Delivering.{got}
-use Rattle.proj_cli.specs.Judging.{IsOwn}
-use Rattle.proj_cli.proofs.Refusing.{unsound-own}
-use Rattle.proj_cli.proofs.StatesAfter.{room-same}
-use Rattle.proj_cli.specs.Import.{tagged_ran}
-use Rattle.proj_cli.specs.declared.pushing.Manner.TheVariants.{InLine}
+use Rattle.proj_commands.specs.Judging.{IsOwn}
+use Rattle.proj_commands.proofs.Refusing.{unsound-own}
+use Rattle.proj_commands.proofs.StatesAfter.{room-same}
+use Rattle.proj_commands.specs.Import.{tagged_ran}
+use Rattle.proj_commands.specs.declared.pushing.Manner.TheVariants.{InLine}
+use Rattle.proj_commands.proofs.InHands.{twice-as}
 
 -- ---- hands
 
@@ -56,17 +56,6 @@ hands-both ks ls ms f g o w = by (hands-cases ks ls o w)
     by : IsInHands ks o ⊎ IsInHands ls o → IsInHands ms o
     by (inl m) = f o m
     by (inr m) = g o m
-
-pub twice-as : (P Q : Object → Type 0) → ((o : Object) → P o → Q o) → (n : Bytes) → IsTwice P n → IsTwice Q n
-twice-as P Q f n t = record {
-  first = t.first;
-  second = t.second;
-  first_there = f t.first t.first_there;
-  second_there = f t.second t.second_there;
-  apart = t.apart;
-  first_named = t.first_named;
-  second_named = t.second_named;
-}
 
 -- ---- ends
 

@@ -10,11 +10,12 @@ use Rattle.state_items.specs.Items.{Held}
 use Rattle.state_items.specs.Changes.{ChangePlan, KeepPlan, NoPlan, Plan, RulePlan, TagPlan, held_after}
 use Rattle.repo_ground.proofs.StatesRead.{found-in}
 use Rattle.proj_words.specs.declared.outcome.Outcome.{Outcome}
-use Rattle.proj_cli.specs.Cases.{Case}
-use Rattle.proj_cli.specs.Hands.{Hand, IsInHands}
-use Rattle.proj_cli.specs.Steps.{hand}
-use Rattle.proj_cli.specs.Makes.{IsAtHand, hands_of}
-use Rattle.proj_cli.proofs.Forming.{AreNamed, HoldsAll, at-hand, no-twice, twice-at}
+use Rattle.proj_commands.specs.Cases.{Case}
+use Rattle.proj_commands.specs.Hands.{Hand, IsInHands}
+use Rattle.proj_commands.specs.Steps.{hand}
+use Rattle.proj_commands.specs.Makes.{IsAtHand, hands_of}
+use Rattle.proj_commands.proofs.Forming.{AreNamed, HoldsAll, at-hand, no-twice}
+use Rattle.proj_commands.proofs.InHands.{twice-as}
 
 -- ---- hands of several commands
 
@@ -44,11 +45,11 @@ module _ (S objects : List Object) (ks : List Hand) (brought : AreBrought S obje
   hand-brought c e o (inr w) = hands-right ks (hands_of (Ok c)) o w
 
   pub twice-brought : IsStore S → (r : Result Case Outcome) → HoldsAll objects r → (n : Bytes) → IsTwice (IsAtHand S r) n → IsTwice (IsInHands (ks ++ hands_of r)) n
-  twice-brought s (Ok c) e n t = twice-at (IsAtHand S (Ok c)) (IsInHands (ks ++ hands_of (Ok c))) (hand-brought c e) n t
+  twice-brought s (Ok c) e n t = twice-as (IsAtHand S (Ok c)) (IsInHands (ks ++ hands_of (Ok c))) (hand-brought c e) n t
   twice-brought s (Err x) e n t = absurd (no-twice S x (named-store S s) n t)
 
 pub twice-own : (ks : List Hand) (r : Result Case Outcome) (n : Bytes) → IsTwice (IsInHands (hands_of r)) n → IsTwice (IsInHands (ks ++ hands_of r)) n
-twice-own ks r n t = twice-at (IsInHands (hands_of r)) (IsInHands (ks ++ hands_of r)) (λ o w. hands-right ks (hands_of r) o w) n t
+twice-own ks r n t = twice-as (IsInHands (hands_of r)) (IsInHands (ks ++ hands_of r)) (λ o w. hands-right ks (hands_of r) o w) n t
 
 -- ---- what a store has behind one turn more
 

@@ -7,7 +7,7 @@ use Rattle.object_store.specs.Growth.{IsGrownBy}
 use Rattle.object_store.specs.Objects.{Object}
 use Rattle.proj_io.specs.Views.{KeeperView}
 use Rattle.state_items.specs.Items.{Held, read_items}
-use Rattle.state_items.specs.Changes.{Plan, Room, held_after, plan_items, room_of}
+use Rattle.state_items.specs.Changes.{Plan, Room, held_after, plan_items, room_of, NoPlan}
 use Rattle.state_items.proofs.ReadObjects.{ok-same}
 use Rattle.repo_ground.specs.Changes.{KeepsItems}
 use Rattle.repo_ground.specs.Contents.{Contents, room_in}
@@ -15,22 +15,23 @@ use Rattle.proj_words.specs.Entries.{Entry}
 use Rattle.proj_words.specs.Words.{loads, writes}
 use Rattle.proj_words.specs.declared.outcome.Outcome.{Outcome}
 use Rattle.proj_words.specs.declared.outcome.Outcome.TheVariants.{Done, OutOfMemory, Collision, ReadFault, WriteFault, StoreFault}
-use Rattle.proj_cli.specs.Answers.{ArePlanned, IsLonger, IsOutcome, IsRecalledLine}
-use Rattle.proj_cli.specs.Cases.{Case, Made, break_outcome}
-use Rattle.proj_cli.specs.Steps.{case}
-use Rattle.proj_cli.specs.Forms.{IsFormPlanned}
-use Rattle.proj_cli.specs.Hands.{IsInHands}
-use Rattle.proj_cli.specs.Makes.{IsAtHand, IsGoodPlan, IsPlanned, IsRefusal, IsReported, IsStateAfter, IsStateOf, IsStored, PlansFor, hands_of, step_in}
-use Rattle.proj_cli.specs.Plans.{AreKept, HoldWhatTheyShould, RecallLaw}
-use Rattle.proj_cli.specs.Running.{IsBrokenOf, IsCommandMade, IsStateBehind, IsTurnOf}
-use Rattle.proj_cli.specs.Turns.{IsSafeTurn, IsTurnMade, IsTurnOutcome, Turn, asked_by, items_after, turn_case, turn_cases, turn_hands, turn_step}
-use Rattle.proj_cli.proofs.CasePlans.{from, recalled-line, unwritten-plan}
+use Rattle.proj_cli.specs.Answers.{IsLonger, IsOutcome}
+use Rattle.proj_commands.specs.Cases.{Case, Made, break_outcome}
+use Rattle.proj_commands.specs.Steps.{case, ArePlanned}
+use Rattle.proj_commands.specs.Forms.{IsFormPlanned}
+use Rattle.proj_commands.specs.Hands.{IsInHands}
+use Rattle.proj_commands.specs.Makes.{IsAtHand, IsGoodPlan, IsPlanned, IsRefusal, IsReported, IsStateAfter, IsStateOf, IsStored, PlansFor, hands_of, step_in, IsCommandMade, recalled_line, IsKeepPlanOf}
+use Rattle.proj_commands.specs.Plans.{AreKept, HoldWhatTheyShould, RecallLaw}
+use Rattle.proj_cli.specs.Running.{IsBrokenOf, IsStateBehind, IsTurnOf}
+use Rattle.proj_cli.specs.Turns.{IsSafeTurn, IsTurnMade, IsTurnOutcome, Turn, asked_by, items_after, turn_case, turn_cases, turn_hands, turn_step, IsRecalledTurn}
+use Rattle.proj_commands.proofs.CasePlans.{from, unwritten-plan, for-project, of-project, recalled-plan}
 use Rattle.proj_cli.proofs.Answering.{plan-allowed, plan-lawful, plan-longer, plan-planned, refused-outcome, step-done}
 use Rattle.proj_cli.proofs.Delivering.{refusal-outcome}
-use Rattle.proj_cli.proofs.Forming.{HoldsAll, reported-at}
-use Rattle.proj_cli.proofs.StatesAfter.{room-same}
-use Rattle.proj_cli.proofs.Judged.{HoldsStore, case-holds, case-store}
+use Rattle.proj_commands.proofs.Forming.{HoldsAll, reported-at}
+use Rattle.proj_commands.proofs.StatesAfter.{room-same}
+use Rattle.proj_commands.proofs.JudgedCases.{HoldsStore, case-holds, case-store}
 use Rattle.proj_cli.proofs.TurnHands.{AreBrought, brought-on, twice-brought, twice-own}
+use Rattle.filter_text.specs.Filters.{Filter}
 
 -- ---- outcomes
 
@@ -104,7 +105,9 @@ module _ (law : RecallLaw) (items : List Bytes) (ts : List Turn) (e : Entry) (h 
     spelled = read;
     longer = record { behind = refl; state = h; spelled = spelled-still now h read; stays = λ no. record { objects = refl; refs = refl; rule = refl; tags = refl } };
     kept = λ g kept. (g, subst (λ (xs : List Bytes). AreKept xs g) (sym (append-nil now)) kept);
-    recalled = λ is. absurd (refused is);
+    recalled =
+        for-project (turn_case now e) (IsRecalledTurn now (refused_turn e x))
+        (λ g f n. record { plan = NoPlan; planned = inl refl; item = refl; done = λ is. absurd (refused is) });
   }
 
   -- a plan of the case
@@ -134,6 +137,10 @@ module _ (law : RecallLaw) (items : List Bytes) (ts : List Turn) (e : Entry) (h 
     still-kept : (g : Held) → AreKept now g → (f : Held) × AreKept (now ++ plan_items p) f
     still-kept g kept = (held_after g p, (good g kept.spelled).kept kept)
 
+    -- what is said of a projection's plan and line
+    abbrev Kept : Held → Filter → Bytes → Type 0
+    Kept g f n = IsKeepPlanOf g f n (room_of now) p × (w.step.output ≡ recalled_line g f n)
+
     pub turn-done : (out : Bytes) → w.step.output ≡ out → IsTurnOf items ts (done_turn e out p)
     turn-done out same = record {
       safe = record {
@@ -144,7 +151,9 @@ module _ (law : RecallLaw) (items : List Bytes) (ts : List Turn) (e : Entry) (h 
         spelled = read;
         longer = longer;
         kept = still-kept;
-        recalled = λ _. subst (λ (r : Result Case Outcome). IsRecalledLine r (λ line. out ≡ line)) (sym w.came_up) (recalled-line (room_of now) w.case w.step out w.done same);
+        recalled =
+            of-project (turn_case now e) Kept (IsRecalledTurn now (done_turn e out p)) (λ g f n x. record { plan = p; planned = inr x.0; item = refl; done = λ is. (x.0, sym same ∙ x.1) })
+            (recalled-plan (room_of now) (turn_case now e) p w);
       };
       in_turn = record { allowed = plan-allowed (room_of now) (turn_case now e) p w; made = λ _ kept. (w.step, turn-made kept, sym same) };
       whole = λ no. cc;
@@ -160,7 +169,9 @@ module _ (law : RecallLaw) (items : List Bytes) (ts : List Turn) (e : Entry) (h 
         spelled = read;
         longer = longer;
         kept = still-kept;
-        recalled = λ is. absurd (let no : ⊥ = cc in no);
+        recalled =
+            of-project (turn_case now e) Kept (IsRecalledTurn now (broken_turn e p)) (λ g f n x. record { plan = p; planned = inr x.0; item = refl; done = λ is. absurd (let no : ⊥ = cc in no) })
+            (recalled-plan (room_of now) (turn_case now e) p w);
       };
       broken = record {
         outcome = refl;

@@ -7,15 +7,15 @@ use Rattle.state_items.specs.Items.{Held, read_items}
 use Rattle.proj_words.specs.Words.{Command, As, Export, Project, Push}
 use Rattle.proj_words.specs.declared.outcome.Outcome.{Outcome}
 use Rattle.proj_words.specs.declared.outcome.Outcome.TheVariants.{Done, OutOfMemory}
-use Rattle.proj_cli.specs.Alike.{SameUnlessUnshown, is_of_unshown, tells_unshown, told}
+use Rattle.proj_commands.specs.Alike.{SameUnlessUnshown, is_of_unshown, tells_unshown, told}
 use Rattle.proj_cli.specs.Answers.{HasAnswer, IsCommandAnswer, IsStepDelivered, NoneFailed, Wrote, outcome_of}
-use Rattle.proj_cli.specs.Cases.{Made, loaded}
-use Rattle.proj_cli.specs.Hands.{IsInHands}
-use Rattle.proj_cli.specs.Makes.{hands_of}
-use Rattle.proj_cli.specs.Plans.{AreKept, HoldWhatTheyShould}
-use Rattle.proj_cli.specs.Steps.{case, step}
+use Rattle.proj_commands.specs.Cases.{Made, loaded}
+use Rattle.proj_commands.specs.Hands.{IsInHands}
+use Rattle.proj_commands.specs.Makes.{hands_of}
+use Rattle.proj_commands.specs.Plans.{AreKept, HoldWhatTheyShould}
+use Rattle.proj_commands.specs.Steps.{case, step}
 use Rattle.proj_cli.specs.TwoRuns.{AreSame, Call, TwoRunsLaw, is_undecided}
-use Rattle.proj_cli.proofs.Alike.{alike-law}
+use Rattle.proj_commands.proofs.Alike.{alike-law}
 use Rattle.proj_cli.proofs.Joining.{settled}
 
 -- ---- what a call told

@@ -6,20 +6,19 @@ use Rattle.object_store.specs.Objects.{Object}
 use Rattle.proj_io.specs.Counts.{Counts, Rose}
 use Rattle.proj_io.specs.Views.{SourceView, SinkView, KeeperView}
 use Rattle.state_items.specs.Items.{Held, read_items}
-use Rattle.state_items.specs.Repos.{repo}
-use Rattle.state_items.specs.Changes.{Plan, held_after, plan_items}
+use Rattle.state_items.specs.Changes.{Plan, held_after, plan_items, NoPlan, room_of}
 use Rattle.state_items.specs.Hands.{IsTwice}
 use Rattle.repo_ground.specs.Changes.{KeepsItems}
-use Rattle.proj_words.specs.Words.{Command, As, Export, ExportTags, Project, loads, reads, writes}
+use Rattle.proj_words.specs.Words.{Command, As, Export, ExportTags, loads, reads, writes}
 use Rattle.proj_words.specs.declared.outcome.Outcome.{Outcome}
 use Rattle.proj_words.specs.declared.outcome.Outcome.TheVariants.{Done, OutOfMemory, Collision, ReadFault, WriteFault, StoreFault}
-use Rattle.proj_cli.specs.Cases.{Case, ProjectCase, IsJudgedRightly, Made, loaded}
-use Rattle.proj_cli.specs.Steps.{case, hand, IsLawful, IsPlanOf, cases, step}
-use Rattle.proj_cli.specs.Project.{name_line}
-use Rattle.proj_cli.specs.Filters.{entries_of, recalled}
-use Rattle.proj_cli.specs.Hands.{IsInHands}
-use Rattle.proj_cli.specs.Intake.{TakesUpTo, waited_by}
-use Rattle.proj_cli.specs.Plans.{AreKept, HoldWhatTheyShould}
+use Rattle.proj_commands.specs.Cases.{IsJudgedRightly, Made, loaded}
+use Rattle.proj_commands.specs.Steps.{case, hand, IsLawful, cases, step, ArePlanned}
+use Rattle.proj_commands.specs.Hands.{IsInHands}
+use Rattle.proj_commands.specs.Intake.{TakesUpTo, waited_by}
+use Rattle.proj_commands.specs.Plans.{AreKept, HoldWhatTheyShould, IsSameState, changes_state}
+use Rattle.proj_commands.specs.Makes.{OfProject, recalled_line, IsKeepPlanOf}
+use Rattle.filter_text.specs.Filters.{Filter}
 
 -- ---- devices
 
@@ -111,11 +110,6 @@ abbrev pub IsStepDelivered : Command → Result Made Outcome → Plan → Device
 IsStepDelivered asked (Ok m) p before after outcome = IsDelivered asked m.output (plan_items p) before after outcome
 IsStepDelivered asked (Err e) p before after outcome = Idle before after
 
--- of each case that came up
-abbrev pub ArePlanned : List Bytes → List Case → Result Made Outcome → Plan → Type 0
-ArePlanned items cs (Ok m) p = All (λ c. IsPlanOf items c m p) cs
-ArePlanned items cs (Err e) p = ⊤
-
 -- Items that hold what they should still do: as they were, or with the plan's item behind them, and then they spell what is held after it.
 abbrev pub Follows : List Bytes → Plan → List Bytes → Type 0
 Follows items p after =
@@ -141,19 +135,6 @@ pub record HasAnswer (asked : Command) (items : List Bytes) (before after : Devi
 abbrev pub AreItems : Command → Devices → List Bytes → Type 0
 AreItems asked before items = loads asked ≡ true → before.store.items ≡ Some items
 
--- whether a form may change the state
-abbrev pub changes_state : Command → Bool
-changes_state (Project r f) = false
-changes_state (As u c) = changes_state c
-changes_state asked = writes asked
-
--- the same state, whatever is kept
-pub record IsSameState (h g : Held) : Type 0 where
-  pub objects : g.objects ≡ h.objects
-  pub refs : g.refs ≡ h.refs
-  pub rule : g.rule ≡ h.rule
-  pub tags : g.tags ≡ h.tags
-
 -- items that have more behind them spell a state, which a form that doesn't change it has left
 pub record IsLonger (asked : Command) (items more : List Bytes) (h : Held) (now : List Bytes) : Type 0 where
   pub behind : now ≡ items ++ more
@@ -171,19 +152,17 @@ pub record IsSafe (asked : Command) (items : List Bytes) (h : Held) (before afte
 
 -- ---- what is kept decides what is projected
 
--- of the line of a projection: it is that of the recursion in which the entries of its filter and of the state's rule are taken for
--- projections, true or not
-abbrev pub IsRecalledLine : Result Case Outcome → (Bytes → Type 0) → Type 0
-IsRecalledLine (Ok (ProjectCase h f n)) Says = Says (name_line (recalled (entries_of h f) h.rule f (repo h).commits n))
-IsRecalledLine other Says = ⊤
-
--- of a projection that is done, for items that spell a state
-abbrev pub IsRecalledCase : Result Case Outcome → Devices → Devices → Type 0
-IsRecalledCase r before after = IsRecalledLine r (λ line. Wrote line before after)
+-- Of a projection, whatever is kept, true or not: what is appended is nothing, or what may be kept then; and the line is the one that what is
+-- kept leads to.
+pub record IsRecalledDone (asked : Command) (items : List Bytes) (before after : Devices) (outcome : Outcome) (h : Held) (f : Filter) (n : Bytes) : Type 0 where
+  pub plan : Plan
+  pub planned : (plan ≡ NoPlan) ⊎ IsKeepPlanOf h f n (room_of items) plan
+  pub done : outcome ≡ Done → IsKeepPlanOf h f n (room_of items) plan
+  pub delivered : IsDelivered asked (recalled_line h f n) (plan_items plan) before after outcome
 
 abbrev pub IsRecalled : Command → Devices → Devices → Outcome → Type 0
 IsRecalled asked before after outcome =
-    (items : List Bytes) → before.store.items ≡ Some items → outcome ≡ Done → IsRecalledCase (case asked (loaded items) []) before after
+    (items : List Bytes) → before.store.items ≡ Some items → OfProject (case asked (loaded items) []) (IsRecalledDone asked items before after outcome)
 
 -- ---- the whole answer
 

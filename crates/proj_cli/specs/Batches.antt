@@ -7,7 +7,7 @@ use Rattle.proj_words.specs.Entries.{Entry}
 use Rattle.proj_words.specs.declared.outcome.Outcome.{Outcome}
 use Rattle.proj_words.specs.declared.outcome.Outcome.TheVariants.{Done, OutOfMemory, ReadFault, WriteFault, StoreFault}
 use Rattle.proj_cli.specs.Answers.{Devices, Got, Idle, IsCaused, NoneFailed, Wrote}
-use Rattle.proj_cli.specs.Cases.{is_verdict}
+use Rattle.proj_commands.specs.Cases.{is_verdict}
 use Rattle.proj_cli.specs.Turns.{AreTurns, IsLastTurn, IsSafeTurn, IsTurn, Turn, appended, begun, entries_of, items_after, turn_text, turn_texts}
 
 -- the turns whose replies were written whole, and behind them the one that was begun then, if one was

@@ -1,30 +1,17 @@
 -- What comes of one entry of a batch, upon the state that the entries before it left.
-use Rattle.std.specs.Prelude.{◌≡◌, ◌≢◌, ◌⊎◌, ℕ, false, List, ◌∷◌, take, Contains, Result, Ok}
+use Rattle.std.specs.Prelude.{◌≡◌, ◌≢◌, ◌⊎◌, ℕ, List, ◌∷◌, take, Contains}
 use Rattle.git_objects.specs.Paths.{Bytes}
 use Rattle.object_store.specs.Objects.{Object}
 use Rattle.proj_io.specs.Counts.{Rose}
-use Rattle.proj_io.specs.Views.{KeeperView}
-use Rattle.repo_ground.specs.Changes.{IsStopOf}
 use Rattle.repo_ground.specs.Contents.{Contents}
-use Rattle.state_items.specs.Changes.{Plan, room_of}
 use Rattle.state_items.specs.Items.{Held}
 use Rattle.proj_words.specs.Entries.{Entry}
-use Rattle.proj_words.specs.Words.{Command, loads}
 use Rattle.proj_words.specs.declared.outcome.Outcome.{Outcome}
 use Rattle.proj_words.specs.declared.outcome.Outcome.TheVariants.{Done, OutOfMemory, WriteFault, StoreFault}
 use Rattle.proj_cli.specs.Answers.{Devices, Got, Idle, Wrote}
-use Rattle.proj_cli.specs.Steps.{case}
-use Rattle.proj_cli.specs.Hands.{IsInHands}
-use Rattle.proj_cli.specs.Makes.{IsMadeOf, IsReported, IsStateOf, hands_of, step_in}
+use Rattle.proj_commands.specs.Hands.{IsInHands}
+use Rattle.proj_commands.specs.Makes.{IsStateOf}
 use Rattle.proj_cli.specs.Turns.{IsBrokenTurn, IsSafeTurn, IsTurn, Turn, items_after, turn_hands, turn_text}
-
--- What a command made of a state: of its case, or of the refusal before one. What a stop may leave since then is of a kind. A form that
--- doesn't load has no object of the state in hand.
-pub record IsCommandMade (asked : Command) (input : Bytes) (items : List Bytes) (h : Held) (s s' : Contents) (before after : KeeperView) (Adds : (List Bytes → Type 0) → Type 0) (result : Result Bytes Outcome) : Type 0 where
-  pub plan : Plan
-  pub made : IsMadeOf (case asked (Ok h) input) items h s s' before after plan result
-  pub stops : Adds (IsStopOf h s plan before.items)
-  pub unloaded : loads asked ≡ false → IsReported (IsInHands (hands_of (case asked (Ok h) input))) (step_in (room_of items) (case asked (Ok h) input)) result
 
 -- ---- the state between two entries
 

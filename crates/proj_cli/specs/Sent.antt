@@ -1,5 +1,5 @@
 -- What comes of writing a report, or of telling how a command ended.
-use Rattle.std.specs.Prelude.{◌≡◌, ℕ, ◌≤◌, [], ◌∷◌, ◌++◌, codes, decimal, take, Result, Ok, Err, false}
+use Rattle.std.specs.Prelude.{◌≡◌, ℕ, ◌≤◌, [], ◌∷◌, ◌++◌, codes, decimal, Result, Ok, Err, false}
 use Rattle.std.specs.Io.KnownBytes.{Appends}
 use Rattle.git_objects.specs.Paths.{Bytes}
 use Rattle.proj_io.specs.Counts.{Counts, Rose}
@@ -8,10 +8,7 @@ use Rattle.proj_words.specs.Entries.{reply_text}
 use Rattle.proj_words.specs.Outcomes.{code_of, is_plain}
 use Rattle.proj_words.specs.declared.outcome.Outcome.{Outcome}
 use Rattle.proj_words.specs.declared.outcome.Outcome.TheVariants.{Done, OutOfMemory, WriteFault, StoreFault}
-
--- a front of the report was written
-abbrev pub Fronts : Bytes → SinkView → SinkView → Type 0
-Fronts report before after = (n : ℕ) × Appends before.written after.written (take n report)
+use Rattle.proj_commands.specs.Makes.{Fronts}
 
 -- What was written of a report by each outcome. Only the sink itself may want memory.
 abbrev pub IsSent : Outcome → Bytes → SinkView → SinkView → Type 0

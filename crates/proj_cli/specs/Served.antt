@@ -15,7 +15,7 @@ use Rattle.proj_words.specs.Outcomes.{code_of, text_of}
 use Rattle.proj_words.specs.declared.outcome.Outcome.{Outcome}
 use Rattle.proj_words.specs.declared.outcome.Outcome.TheVariants.{OutOfMemory, StoreFault, Usage}
 use Rattle.proj_cli.specs.Answers.{Devices, GetsText}
-use Rattle.proj_cli.specs.Cases.{is_one, verdict}
+use Rattle.proj_commands.specs.Cases.{is_one, verdict}
 use Rattle.proj_cli.specs.Runs.{IsAnswer, IsComplete, MayLeave}
 
 -- what a call sees of its devices at one moment

@@ -1,19 +1,14 @@
 -- What a stop during a command may leave of the items.
-use Rattle.std.specs.Prelude.{◌≡◌, ◌≢◌, ◌⊎◌, [], ◌++◌, List, Option, Ok, IsOk, IfSome, Some}
+use Rattle.std.specs.Prelude.{◌≡◌, ◌≢◌, ◌⊎◌, [], ◌++◌, List, Ok, IsOk, Some, Option}
 use Rattle.git_objects.specs.Paths.{Bytes}
 use Rattle.state_items.specs.Items.{Held, read_items}
-use Rattle.state_items.specs.Changes.{Plan, held_after, plan_items}
+use Rattle.state_items.specs.Changes.{Plan, held_after, plan_items, room_of}
 use Rattle.proj_words.specs.Words.{Command}
-use Rattle.proj_cli.specs.Answers.{ArePlanned, IsLonger}
-use Rattle.proj_cli.specs.Cases.{Made}
-use Rattle.proj_cli.specs.Plans.{AreKept, HoldWhatTheyShould}
-use Rattle.proj_cli.specs.Steps.{cases, step}
-
--- what is said of an input: the one that the source told, or else some input
-pub record ForInput (left : Option Bytes) (Says : Bytes → Type 0) : Type 0 where
-  pub all : Bytes
-  pub told : IfSome left (λ l. all ≡ l)
-  pub says : Says all
+use Rattle.proj_cli.specs.Answers.{IsLonger}
+use Rattle.proj_commands.specs.Cases.{Made, loaded}
+use Rattle.proj_commands.specs.Plans.{AreKept, HoldWhatTheyShould}
+use Rattle.proj_commands.specs.Steps.{cases, step, ArePlanned, case}
+use Rattle.proj_commands.specs.Makes.{IsKeepPlanOf, OfProject}
 
 -- The list is the items with a plan's item behind them. Where the items spell a state, so does the list. The step is done, and the plan is
 -- one of its case, where the items hold what they should or the form takes nothing that is kept for a projection. Where they hold what they
@@ -26,6 +21,8 @@ pub record IsLengthened (asked : Command) (items : List Bytes) (input : Bytes) (
   pub allowed : IsOk (step asked items input)
   pub done : HoldWhatTheyShould asked items → (m : Made) × (step asked items input ≡ Ok m) × ArePlanned items (cases asked items input) (Ok m) plan
   pub kept : (h : Held) → AreKept items h → AreKept list (held_after h plan)
+  -- of a projection it is what may be kept, whatever is kept already, true or not
+  pub recalled : OfProject (case asked (loaded items) input) (λ h f n. IsKeepPlanOf h f n (room_of items) plan)
 
 -- a stop leaves the items as they are, or with the command's item behind them, whole
 abbrev pub CommandLeaves : Command → List Bytes → Bytes → List Bytes → Type 0

@@ -13,11 +13,11 @@ use Rattle.proj_words.specs.Words.{Command, Export, Import, Push, Trial}
 use Rattle.proj_words.specs.declared.outcome.Outcome.{Outcome}
 use Rattle.proj_words.specs.declared.outcome.Outcome.TheVariants.{Collision, OutOfMemory, ReadFault, StoreFault}
 use Rattle.proj_cli.specs.Answers.{Devices, GotNothing, IsCaused, IsOutcome, IsStepDelivered, NoneFailed, outcome_of}
-use Rattle.proj_cli.specs.Cases.{Made, head_of, loaded, unchanged}
-use Rattle.proj_cli.specs.Steps.{case, step}
-use Rattle.proj_cli.specs.Filters.{history, projected, sound}
-use Rattle.proj_cli.specs.Hands.{Hand, IsInHands}
-use Rattle.proj_cli.specs.Makes.{hands_of}
+use Rattle.proj_commands.specs.Cases.{Made, head_of, loaded, unchanged}
+use Rattle.proj_commands.specs.Steps.{case, step}
+use Rattle.proj_commands.specs.Filters.{history, projected, sound}
+use Rattle.proj_commands.specs.Hands.{Hand, IsInHands}
+use Rattle.proj_commands.specs.Makes.{hands_of}
 
 -- ---- its commands
 

@@ -12,10 +12,10 @@ use Rattle.state_items.specs.Items.{Held}
 use Rattle.repo_ground.specs.Contents.{Contents}
 use Rattle.proj_words.specs.declared.outcome.Outcome.{Outcome}
 use Rattle.proj_words.specs.declared.outcome.Outcome.TheVariants.{Done, OutOfMemory, Collision, ReadFault, WriteFault, StoreFault}
-use Rattle.proj_cli.specs.Cases.{head_of}
-use Rattle.proj_cli.specs.Filters.{projected}
-use Rattle.proj_cli.specs.Hands.{Hand, IsInHands}
-use Rattle.proj_cli.specs.Makes.{IsStateOf}
+use Rattle.proj_commands.specs.Cases.{head_of}
+use Rattle.proj_commands.specs.Filters.{projected}
+use Rattle.proj_commands.specs.Hands.{Hand, IsInHands}
+use Rattle.proj_commands.specs.Makes.{IsStateOf}
 use Rattle.proj_cli.specs.Trials.{history_line}
 
 -- ---- the state between two commands

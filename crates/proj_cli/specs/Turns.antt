@@ -3,19 +3,20 @@ use Rattle.std.specs.Prelude.{◌≡◌, ◌≢◌, ◌⊎◌, ⊤, false, List,
 use Rattle.git_objects.specs.Paths.{Bytes}
 use Rattle.git_objects.specs.Results.{◌>>=◌}
 use Rattle.object_store.specs.Objects.{Object}
-use Rattle.state_items.specs.Changes.{Plan, held_after, plan_items}
+use Rattle.state_items.specs.Changes.{Plan, held_after, plan_items, NoPlan, room_of}
 use Rattle.state_items.specs.Hands.{IsTwice}
 use Rattle.state_items.specs.Items.{Held, read_items}
 use Rattle.proj_words.specs.Entries.{Entry, entries, reply_text}
 use Rattle.proj_words.specs.Words.{Command, line_command, writes}
 use Rattle.proj_words.specs.declared.outcome.Outcome.{Outcome}
 use Rattle.proj_words.specs.declared.outcome.Outcome.TheVariants.{Done, OutOfMemory, Collision, ReadFault, WriteFault, StoreFault}
-use Rattle.proj_cli.specs.Answers.{IsLonger, IsRecalledLine}
-use Rattle.proj_cli.specs.Cases.{Case, Made, loaded}
-use Rattle.proj_cli.specs.Steps.{case, IsLawful, IsPlanOf, cases, step}
-use Rattle.proj_cli.specs.Hands.{Hand, IsInHands}
-use Rattle.proj_cli.specs.Makes.{hands_of}
-use Rattle.proj_cli.specs.Plans.{AreKept, HoldWhatTheyShould}
+use Rattle.proj_cli.specs.Answers.{IsLonger}
+use Rattle.proj_commands.specs.Cases.{Case, Made, loaded}
+use Rattle.proj_commands.specs.Steps.{case, IsLawful, IsPlanOf, cases, step}
+use Rattle.proj_commands.specs.Hands.{Hand, IsInHands}
+use Rattle.proj_commands.specs.Makes.{hands_of, OfProject, recalled_line, IsKeepPlanOf}
+use Rattle.proj_commands.specs.Plans.{AreKept, HoldWhatTheyShould}
+use Rattle.filter_text.specs.Filters.{Filter}
 
 -- An entry that was begun: how it ended, what it gave, and the items that it appended, none or one.
 pub record Turn : Type 0 where
@@ -115,6 +116,14 @@ pub record IsBrokenTurn (items : List Bytes) (t : Turn) : Type 0 where
 abbrev pub IsLastTurn : List Bytes → List Turn → Turn → Type 0
 IsLastTurn items ts t = IsTurn items ts t ⊎ IsBrokenTurn (items_after items ts) t
 
+-- Of a projection, whatever is kept, true or not: what it appended is nothing, or what may be kept then; and its output is the line that what
+-- is kept leads to.
+pub record IsRecalledTurn (items : List Bytes) (t : Turn) (h : Held) (f : Filter) (n : Bytes) : Type 0 where
+  pub plan : Plan
+  pub planned : (plan ≡ NoPlan) ⊎ IsKeepPlanOf h f n (room_of items) plan
+  pub item : t.appended ≡ plan_items plan
+  pub done : t.outcome ≡ Done → IsKeepPlanOf h f n (room_of items) plan × (t.output ≡ recalled_line h f n)
+
 -- Whatever is kept in items that spell a state: a refused entry gives and appends nothing, nor does one append whose form doesn't write;
 -- the items spell a state behind it, the same where the form doesn't change it; and those that hold what they should still do.
 pub record IsSafeTurn (items : List Bytes) (ts : List Turn) (t : Turn) : Type 0 where
@@ -126,7 +135,7 @@ pub record IsSafeTurn (items : List Bytes) (ts : List Turn) (t : Turn) : Type 0 
   pub longer : IsLonger (asked_by t.entry) (items_after items ts) t.appended held (items_after items (t ∷ ts))
   pub kept : (h : Held) → AreKept (items_after items ts) h → (g : Held) × AreKept (items_after items (t ∷ ts)) g
   -- a projection takes what is kept for projections, true or not
-  pub recalled : t.outcome ≡ Done → IsRecalledLine (turn_case (items_after items ts) t.entry) (λ line. t.output ≡ line)
+  pub recalled : OfProject (turn_case (items_after items ts) t.entry) (IsRecalledTurn (items_after items ts) t)
 
 -- ---- how a batch begins
 

@@ -7,11 +7,11 @@ use Rattle.state_items.specs.Items.{Held}
 use Rattle.proj_words.specs.Words.{Command, As, Export, Project, Push}
 use Rattle.proj_words.specs.declared.outcome.Outcome.{Outcome}
 use Rattle.proj_words.specs.declared.outcome.Outcome.TheVariants.{Collision, OutOfMemory}
-use Rattle.proj_cli.specs.Alike.{IsAlike, IsAlikeForPush, OfHeads, head, tells_unshown}
+use Rattle.proj_commands.specs.Alike.{IsAlike, IsAlikeForPush, OfHeads, head, tells_unshown}
 use Rattle.proj_cli.specs.Answers.{Devices, NoneFailed, Wrote}
-use Rattle.proj_cli.specs.Filters.{sound}
-use Rattle.proj_cli.specs.Plans.{AreKept}
-use Rattle.proj_cli.specs.Policy.{policy_text}
+use Rattle.proj_commands.specs.Filters.{sound}
+use Rattle.proj_commands.specs.Plans.{AreKept}
+use Rattle.proj_commands.specs.Policy.{policy_text}
 use Rattle.proj_cli.specs.Runs.{IsAnswer}
 
 -- ---- one call

@@ -1,29 +1,5 @@
-// What projections keep to, and what a user can't tell.
-ghost use Rattle.state_items.specs.KeptLaws.{StayLaw};
-ghost use Rattle.proj_cli.specs.Alike.{AlikeLaw};
-ghost use Rattle.proj_cli.specs.Filters.{project_by};
-ghost use Rattle.proj_cli.specs.Plans.{RecallLaw};
+// What a user can't tell by two calls.
 ghost use Rattle.proj_cli.specs.TwoRuns.{TwoRunsLaw};
-
-use projection_laws::projection_law;
-
-/// A commit's projection stays when commits are added.
-pub fn stay_law()
-    ensures { StayLaw project_by }
-{}
-
-/// On items that hold what they should, a projection that takes what is kept for projections is the one from scratch.
-pub fn recall_law()
-    ensures { RecallLaw }
-{
-    projection_law();
-}
-
-/// Two states with one policy, of whose heads a filter shows the same: a user is told the same of a step. A push may be
-/// refused by what isn't shown.
-pub fn alike_law()
-    ensures { AlikeLaw }
-{}
 
 /// Two calls of `run` for a user upon stores whose states are alike so have one outcome, and write the same.
 pub fn two_runs_law()

@@ -8,25 +8,22 @@ ghost use Rattle.proj_words.specs.Views.{command_of};
 ghost use Rattle.proj_words.specs.Outcomes.{text_of};
 ghost use Rattle.proj_cli.specs.Answers.{GetsText};
 ghost use Rattle.proj_cli.specs.Calls.{devices};
-ghost use Rattle.proj_cli.specs.Steps.{case};
-ghost use Rattle.proj_cli.specs.Cases.{is_one, loaded, verdict};
-ghost use Rattle.proj_cli.specs.Forms.{IsMade};
-ghost use Rattle.proj_cli.specs.Intake.{TakesUpTo, waited_by};
-ghost use Rattle.proj_cli.specs.Judging.{IsJudged, IsSomeJudged};
+ghost use Rattle.proj_commands.specs.Steps.{case};
+ghost use Rattle.proj_commands.specs.Cases.{is_one, loaded, verdict};
+ghost use Rattle.proj_commands.specs.Forms.{IsMade};
+ghost use Rattle.proj_commands.specs.Intake.{TakesUpTo, waited_by};
+ghost use Rattle.proj_commands.specs.Judging.{IsJudged, IsSomeJudged};
+ghost use Rattle.proj_commands.specs.Inputs.{ForInput};
 ghost use Rattle.proj_cli.specs.Runs.{IsAnswer, IsComplete, MayLeave};
-ghost use Rattle.proj_cli.specs.Stopped.{ForInput, OnlyGrows};
+ghost use Rattle.proj_cli.specs.Stopped.{OnlyGrows};
 
 use crate::batching::batch;
 use crate::deliver::{conclude, finish};
-use crate::exporting::{export_granted, export_loaded};
-use crate::judging::{Judged, judge};
-use crate::laws::recall_law;
-use crate::loading::load;
-use crate::naming::name;
-use crate::performing::perform;
 use crate::trying::trial;
-use crate::verifying::verify_text;
 use git_objects::Bytes;
+use proj_commands::{
+    Judged, export_granted, export_loaded, judge, load, name, perform, recall_law, verify_text,
+};
 use proj_io::{Keeper, Sink, Source};
 use proj_words::{Command, Outcome, read_command};
 use std::alloc::Global;

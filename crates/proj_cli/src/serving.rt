@@ -9,8 +9,9 @@ ghost use Rattle.proj_journal.specs.Journals.{IsOpen, ListsLeft, disk_of, items_
 ghost use Rattle.proj_journal.specs.Spelling.{listed};
 ghost use Rattle.proj_words.specs.Words.{Unknown, command, reads};
 ghost use Rattle.proj_cli.specs.Answers.{GetsText};
-ghost use Rattle.proj_cli.specs.Cases.{is_one, verdict};
-ghost use Rattle.proj_cli.specs.Stopped.{ForInput, OnlyGrows};
+ghost use Rattle.proj_commands.specs.Cases.{is_one, verdict};
+ghost use Rattle.proj_commands.specs.Inputs.{ForInput};
+ghost use Rattle.proj_cli.specs.Stopped.{OnlyGrows};
 ghost use Rattle.proj_cli.specs.Served.{HasList, IsBegun, IsOnlyOpened, IsServed, IsSteady, IsWhole, KeepsBytes};
 ghost use Rattle.proj_cli.specs.Served.{LeavesKind, LeavesList, LeavesWhole, SaysWhy, error_code, error_text, seen};
 

@@ -8,27 +8,24 @@ ghost use Rattle.repo_ground.specs.Loads.{IsEmpty};
 ghost use Rattle.proj_words.specs.Views.{push_value};
 ghost use Rattle.proj_words.specs.Words.{Export};
 ghost use Rattle.proj_words.specs.TrialTexts.{main};
-ghost use Rattle.proj_cli.specs.Steps.{case};
-ghost use Rattle.proj_cli.specs.Cases.{loaded};
-ghost use Rattle.proj_cli.specs.Push.{push_case};
-ghost use Rattle.proj_cli.specs.Hands.{Hand, IsInHands};
-ghost use Rattle.proj_cli.specs.Makes.{IsReported, hands_of};
+ghost use Rattle.proj_commands.specs.Steps.{case};
+ghost use Rattle.proj_commands.specs.Cases.{loaded};
+ghost use Rattle.proj_commands.specs.Push.{push_case};
+ghost use Rattle.proj_commands.specs.Hands.{Hand, IsInHands};
+ghost use Rattle.proj_commands.specs.Makes.{IsReported, hands_of};
 ghost use Rattle.proj_cli.specs.Trials.{import_hands, import_left, push_hands, push_left, report_hands, report_of};
 ghost use Rattle.proj_cli.specs.Trials.{third_hands, third_left, trial_hands, trial_made};
 ghost use Rattle.proj_cli.specs.Trying.{IsFrom, IsLeft, IsLine, IsToldOf, IsTried, IsTriedState, from_of, line_of};
 
-use crate::filters::sound_filter;
-use crate::importing::import;
-use crate::judging::{read_subject, ref_name};
-use crate::lines::Telling;
-use crate::pushing::{Manner, push};
-use crate::refusals::apply_outcome;
 use filter_text::{Filter, print};
 use git_objects::{Bytes, Name};
 use history_ground::{history, seen_head};
 use itoa::Buffer;
 use memory_devices::{ItemCounter, SliceSource};
 use path_names::RefName;
+use proj_commands::{
+    Manner, Telling, apply_outcome, import, push, read_subject, ref_name, sound_filter,
+};
 use proj_words::{
     Outcome, TrialPush, first_push, push_stream, second_push, third_push, trial_stream,
 };

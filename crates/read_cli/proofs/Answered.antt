@@ -15,14 +15,14 @@ use Rattle.repo_ground.specs.Loads.{IsLoaded}
 use Rattle.proj_words.specs.Outcomes.{is_plain}
 use Rattle.proj_words.specs.declared.outcome.Outcome.{Outcome}
 use Rattle.proj_words.specs.declared.outcome.Outcome.TheVariants.{Collision, Done, OutOfMemory, ReadFault, StoreFault, Usage, WriteFault}
-use Rattle.proj_cli.specs.Cases.{break_outcome, is_verdict, loaded}
-use Rattle.proj_cli.specs.Forms.{IsEarly}
-use Rattle.proj_cli.specs.Hands.{Hand, HeldObject, IsInHands}
-use Rattle.proj_cli.specs.Judging.{IsOwn}
-use Rattle.proj_cli.specs.Makes.{IsStateOf}
+use Rattle.proj_commands.specs.Cases.{break_outcome, is_verdict, loaded}
+use Rattle.proj_commands.specs.Forms.{IsEarly}
+use Rattle.proj_commands.specs.Hands.{Hand, HeldObject, IsInHands}
+use Rattle.proj_commands.specs.Judging.{IsOwn}
+use Rattle.proj_commands.specs.Makes.{IsStateOf}
 use Rattle.proj_cli.specs.Sent.{TakesMemory}
-use Rattle.proj_cli.proofs.Forming.{loaded-state}
-use Rattle.proj_cli.proofs.Refusing.{loaded-own}
+use Rattle.proj_commands.proofs.Forming.{loaded-state}
+use Rattle.proj_commands.proofs.Refusing.{loaded-own}
 use Rattle.read_cli.specs.Answers.{IsGiven, IsLawful, IsOutcome, IsReadAnswer, text_of}
 use Rattle.read_cli.specs.Looks.{IsAsked, IsAtHand, IsLooked}
 use Rattle.read_cli.specs.Outputs.{hands, output}

@@ -20,13 +20,13 @@ use Rattle.state_items.specs.Repos.{repo}
 use Rattle.repo_ground.specs.Contents.{Contents, Spells}
 use Rattle.proj_words.specs.declared.outcome.Outcome.{Outcome}
 use Rattle.proj_words.specs.declared.outcome.Outcome.TheVariants.{OutOfMemory, Usage}
-use Rattle.proj_cli.specs.Cases.{head_of}
-use Rattle.proj_cli.specs.Export.{export_hand}
-use Rattle.proj_cli.specs.Filters.{sound}
-use Rattle.proj_cli.specs.Hands.{Hand, seen_hand, still_hand}
-use Rattle.proj_cli.specs.Import.{ref_line}
-use Rattle.proj_cli.specs.Judging.{IsOwn}
-use Rattle.proj_cli.proofs.Refusing.{sound-own}
+use Rattle.proj_commands.specs.Cases.{head_of}
+use Rattle.proj_commands.specs.Export.{export_hand}
+use Rattle.proj_commands.specs.Filters.{sound}
+use Rattle.proj_commands.specs.Hands.{Hand, seen_hand, still_hand}
+use Rattle.proj_commands.specs.Import.{ref_line}
+use Rattle.proj_commands.specs.Judging.{IsOwn}
+use Rattle.proj_commands.proofs.Refusing.{sound-own}
 use Rattle.read_cli.specs.Answers.{IsLawful, IsNewLawful, IsReadBackUpon, OfHead}
 use Rattle.read_cli.specs.Looks.{IsAsked, IsLooked, IsLookedFor, IsReport, IsUnreported}
 use Rattle.read_cli.specs.Outputs.{check_output, hands, log_output, new_output, original_commits, originals_output, output, refs_output}

@@ -6,8 +6,8 @@ use Rattle.filter_text.specs.Filters.{Filter}
 use Rattle.projection_ground.specs.Grounds.{commits_of}
 use Rattle.state_items.specs.Items.{Held}
 use Rattle.repo_ground.specs.Contents.{Contents}
-use Rattle.proj_cli.specs.Makes.{IsStateOf}
-use Rattle.proj_cli.proofs.StatesShown.{commits-are}
+use Rattle.proj_commands.specs.Makes.{IsStateOf}
+use Rattle.proj_commands.proofs.StatesShown.{commits-are}
 use Rattle.read_cli.specs.Outputs.{check_output, check_text}
 
 pub checked-held : (items : List Bytes) (h : Held) (s : Contents) (f : Filter) (n : Bytes) → IsStateOf items h s → check_text f (tree_at (commits_of s.basis) n) ≡ check_output h f n

@@ -17,16 +17,16 @@ use Rattle.history_ground.proofs.TakenTurns.{fault-as}
 use Rattle.tag_objects.specs.declared.tag.Tag.{Tag}
 use Rattle.state_items.specs.Items.{Held}
 use Rattle.repo_ground.specs.Contents.{Contents}
-use Rattle.proj_cli.specs.Export.{IsMadeBeside, export_hand, tags_beside}
-use Rattle.proj_cli.specs.Hands.{IsInHands}
-use Rattle.proj_cli.specs.Makes.{IsStateOf}
-use Rattle.proj_cli.specs.Refusals.{apply_outcome}
+use Rattle.proj_commands.specs.Export.{IsMadeBeside, export_hand, tags_beside}
+use Rattle.proj_commands.specs.Hands.{IsInHands}
+use Rattle.proj_commands.specs.Makes.{IsStateOf}
+use Rattle.proj_commands.specs.Refusals.{apply_outcome}
 use Rattle.read_cli.specs.Looks.{AreFresh, AreNew, IsAtHand, IsUnshown}
 use Rattle.read_cli.specs.Outputs.{new_commits, projected_graph}
 use Rattle.read_cli.proofs.Looked.{fault-unshown}
-use Rattle.proj_cli.proofs.Exports.{IsReached}
-use Rattle.proj_cli.proofs.SeenHands.{beside-at, of-history-at}
-use Rattle.proj_cli.proofs.StatesShown.{history-is, state-upon}
+use Rattle.proj_commands.proofs.Exports.{IsReached}
+use Rattle.proj_commands.proofs.SeenHands.{beside-at, of-history-at}
+use Rattle.proj_commands.proofs.StatesShown.{history-is, state-upon}
 
 -- ---- upon a state
 

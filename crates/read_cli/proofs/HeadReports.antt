@@ -16,10 +16,10 @@ use Rattle.state_items.specs.Items.{Held}
 use Rattle.repo_ground.specs.Contents.{Contents}
 use Rattle.proj_words.specs.declared.outcome.Outcome.{Outcome}
 use Rattle.proj_words.specs.declared.outcome.Outcome.TheVariants.{UnknownRef}
-use Rattle.proj_cli.specs.Hands.{Hand, IsInHands, seen_hand}
-use Rattle.proj_cli.specs.Makes.{IsStateOf}
-use Rattle.proj_cli.specs.Refusals.{apply_outcome}
-use Rattle.proj_cli.proofs.SeenHands.{seen-at}
+use Rattle.proj_commands.specs.Hands.{Hand, IsInHands, seen_hand}
+use Rattle.proj_commands.specs.Makes.{IsStateOf}
+use Rattle.proj_commands.specs.Refusals.{apply_outcome}
+use Rattle.proj_commands.proofs.SeenHands.{seen-at}
 use Rattle.read_cli.specs.Looks.{IsReport, at_head}
 use Rattle.read_cli.proofs.Looked.{fault-unshown, report-at, unshown-report}
 

@@ -11,9 +11,9 @@ use Rattle.projection_ground.specs.Grounds.{commits_of}
 use Rattle.history_ground.specs.Before as before
 use Rattle.state_items.specs.Items.{Held}
 use Rattle.repo_ground.specs.Contents.{Contents}
-use Rattle.proj_cli.specs.Makes.{IsStateOf}
-use Rattle.proj_cli.proofs.Retargeting.{same-before}
-use Rattle.proj_cli.proofs.StatesShown.{commits-are}
+use Rattle.proj_commands.specs.Makes.{IsStateOf}
+use Rattle.proj_commands.proofs.Retargeting.{same-before}
+use Rattle.proj_commands.proofs.StatesShown.{commits-are}
 use Rattle.read_cli.specs.Outputs.{log_line, log_output, name_line}
 
 -- each commit beside what is found of it

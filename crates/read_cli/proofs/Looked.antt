@@ -17,13 +17,13 @@ use Rattle.proj_io.specs.Counts.{Counts}
 use Rattle.proj_io.specs.Views.{SinkView}
 use Rattle.proj_words.specs.declared.outcome.Outcome.{Outcome}
 use Rattle.proj_words.specs.declared.outcome.Outcome.TheVariants.{Collision, Done, OutOfMemory, ReadFault, StoreFault, UnknownRef, WriteFault}
-use Rattle.proj_cli.specs.Cases.{head_of, is_verdict}
-use Rattle.proj_cli.specs.Hands.{Hand, IsInHands}
-use Rattle.proj_cli.specs.Refusals.{apply_outcome}
+use Rattle.proj_commands.specs.Cases.{head_of, is_verdict}
+use Rattle.proj_commands.specs.Hands.{Hand, IsInHands}
+use Rattle.proj_commands.specs.Refusals.{apply_outcome}
 use Rattle.proj_cli.specs.Sent.{IsConcluded, IsSent}
 use Rattle.read_cli.specs.Answers.{IsGiven, IsOutcome, text_of}
 use Rattle.read_cli.specs.Looks.{IsAtHand, IsEnd, IsLooked, IsLookedFor, IsReport, IsUnreported, IsUnshown, IsWriteOutcome}
-use Rattle.proj_cli.proofs.InHands.{twice-at}
+use Rattle.proj_commands.proofs.InHands.{twice-at}
 
 -- ---- nothing written
 

@@ -14,7 +14,7 @@ use Rattle.projection_laws.specs.ProjectionLaws.{HistoryLaw}
 use Rattle.projection_laws.specs.Projections.{shown_of}
 use Rattle.state_items.specs.Items.{Held}
 use Rattle.incremental_export.specs.Unreached.{unreached}
-use Rattle.proj_cli.proofs.Exports.{ends-at}
+use Rattle.proj_commands.proofs.Exports.{ends-at}
 use Rattle.read_cli.specs.Answers.{EndsNew}
 use Rattle.read_cli.specs.Outputs.{projected_graph}
 

@@ -17,9 +17,9 @@ use Rattle.tag_objects.specs.declared.tag.Tag.{Tag}
 use Rattle.tag_objects.proofs.TagLists.{less, rise_from}
 use Rattle.state_items.specs.Appending.{are_tags}
 use Rattle.state_items.specs.Items.{Held}
-use Rattle.proj_cli.specs.Export.{exported, tags_beside}
-use Rattle.proj_cli.specs.Tags.{shown_tags}
-use Rattle.proj_cli.proofs.ShownTags.{are-tags}
+use Rattle.proj_commands.specs.Export.{exported, tags_beside}
+use Rattle.proj_commands.specs.Tags.{shown_tags}
+use Rattle.proj_commands.proofs.ShownTags.{are-tags}
 use Rattle.repo_ground.proofs.CommitGraphs.{stored-graph}
 use Rattle.read_cli.specs.Outputs.{new_commits, new_tags}
 

@@ -23,13 +23,13 @@ use Rattle.state_items.proofs.ReadEntries.{read-law}
 use Rattle.repo_ground.specs.Contents.{Contents}
 use Rattle.proj_words.specs.declared.outcome.Outcome.{Outcome}
 use Rattle.proj_words.specs.declared.outcome.Outcome.TheVariants.{UnknownRef}
-use Rattle.proj_cli.specs.Export.{export_hand}
-use Rattle.proj_cli.specs.Hands.{still_hand}
-use Rattle.proj_cli.specs.Makes.{IsStateOf}
+use Rattle.proj_commands.specs.Export.{export_hand}
+use Rattle.proj_commands.specs.Hands.{still_hand}
+use Rattle.proj_commands.specs.Makes.{IsStateOf}
 use Rattle.read_cli.specs.Answers.{IsGiven, IsNewLawful, IsReadBackUpon, OfHead}
 use Rattle.read_cli.specs.Looks.{AreFresh, AreNew, IsAtHand, IsLookedFor, IsUnshown, IsWriteOutcome, at_head}
 use Rattle.read_cli.specs.Outputs.{new_output, new_tags, original_commits, originals_output}
-use Rattle.proj_cli.proofs.Exports.{found-name}
+use Rattle.proj_commands.proofs.Exports.{found-name}
 use Rattle.read_cli.proofs.NewEnds.{ends-new}
 use Rattle.read_cli.proofs.NewTags.{tags-new}
 use Rattle.read_cli.proofs.Looked.{looked-at, unshown-looked, written-looked}

@@ -28,11 +28,11 @@ use Rattle.incremental_export.specs.TagLaws.{IsTaggedUpon, tagged_changes}
 use Rattle.tag_objects.specs.declared.tag.Tag.{Tag}
 use Rattle.proj_words.specs.declared.outcome.Outcome.{Outcome}
 use Rattle.proj_words.specs.declared.outcome.Outcome.TheVariants.{Done, OutOfMemory, Collision, ReadFault, WriteFault, StoreFault}
-use Rattle.proj_cli.specs.Cases.{head_of, loaded}
-use Rattle.proj_cli.specs.Export.{tags_beside}
-use Rattle.proj_cli.specs.Filters.{projected, sound}
-use Rattle.proj_cli.specs.Hands.{IsInHands, own}
-use Rattle.proj_cli.specs.Sent.{Fronts}
+use Rattle.proj_commands.specs.Cases.{head_of, loaded}
+use Rattle.proj_commands.specs.Export.{tags_beside}
+use Rattle.proj_commands.specs.Filters.{projected, sound}
+use Rattle.proj_commands.specs.Hands.{IsInHands, own}
+use Rattle.proj_commands.specs.Makes.{Fronts}
 use Rattle.read_cli.specs.Outputs.{hands, new_commits, new_tags, original_commits, output, projected_graph}
 use Rattle.read_cli.specs.Readings.{Reading, New, Originals}
 

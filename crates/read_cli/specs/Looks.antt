@@ -23,9 +23,9 @@ use Rattle.workspace.specs.Laws.{IsUsable}
 use Rattle.proj_words.specs.Outcomes.{text_of as outcome_text}
 use Rattle.proj_words.specs.declared.outcome.Outcome.{Outcome}
 use Rattle.proj_words.specs.declared.outcome.Outcome.TheVariants.{Collision, Done, OutOfMemory, UnknownRef, Usage, WriteFault}
-use Rattle.proj_cli.specs.Cases.{head_of}
-use Rattle.proj_cli.specs.Filters.{sound}
-use Rattle.proj_cli.specs.Hands.{Hand, IsInHands}
+use Rattle.proj_commands.specs.Cases.{head_of}
+use Rattle.proj_commands.specs.Filters.{sound}
+use Rattle.proj_commands.specs.Hands.{Hand, IsInHands}
 use Rattle.read_cli.specs.Answers.{IsGiven, IsOutcome, IsReadBackUpon, IsTaggedBackUpon, text_of}
 use Rattle.read_cli.specs.Outputs.{new_commits, new_tags, projected_graph}
 use Rattle.read_cli.specs.Readings.{Reading, Refs, Log, Check, New, Originals, Unknown, names_of, new_of, originals_of, verdict}

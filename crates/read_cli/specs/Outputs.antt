@@ -26,12 +26,12 @@ use Rattle.proj_words.specs.Faults.{route_outcome}
 use Rattle.proj_words.specs.Outcomes.{text_of}
 use Rattle.proj_words.specs.declared.outcome.Outcome.{Outcome}
 use Rattle.proj_words.specs.declared.outcome.Outcome.TheVariants.{Usage}
-use Rattle.proj_cli.specs.Cases.{head_of}
-use Rattle.proj_cli.specs.Export.{export_hand, tags_beside}
-use Rattle.proj_cli.specs.Filters.{rule_by, sound}
-use Rattle.proj_cli.specs.Hands.{Hand, seen_hand, still_hand}
-use Rattle.proj_cli.specs.Import.{ref_line}
-use Rattle.proj_cli.specs.Tags.{shown_before}
+use Rattle.proj_commands.specs.Cases.{head_of}
+use Rattle.proj_commands.specs.Export.{export_hand, tags_beside}
+use Rattle.proj_commands.specs.Filters.{rule_by, sound}
+use Rattle.proj_commands.specs.Hands.{Hand, seen_hand, still_hand}
+use Rattle.proj_commands.specs.Import.{ref_line}
+use Rattle.proj_commands.specs.Tags.{shown_before}
 use Rattle.read_cli.specs.Readings.{Reading, Refs, Log, Check, New, Originals, Unknown}
 
 -- ---- refs

@@ -7,8 +7,8 @@ use Rattle.git_objects.specs.Results.{◌>>=◌}
 use Rattle.path_names.specs.RefNames.{is_ref_name}
 use Rattle.proj_words.specs.declared.outcome.Outcome.{Outcome}
 use Rattle.proj_words.specs.declared.outcome.Outcome.TheVariants.{Usage}
-use Rattle.proj_cli.specs.Cases.{is_verdict}
-use Rattle.proj_cli.specs.Filters.{sound}
+use Rattle.proj_commands.specs.Cases.{is_verdict}
+use Rattle.proj_commands.specs.Filters.{sound}
 
 pub data Reading : Type 0 where
   -- the refs

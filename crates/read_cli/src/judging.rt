@@ -2,7 +2,7 @@
 ghost use Rattle.std.specs.Prelude.{◌≡◌, ◌⊎◌, map, string_bytes, Err, IfErr, IfOk, IsSome, Some, true};
 ghost use Rattle.git_objects.specs.Parts.{name_bytes};
 ghost use Rattle.path_names.specs.RefNames.{is_ref_name};
-ghost use Rattle.proj_cli.specs.Filters.{sound};
+ghost use Rattle.proj_commands.specs.Filters.{sound};
 ghost use Rattle.read_cli.specs.Readings.{names_of};
 ghost use Rattle.read_cli.specs.Looks.{IsAsked, IsFormed, IsSubject, IsUnjudged, form_reading};
 
@@ -10,7 +10,8 @@ use crate::words::Form;
 use filter_text::Filter;
 use git_objects::Name;
 use path_names::{RefFault, RefName};
-use proj_cli::{Outcome, sound_filter};
+use proj_cli::Outcome;
+use proj_commands::sound_filter;
 use std::alloc::{AllocError, Global};
 
 /// A sound filter, and a ref's name.

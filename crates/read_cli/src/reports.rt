@@ -4,12 +4,13 @@ ghost use Rattle.std.specs.Option.{option_map};
 ghost use Rattle.git_objects.specs.Parts.{name_bytes};
 ghost use Rattle.fast_import.specs.Replaying.{setting_value};
 ghost use Rattle.state_items.specs.Changes.{with_refs};
-ghost use Rattle.proj_cli.specs.Import.{ref_line};
+ghost use Rattle.proj_commands.specs.Import.{ref_line};
 ghost use Rattle.read_cli.specs.Outputs.{name_line};
 
 use fast_import::Setting;
 use git_objects::{Bytes, Name};
-use proj_cli::{Outcome, refs_report};
+use proj_cli::Outcome;
+use proj_commands::refs_report;
 use ref_store::Refs;
 use std::alloc::{AllocError, Global};
 use std::collections::BTreeMap;

@@ -7,9 +7,10 @@ use Rattle.proj_words.specs.Entries.{Entry}
 use Rattle.proj_words.specs.Views.{entry_value}
 use Rattle.proj_words.specs.declared.outcome.Outcome.TheVariants.{Done, StoreFault}
 use Rattle.state_items.specs.Items.{Held}
-use Rattle.proj_cli.proofs.BatchesRun.{AreAnswered, answered-early, answered-last, answered-more, answered-other, answered-stops, behind-some, counts-since, counts-without, entries-at, entries-more, none-answered, run-done, take-all}
+use Rattle.proj_cli.proofs.BatchesRun.{AreAnswered, answered-early, answered-last, answered-more, answered-other, answered-stops, behind-some, counts-since, counts-without, entries-at, entries-more, none-answered, run-done}
 use Rattle.proj_cli.proofs.Fronts.{grows-on, grows-self}
 use Rattle.proj_cli.proofs.batching.answer_entries.Goals as goal
+use Rattle.proj_commands.proofs.InputsRead.{take-all}
 
 pub loop-entry-init : goal.loop-entry-init
 loop-entry-init g c =

@@ -5,11 +5,12 @@ use Rattle.proj_io.specs.Stops.{OnlyAdds}
 use Rattle.proj_io.specs.Views.{SourceView, keeper_view, sink_view}
 use Rattle.proj_words.specs.Views.{entry_value}
 use Rattle.proj_words.specs.Words.{Command}
-use Rattle.proj_cli.specs.Running.{IsCommandMade, IsStateBehind}
+use Rattle.proj_cli.specs.Running.{IsStateBehind}
 use Rattle.proj_cli.specs.Turns.{Turn, items_after}
 use Rattle.proj_cli.proofs.EntriesAnswered.{entry-replied, number-replied, store-made, store-told, turn-adds}
 use Rattle.proj_cli.proofs.Fronts.{command-grows}
 use Rattle.proj_cli.proofs.batching.answer_entry.Goals as goal
+use Rattle.proj_commands.specs.Makes.{IsCommandMade}
 
 pub run_upon-made-requires-clause-state : goal.run_upon-made-requires-clause-state
 run_upon-made-requires-clause-state g c = let w = c.requires.state in (items_after w.0 w.1, w.2.held, w.2.state)

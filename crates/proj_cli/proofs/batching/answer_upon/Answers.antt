@@ -8,9 +8,9 @@ use Rattle.proj_cli.specs.Batches.{BatchLeaves, IsLeftBy}
 use Rattle.proj_cli.specs.Turns.{loading}
 use Rattle.proj_cli.proofs.BatchesAnswered.{batch-run, batch-unloaded, leaves-run, loading-whole}
 use Rattle.proj_cli.proofs.BatchesRun.{counts-since}
-use Rattle.proj_cli.proofs.Forming.{adds-nothing, loaded-state, still-told}
+use Rattle.proj_commands.proofs.Forming.{adds-nothing, loaded-state, still-told}
 use Rattle.proj_cli.proofs.Fronts.{grows-on, grows-still}
-use Rattle.proj_cli.proofs.Refusing.{none-read, none-written, of-counts}
+use Rattle.proj_commands.proofs.Refusing.{none-read, none-written, of-counts}
 use Rattle.proj_cli.proofs.batching.answer_upon.Goals as goal
 
 pub returns-in-Err-clause-run : goal.returns-in-Err-clause-run

@@ -12,9 +12,9 @@ use Rattle.proj_cli.specs.Batches.{BatchLeaves, IsBatchBy}
 use Rattle.proj_cli.proofs.BatchesAnswered.{begun-loads, early-adds, early-answer, entry-own, entry-verdict, unread-run, unspelled-run}
 use Rattle.proj_cli.proofs.BatchesRun.{counts-without}
 use Rattle.proj_cli.proofs.Delivering.{after, before}
-use Rattle.proj_cli.proofs.Forming.{keeps-self}
+use Rattle.proj_commands.proofs.Forming.{keeps-self}
 use Rattle.proj_cli.proofs.Fronts.{grows-self}
-use Rattle.proj_cli.proofs.InputsRead.{unread-other, unread-store, unread-write}
+use Rattle.proj_commands.proofs.InputsRead.{unread-other, unread-store, unread-write}
 use Rattle.proj_cli.proofs.batching.batch.Goals as goal
 
 pub returns-in-Err-clause-answer : goal.returns-in-Err-clause-answer

@@ -7,15 +7,15 @@ use Rattle.repo_ground.proofs.Stopping.{adds_none}
 use Rattle.proj_words.specs.Views.{command_of}
 use Rattle.proj_words.specs.Words.{Command}
 use Rattle.proj_cli.specs.Calls.{devices}
-use Rattle.proj_cli.specs.Cases.{verdict}
+use Rattle.proj_commands.specs.Cases.{verdict}
 use Rattle.proj_cli.specs.Runs.{IsAnswer, MayLeave}
-use Rattle.proj_cli.specs.Stopped.{ForInput}
 use Rattle.proj_cli.proofs.Delivering.{after, before}
 use Rattle.proj_cli.proofs.Dispatching.{batch-adds, one-answer, trial-answer}
 use Rattle.proj_cli.proofs.Fronts.{grows-self}
 use Rattle.proj_cli.proofs.Joining.{concluded}
-use Rattle.proj_cli.proofs.Judged.{judged-whole}
-use Rattle.proj_cli.proofs.Lengthening.{for-any}
+use Rattle.proj_commands.proofs.JudgedCases.{judged-whole}
+use Rattle.proj_commands.specs.Inputs.{ForInput}
+use Rattle.proj_commands.proofs.InputsRead.{for-any}
 use Rattle.proj_cli.proofs.Making.{unjudged-made}
 use Rattle.proj_cli.proofs.program.act.Goals as goal
 

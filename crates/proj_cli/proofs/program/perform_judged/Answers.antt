@@ -10,25 +10,26 @@ use Rattle.proj_words.specs.Words.{Command, As, Export, ExportTags, Name, loads,
 use Rattle.proj_words.specs.declared.outcome.Outcome.{Outcome}
 use Rattle.proj_words.specs.declared.outcome.Outcome.TheVariants.{StoreFault}
 use Rattle.proj_cli.specs.Calls.{devices}
-use Rattle.proj_cli.specs.Cases.{Case, NameCase, VerifyCase, loaded}
-use Rattle.proj_cli.specs.Steps.{case}
-use Rattle.proj_cli.specs.Forms.{IsExport, IsMade, exported_case, user_exported_case}
-use Rattle.proj_cli.specs.Judging.{IsClaimed, IsJudged, IsOf}
+use Rattle.proj_commands.specs.Cases.{Case, NameCase, VerifyCase, loaded}
+use Rattle.proj_commands.specs.Steps.{case}
+use Rattle.proj_commands.specs.Forms.{IsExport, IsMade, exported_case, user_exported_case}
+use Rattle.proj_commands.specs.Judging.{IsClaimed, IsJudged, IsOf}
 use Rattle.proj_cli.specs.Runs.{IsAnswer, MayLeave}
 use Rattle.proj_cli.specs.Sent.{IsConcluded}
-use Rattle.proj_cli.proofs.AloneForms.{claim-alone, name-alone}
+use Rattle.proj_commands.proofs.AloneForms.{claim-alone, name-alone}
 use Rattle.proj_cli.proofs.Delivering.{after, before}
 use Rattle.proj_cli.proofs.Dispatching.{judged-one, one-adds, one-answer}
 use Rattle.proj_cli.proofs.ExportAnswers.{export-answer, export-case, tagged-export-case, user-export-case}
-use Rattle.proj_cli.proofs.Forming.{adds-nothing}
+use Rattle.proj_commands.proofs.Forming.{adds-nothing}
 use Rattle.proj_cli.proofs.Fronts.{form-grows, grows-self, grows-still}
 use Rattle.proj_cli.proofs.Joining.{concluded}
-use Rattle.proj_cli.proofs.Judged.{claim-case, is_stored, judged-loads, read-filter}
-use Rattle.proj_cli.proofs.Lengthening.{for-any, form-adds}
+use Rattle.proj_commands.proofs.JudgedCases.{claim-case, is_stored, judged-loads, read-filter}
+use Rattle.proj_cli.proofs.Lengthening.{form-adds}
 use Rattle.proj_cli.proofs.Making.{alone-form}
-use Rattle.proj_cli.proofs.Verdicts.{apart-judged}
+use Rattle.proj_commands.proofs.Verdicts.{apart-judged}
 use Rattle.proj_cli.proofs.program.perform_judged.Goals as goal
-use Rattle.proj_cli.specs.Import.{tagged_ran}
+use Rattle.proj_commands.specs.Import.{tagged_ran}
+use Rattle.proj_commands.proofs.InputsRead.{for-any}
 
 pub returns-in-Export-clause-fronts : goal.returns-in-Export-clause-fronts
 returns-in-Export-clause-fronts g c = λ (items : List Bytes) told apart. let kept = c.export_loaded.ensures.kept in grows-still items _ _ told kept.items _ _ _ _ kept.stops

@@ -9,20 +9,19 @@ use Rattle.proj_words.specs.Words.{Command}
 use Rattle.proj_words.specs.declared.outcome.Outcome.{Outcome}
 use Rattle.repo_ground.specs.Contents.{room_in}
 use Rattle.state_items.specs.Items.{Held}
-use Rattle.proj_cli.specs.Cases.{break_outcome, loaded}
-use Rattle.proj_cli.specs.Steps.{case}
-use Rattle.proj_cli.specs.Forms.{IsForm}
-use Rattle.proj_cli.specs.Intake.{TakesUpTo, waited_by}
-use Rattle.proj_cli.specs.Makes.{IsAtHand}
-use Rattle.proj_cli.specs.Running.{IsCommandMade}
-use Rattle.proj_cli.proofs.CommandsMade.{unwritten-kept}
-use Rattle.proj_cli.proofs.Forming.{command-form, keeps-on, loaded-state, used-on}
-use Rattle.proj_cli.proofs.Intaking.{takes-none}
-use Rattle.proj_cli.proofs.Judged.{case-unloaded, loaded-holds, state-of}
+use Rattle.proj_commands.specs.Cases.{break_outcome, loaded}
+use Rattle.proj_commands.specs.Steps.{case}
+use Rattle.proj_commands.specs.Forms.{IsForm}
+use Rattle.proj_commands.specs.Intake.{TakesUpTo, waited_by}
+use Rattle.proj_commands.specs.Makes.{IsAtHand, IsCommandMade}
+use Rattle.proj_commands.proofs.CommandsMade.{unwritten-kept}
+use Rattle.proj_commands.proofs.Forming.{command-form, keeps-on, loaded-state, used-on}
+use Rattle.proj_commands.proofs.Intaking.{takes-none}
+use Rattle.proj_commands.proofs.JudgedCases.{case-unloaded, loaded-holds, state-of}
 use Rattle.proj_cli.proofs.Lengthening.{for-later}
 use Rattle.proj_cli.proofs.Making.{unloaded-made, whole-made}
-use Rattle.proj_cli.proofs.Refusing.{load-refused, none-read, of-counts, refused-form}
-use Rattle.proj_cli.proofs.Verdicts.{reported-judged}
+use Rattle.proj_commands.proofs.Refusing.{load-refused, none-read, of-counts, refused-form}
+use Rattle.proj_commands.proofs.Verdicts.{reported-judged}
 use Rattle.proj_cli.proofs.program.perform_loaded.Goals as goal
 
 pub returns-in-Err-clause-made : goal.returns-in-Err-clause-made

@@ -4,9 +4,9 @@ use Rattle.git_objects.specs.Paths.{Bytes}
 use Rattle.proj_io.specs.Stops.{OnlyAdds}
 use Rattle.proj_words.specs.Words.{command, loads, reads}
 use Rattle.proj_cli.specs.Calls.{devices}
-use Rattle.proj_cli.specs.Cases.{is_one, verdict}
+use Rattle.proj_commands.specs.Cases.{is_one, verdict}
+use Rattle.proj_commands.specs.Inputs.{ForInput}
 use Rattle.proj_cli.specs.Runs.{IsAnswer, MayLeave}
-use Rattle.proj_cli.specs.Stopped.{ForInput}
 use Rattle.proj_cli.proofs.Dispatching.{complete, finished}
 use Rattle.proj_cli.proofs.Fronts.{grows-began}
 use Rattle.proj_cli.proofs.Lengthening.{usage-stays, no-fault, since-began, still-there}

@@ -7,12 +7,13 @@ use Rattle.proj_journal.specs.Journals.{ListsLeft, disk_of, items_counted, items
 use Rattle.proj_journal.specs.Spelling.{listed}
 use Rattle.proj_words.specs.Outcomes.{code_of}
 use Rattle.proj_words.specs.Words.{command}
-use Rattle.proj_cli.specs.Stopped.{ForInput, IsBetween, OnlyGrows}
+use Rattle.proj_cli.specs.Stopped.{IsBetween, OnlyGrows}
 use Rattle.proj_cli.specs.Served.{IsServed, IsWhole, LeavesKind, LeavesWhole, error_code, seen}
 use Rattle.proj_cli.proofs.DiskLists.{lists_add, run_fronts, run_stops, settled_steady, steady_stops, steady_whole, told_begun, unopened_grows, unopened_left, unopened_stops, whole_some}
 use Rattle.proj_cli.proofs.Lengthening.{for-later}
 use Rattle.proj_cli.proofs.Lifting.{ran_on}
 use Rattle.proj_cli.proofs.serving.serve.Goals as goal
+use Rattle.proj_commands.specs.Inputs.{ForInput}
 
 pub returns-in-Ok-clause-served : goal.returns-in-Ok-clause-served
 returns-in-Ok-clause-served g c =

@@ -9,12 +9,12 @@ use Rattle.repo_ground.specs.contracts.state.State.{the_view}
 use Rattle.proj_words.specs.Words.{Export}
 use Rattle.proj_words.specs.declared.outcome.Outcome.{Outcome}
 use Rattle.proj_words.specs.declared.outcome.Outcome.TheVariants.{OutOfMemory}
-use Rattle.proj_cli.specs.Steps.{case}
-use Rattle.proj_cli.specs.Cases.{loaded}
-use Rattle.proj_cli.specs.Makes.{hands_of}
+use Rattle.proj_commands.specs.Steps.{case}
+use Rattle.proj_commands.specs.Cases.{loaded}
+use Rattle.proj_commands.specs.Makes.{hands_of}
 use Rattle.proj_cli.specs.Trying.{IsEnded, IsLine, IsTried, line_of}
-use Rattle.proj_cli.proofs.NamesGiven.{passed-whole}
-use Rattle.proj_cli.proofs.StatesShown.{head-placed}
+use Rattle.proj_commands.proofs.NamesGiven.{passed-whole}
+use Rattle.proj_commands.proofs.StatesShown.{head-placed}
 use Rattle.proj_cli.proofs.TrialParts.{line-ended, line-is, line-tried, line-unsound, no-line}
 use Rattle.proj_cli.proofs.trying.add_history_line.Goals as goal
 

@@ -5,14 +5,14 @@ use Rattle.filter_text.specs.Shapes.{shape}
 use Rattle.repo_ground.specs.Contents.{Contents}
 use Rattle.repo_ground.specs.contracts.state.State.{the_view}
 use Rattle.proj_words.specs.declared.outcome.Outcome.{Outcome}
-use Rattle.proj_cli.specs.Push.{push_case}
-use Rattle.proj_cli.specs.declared.lines.Telling.TheVariants.{Both}
-use Rattle.proj_cli.specs.Makes.{hands_of}
+use Rattle.proj_commands.specs.Push.{push_case}
+use Rattle.proj_commands.specs.declared.lines.Telling.TheVariants.{Both}
+use Rattle.proj_commands.specs.Makes.{hands_of}
 use Rattle.proj_cli.specs.Trying.{IsEnded, IsTried, from_of}
-use Rattle.proj_cli.proofs.StatesShown.{head-placed}
+use Rattle.proj_commands.proofs.StatesShown.{head-placed}
 use Rattle.proj_cli.proofs.TrialParts.{head-seen, head-unseen, no-head}
 use Rattle.proj_cli.proofs.trying.head_projection.Goals as goal
-use Rattle.proj_cli.specs.declared.pushing.Manner.TheVariants.{InLine}
+use Rattle.proj_commands.specs.declared.pushing.Manner.TheVariants.{InLine}
 
 pub returns-in_default : goal.returns-in_default
 returns-in_default c = λ items h hands all w.

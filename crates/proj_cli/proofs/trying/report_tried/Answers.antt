@@ -1,7 +1,7 @@
 -- Proves what src/trying.rt needs of `report_tried`.
 use Rattle.git_objects.specs.Paths.{Bytes}
 use Rattle.proj_cli.specs.Trials.{third_hands}
-use Rattle.proj_cli.proofs.NamesGiven.{passed-whole}
+use Rattle.proj_commands.proofs.NamesGiven.{passed-whole}
 use Rattle.proj_cli.proofs.TrialReports.{IsTrialTold, trial-calm, trial-ended, trial-reported, trial-told}
 use Rattle.proj_cli.proofs.trying.report_tried.Goals as goal
 

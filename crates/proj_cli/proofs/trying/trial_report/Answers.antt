@@ -7,10 +7,10 @@ use Rattle.repo_ground.specs.contracts.state.State.{the_view}
 use Rattle.proj_words.specs.TrialTexts.{TrialPush, first_push, second_push, third_push}
 use Rattle.proj_words.specs.declared.outcome.Outcome.{Outcome}
 use Rattle.proj_words.specs.declared.outcome.Outcome.TheVariants.{OutOfMemory}
-use Rattle.proj_cli.specs.Makes.{IsStateOf}
+use Rattle.proj_commands.specs.Makes.{IsStateOf}
 use Rattle.proj_cli.specs.Trials.{report_hands, report_of}
 use Rattle.proj_cli.specs.Trying.{IsEnded, IsToldOf}
-use Rattle.proj_cli.proofs.NamesGiven.{passed-whole}
+use Rattle.proj_commands.proofs.NamesGiven.{passed-whole}
 use Rattle.proj_cli.proofs.TrialParts.{commits-counted}
 use Rattle.proj_cli.proofs.TrialPushes.{main-named}
 use Rattle.proj_cli.proofs.TrialReports.{first-told, line-named, none-told, report-told, second-told, with_first, with_second}

@@ -4,7 +4,7 @@ use Rattle.proj_words.specs.TrialTexts.{first_push, second_push, third_push}
 use Rattle.proj_words.specs.Views.{push_value}
 use Rattle.proj_cli.specs.Trials.{first_hands, first_left, import_hands, import_left, second_hands, second_left, third_hands, third_left}
 use Rattle.proj_cli.specs.Trying.{IsLeft}
-use Rattle.proj_cli.proofs.NamesGiven.{passed-whole}
+use Rattle.proj_commands.proofs.NamesGiven.{passed-whole}
 use Rattle.proj_cli.proofs.TrialPushes.{first-ended, next-tried, none-imported, second-ended}
 use Rattle.proj_cli.proofs.trying.tried.Goals as goal
 

@@ -5,7 +5,7 @@ use Rattle.state_items.specs.Items.{nothing}
 use Rattle.proj_words.specs.declared.outcome.Outcome.TheVariants.{OutOfMemory, ReadFault, StoreFault}
 use Rattle.proj_cli.specs.Trials.{import_hands, import_left}
 use Rattle.proj_cli.specs.Trying.{IsLeft}
-use Rattle.proj_cli.proofs.NamesGiven.{passed-whole}
+use Rattle.proj_commands.proofs.NamesGiven.{passed-whole}
 use Rattle.proj_cli.proofs.TrialSteps.{never-fault}
 use Rattle.proj_cli.proofs.TrialPushes.{empty-tried, import-counted, import-done, import-ended}
 use Rattle.proj_cli.proofs.trying.try_import.Goals as goal

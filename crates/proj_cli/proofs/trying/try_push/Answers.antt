@@ -8,7 +8,7 @@ use Rattle.proj_words.specs.Views.{push_value}
 use Rattle.proj_words.specs.declared.outcome.Outcome.TheVariants.{OutOfMemory, ReadFault, StoreFault}
 use Rattle.proj_cli.specs.Trials.{push_hands, push_left}
 use Rattle.proj_cli.specs.Trying.{IsLeft}
-use Rattle.proj_cli.proofs.NamesGiven.{passed-whole}
+use Rattle.proj_commands.proofs.NamesGiven.{passed-whole}
 use Rattle.proj_cli.proofs.TrialSteps.{never-fault}
 use Rattle.proj_cli.proofs.TrialPushes.{from-ended, main-named, push-counted, push-done, push-ended, unsound-left}
 use Rattle.proj_cli.proofs.trying.try_push.Goals as goal

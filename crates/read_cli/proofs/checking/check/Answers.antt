@@ -9,9 +9,9 @@ use Rattle.proj_words.specs.declared.outcome.Outcome.{Outcome}
 use Rattle.projection_ground.specs.Grounds.{IsShownOf, commits_of}
 use Rattle.repo_ground.specs.Contents.{Contents}
 use Rattle.repo_ground.specs.contracts.state.State.{the_view}
-use Rattle.proj_cli.specs.Hands.{seen_hand}
-use Rattle.proj_cli.specs.Makes.{IsStateOf}
-use Rattle.proj_cli.proofs.StatesShown.{head-placed}
+use Rattle.proj_commands.specs.Hands.{seen_hand}
+use Rattle.proj_commands.specs.Makes.{IsStateOf}
+use Rattle.proj_commands.proofs.StatesShown.{head-placed}
 use Rattle.read_cli.specs.Looks.{at_head, IsReport}
 use Rattle.read_cli.specs.Outputs.{check_output}
 use Rattle.read_cli.proofs.Checked.{checked-held}

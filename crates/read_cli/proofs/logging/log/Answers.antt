@@ -11,9 +11,9 @@ use Rattle.history_ground.specs.Heads.{IsSeenObject}
 use Rattle.proj_words.specs.declared.outcome.Outcome.{Outcome}
 use Rattle.repo_ground.specs.Contents.{Contents}
 use Rattle.repo_ground.specs.contracts.state.State.{the_view}
-use Rattle.proj_cli.specs.Hands.{seen_hand}
-use Rattle.proj_cli.specs.Makes.{IsStateOf}
-use Rattle.proj_cli.proofs.StatesShown.{head-placed}
+use Rattle.proj_commands.specs.Hands.{seen_hand}
+use Rattle.proj_commands.specs.Makes.{IsStateOf}
+use Rattle.proj_commands.proofs.StatesShown.{head-placed}
 use Rattle.read_cli.specs.Looks.{at_head, IsReport}
 use Rattle.read_cli.specs.Outputs.{log_output}
 use Rattle.read_cli.proofs.LogLines.{lines}

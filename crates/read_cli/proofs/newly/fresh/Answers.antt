@@ -9,10 +9,10 @@ use Rattle.fast_export.specs.ExportTexts.{is_among}
 use Rattle.tag_objects.specs.declared.tag.Tag.{Tag}
 use Rattle.repo_ground.specs.Contents.{Contents}
 use Rattle.repo_ground.specs.contracts.state.State.{the_view}
-use Rattle.proj_cli.specs.Export.{export_hand}
-use Rattle.proj_cli.specs.Makes.{IsStateOf}
+use Rattle.proj_commands.specs.Export.{export_hand}
+use Rattle.proj_commands.specs.Makes.{IsStateOf}
 use Rattle.read_cli.specs.Looks.{IsAtHand, IsUnshown}
-use Rattle.proj_cli.proofs.Exports.{IsReached}
+use Rattle.proj_commands.proofs.Exports.{IsReached}
 use Rattle.read_cli.proofs.Freshness.{history-unshown, new-upon, reached-tags, tags-unshown}
 use Rattle.read_cli.proofs.newly.fresh.Goals.{in-Err-tags_of, in-Ok-tags_of}
 use Rattle.read_cli.proofs.newly.fresh.Goals as goal

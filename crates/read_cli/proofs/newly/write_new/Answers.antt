@@ -5,7 +5,7 @@ use Rattle.fast_export.specs.Histories.{snapshots_at}
 use Rattle.incremental_export.specs.ChangeTexts.{changes_text}
 use Rattle.incremental_export.specs.Histories.{tree_in}
 use Rattle.tag_objects.specs.Tags.{tags_text}
-use Rattle.proj_cli.proofs.WrittenTags.{front-behind, front-first}
+use Rattle.proj_commands.proofs.WrittenTags.{front-behind, front-first}
 use Rattle.read_cli.proofs.newly.write_new.Goals as goal
 
 pub returns-in-Err-Fault-clause-given : goal.returns-in-Err-Fault-clause-given

@@ -10,9 +10,9 @@ use Rattle.projection_ground.specs.Grounds.{commits_of}
 use Rattle.proj_io.specs.Views.{sink_view}
 use Rattle.repo_ground.specs.Contents.{Contents}
 use Rattle.repo_ground.specs.contracts.state.State.{the_view}
-use Rattle.proj_cli.specs.Hands.{still_hand}
-use Rattle.proj_cli.specs.Makes.{IsStateOf}
-use Rattle.proj_cli.proofs.StatesShown.{head-placed}
+use Rattle.proj_commands.specs.Hands.{still_hand}
+use Rattle.proj_commands.specs.Makes.{IsStateOf}
+use Rattle.proj_commands.proofs.StatesShown.{head-placed}
 use Rattle.read_cli.specs.Looks.{AreFresh, IsLookedFor, at_head}
 use Rattle.read_cli.specs.Outputs.{originals_output}
 use Rattle.read_cli.proofs.Writing.{originals-lawful, originals-looked}

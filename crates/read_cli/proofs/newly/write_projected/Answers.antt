@@ -7,8 +7,8 @@ use Rattle.filter_text.specs.Shapes.{shape}
 use Rattle.proj_io.specs.Views.{sink_view}
 use Rattle.repo_ground.specs.Contents.{Contents}
 use Rattle.repo_ground.specs.contracts.state.State.{the_view}
-use Rattle.proj_cli.specs.Export.{export_hand}
-use Rattle.proj_cli.proofs.StatesShown.{head-placed}
+use Rattle.proj_commands.specs.Export.{export_hand}
+use Rattle.proj_commands.proofs.StatesShown.{head-placed}
 use Rattle.read_cli.proofs.Looked.{unshown-undone}
 use Rattle.read_cli.proofs.Writing.{looked-as, new-as, new-lawful, new-looked, unshown-new}
 use Rattle.read_cli.proofs.newly.write_projected.Goals.{in-Err, in-Ok}

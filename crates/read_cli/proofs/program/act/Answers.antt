@@ -3,7 +3,7 @@ use Rattle.std.proofs.Common.{List, arith}
 use Rattle.git_objects.specs.Paths.{Bytes}
 use Rattle.proj_io.specs.Views.{keeper_view, sink_view}
 use Rattle.repo_ground.specs.Changes.{KeepsItems}
-use Rattle.proj_cli.proofs.Forming.{loaded-state}
+use Rattle.proj_commands.proofs.Forming.{loaded-state}
 use Rattle.read_cli.specs.Looks.{form_reading}
 use Rattle.read_cli.proofs.Answered.{looked-answer, other-rightly, unjudged-answer, unjudged-own, unloaded-answer}
 use Rattle.read_cli.proofs.JudgedForms.{unjudged-told}

@@ -9,9 +9,9 @@ use Rattle.proj_io.specs.Views.{sink_view}
 use Rattle.state_items.specs.Changes.{with_refs}
 use Rattle.state_items.specs.Items.{Held}
 use Rattle.repo_ground.specs.Contents.{Contents}
-use Rattle.proj_cli.specs.Export.{export_hand}
-use Rattle.proj_cli.specs.Hands.{still_hand}
-use Rattle.proj_cli.specs.Import.{ref_line}
+use Rattle.proj_commands.specs.Export.{export_hand}
+use Rattle.proj_commands.specs.Hands.{still_hand}
+use Rattle.proj_commands.specs.Import.{ref_line}
 use Rattle.read_cli.specs.Answers.{IsNewLawful, OfHead}
 use Rattle.read_cli.specs.Looks.{IsAsked, IsLookedFor, at_head}
 use Rattle.read_cli.specs.Outputs.{new_output, originals_output, refs_output}
