@@ -6,6 +6,7 @@ mod MadeHistories
 pub mod TakenTurns
 mod TakingLemmas
 mod HistoryEnds
+mod LastNames
 mod TrueWalking
 pub mod HeadLemmas
 mod TrueHeads

@@ -1,6 +1,7 @@
 // Histories of commits, from scratch.
 ghost use Rattle.std.specs.Prelude.{◌≡◌, ◌<◌, ◌++◌, ◌∷◌, [], None, Some, length, map};
 ghost use Rattle.std.specs.Prelude.{IfErr, IfOk, IsSome, OnOk};
+ghost use Rattle.std.specs.List.{last_or};
 ghost use Rattle.std.specs.Option.{option_map};
 ghost use Rattle.git_objects.specs.Parts.{name_bytes};
 ghost use Rattle.git_objects.specs.declared.kind.Kind.TheVariants.{Commit};
@@ -16,7 +17,8 @@ ghost use Rattle.filter_apply.specs.declared.fault.ApplyError.TheVariants.{OutOf
 ghost use Rattle.workspace.specs.Laws.{IsUsable};
 ghost use Rattle.workspace.specs.Workspaces.{shown};
 ghost use Rattle.projection_laws.specs.Histories.{AreMade};
-ghost use Rattle.projection_laws.specs.Projections.{history_graph};
+ghost use Rattle.projection_laws.specs.ProjectionLaws.{AreOfDistinctNames};
+ghost use Rattle.projection_laws.specs.Projections.{history_graph, own_commits, projection};
 ghost use Rattle.projection_laws.specs.StoredGraphs.{name_at};
 ghost use Rattle.projection_ground.specs.Asked.{IsAskedFor, IsNone};
 ghost use Rattle.projection_ground.specs.Grounds.{Extends, IsGround, commits_of};
@@ -30,6 +32,7 @@ use git_objects::{Kind, Name};
 use indexmap::IndexSet;
 use object_store::{PutError, Store};
 use projection_ground::{Asked, Ground, Turn, take_turn};
+use projection_laws::history_law;
 use std::alloc::{AllocError, Global};
 use std::mem;
 
@@ -224,6 +227,12 @@ pub fn history(
     requires head { IsSome (place_of head.now.0 ground.old.graph) }
     ensures ok { IfOk result (λ v. AreMade ground.new.store (history_graph ground.old.rule (shown (shape filter.now))
         (commits_of ground.old) head.now.0) (map name_bytes v.items)) }
+    // where no two different commits that are made have one name, the last is the projection of the head, or none
+    ensures last { IfOk result (λ v.
+        AreOfDistinctNames (own_commits ground.old.rule (shown (shape filter.now)) (commits_of ground.old)
+        (head.now.0 ∷ []))
+        → last_or None (map name_bytes v.items) ≡ option_map (λ s. s.commit)
+        (projection ground.old.rule (shown (shape filter.now)) (commits_of ground.old) head.now.0)) }
     ensures map { ground.new.map ≡ ground.old.map }
     ensures same { Extends (IsOfHistory (shape filter.now) ground.old head.now.0) ground.old ground.new }
     ensures err { IfErr result (IsApplyFault (IsOfHistory (shape filter.now) ground.old head.now.0) ground.new.store) }
@@ -231,5 +240,6 @@ pub fn history(
     let kept = mem::replace(&mut ground.map, CommitMap::new(alloc));
     let result = taken(alloc, ground, filter, head);
     ground.map = kept;
+    history_law();
     result
 }
