@@ -1,7 +1,7 @@
 -- How the replay of a whole stream ends.
 use Rattle.std.proofs.Common.{◌≡◌, ◌⊎◌, inl, inr, ◌+◌, ◌*◌, ◌-◌, ◌<◌, ◌≤◌, ℕ, Bool, true, false, cond, List, [], ◌∷◌, ◌++◌, length, Option, Some, None, Result, Ok, Err, IfSome, refl, sym, ap, subst, ◌∙◌, append_assoc, arith, length-append}
 use Rattle.std.specs.Prelude.{IsOkAnd, OnOk}
-use Rattle.std.proofs.KnownBytes.{Consumes-trans}
+use Rattle.std.proofs.KnownBytes.{Consumes-trans, Consumes-nil}
 use Rattle.std.specs.Option.{unwrap_or}
 use Rattle.std.specs.Io.KnownBytes.{Consumes, IsAtEnd}
 use Rattle.git_objects.specs.Paths.{Bytes, is_bytes}
@@ -24,7 +24,7 @@ use Rattle.fast_import.specs.Standing.{IsReplayOf, IsReplayedOf, IsStepped, IsTa
 use Rattle.stream_reader.specs.Verdicts.{Verdict, start, stopped, tagged_start, weight, with_command}
 use Rattle.fast_import.specs.TagLaws.{ReplayedTagsLaw}
 use Rattle.tag_objects.specs.TagLists.{rise}
-use Rattle.fast_import.specs.Waited.{IsTakenIn, waited_in, waited_from, waited_told}
+use Rattle.fast_import.specs.Waited.{IsTakenIn, waited_in, waited_from, waited_told, TakesWithin}
 use Rattle.fast_import.specs.Whole.{IsFed, IsGiven, IsMadeOfStreamIn, IsStreamErrorIn, IsTaggedWhole, IsWhole, IsWholeRun}
 use Rattle.fast_import.proofs.Taking.{next_near, waited-is}
 use Rattle.stream_reader.specs.declared.command.Placed.{Placed}
@@ -61,6 +61,10 @@ taken_by begins base None after given c result few least = tt
 taken_by begins base (Some bs) None given c result few least = absurd c
 taken_by begins base (Some bs) (Some cs) given c result few least =
     subst (λ (all : Bytes). (g : Bytes) × Consumes (Some bs) (Some cs) g × (length g ≤ waited_in begins base all + 33554432) × OnOk result (waited_in begins base all ≤ length g)) (sym c) (given, c, few, least)
+
+-- nothing was taken
+pub within_none : (left : Option Bytes) → TakesWithin left left
+within_none left = ([], omega arith, Consumes-nil left)
 
 module _ (begins : Progress) (base : Base) (S T : List Object) (before now : Option Bytes) (rd : Reading) (v : Replaying) (h : IsSoFar begins base S T before now rd v) where
   abbrev pub rest : Bytes
@@ -119,6 +123,13 @@ module _ (begins : Progress) (base : Base) (S T : List Object) (before now : Opt
       ap (waited_in begins base) (append_assoc h.taken g.0 (unwrap_or after [])) ∙ h.waited more (λ q. let no : ⊥ = cc in absurd no) in
       taken_by {A = Replaying} begins base before after (h.taken ++ g.0) (Consumes-trans before now after h.taken g.0 h.gone g.1) (Err e)
       (omega (arith, far, n more, next_near (step base) h.state rd.progress (grown more rd.input), h.came, g.2, length-append h.taken g.0)) tt
+
+  -- no more than a stream may have, and a piece
+  pub within_stopped : came rd ≤ STREAM_BYTES + 65536 → TakesWithin before now
+  within_stopped w = (h.taken, omega (arith, w, h.came), h.gone)
+
+  pub within_feeding : came rd ≤ STREAM_BYTES → (after : Option Bytes) → IsGiven now after 65536 → TakesWithin before after
+  within_feeding w after g = (h.taken ++ g.0, omega (arith, w, g.2, h.came, length-append h.taken g.0), Consumes-trans before now after h.taken g.0 h.gone g.1)
 
   -- ---- the reader stops
 

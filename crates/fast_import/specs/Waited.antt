@@ -1,5 +1,5 @@
 -- How far a stream is read before it is known what becomes of it.
-use Rattle.std.specs.Prelude.{◌≡◌, Bool, false, ◌+◌, ◌≤◌, ℕ, zero, suc, true, length, OnOk, IfSome, Option, Some, None, Result, Ok, Err}
+use Rattle.std.specs.Prelude.{◌≡◌, Bool, false, ◌+◌, ◌≤◌, ℕ, zero, suc, true, length, OnOk, IfSome, Option, Some, None, Result, Ok, Err, ◌^◌}
 use Rattle.std.specs.Io.KnownBytes.{Consumes}
 use Rattle.git_objects.specs.Lists.{Each}
 use Rattle.git_objects.specs.Paths.{Bytes}
@@ -61,6 +61,10 @@ IsTakenIn begins base before after result =
 
 abbrev pub IsTaken : {A E : Type 0} → Base → Option Bytes → Option Bytes → Result A E → Type 0
 IsTaken base before after result = IsTakenIn start base before after result
+
+-- at most 2^29 bytes of a source are taken, and one more
+abbrev pub TakesWithin : Option Bytes → Option Bytes → Type 0
+TakesWithin before after = (given : Bytes) × (length given ≤ 2 ^ 29 + 1) × Consumes before after given
 
 abbrev pub is_done : Command → Bool
 is_done commands.Done = true

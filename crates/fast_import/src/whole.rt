@@ -5,7 +5,7 @@ ghost use Rattle.git_objects.specs.Paths.{is_bytes};
 ghost use Rattle.git_objects.specs.declared.limits.TheConstants.{STREAM_BYTES};
 ghost use Rattle.proj_io.specs.Counts.{Counts};
 ghost use Rattle.fast_import.specs.Bases.{IsBaseIn, base_in};
-ghost use Rattle.fast_import.specs.Waited.{IsTaken, IsTakenIn};
+ghost use Rattle.fast_import.specs.Waited.{IsTaken, IsTakenIn, TakesWithin};
 ghost use Rattle.fast_import.specs.Whole.{IsFed, IsGiven, IsTaggedWhole, IsWhole, IsWholeRun};
 ghost use Rattle.stream_reader.specs.Verdicts.{tagged_start};
 ghost use Rattle.stream_reader.specs.declared.fault.StreamFault.TheVariants.{OutOfMemory};
@@ -41,6 +41,7 @@ pub fn replay_all<S: Source, B: Base>(
         (base_in store.old (B.commits base.now) (B.refs base.now) (B.blobs base.now)) store.old store.new all result }
     ensures taken { IsTaken (base_in store.old (B.commits base.now) (B.refs base.now) (B.blobs base.now))
         (S.left input.old) (S.left input.new) result }
+    ensures within { TakesWithin (S.left input.old) (S.left input.new) }
     ensures few { IfOk result (λ g. length g.commits.items ≤ STREAM_BYTES) }
     ensures told { S.tells input.new ↔ S.tells input.old }
     ensures cause { Counts (S.faults input.old) (S.faults input.new) (IsErrOf result ReplayError.ReadFault) }
@@ -66,6 +67,7 @@ pub fn replay_tagged<S: Source, B: Base>(
     ensures tags { IfOk result (λ g. rise None g.tags.items ≡ true) }
     ensures taken { IsTakenIn tagged_start (base_in store.old (B.commits base.now) (B.refs base.now) (B.blobs base.now))
         (S.left input.old) (S.left input.new) result }
+    ensures within { TakesWithin (S.left input.old) (S.left input.new) }
     ensures few { IfOk result (λ g. length g.replayed.commits.items ≤ STREAM_BYTES) }
     ensures told { S.tells input.new ↔ S.tells input.old }
     ensures cause { Counts (S.faults input.old) (S.faults input.new) (IsErrOf result ReplayError.ReadFault) }
@@ -94,6 +96,7 @@ fn run_whole<S: Source, B: Base>(
     ensures taken { IsTakenIn reader.progress
         (base_in store.old (B.commits base.now) (B.refs base.now) (B.blobs base.now))
         (S.left input.old) (S.left input.new) result }
+    ensures within { TakesWithin (S.left input.old) (S.left input.new) }
     ensures told { S.tells input.new ↔ S.tells input.old }
     ensures cause { Counts (S.faults input.old) (S.faults input.new) (IsErrOf result ReplayError.ReadFault) }
 {

@@ -7,6 +7,7 @@ ghost use Rattle.git_objects.specs.declared.limits.TheConstants.{STREAM_BYTES};
 ghost use Rattle.object_store.specs.Objects.{Object};
 ghost use Rattle.object_store.specs.Unfolding.{flat};
 ghost use Rattle.proj_io.specs.Counts.{Counts};
+ghost use Rattle.fast_import.specs.Waited.{TakesWithin};
 ghost use Rattle.fast_import.specs.Replays.{Replay as ReplayOf, target_name};
 ghost use Rattle.fast_import.specs.Standing.{IsReplayOf};
 ghost use Rattle.push_back.specs.Grounds.{from_of};
@@ -41,6 +42,7 @@ pub fn replay_merges<S: Source>(
     ensures taken { IsTakenTo (merge_waited base.now.push.refname (from_of base.now.push)
         (flat store.old base.now.push.shown.0) (projected_in store.old base.now))
         (S.left input.old) (S.left input.new) result }
+    ensures within { TakesWithin (S.left input.old) (S.left input.new) }
     ensures few { IfOk result (λ g. length g.commits.items ≤ STREAM_BYTES) }
     ensures told { S.tells input.new ↔ S.tells input.old }
     ensures cause { Counts (S.faults input.old) (S.faults input.new) (IsErrOf result PushError.ReadFault) }

@@ -10,6 +10,7 @@ ghost use Rattle.commit_graph.specs.Graphs.{place_of};
 ghost use Rattle.filter_text.specs.Shapes.{shape};
 ghost use Rattle.proj_io.specs.Counts.{Counts};
 ghost use Rattle.filter_apply.specs.Faults.{IsApplyFault};
+ghost use Rattle.fast_import.specs.Waited.{TakesWithin};
 ghost use Rattle.projection_ground.specs.Grounds.{Extends, IsGround};
 ghost use Rattle.history_ground.specs.Origins.{AreFirsts};
 ghost use Rattle.push_back.specs.Waited.{IsTakenTo};
@@ -53,6 +54,7 @@ pub fn plan_merges<S: Source>(
         IsMergePlanned (shape filter.now) refname.now head.now.0 all ground.old ground.new result }
     ensures taken { IsTakenTo (merges_waited (shape filter.now) ground.old refname.now head.now.0) (S.left input.old)
         (S.left input.new) result }
+    ensures within { TakesWithin (S.left input.old) (S.left input.new) }
     ensures told { S.tells input.new ↔ S.tells input.old }
     ensures cause { Counts (S.faults input.old) (S.faults input.new) (IsErrOf result MergeFault.ReadFault) }
 {
@@ -78,6 +80,7 @@ fn planned<S: Source>(
         IsPlannedAs (shape filter.now) refname.now head.now.0 all ground.old ground.new result }
     ensures taken { IsTakenTo (merges_waited (shape filter.now) ground.old refname.now head.now.0) (S.left input.old)
         (S.left input.new) result }
+    ensures within { TakesWithin (S.left input.old) (S.left input.new) }
     ensures told { S.tells input.new ↔ S.tells input.old }
     ensures cause { Counts (S.faults input.old) (S.faults input.new) (IsErrOf result PushFault.ReadFault) }
 {

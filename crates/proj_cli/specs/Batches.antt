@@ -1,6 +1,5 @@
 -- What comes of a batch: which of its entries were answered, what has then been written, and what the store has got.
-use Rattle.std.specs.Prelude.{◌≡◌, ◌≢◌, ◌⊎◌, ◌+◌, ◌^◌, ◌≤◌, ℕ, false, List, [], ◌∷◌, ◌++◌, length, take, Option, Some, None, Result, Ok, Err, IfSome}
-use Rattle.std.specs.Io.KnownBytes.{Consumes}
+use Rattle.std.specs.Prelude.{◌≡◌, ◌≢◌, ◌⊎◌, ℕ, false, List, [], ◌∷◌, ◌++◌, length, take, Option, Some, None, Result, Ok, Err, IfSome}
 use Rattle.git_objects.specs.Paths.{Bytes}
 use Rattle.proj_io.specs.Counts.{Rose}
 use Rattle.proj_words.specs.Entries.{Entry}
@@ -9,6 +8,7 @@ use Rattle.proj_words.specs.declared.outcome.Outcome.TheVariants.{Done, OutOfMem
 use Rattle.proj_cli.specs.Answers.{Devices, Got, Idle, IsCaused, NoneFailed, Wrote}
 use Rattle.proj_commands.specs.Cases.{is_verdict}
 use Rattle.proj_cli.specs.Turns.{AreTurns, IsLastTurn, IsSafeTurn, IsTurn, Turn, appended, begun, entries_of, items_after, turn_text, turn_texts}
+use Rattle.fast_import.specs.Waited.{TakesWithin}
 
 -- the turns whose replies were written whole, and behind them the one that was begun then, if one was
 abbrev pub all_turns : List Turn → Option Turn → List Turn
@@ -67,7 +67,7 @@ pub record IsBatchAnswer (before after : Devices) (outcome : Outcome) : Type 0 w
   -- words without a form and faults of a filter are told of entries
   pub judged : is_verdict outcome ≡ false
   -- It takes at most 2^29 bytes of its input and one more, whatever the items are: they are loaded after it is read.
-  pub taken : (given : Bytes) × (length given ≤ 2 ^ 29 + 1) × Consumes before.input.left after.input.left given
+  pub taken : TakesWithin before.input.left after.input.left
   pub run : (items : List Bytes) → before.store.items ≡ Some items → HasRun items before after outcome
 
 -- that it is done, or the first refusal before its entries

@@ -1,6 +1,7 @@
 // The top call.
 ghost use Rattle.std.specs.Prelude.{◌≡◌, ◌≢◌, ◌⊎◌, List, map, string_bytes, Some, Err, IsErr, true, false};
 ghost use Rattle.git_objects.specs.Paths.{Bytes};
+ghost use Rattle.fast_import.specs.Waited.{TakesWithin};
 ghost use Rattle.proj_io.specs.Stops.{OnlyAdds};
 ghost use Rattle.proj_io.specs.Views.{source_view, sink_view, keeper_view};
 ghost use Rattle.proj_words.specs.Words.{Command as Asked, Unknown, command, is_formed, loads, reads};
@@ -43,6 +44,7 @@ fn perform_loaded<S: Source, K: Keeper>(
         (OnlyAdds (K.moment store.old) (K.moment store.new) (K.left_since store.old) (K.left_since store.new)) result }
     ensures taken { (asked : Asked) (items : List Bytes) → IsJudged asked judged.now → K.items store.old ≡ Some items →
         TakesUpTo (waited_by (case asked (loaded items))) (S.left input.old) (S.left input.new) }
+    ensures within { TakesWithin (S.left input.old) (S.left input.new) }
     ensures caseless { (asked : Asked) (items : List Bytes) → IsJudged asked judged.now →
         K.items store.old ≡ Some items → ((all : Bytes) → IsErr (case asked (loaded items) all)) →
         input.new ≡ input.old }
@@ -76,6 +78,7 @@ fn perform_judged<S: Source, O: Sink, K: Keeper>(
         OnlyGrows items (K.items store.new) (OnlyAdds (K.moment store.old) (K.moment store.new)
         (K.left_since store.old) (K.left_since store.new)) }
     ensures unread { (asked : Asked) → IsJudged asked judged.now → reads asked ≡ false → input.new ≡ input.old }
+    ensures within { TakesWithin (S.left input.old) (S.left input.new) }
     ensures unloaded { (asked : Asked) → IsJudged asked judged.now → loads asked ≡ false → store.new ≡ store.old }
     ensures is_open { result ≢ Outcome.StoreFault → K.is_open store.new }
 {
@@ -120,6 +123,7 @@ fn act<S: Source, O: Sink, K: Keeper>(
         OnlyGrows items (K.items store.new) (OnlyAdds (K.moment store.old) (K.moment store.new)
         (K.left_since store.old) (K.left_since store.new)) }
     ensures unread { reads (command_of asked.entry) ≡ false → input.new ≡ input.old }
+    ensures within { TakesWithin (S.left input.old) (S.left input.new) }
     ensures unloaded { loads (command_of asked.entry) ≡ false → store.new ≡ store.old }
     ensures unjudged { is_one (command_of asked.entry) ≡ true → IsErr (verdict (command_of asked.entry)) →
         (input.new ≡ input.old) × (store.new ≡ store.old) }
@@ -157,6 +161,8 @@ pub fn run<S: Source, O: Sink, E: Sink, K: Keeper>(
     ensures complete { let seen = devices S.left S.faults O.written O.faults O.refusals K.items K.number K.faults in
         let asked = command (map (λ word. string_bytes word) words.now) in
         IsComplete asked (seen input.old out.old store.old) (seen input.new out.new store.new) result }
+    // At most 2^29 bytes of the input are taken, and one more.
+    ensures within { TakesWithin (S.left input.old) (S.left input.new) }
     // A form that doesn't read leaves the input, and one that doesn't load leaves the store.
     ensures untouched { let asked = command (map (λ word. string_bytes word) words.now) in
         (reads asked ≡ false → input.new ≡ input.old) × (loads asked ≡ false → store.new ≡ store.old) }

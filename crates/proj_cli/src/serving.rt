@@ -1,6 +1,7 @@
 // The program on a disk.
 ghost use Rattle.std.specs.Prelude.{◌≡◌, ◌≢◌, ◌≤◌, ◌⊎◌, [], ℕ, List, map, string_bytes};
 ghost use Rattle.std.specs.Prelude.{true, false, Some, IfErr, IfOk, IsErr, MatchResult};
+ghost use Rattle.fast_import.specs.Waited.{TakesWithin};
 ghost use Rattle.proj_io.specs.Counts.{Counts};
 ghost use Rattle.proj_io.specs.Stops.{OnlyAdds, Nothing};
 ghost use Rattle.proj_io.specs.Views.{sink_view};
@@ -130,6 +131,8 @@ pub fn serve<S: Source, O: Sink, E: Sink, D: Disk>(
         D.content D.faults in
         IsServed (command (map (λ word. string_bytes word) words.now)) ((input.new ≡ input.old) × (out.new ≡ out.old))
         (at input.old out.old err.old disk) (at input.new out.new err.new result.disk) result.status }
+    // At most 2^29 bytes of the input are taken, and one more.
+    ensures within { TakesWithin (S.left input.old) (S.left input.new) }
     // A form that doesn't read leaves the input, and so does a command whose filter is refused; for words without a
     // form nothing is written.
     ensures unread { reads (command (map (λ word. string_bytes word) words.now)) ≡ false → input.new ≡ input.old }

@@ -4,6 +4,7 @@ ghost use Rattle.std.specs.Prelude.{Ok, reverse, true, IfOk, IfSome, MatchResult
 ghost use Rattle.git_objects.specs.Paths.{Bytes};
 ghost use Rattle.git_objects.specs.Snapshots.{Snapshot};
 ghost use Rattle.projection_ground.specs.Grounds.{IsGround};
+ghost use Rattle.fast_import.specs.Waited.{TakesWithin};
 ghost use Rattle.proj_io.specs.Counts.{Counts};
 ghost use Rattle.proj_io.specs.Stops.{OnlyAdds};
 ghost use Rattle.proj_io.specs.Uses.{IsUsed};
@@ -127,6 +128,7 @@ pub fn import<S: Source, K: Keeper>(
         (IsStopOf h state.old p (K.items store.old)) }
     ensures taken { (items : List Bytes) (h : Held) → IsStateOf items h state.old →
         TakesUpTo (tagged_waited (base_of h)) (S.left input.old) (S.left input.new) }
+    ensures within { TakesWithin (S.left input.old) (S.left input.new) }
     ensures early { result ≢ Err Outcome.WriteFault }
     ensures read { Counts (S.faults input.old) (S.faults input.new) (result ≡ Err Outcome.ReadFault) }
     ensures used { IsUsed K.faults K.is_open K.tells store.old store.new (result ≡ Err Outcome.StoreFault) }

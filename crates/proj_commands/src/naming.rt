@@ -14,6 +14,7 @@ ghost use Rattle.filter_text.specs.Filters.{Filter as FilterValue};
 ghost use Rattle.filter_text.specs.Shapes.{shape};
 ghost use Rattle.projection_laws.specs.Projections.{projection_by};
 ghost use Rattle.projection_ground.specs.Grounds.{Extends, IsGround, IsShownOf, commits_of};
+ghost use Rattle.fast_import.specs.Waited.{TakesWithin};
 ghost use Rattle.proj_io.specs.Counts.{Counts};
 ghost use Rattle.proj_io.specs.Views.{KeeperView};
 ghost use Rattle.repo_ground.specs.Loads.{IsEmpty};
@@ -118,6 +119,7 @@ fn take_stream<S: Source>(
         IsReportOf (Ok (NameCase f refname (tagged_ran empty_base all))) (Err e)) }
     ensures early { (result ≢ Err Outcome.WriteFault) × (result ≢ Err Outcome.StoreFault) }
     ensures taken { TakesUpTo (tagged_waited empty_base) (S.left input.old) (S.left input.new) }
+    ensures within { TakesWithin (S.left input.old) (S.left input.new) }
     ensures told { S.tells input.new ↔ S.tells input.old }
     ensures read { Counts (S.faults input.old) (S.faults input.new) (result ≡ Err Outcome.ReadFault) }
 {
@@ -172,6 +174,7 @@ fn name_upon<S: Source>(
         IsReportOf (Ok (NameCase (shape filter.now) refname.now (tagged_ran empty_base all))) result }
     ensures early { (result ≢ Err Outcome.WriteFault) × (result ≢ Err Outcome.StoreFault) }
     ensures taken { TakesUpTo (tagged_waited empty_base) (S.left input.old) (S.left input.new) }
+    ensures within { TakesWithin (S.left input.old) (S.left input.new) }
     ensures told { S.tells input.new ↔ S.tells input.old }
     ensures read { Counts (S.faults input.old) (S.faults input.new) (result ≡ Err Outcome.ReadFault) }
 {
@@ -191,6 +194,7 @@ pub fn name<S: Source>(
         IsReportOf (Ok (NameCase (shape filter.now) refname.now (tagged_ran empty_base all))) result }
     ensures early { (result ≢ Err Outcome.WriteFault) × (result ≢ Err Outcome.StoreFault) }
     ensures taken { TakesUpTo (tagged_waited empty_base) (S.left input.old) (S.left input.new) }
+    ensures within { TakesWithin (S.left input.old) (S.left input.new) }
     ensures told { S.tells input.new ↔ S.tells input.old }
     ensures read { Counts (S.faults input.old) (S.faults input.new) (result ≡ Err Outcome.ReadFault) }
 {

@@ -1,6 +1,7 @@
 // Performing a judged command upon a state.
 ghost use Rattle.std.specs.Prelude.{◌≡◌, ◌≢◌, List, Err, IsErr, Ok, false, true};
 ghost use Rattle.git_objects.specs.Paths.{Bytes};
+ghost use Rattle.fast_import.specs.Waited.{TakesWithin};
 ghost use Rattle.proj_io.specs.Counts.{Counts};
 ghost use Rattle.proj_io.specs.Stops.{OnlyAdds};
 ghost use Rattle.proj_io.specs.Uses.{IsUsed};
@@ -54,6 +55,7 @@ pub fn perform<S: Source, K: Keeper>(
     ensures taken { (asked : Asked) (items : List Bytes) (h : Held) → IsJudged asked judged.now →
         IsStateOf items h state.old →
         TakesUpTo (waited_by (case asked (Ok h))) (S.left input.old) (S.left input.new) }
+    ensures within { TakesWithin (S.left input.old) (S.left input.new) }
     // Where no case comes up, whatever is read, nothing is read.
     ensures caseless { (asked : Asked) (items : List Bytes) (h : Held) → IsJudged asked judged.now →
         IsStateOf items h state.old → ((all : Bytes) → IsErr (case asked (Ok h) all)) → input.new ≡ input.old }
@@ -90,6 +92,7 @@ fn perform_permitted<S: Source, K: Keeper>(
     ensures taken { (asked : Asked) (items : List Bytes) (h : Held) → IsJudged asked judged.now →
         IsStateOf items h state.old →
         TakesUpTo (waited_by (case asked (Ok h))) (S.left input.old) (S.left input.new) }
+    ensures within { TakesWithin (S.left input.old) (S.left input.new) }
     // Where no case comes up, whatever is read, nothing is read.
     ensures caseless { (asked : Asked) (items : List Bytes) (h : Held) → IsJudged asked judged.now →
         IsStateOf items h state.old → ((all : Bytes) → IsErr (case asked (Ok h) all)) → input.new ≡ input.old }

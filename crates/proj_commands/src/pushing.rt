@@ -5,6 +5,7 @@ ghost use Rattle.git_objects.specs.Paths.{Bytes, is_bytes};
 ghost use Rattle.git_objects.specs.Refs.{bytes_cmp};
 ghost use Rattle.commit_graph.specs.Graphs.{place_of};
 ghost use Rattle.filter_text.specs.Shapes.{shape};
+ghost use Rattle.fast_import.specs.Waited.{TakesWithin};
 ghost use Rattle.proj_io.specs.Counts.{Counts};
 ghost use Rattle.proj_io.specs.Stops.{OnlyAdds};
 ghost use Rattle.proj_io.specs.Uses.{IsUsed};
@@ -59,6 +60,7 @@ fn planned_in_line<S: Source>(
     ensures taken { (items : List Bytes) (h : Held) → IsStateOf items h state.old →
         TakesUpTo (pushed_to Manner.InLine h (shape filter.now) refname.now head.now.0) (S.left input.old)
         (S.left input.new) }
+    ensures within { TakesWithin (S.left input.old) (S.left input.new) }
     ensures early { (result ≢ Err Outcome.WriteFault) × (result ≢ Err Outcome.StoreFault) }
     ensures told { S.tells input.new ↔ S.tells input.old }
     ensures read { Counts (S.faults input.old) (S.faults input.new) (result ≡ Err Outcome.ReadFault) }
@@ -87,6 +89,7 @@ fn planned_merging<S: Source>(
     ensures taken { (items : List Bytes) (h : Held) → IsStateOf items h state.old →
         TakesUpTo (pushed_to Manner.Merging h (shape filter.now) refname.now head.now.0) (S.left input.old)
         (S.left input.new) }
+    ensures within { TakesWithin (S.left input.old) (S.left input.new) }
     ensures early { (result ≢ Err Outcome.WriteFault) × (result ≢ Err Outcome.StoreFault) }
     ensures told { S.tells input.new ↔ S.tells input.old }
     ensures read { Counts (S.faults input.old) (S.faults input.new) (result ≡ Err Outcome.ReadFault) }
@@ -116,6 +119,7 @@ fn planned_upon<S: Source>(
     ensures taken { (items : List Bytes) (h : Held) → IsStateOf items h state.old →
         TakesUpTo (pushed_to manner h (shape filter.now) refname.now head.now.0) (S.left input.old)
         (S.left input.new) }
+    ensures within { TakesWithin (S.left input.old) (S.left input.new) }
     ensures early { (result ≢ Err Outcome.WriteFault) × (result ≢ Err Outcome.StoreFault) }
     ensures told { S.tells input.new ↔ S.tells input.old }
     ensures read { Counts (S.faults input.old) (S.faults input.new) (result ≡ Err Outcome.ReadFault) }
@@ -189,6 +193,7 @@ pub fn push<S: Source, K: Keeper>(
     ensures taken { (items : List Bytes) (h : Held) (n : Bytes) → IsStateOf items h state.old →
         find bytes_cmp refname.now h.refs ≡ Some n →
         TakesUpTo (pushed_to manner h (shape filter.now) refname.now n) (S.left input.old) (S.left input.new) }
+    ensures within { TakesWithin (S.left input.old) (S.left input.new) }
     // Where there is no such ref nothing is read.
     ensures headless { head_of state.old.refs refname.now ≡ None → input.new ≡ input.old }
     ensures early { result ≢ Err Outcome.WriteFault }

@@ -1,7 +1,7 @@
 // Reading an input whole.
-ghost use Rattle.std.specs.Prelude.{◌≡◌, ◌≤◌, ◌^◌, ◌+◌, ◌↔◌, ℕ, List, IfErr, IfOk, IfSome, Err, None};
+ghost use Rattle.std.specs.Prelude.{◌≡◌, ◌≤◌, ◌^◌, ◌↔◌, IfErr, IfOk, IfSome, Err, None};
 ghost use Rattle.std.specs.Prelude.{length, true, false};
-ghost use Rattle.std.specs.Io.KnownBytes.{Consumes};
+ghost use Rattle.fast_import.specs.Waited.{TakesWithin};
 ghost use Rattle.proj_io.specs.Counts.{Counts};
 ghost use Rattle.proj_commands.specs.Inputs.{IsUnread};
 
@@ -31,8 +31,7 @@ pub fn read_input<S: Source>(alloc: Global, input: &mut S) -> Result<Bytes, Outc
     ensures ok { IfOk result (λ bytes. IfSome (S.left input.old) (λ all. bytes ≡ all)) }
     ensures within { IfOk result (λ bytes. length bytes ≤ 2 ^ 29) }
     ensures err { IfErr result (IsUnread (S.left input.old)) }
-    ensures taken { (front : List ℕ) × (length front ≤ 2 ^ 29 + 1)
-        × Consumes (S.left input.old) (S.left input.new) front }
+    ensures taken { TakesWithin (S.left input.old) (S.left input.new) }
     ensures told { S.tells input.new ↔ S.tells input.old }
     ensures cause { Counts (S.faults input.old) (S.faults input.new) (result ≡ Err Outcome.ReadFault) }
 {

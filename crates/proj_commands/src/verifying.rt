@@ -2,6 +2,7 @@
 ghost use Rattle.std.specs.Prelude.{◌≡◌, ◌≢◌, ◌↔◌, ◌≤◌, ◌^◌, Err, IfSome, Ok, length};
 ghost use Rattle.git_objects.specs.Paths.{Bytes};
 ghost use Rattle.filter_text.specs.Shapes.{shape};
+ghost use Rattle.fast_import.specs.Waited.{TakesWithin};
 ghost use Rattle.proj_io.specs.Counts.{Counts};
 ghost use Rattle.workspace.specs.Laws.{IsUsable};
 ghost use Rattle.proj_commands.specs.Cases.{VerifyCase};
@@ -57,6 +58,7 @@ pub fn verify_text<S: Source>(
     ensures lawful { (all : Bytes) → IsVerified (shape filter.now) commit.now.0 path.now all }
     ensures early { (result ≢ Err Outcome.WriteFault) × (result ≢ Err Outcome.StoreFault) }
     ensures taken { TakesUpTo (λ all. 503316481) (S.left input.old) (S.left input.new) }
+    ensures within { TakesWithin (S.left input.old) (S.left input.new) }
     ensures told { S.tells input.new ↔ S.tells input.old }
     ensures read { Counts (S.faults input.old) (S.faults input.new) (result ≡ Err Outcome.ReadFault) }
 {

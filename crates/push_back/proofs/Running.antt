@@ -6,6 +6,7 @@ use Rattle.std.specs.Io.KnownBytes.{Consumes, IsAtEnd}
 use Rattle.std.proofs.KnownBytes.{Consumes-nil, Consumes-trans}
 use Rattle.git_objects.specs.Paths.{Bytes, is_bytes}
 use Rattle.git_objects.specs.Results.{◌>>=◌, refused_by}
+use Rattle.git_objects.specs.declared.limits.TheConstants.{STREAM_BYTES}
 use Rattle.object_store.specs.Growth.{IsGrownBy}
 use Rattle.object_store.specs.Objects.{Object, IsStore}
 use Rattle.object_store.proofs.Growth.{grown_as, grown_self, grown_then}
@@ -23,7 +24,7 @@ use Rattle.fast_import.specs.Made.{IsMadeAt, IsMadeBy}
 use Rattle.fast_import.specs.Replaying.{Replaying}
 use Rattle.fast_import.specs.Replays.{Base, Replay, nothing_yet, step}
 use Rattle.fast_import.specs.Standing.{IsReplayOf}
-use Rattle.fast_import.specs.Waited.{waited_from, waited_on, waited_told}
+use Rattle.fast_import.specs.Waited.{waited_from, waited_on, waited_told, TakesWithin}
 use Rattle.fast_import.specs.Whole.{IsFed, IsGiven}
 use Rattle.fast_import.specs.declared.replayed.Replayed.{Replayed as ReplayedNames}
 use Rattle.fast_import.proofs.Running.{Step, after-push, after_all, after_by, both_bytes, made-behind, made-front, with_all}
@@ -315,3 +316,11 @@ module _ (base : Base) (one : Step StreamRefusal) (S T : List Object) (before no
       ap (waited_by one) (append_assoc h.read.taken g.0 (unwrap_or after [])) ∙ h.waited more (open_follows rd more un) in
       taken_by {A = ReplayedNames} (waited_by one) before after (h.read.taken ++ g.0) (Consumes-trans before now after h.read.taken g.0 h.read.gone g.1) (Err e)
       (omega (arith, far, n more, next_near (as_step one) h.state rd.progress (grown more rd.input), h.read.came, g.2, length-append h.read.taken g.0)) tt
+
+  -- no more than a stream may have, and a piece
+  pub run_within : came rd ≤ STREAM_BYTES + 65536 → TakesWithin before now
+  run_within w = (h.read.taken, omega (arith, w, h.read.came), h.read.gone)
+
+  pub run_within_feeding : came rd ≤ STREAM_BYTES → (after : Option Bytes) → IsGiven now after 65536 → TakesWithin before after
+  run_within_feeding w after g =
+      (h.read.taken ++ g.0, omega (arith, w, g.2, h.read.came, length-append h.read.taken g.0), Consumes-trans before now after h.read.taken g.0 h.read.gone g.1)

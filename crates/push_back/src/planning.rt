@@ -5,6 +5,7 @@ ghost use Rattle.commit_graph.specs.Graphs.{place_of};
 ghost use Rattle.filter_text.specs.Shapes.{shape};
 ghost use Rattle.projection_ground.specs.Grounds.{IsGround};
 ghost use Rattle.proj_io.specs.Counts.{Counts};
+ghost use Rattle.fast_import.specs.Waited.{TakesWithin};
 ghost use Rattle.push_back.specs.Planning.{IsPlanned};
 ghost use Rattle.push_back.specs.Waited.{IsTakenTo, plan_waited};
 ghost use Rattle.workspace.specs.Laws.{IsUsable};
@@ -37,6 +38,7 @@ pub fn plan<S: Source>(
         IsPlanned (shape filter.now) refname.now head.now.0 all ground.old ground.new result }
     ensures taken { IsTakenTo (plan_waited (shape filter.now) ground.old refname.now head.now.0) (S.left input.old)
         (S.left input.new) result }
+    ensures within { TakesWithin (S.left input.old) (S.left input.new) }
     ensures told { S.tells input.new ↔ S.tells input.old }
     ensures cause { Counts (S.faults input.old) (S.faults input.new) (IsErrOf result PushFault.ReadFault) }
 {

@@ -5,6 +5,7 @@ ghost use Rattle.git_objects.specs.Paths.{Bytes, is_bytes};
 ghost use Rattle.git_objects.specs.declared.limits.TheConstants.{STREAM_BYTES};
 ghost use Rattle.object_store.specs.Unfolding.{flat};
 ghost use Rattle.proj_io.specs.Counts.{Counts};
+ghost use Rattle.fast_import.specs.Waited.{TakesWithin};
 ghost use Rattle.fast_import.specs.Whole.{IsFed, IsGiven};
 ghost use Rattle.push_back.specs.Grounds.{IsGroundIn, from_of};
 ghost use Rattle.push_back.specs.Replaying.{Goes, IsPushedWhole, IsRanWhole, Lasts, ran_whole};
@@ -36,6 +37,7 @@ pub fn replay_push<S: Source>(
         store.old store.new all result }
     ensures taken { IsTakenTo (push_waited base.now.refname (from_of base.now) (flat store.old base.now.shown.0))
         (S.left input.old) (S.left input.new) result }
+    ensures within { TakesWithin (S.left input.old) (S.left input.new) }
     ensures few { IfOk result (λ g. length g.commits.items ≤ STREAM_BYTES) }
     ensures told { S.tells input.new ↔ S.tells input.old }
     ensures cause { Counts (S.faults input.old) (S.faults input.new) (IsErrOf result PushError.ReadFault) }
@@ -58,6 +60,7 @@ pub fn replay_upon<S: Source, P: Pushed>(
         IsRanWhole (P.upon store.old base.now)
         (ran_whole (P.one store.old base.now) (P.refname base.now) (P.from base.now) all) store.old store.new result }
     ensures taken { IsTakenTo (waited_by (P.one store.old base.now)) (S.left input.old) (S.left input.new) result }
+    ensures within { TakesWithin (S.left input.old) (S.left input.new) }
     ensures few { IfOk result (λ g. length g.commits.items ≤ STREAM_BYTES) }
     ensures told { S.tells input.new ↔ S.tells input.old }
     ensures cause { Counts (S.faults input.old) (S.faults input.new) (IsErrOf result PushError.ReadFault) }
@@ -83,6 +86,7 @@ fn replay_by<S: Source, P: Pushed>(
         IsRanWhole (P.upon store.old base.now)
         (ran_whole (P.one store.old base.now) (P.refname base.now) (P.from base.now) all) store.old store.new result }
     ensures taken { IsTakenTo (waited_by (P.one store.old base.now)) (S.left input.old) (S.left input.new) result }
+    ensures within { TakesWithin (S.left input.old) (S.left input.new) }
     ensures few { IfOk result (λ g. length g.commits.items ≤ STREAM_BYTES) }
     ensures told { S.tells input.new ↔ S.tells input.old }
     ensures cause { Counts (S.faults input.old) (S.faults input.new) (IsErrOf result PushError.ReadFault) }

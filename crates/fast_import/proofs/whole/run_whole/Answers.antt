@@ -6,7 +6,7 @@ use Rattle.stream_reader.specs.Waited.{IsNear}
 use Rattle.fast_import.specs.declared.whole.ReplayError.TheVariants.{Stream}
 use Rattle.stream_reader.specs.declared.reader.Next.{Next}
 use Rattle.fast_import.proofs.Running.{IsSoFar, fed_waiting, is_base-so_far, nothing_so_far, one_more, stepped_so_far}
-use Rattle.fast_import.proofs.Stopping.{ahead, ahead_fed, all, all_bytes, all_given, all_told, feeding_refused, more_open, reading_refused, step_refused, taken_feeding, taken_given, taken_refused, within_fed}
+use Rattle.fast_import.proofs.Stopping.{ahead, ahead_fed, all, all_bytes, all_given, all_told, feeding_refused, more_open, reading_refused, step_refused, taken_feeding, taken_given, taken_refused, within_fed, within_feeding, within_stopped}
 use Rattle.fast_import.proofs.whole.run_whole.Goals as goal
 
 pub stream-init : goal.stream-init
@@ -132,3 +132,21 @@ returns-in-Err-feed_on-clause-taken g c =
     taken_feeding c.args.reader.progress (base_in c.args.store.now (g.B.Base.commits c.args.base.now) (g.B.Base.refs c.args.base.now) (g.B.Base.blobs c.args.base.now)) c.args.store.now c.stream.store (g.S.Source.left c.args.input.now) (g.S.Source.left c.stream.input) c.stream.reader c.stream.replay h (subst (λ (n : Next). OnMore (Ok n) (IsNear c.stream.reader)) c.in-Ok-More.field-0-is c.in-Ok-More.ensures.near)
     (sym t.1.ended ∙ more_open c.stream.reader c.next.new.self t) (g.S.Source.left c.feed_on.new.input)
     (c.in-Err-feed_on.ensures.given.0, c.in-Err-feed_on.ensures.given.1, (let few : length c.stream.piece ≤ 65536 = search rules in omega (arith, c.in-Err-feed_on.ensures.given.2, few))) c.in-Err-feed_on.error
+
+-- ---- no more is taken than a stream may have, and a piece
+
+pub returns-in-Err-clause-within : goal.returns-in-Err-clause-within
+returns-in-Err-clause-within g c = within_stopped c.args.reader.progress (base_in c.args.store.now (g.B.Base.commits c.args.base.now) (g.B.Base.refs c.args.base.now) (g.B.Base.blobs c.args.base.now)) c.args.store.now c.stream.store (g.S.Source.left c.args.input.now) (g.S.Source.left c.stream.input) c.stream.reader c.stream.replay c.stream.invariant.so_far c.stream.invariant.within
+
+pub returns-in-Ok-Ended-clause-within : goal.returns-in-Ok-Ended-clause-within
+returns-in-Ok-Ended-clause-within g c = within_stopped c.args.reader.progress (base_in c.args.store.now (g.B.Base.commits c.args.base.now) (g.B.Base.refs c.args.base.now) (g.B.Base.blobs c.args.base.now)) c.args.store.now c.stream.store (g.S.Source.left c.args.input.now) (g.S.Source.left c.stream.input) c.stream.reader c.stream.replay c.stream.invariant.so_far c.stream.invariant.within
+
+pub returns-in-Err-step-clause-within : goal.returns-in-Err-step-clause-within
+returns-in-Err-step-clause-within g c = within_stopped c.args.reader.progress (base_in c.args.store.now (g.B.Base.commits c.args.base.now) (g.B.Base.refs c.args.base.now) (g.B.Base.blobs c.args.base.now)) c.args.store.now c.stream.store (g.S.Source.left c.args.input.now) (g.S.Source.left c.stream.input) c.stream.reader c.stream.replay c.stream.invariant.so_far c.stream.invariant.within
+
+pub returns-in-Err-feed_on-clause-within : goal.returns-in-Err-feed_on-clause-within
+returns-in-Err-feed_on-clause-within g c =
+    let w = subst (λ (n : Next). OnMore (Ok n) (came c.stream.reader ≤ STREAM_BYTES)) c.in-Ok-More.field-0-is c.in-Ok-More.ensures.more in
+    let few : length c.stream.piece ≤ 65536 = search rules in
+    within_feeding c.args.reader.progress (base_in c.args.store.now (g.B.Base.commits c.args.base.now) (g.B.Base.refs c.args.base.now) (g.B.Base.blobs c.args.base.now)) c.args.store.now c.stream.store (g.S.Source.left c.args.input.now) (g.S.Source.left c.stream.input) c.stream.reader c.stream.replay c.stream.invariant.so_far w (g.S.Source.left c.feed_on.new.input)
+    (c.in-Err-feed_on.ensures.given.0, c.in-Err-feed_on.ensures.given.1, omega (arith, c.in-Err-feed_on.ensures.given.2, few))

@@ -13,6 +13,7 @@ use Rattle.projection_ground.specs.Grounds.{commits_of}
 use Rattle.std.specs.Prelude.{Result, Err}
 use Rattle.merge_push.proofs.Planned.{brought-quiet, firsts-there, later-taken, not-based, not-replayed, planned, pushed-by, replayed-head, replayed-same, upon-waited}
 use Rattle.merge_push.proofs.planning.planned.Goals as goal
+use Rattle.fast_import.proofs.Stopping.{within_none}
 
 -- ---- there is no base
 
@@ -173,3 +174,8 @@ returns-clause-cause g c =
     c.in-Ok-replay_merges.is c.merge_given_law.ensures c.joined_law.ensures.graph in
     brought-quiet (g.S.Source.faults c.args.input.now) (g.S.Source.faults c.replay_merges.new.input) c.replay_merges.ensures.cause.later f (record h { store = c.replay_merges.new.store }) n cs c.in-Ok-replay_merges.replayed c.brought.new.ground.store
     c.brought.result (c.brought.ensures.brought cs pushed)
+
+-- ---- nothing was read yet
+
+pub returns-in-Err-clause-within : goal.returns-in-Err-clause-within
+returns-in-Err-clause-within g c = within_none (g.S.Source.left c.args.input.now)

@@ -18,6 +18,7 @@ use Rattle.proj_commands.specs.Inputs.{ForInput}
 use Rattle.proj_commands.proofs.InputsRead.{for-any}
 use Rattle.proj_cli.proofs.Making.{unjudged-made}
 use Rattle.proj_cli.proofs.program.act.Goals as goal
+use Rattle.fast_import.proofs.Stopping.{within_none}
 
 -- ---- forms that are made of several commands
 
@@ -90,9 +91,21 @@ returns-in-Ok g c =
       answer = does.answer asked w;
       adds = λ (items : List Bytes) told. does.adds asked items w told;
       fronts = does.fronts;
+      within = does.within;
       unread = does.unread asked w;
       unloaded = does.unloaded asked w;
       unjudged = λ one refuses. absurd (judged-whole asked c.in-Ok.judged w refuses);
       idle = λ unknown. absurd (judged-whole asked c.in-Ok.judged w (subst (λ (a : Command). IsErr (verdict a)) (sym unknown) refl));
       is_open = does.is_open;
     }
+
+-- ---- how much is taken
+
+pub returns-in-Trial-clause-within : goal.returns-in-Trial-clause-within
+returns-in-Trial-clause-within g c = within_none (g.S.Source.left c.args.input.now)
+
+pub returns-in-Err-clause-within : goal.returns-in-Err-clause-within
+returns-in-Err-clause-within g c = within_none (g.S.Source.left c.args.input.now)
+
+pub returns-in-Batch-clause-within : goal.returns-in-Batch-clause-within
+returns-in-Batch-clause-within g c = c.batch.ensures.answer.taken

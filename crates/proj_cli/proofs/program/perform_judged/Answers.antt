@@ -3,6 +3,7 @@ use Rattle.std.proofs.Common.{◌≡◌, ◌≢◌, true, false, List, Result, O
 use Rattle.git_objects.specs.Paths.{Bytes}
 use Rattle.filter_text.specs.Shapes.{shape}
 use Rattle.fast_import.specs.Replays.{empty_base}
+use Rattle.fast_import.proofs.Stopping.{within_none}
 use Rattle.proj_io.specs.Stops.{OnlyAdds}
 use Rattle.proj_io.specs.Views.{source_view, sink_view, keeper_view}
 use Rattle.repo_ground.proofs.Stopping.{adds_none}
@@ -132,6 +133,7 @@ returns-in-Name g c =
       adds = λ (asked : Command) (items : List Bytes) judges told.
           for-any (g.S.Source.left c.args.input.now) (λ all. OnlyAdds at at since since (MayLeave asked items all)) (λ all. adds_none at since (MayLeave asked items all));
       fronts = λ (items : List Bytes) told apart. grows-self items (g.K.Keeper.items c.args.store.now) told at since;
+      within = c.name-made.ensures.within;
       unread = λ (asked : Command) judges no. absurd (true≢false (sym (ap reads (claimed asked judges).asked_is) ∙ no));
       unloaded = λ (asked : Command) judges no. refl;
       is_open = λ apart. c.requires.open;
@@ -163,6 +165,7 @@ returns-in-Verify g c =
       adds = λ (asked : Command) (items : List Bytes) judges told.
           for-any (g.S.Source.left c.args.input.now) (λ all. OnlyAdds at at since since (MayLeave asked items all)) (λ all. adds_none at since (MayLeave asked items all));
       fronts = λ (items : List Bytes) told apart. grows-self items (g.K.Keeper.items c.args.store.now) told at since;
+      within = c.verify_text-made.ensures.within;
       unread = λ (asked : Command) judges no. absurd (true≢false (sym (ap reads (claimed asked judges).asked_is) ∙ no));
       unloaded = λ (asked : Command) judges no. refl;
       is_open = λ apart. c.requires.open;
@@ -201,7 +204,19 @@ returns-in_default g c =
           let some = c.requires.judged in
           let f = (made some.0 some.1).formed items (λ _. told) in
           form-grows some.0 items f.all k l _ _ _ _ c.perform_loaded-made.result f.says (faults apart) told;
+      within = c.perform_loaded-made.ensures.within;
       unread = λ (asked : Command) w. c.perform_loaded-made.ensures.unread asked w;
       unloaded = λ (asked : Command) w no. absurd (true≢false (sym (may asked w) ∙ no));
       is_open = λ apart. c.perform_loaded-made.ensures.is_open (faults apart);
     }
+
+-- ---- how much is taken
+
+pub returns-in-Export-clause-within : goal.returns-in-Export-clause-within
+returns-in-Export-clause-within g c = within_none (g.S.Source.left c.args.input.now)
+
+pub returns-in-ExportTags-clause-within : goal.returns-in-ExportTags-clause-within
+returns-in-ExportTags-clause-within g c = within_none (g.S.Source.left c.args.input.now)
+
+pub returns-in-AsExport-clause-within : goal.returns-in-AsExport-clause-within
+returns-in-AsExport-clause-within g c = within_none (g.S.Source.left c.args.input.now)

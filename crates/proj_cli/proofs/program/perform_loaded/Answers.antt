@@ -23,6 +23,7 @@ use Rattle.proj_cli.proofs.Making.{unloaded-made, whole-made}
 use Rattle.proj_commands.proofs.Refusing.{load-refused, none-read, of-counts, refused-form}
 use Rattle.proj_commands.proofs.Verdicts.{reported-judged}
 use Rattle.proj_cli.proofs.program.perform_loaded.Goals as goal
+use Rattle.fast_import.proofs.Stopping.{within_none}
 
 pub returns-in-Err-clause-made : goal.returns-in-Err-clause-made
 returns-in-Err-clause-made g c = λ (asked : Command) w may.
@@ -99,3 +100,8 @@ returns-in-Ok-clause-unread g c = λ (asked : Command) w no. (c.perform.ensures.
 
 pub returns-in-Ok-clause-is_open : goal.returns-in-Ok-clause-is_open
 returns-in-Ok-clause-is_open g c = c.perform.ensures.used.is_open
+
+-- ---- how much is taken
+
+pub returns-in-Err-clause-within : goal.returns-in-Err-clause-within
+returns-in-Err-clause-within g c = within_none (g.S.Source.left c.args.input.now)

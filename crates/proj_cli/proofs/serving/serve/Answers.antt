@@ -14,6 +14,7 @@ use Rattle.proj_cli.proofs.Lengthening.{for-later}
 use Rattle.proj_cli.proofs.Lifting.{ran_on}
 use Rattle.proj_cli.proofs.serving.serve.Goals as goal
 use Rattle.proj_commands.specs.Inputs.{ForInput}
+use Rattle.fast_import.proofs.Stopping.{within_none}
 
 pub returns-in-Ok-clause-served : goal.returns-in-Ok-clause-served
 returns-in-Ok-clause-served g c =
@@ -118,3 +119,8 @@ returns-in-Err-clause-fronts g c view told apart =
           (c.in-Err.ensures.stops view told (whole_some (content d) view told (g.met.D.Disk.reads d) whole)) same),
       (λ some. lists_add (m d) (m none.disk) (left d) (left none.disk) same (c.in-Err.ensures.stops view told some)),
     )
+
+-- ---- how much is taken
+
+pub returns-in-Err-clause-within : goal.returns-in-Err-clause-within
+returns-in-Err-clause-within g c = within_none (g.S.Source.left c.args.input.now)

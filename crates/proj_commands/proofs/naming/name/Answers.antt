@@ -1,6 +1,7 @@
 -- Proves what src/naming.rt needs of `name`.
 use Rattle.filter_text.specs.Shapes.{shape}
 use Rattle.fast_import.specs.Replays.{empty_base}
+use Rattle.fast_import.proofs.Stopping.{within_none}
 use Rattle.proj_commands.proofs.Intaking.{takes-none}
 use Rattle.proj_commands.proofs.NamesGiven.{some-bytes, untold-memory}
 use Rattle.proj_commands.proofs.naming.name.Goals as goal
@@ -19,3 +20,8 @@ returns-in-Err-clause-told g c = (λ t. t, λ t. t)
 
 pub returns-in-Err-clause-taken : goal.returns-in-Err-clause-taken
 returns-in-Err-clause-taken g c = takes-none (tagged_waited empty_base) (g.S.Source.left c.args.input.now)
+
+-- ---- how much is taken
+
+pub returns-in-Err-clause-within : goal.returns-in-Err-clause-within
+returns-in-Err-clause-within g c = within_none (g.S.Source.left c.args.input.now)

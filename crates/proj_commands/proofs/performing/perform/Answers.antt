@@ -13,6 +13,7 @@ use Rattle.proj_commands.proofs.Intaking.{takes-none}
 use Rattle.proj_commands.proofs.Refusing.{own-before, own-counts, own-read}
 use Rattle.proj_commands.proofs.performing.perform.Goals as goal
 use Rattle.proj_commands.proofs.InputsRead.{for-any}
+use Rattle.fast_import.proofs.Stopping.{within_none}
 
 pub returns-in-Err-clause-made : goal.returns-in-Err-clause-made
 returns-in-Err-clause-made g c = λ (asked : Command) (items : List Bytes) (h : Held) w st.
@@ -45,3 +46,8 @@ pub returns-in-Err-clause-used : goal.returns-in-Err-clause-used
 returns-in-Err-clause-used g c =
     let q = c.requires.state in
     used-not _ _ _ _ c.requires.open.0 (own-counts _ c.in-Err.outcome (unpermitted-own q.1 c.args.judged.now c.in-Err.outcome (c.in-Err.ensures q.0 q.1 q.2)))
+
+-- ---- how much is taken
+
+pub returns-in-Err-clause-within : goal.returns-in-Err-clause-within
+returns-in-Err-clause-within g c = within_none (g.S.Source.left c.args.input.now)

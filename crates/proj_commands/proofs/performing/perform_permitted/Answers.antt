@@ -3,6 +3,7 @@ use Rattle.std.proofs.Common.{◌∙◌, List, Ok, ap, refl, subst, sym}
 use Rattle.filter_text.specs.Shapes.{shape}
 use Rattle.git_objects.specs.Paths.{Bytes}
 use Rattle.fast_import.specs.Replays.{empty_base}
+use Rattle.fast_import.proofs.Stopping.{within_none}
 use Rattle.proj_io.specs.Views.{keeper_view}
 use Rattle.repo_ground.proofs.Stopping.{adds_none}
 use Rattle.repo_ground.specs.Changes.{IsStopOf}
@@ -220,3 +221,29 @@ returns-in-Audit-clause-taken g c = λ (asked : Command) (items : List Bytes) (h
 pub returns-in-Verify-clause-taken : goal.returns-in-Verify-clause-taken
 returns-in-Verify-clause-taken g c = λ (asked : Command) (items : List Bytes) (h : Held) w st.
     takes-by asked (judged.Verify _) (subst (IsJudged asked) c.in-Verify.is w) h _ _ c.verify_text.ensures.taken
+
+-- ---- how much is taken
+
+pub returns-in-Project-clause-within : goal.returns-in-Project-clause-within
+returns-in-Project-clause-within g c = within_none (g.S.Source.left c.args.input.now)
+
+pub returns-in-Export-clause-within : goal.returns-in-Export-clause-within
+returns-in-Export-clause-within g c = within_none (g.S.Source.left c.args.input.now)
+
+pub returns-in-ExportTags-clause-within : goal.returns-in-ExportTags-clause-within
+returns-in-ExportTags-clause-within g c = within_none (g.S.Source.left c.args.input.now)
+
+pub returns-in-Tags-clause-within : goal.returns-in-Tags-clause-within
+returns-in-Tags-clause-within g c = within_none (g.S.Source.left c.args.input.now)
+
+pub returns-in-Rule-clause-within : goal.returns-in-Rule-clause-within
+returns-in-Rule-clause-within g c = within_none (g.S.Source.left c.args.input.now)
+
+pub returns-in-Audit-clause-within : goal.returns-in-Audit-clause-within
+returns-in-Audit-clause-within g c = within_none (g.S.Source.left c.args.input.now)
+
+pub returns-in-AsProject-clause-within : goal.returns-in-AsProject-clause-within
+returns-in-AsProject-clause-within g c = within_none (g.S.Source.left c.args.input.now)
+
+pub returns-in-AsExport-clause-within : goal.returns-in-AsExport-clause-within
+returns-in-AsExport-clause-within g c = within_none (g.S.Source.left c.args.input.now)

@@ -11,6 +11,7 @@ use Rattle.proj_commands.proofs.PushPlans.{takes-at}
 use Rattle.proj_commands.proofs.Pushes.{commit-done, commit-refused, is-batch, last-at, no-memory, no-ref, none-pushed, unplanned}
 use Rattle.proj_commands.proofs.StatesShown.{head-placed}
 use Rattle.proj_commands.proofs.pushing.push.Goals as goal
+use Rattle.fast_import.proofs.Stopping.{within_none}
 
 pub returns-in_default-clause-made : goal.returns-in_default-clause-made
 returns-in_default-clause-made g c = λ items h w.
@@ -128,3 +129,8 @@ returns-in-Ok-commit-clause-taken g c = λ items h n w is. takes-at c.args.manne
 
 pub returns-in-Err-clause-taken : goal.returns-in-Err-clause-taken
 returns-in-Err-clause-taken g c = λ items h n w is. takes-at c.args.manner h (shape c.args.filter.now) c.args.refname.now c.in-Some.head.0 n (c.in-Some.ensures.held h w.spells) is _ _ (c.in_ok-plan.ensures.taken items h w)
+
+-- ---- how much is taken
+
+pub returns-in_default-clause-within : goal.returns-in_default-clause-within
+returns-in_default-clause-within g c = within_none (g.S.Source.left c.args.input.now)

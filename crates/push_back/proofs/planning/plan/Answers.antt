@@ -5,6 +5,7 @@ use Rattle.git_objects.specs.declared.limits.TheConstants.{STREAM_BYTES}
 use Rattle.filter_text.specs.Shapes.{shape}
 use Rattle.fast_import.specs.Standing.{AreCommitsIn}
 use Rattle.fast_import.specs.declared.replayed.Made.{Made}
+use Rattle.fast_import.proofs.Stopping.{within_none}
 use Rattle.push_back.specs.Faults.{of_apply, of_original, of_stream}
 use Rattle.push_back.specs.Waited.{plan_waited}
 use Rattle.push_laws.specs.PushReplays.{push_replay}
@@ -401,3 +402,14 @@ returns-clause-taken g c =
     let r = c.replay_push.result in
     let taken = upon-waited (shape c.args.filter.now) c.args.refname.now c.args.head.now.0 c.args.ground.now c.seen_head.new.ground c.in_ok-seen.seen c.in_ok-seen.ensures.ok c.in_ok-base.base (b.refname ∙ c.in_ok-copy.ensures) b.from b.shown o l r c.replay_push.ensures.taken in
     plan-taken (plan_waited (shape c.args.filter.now) c.args.ground.now c.args.refname.now c.args.head.now.0) o l r taken c.in_ok-replayed.replayed c.in_ok-replayed.was (record { blobs = c.in_ok-replayed.replayed.blobs; commits = c.in_ok-commits.commits })
+
+-- ---- nothing was read yet
+
+pub returns-in_err-seen-clause-within : goal.returns-in_err-seen-clause-within
+returns-in_err-seen-clause-within g c = within_none (g.S.Source.left c.args.input.now)
+
+pub returns-in_err-copy-clause-within : goal.returns-in_err-copy-clause-within
+returns-in_err-copy-clause-within g c = within_none (g.S.Source.left c.args.input.now)
+
+pub returns-in_err-base-clause-within : goal.returns-in_err-base-clause-within
+returns-in_err-base-clause-within g c = within_none (g.S.Source.left c.args.input.now)

@@ -17,6 +17,7 @@ use Rattle.push_back.specs.Replaying.{IsPushFault}
 use Rattle.push_back.specs.declared.error.PushError.TheVariants as errors
 use Rattle.push_back.proofs.PushedSoFar.{IsPushSoFar, all_given, end_refused, fed_waiting, feeding_refused, nothing_so_far, one_more, reading_refused, step_refused, taken_feeding, taken_given, taken_refused}
 use Rattle.push_back.proofs.replay.replay_by.Goals as goal
+use Rattle.push_back.proofs.Running.{run_within, run_within_feeding}
 
 grown-any : (made : Object → Type 0) (S T : List Object) → IsGrownBy made S T → IsGrownBy (λ o. ⊤) S T
 grown-any made S T h = grown_as made (λ o. ⊤) S T (λ o m. tt) h
@@ -138,3 +139,23 @@ returns-in-Err-feed-clause-taken g c =
     taken_feeding (g.P.Pushed.upon c.args.store.now c.args.base.now) (g.P.Pushed.one c.args.store.now c.args.base.now) c.requires.goes (g.P.OnRef.refname c.args.base.now) (g.P.OnRef.from c.args.base.now) c.args.store.now c.stream.store (g.S.Source.left c.args.input.now) (g.S.Source.left c.stream.input) c.stream.reader c.stream.replay h (subst (λ (n : Next). OnMore (Ok n) (IsNear c.stream.reader)) c.in-Ok-More.field-0-is c.in-Ok-More.ensures.near)
     (sym t.1.ended ∙ more_open c.stream.reader c.next.new.self t) (g.S.Source.left c.feed.new.input)
     (c.in-Err-feed.ensures.given.0, c.in-Err-feed.ensures.given.1, omega (arith, c.in-Err-feed.ensures.given.2, c.requires.few, c.stream.auto.piece)) c.in-Err-feed.error
+
+-- ---- no more is taken than a stream may have, and a piece
+
+pub returns-in-Err-clause-within : goal.returns-in-Err-clause-within
+returns-in-Err-clause-within g c = run_within (g.P.Pushed.upon c.args.store.now c.args.base.now) (g.P.Pushed.one c.args.store.now c.args.base.now) c.args.store.now c.stream.store (g.S.Source.left c.args.input.now) (g.S.Source.left c.stream.input) c.stream.reader c.stream.replay c.stream.invariant.so_far c.stream.invariant.within
+
+pub returns-in-Err-end_judged-clause-within : goal.returns-in-Err-end_judged-clause-within
+returns-in-Err-end_judged-clause-within g c = run_within (g.P.Pushed.upon c.args.store.now c.args.base.now) (g.P.Pushed.one c.args.store.now c.args.base.now) c.args.store.now c.stream.store (g.S.Source.left c.args.input.now) (g.S.Source.left c.stream.input) c.stream.reader c.stream.replay c.stream.invariant.so_far c.stream.invariant.within
+
+pub returns-in-Ok-clause-within : goal.returns-in-Ok-clause-within
+returns-in-Ok-clause-within g c = run_within (g.P.Pushed.upon c.args.store.now c.args.base.now) (g.P.Pushed.one c.args.store.now c.args.base.now) c.args.store.now c.stream.store (g.S.Source.left c.args.input.now) (g.S.Source.left c.stream.input) c.stream.reader c.stream.replay c.stream.invariant.so_far c.stream.invariant.within
+
+pub returns-in-Err-push_on-clause-within : goal.returns-in-Err-push_on-clause-within
+returns-in-Err-push_on-clause-within g c = run_within (g.P.Pushed.upon c.args.store.now c.args.base.now) (g.P.Pushed.one c.args.store.now c.args.base.now) c.args.store.now c.stream.store (g.S.Source.left c.args.input.now) (g.S.Source.left c.stream.input) c.stream.reader c.stream.replay c.stream.invariant.so_far c.stream.invariant.within
+
+pub returns-in-Err-feed-clause-within : goal.returns-in-Err-feed-clause-within
+returns-in-Err-feed-clause-within g c =
+    let w = subst (λ (n : Next). OnMore (Ok n) (came c.stream.reader ≤ STREAM_BYTES)) c.in-Ok-More.field-0-is c.in-Ok-More.ensures.more in
+    run_within_feeding (g.P.Pushed.upon c.args.store.now c.args.base.now) (g.P.Pushed.one c.args.store.now c.args.base.now) c.args.store.now c.stream.store (g.S.Source.left c.args.input.now) (g.S.Source.left c.stream.input) c.stream.reader c.stream.replay c.stream.invariant.so_far w (g.S.Source.left c.feed.new.input)
+    (c.in-Err-feed.ensures.given.0, c.in-Err-feed.ensures.given.1, omega (arith, c.in-Err-feed.ensures.given.2, c.requires.few, c.stream.auto.piece))
