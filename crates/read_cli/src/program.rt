@@ -1,11 +1,12 @@
 // The top call.
-ghost use Rattle.std.specs.Prelude.{◌≡◌, ◌≢◌, ◌≤◌, List, map, string_bytes, Ok, Some};
+ghost use Rattle.std.specs.Prelude.{◌≡◌, ◌≢◌, ◌≤◌, false, List, map, string_bytes, Ok, Some};
 ghost use Rattle.git_objects.specs.Paths.{Bytes};
 ghost use Rattle.proj_io.specs.Counts.{Counts};
 ghost use Rattle.proj_io.specs.Uses.{IsOnlyRead};
 ghost use Rattle.proj_io.specs.Views.{sink_view};
 ghost use Rattle.state_items.specs.Items.{Held};
 ghost use Rattle.proj_cli.specs.Answers.{GetsText};
+ghost use Rattle.proj_commands.specs.Cases.{is_verdict};
 ghost use Rattle.proj_commands.specs.Makes.{IsState, IsStateOf};
 ghost use Rattle.read_cli.specs.Answers.{IsLawful, IsReadAnswer};
 ghost use Rattle.read_cli.specs.Looks.{IsAsked, IsEnd, IsFormed, IsLooked, form_reading, read_text};
@@ -49,7 +50,32 @@ fn look<O: Sink>(alloc: Global, asked: &Asked, state: &mut State, out: &mut O) -
     }
 }
 
-// Judges a form, loads what the store holds, and writes what is asked for.
+// Loads what the store holds, and looks at it.
+fn look_into<O: Sink, K: Keeper>(
+    alloc: Global,
+    asked: &Asked,
+    out: &mut O,
+    store: &mut K,
+) -> Outcome
+    requires open { K.is_open store.old }
+    requires asked { (form : Reading) × IsAsked form asked.now }
+    ensures answer { let seen = sink_view O.written O.faults O.refusals in
+        (form : Reading) (items : List Bytes) → IsAsked form asked.now → K.items store.old ≡ Some items →
+        IsReadAnswer form items (seen out.old) (seen out.new) result }
+    ensures other { is_verdict result ≡ false }
+    ensures unread { result ≢ Outcome.ReadFault }
+    ensures kept { IsOnlyRead K.items K.number K.is_open K.tells K.moment K.left_since store.old store.new }
+    ensures cause { Counts (K.faults store.old) (K.faults store.new) (result ≡ Outcome.StoreFault) }
+    ensures write { Counts (O.faults out.old) (O.faults out.new) (result ≡ Outcome.WriteFault) }
+    ensures memory { O.refusals out.old ≤ O.refusals out.new }
+{
+    match load(alloc, store) {
+        Err(outcome) => outcome,
+        Ok(mut state) => look(alloc, asked, &mut state, out),
+    }
+}
+
+// Judges a form, and writes what is asked for.
 fn act<O: Sink, K: Keeper>(alloc: Global, form: Form<'_>, out: &mut O, store: &mut K) -> Outcome
     requires open { K.is_open store.old }
     requires formed { IsFormed form }
@@ -67,10 +93,7 @@ fn act<O: Sink, K: Keeper>(alloc: Global, form: Form<'_>, out: &mut O, store: &m
 {
     match judge(alloc, form) {
         Err(outcome) => outcome,
-        Ok(asked) => match load(alloc, store) {
-            Err(outcome) => outcome,
-            Ok(mut state) => look(alloc, &asked, &mut state, out),
-        },
+        Ok(asked) => look_into(alloc, &asked, out, store),
     }
 }
 
