@@ -25,7 +25,7 @@ use Rattle.stream_reader.specs.Verdicts.{Verdict, start, stopped, tagged_start, 
 use Rattle.fast_import.specs.TagLaws.{ReplayedTagsLaw}
 use Rattle.tag_objects.specs.TagLists.{rise}
 use Rattle.fast_import.specs.Waited.{IsTakenIn, waited_in, waited_from, waited_told, TakesWithin}
-use Rattle.fast_import.specs.Whole.{IsFed, IsGiven, IsMadeOfStreamIn, IsStreamErrorIn, IsTaggedWhole, IsWhole, IsWholeRun}
+use Rattle.fast_import.specs.Whole.{IsFed, IsGiven, IsMadeOfStreamIn, IsRunOn, IsStreamErrorIn, IsTaggedWhole, IsWhole, IsWholeRun}
 use Rattle.fast_import.proofs.Taking.{next_near, waited-is}
 use Rattle.stream_reader.specs.declared.command.Placed.{Placed}
 use Rattle.stream_reader.specs.declared.fault.StreamFault.{StreamFault}
@@ -105,8 +105,8 @@ module _ (begins : Progress) (base : Base) (S T : List Object) (before now : Opt
   pub taken_few : length h.taken ≤ waited_in begins base all + 33488896
   taken_few = subst (λ n. length h.taken ≤ n + 33488896) (sym waited_all) (h.near rest may_rest)
 
-  pub taken_refused : (e : ReplayError) → IsTakenIn {A = Replaying} begins base before now (Err e)
-  taken_refused e = taken_by {A = Replaying} begins base before now h.taken h.gone (Err e) (omega (arith, taken_few)) tt
+  pub taken_refused : (e : ReplayError) → IsTakenIn {A = Unit} begins base before now (Err e)
+  taken_refused e = taken_by {A = Unit} begins base before now h.taken h.gone (Err e) (omega (arith, taken_few)) tt
 
   pub taken_given : (new : Reading) → next_command rd ≡ Ok (record { command = None; progress = new.progress }, new.input) → came new ≡ came rd → {A : Type 0} (x : A) → IsTakenIn {E = ReplayError} begins base before now (Ok x)
   taken_given new told c x =
@@ -116,12 +116,12 @@ module _ (begins : Progress) (base : Base) (S T : List Object) (before now : Opt
       taken_by {E = ReplayError} begins base before now h.taken h.gone (Ok x) (omega (arith, taken_few)) (omega (arith, here, c, h.came))
 
   -- the source fails, or there is no memory for what it gave
-  pub taken_feeding : IsNear rd → rd.ended ≡ false → (after : Option Bytes) → IsGiven now after 65536 → (e : ReplayError) → IsTakenIn {A = Replaying} begins base before after (Err e)
+  pub taken_feeding : IsNear rd → rd.ended ≡ false → (after : Option Bytes) → IsGiven now after 65536 → (e : ReplayError) → IsTakenIn {A = Unit} begins base before after (Err e)
   taken_feeding n un after g e =
       let more : Bytes = g.0 ++ unwrap_or after [] in
       let far : waited_in begins base ((h.taken ++ g.0) ++ unwrap_or after []) ≡ waited_with base h.state rd more =
       ap (waited_in begins base) (append_assoc h.taken g.0 (unwrap_or after [])) ∙ h.waited more (λ q. let no : ⊥ = cc in absurd no) in
-      taken_by {A = Replaying} begins base before after (h.taken ++ g.0) (Consumes-trans before now after h.taken g.0 h.gone g.1) (Err e)
+      taken_by {A = Unit} begins base before after (h.taken ++ g.0) (Consumes-trans before now after h.taken g.0 h.gone g.1) (Err e)
       (omega (arith, far, n more, next_near (step base) h.state rd.progress (grown more rd.input), h.came, g.2, length-append h.taken g.0)) tt
 
   -- no more than a stream may have, and a piece
@@ -144,14 +144,14 @@ module _ (begins : Progress) (base : Base) (S T : List Object) (before now : Opt
       (λ i. reached (ran_all.same_state i) (ran_all.same_fault i))
       ∙ ap (λ (x : Verdict). reached (ran_by (step base) x.fault h.state x.commands).state (ran_by (step base) x.fault h.state x.commands).fault) e
 
-  pub all_given : ((more : Bytes) → MayFollow rd more true → verdict_with more rd ≡ stopped None) → IsWholeRun begins base S T all (Ok v)
+  pub all_given : ((more : Bytes) → MayFollow rd more true → verdict_with more rd ≡ stopped None) → IsRunOn begins base S T v all (Ok tt)
   all_given e = record {
     given = subst (λ (x : Result Replay StreamFault). IsOkAnd x (IsReplayOf T v)) (sym (reached_all None (e rest may_rest))) h.stands;
     refused = tt;
     grown = grown_so_far;
   }
 
-  pub reading_refused : (f : StreamFault) → ((more : Bytes) → MayFollow rd more true → (f ≡ OutOfMemory) ⊎ (verdict_with more rd ≡ stopped (Some f))) → IsWholeRun begins base S T all (Err (Stream f))
+  pub reading_refused : (f : StreamFault) → ((more : Bytes) → MayFollow rd more true → (f ≡ OutOfMemory) ⊎ (verdict_with more rd ≡ stopped (Some f))) → IsRunOn begins base S T v all (Err (Stream f))
   reading_refused f e = record { given = tt; refused = by (e rest may_rest); grown = grown_so_far }
     where
       by : (f ≡ OutOfMemory) ⊎ (later ≡ stopped (Some f)) → IsRefusal (IsMadeOfStreamIn begins base all) T (replay_in begins base all) f
@@ -160,7 +160,7 @@ module _ (begins : Progress) (base : Base) (S T : List Object) (before now : Opt
 
   -- ---- the source fails, or there is no memory
 
-  pub feeding_refused : (e : ReplayError) → (e ≡ ReadFault) ⊎ (e ≡ Stream OutOfMemory) → IsWholeRun begins base S T all (Err e)
+  pub feeding_refused : (e : ReplayError) → (e ≡ ReadFault) ⊎ (e ≡ Stream OutOfMemory) → IsRunOn begins base S T v all (Err e)
   feeding_refused e k = record { given = tt; refused = by k; grown = grown_so_far }
     where
       by : (e ≡ ReadFault) ⊎ (e ≡ Stream OutOfMemory) → IsStreamErrorIn begins base T all e
@@ -188,7 +188,7 @@ module _ (begins : Progress) (base : Base) (S T : List Object) (before now : Opt
         let t = tried_here (step base h.state p) in
         subst (λ (ps : List Placed). IsMadeBy base nothing_yet ps o) (sym (run_step.all_tried ∙ ap (λ (qs : List Placed). h.told ++ qs) t.1)) (made-behind base nothing_yet h.state h.told p t.0 o h.run m)
 
-    pub step_refused : (R : List Object) (w : Replaying) (f : StreamFault) → IsStepped base T R w h.state p (Err f) → IsWholeRun begins base S R all (Err (Stream f))
+    pub step_refused : (R : List Object) (w : Replaying) (f : StreamFault) → IsStepped base T R w h.state p (Err f) → IsRunOn begins base S R w all (Err (Stream f))
     step_refused R w f k = record {
       given = tt;
       refused = by k.refused;

@@ -73,3 +73,8 @@ IsTaggedWhole base S S' all result = IsWholeOf tagged_start base S S' all (tagge
 abbrev pub IsWholeRun : Progress → Base → List Object → List Object → Bytes → Result Replaying ReplayError → Type 0
 IsWholeRun begins base S S' all result =
     IsWholeOf begins base S S' all (reached (ran_in begins base all).state (ran_in begins base all).fault) (IsReplayOf S') result
+
+-- of a stream that is run into a replay, which stands for what it gives
+abbrev pub IsRunOn : Progress → Base → List Object → List Object → Replaying → Bytes → Result Unit ReplayError → Type 0
+IsRunOn begins base S S' after all result =
+    IsWholeOf begins base S S' all (reached (ran_in begins base all).state (ran_in begins base all).fault) (λ _. IsReplayOf S' after) result

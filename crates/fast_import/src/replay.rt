@@ -25,7 +25,6 @@ use std::marker::Model;
 use tag_objects::Tag;
 
 /// How far a replay has come: what the stream has brought, by the names of objects that a store has.
-#[derive(Drop)]
 pub struct Replay {
     pub(crate) alloc: Global,
     pub(crate) blobs: Blobs,
@@ -34,6 +33,22 @@ pub struct Replay {
     pub(crate) marks: Marks,
     pub(crate) draft: Option<Draft>,
     pub(crate) tags: Tags,
+}
+
+// Written out, so that to drop one is a call: a derived drop would stand in full in each function that drops one, and
+// in its proof.
+impl Drop for Replay {
+    fn drop(self) {
+        let Replay {
+            alloc: _,
+            blobs: _,
+            commits: _,
+            branches: _,
+            marks: _,
+            draft: _,
+            tags: _,
+        } = self;
+    }
 }
 
 impl Model for Replay {

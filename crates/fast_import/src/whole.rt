@@ -6,7 +6,10 @@ ghost use Rattle.git_objects.specs.declared.limits.TheConstants.{STREAM_BYTES};
 ghost use Rattle.proj_io.specs.Counts.{Counts};
 ghost use Rattle.fast_import.specs.Bases.{IsBaseIn, base_in};
 ghost use Rattle.fast_import.specs.Waited.{IsTaken, IsTakenIn, TakesWithin};
-ghost use Rattle.fast_import.specs.Whole.{IsFed, IsGiven, IsTaggedWhole, IsWhole, IsWholeRun};
+ghost use Rattle.fast_import.specs.Replays.{nothing_yet};
+ghost use Rattle.fast_import.specs.Standing.{IsReplayOf};
+ghost use Rattle.fast_import.specs.Whole.{IsFed, IsGiven, IsRunOn, IsTaggedWhole, IsWhole, IsWholeRun};
+ghost use Rattle.object_store.specs.Objects.{Object};
 ghost use Rattle.stream_reader.specs.Verdicts.{tagged_start};
 ghost use Rattle.stream_reader.specs.declared.fault.StreamFault.TheVariants.{OutOfMemory};
 ghost use Rattle.tag_objects.specs.TagLists.{rise};
@@ -100,18 +103,47 @@ fn run_whole<S: Source, B: Base>(
     ensures told { S.tells input.new ↔ S.tells input.old }
     ensures cause { Counts (S.faults input.old) (S.faults input.new) (IsErrOf result ReplayError.ReadFault) }
 {
+    let mut replay = Replay::new(alloc);
+    match run_on(&mut reader, &mut replay, input, base, store) {
+        Err(error) => Err(error),
+        Ok(()) => Ok(replay),
+    }
+}
+
+// Replays a stream upon what is there, by a reader of which nothing has come, into a replay that has done nothing. Who
+// owns the two drops them in one place, which keeps the proof small.
+fn run_on<S: Source, B: Base>(
+    reader: &mut Reader,
+    replay: &mut Replay,
+    input: &mut S,
+    base: &B,
+    store: &mut Store,
+) -> Result<(), ReplayError>
+    requires base { IsBaseIn store.old (B.commits base.now) (B.refs base.now) (B.blobs base.now) }
+    requires unread { reader.old.input ≡ record { at = 0; rest = [] } }
+    requires open { reader.old.ended ≡ false }
+    requires fresh { (S : List Object) → IsReplayOf S replay.old nothing_yet }
+    ensures stream { (all : List ℕ) × (is_bytes all ≡ true) × IfSome (S.left input.old) (λ bytes. bytes ≡ all)
+        × IsRunOn reader.old.progress (base_in store.old (B.commits base.now) (B.refs base.now) (B.blobs base.now))
+        store.old store.new replay.new all result }
+    ensures taken { IsTakenIn reader.old.progress
+        (base_in store.old (B.commits base.now) (B.refs base.now) (B.blobs base.now))
+        (S.left input.old) (S.left input.new) result }
+    ensures within { TakesWithin (S.left input.old) (S.left input.new) }
+    ensures told { S.tells input.new ↔ S.tells input.old }
+    ensures cause { Counts (S.faults input.old) (S.faults input.new) (IsErrOf result ReplayError.ReadFault) }
+{
     store_law(store);
     let mut piece = [0u8; PIECE];
-    let mut replay = Replay::new(alloc);
     'stream: loop {
         match reader.next() {
             Err(fault) => return Err(ReplayError::Stream(fault)),
-            Ok(Next::Ended) => return Ok(replay),
+            Ok(Next::Ended) => return Ok(()),
             Ok(Next::Command(placed)) => match replay.step(base, store, placed) {
                 Err(fault) => return Err(ReplayError::Stream(fault)),
                 Ok(()) => {}
             },
-            Ok(Next::More) => match feed_on(input, &mut reader, &mut piece) {
+            Ok(Next::More) => match feed_on(input, reader, &mut piece) {
                 Err(error) => return Err(error),
                 Ok(()) => {}
             },

@@ -20,10 +20,20 @@ use proj_words::{Command, Outcome};
 use std::alloc::Global;
 
 /// What a command is about: a sound filter, and a ref name.
-#[derive(Drop)]
 pub struct Subject {
     pub filter: Filter,
     pub refname: RefName,
+}
+
+// Written out, so that to drop one is a call: a derived drop would stand in full in each function that drops one, and
+// in its proof.
+impl Drop for Subject {
+    fn drop(self) {
+        let Subject {
+            filter: _,
+            refname: _,
+        } = self;
+    }
 }
 
 /// What a certificate is asked to prove: what a sound filter shows of a commit at a path.
@@ -35,7 +45,6 @@ pub struct Claim {
 }
 
 /// A command that is judged: what is left of it to do. A batch and a trial are made of several commands, and are none.
-#[derive(Drop)]
 pub enum Judged {
     /// Whether refs may move anywhere.
     Import(bool),
@@ -54,6 +63,25 @@ pub enum Judged {
     AsProject(Bytes, Subject),
     AsPush(Bytes, Subject),
     AsExport(Bytes, Subject),
+}
+
+// Written out, as the drop of a subject is.
+impl Drop for Judged {
+    fn drop(self) {
+        match self {
+            Judged::Import(_) | Judged::Rule(_) => {}
+            Judged::Project(_)
+            | Judged::Push(_)
+            | Judged::PushMerges(_)
+            | Judged::Export(_)
+            | Judged::ExportTags(_)
+            | Judged::Tags(_)
+            | Judged::Name(_) => {}
+            Judged::Audit(_, _) => {}
+            Judged::Verify(_) => {}
+            Judged::AsProject(_, _) | Judged::AsPush(_, _) | Judged::AsExport(_, _) => {}
+        }
+    }
 }
 
 /// The ref name that a text is.

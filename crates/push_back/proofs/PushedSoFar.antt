@@ -13,13 +13,12 @@ use Rattle.stream_reader.specs.declared.fault.StreamFault.{StreamFault}
 use Rattle.stream_reader.specs.declared.fault.StreamFault.TheVariants.{OutOfMemory}
 use Rattle.fast_import.specs.Made.{IsMadeAt}
 use Rattle.fast_import.specs.Replaying.{Replaying}
-use Rattle.fast_import.specs.Replays.{Base, Replay, branch, given_by, nothing_yet}
-use Rattle.fast_import.specs.Standing.{IsReplayOf, IsReplayedOf}
+use Rattle.fast_import.specs.Replays.{Base, Replay, branch, nothing_yet}
+use Rattle.fast_import.specs.Standing.{IsReplayOf}
 use Rattle.fast_import.specs.Whole.{IsFed, IsGiven}
-use Rattle.fast_import.specs.declared.replayed.Replayed.{Replayed as ReplayedNames}
 use Rattle.fast_import.proofs.Running.{with_all}
 use Rattle.push_laws.specs.PushReplays.{StreamRefusal, end_refusal}
-use Rattle.push_back.specs.Replaying.{Goes, IsPushFault, IsRanWhole, Tells, ran_whole}
+use Rattle.push_back.specs.Replaying.{Goes, IsEndJudged, IsPushFault, IsRanOn, Tells, ran_whole}
 use Rattle.push_back.specs.Waited.{IsTakenTo, PushStep, waited_by}
 use Rattle.push_back.specs.declared.error.PushError.{PushError}
 use Rattle.push_back.specs.declared.error.PushError.TheVariants as errors
@@ -40,8 +39,8 @@ module _ (base : Base) (one : PushStep) (goes : Goes base one) (refname : Bytes)
   nothing_so_far S before v s h = nothing_run base one S before v s h
 
   -- all that the source had, and what became of it
-  abbrev pub IsPushedFrom : Option Bytes → List Object → List Object → Result ReplayedNames PushError → Type 0
-  IsPushedFrom before S R result = (input : Bytes) × (is_bytes input ≡ true) × IfSome before (λ bytes. bytes ≡ input) × IsRanWhole base (ran_whole one refname from input) S R result
+  abbrev pub IsPushedFrom : Option Bytes → List Object → List Object → Replaying → Result Unit PushError → Type 0
+  IsPushedFrom before S R w result = (input : Bytes) × (is_bytes input ≡ true) × IfSome before (λ bytes. bytes ≡ input) × IsRanOn base (ran_whole one refname from input) S R w result
 
   module _ (S T : List Object) (before now : Option Bytes) (rd : Reading) (v : Replaying) (h : IsPushSoFar S T before now rd v) where
     -- a command was carried out
@@ -57,13 +56,14 @@ module _ (base : Base) (one : PushStep) (goes : Goes base one) (refname : Bytes)
 
     -- ---- how much was given
 
-    pub taken_refused : (e : PushError) → IsTakenTo {A = ReplayedNames} (waited_by one) before now (Err e)
+    pub taken_refused : (e : PushError) → IsTakenTo {A = Unit} (waited_by one) before now (Err e)
     taken_refused e = run_taken base one S T before now rd v h e
 
-    pub taken_given : (new : Reading) → next_command rd ≡ Ok (record { command = None; progress = new.progress }, new.input) → came new ≡ came rd → (x : ReplayedNames) → IsTakenTo {E = PushError} (waited_by one) before now (Ok x)
-    taken_given new told c x = run_taken_whole base one S T before now rd v h new told c x
+    pub taken_ended : (new : Reading) → next_command rd ≡ Ok (record { command = None; progress = new.progress }, new.input) → came new ≡ came rd → (result : Result Unit PushError) → IsTakenTo (waited_by one) before now result
+    taken_ended new told c (Ok x) = run_taken_whole base one S T before now rd v h new told c x
+    taken_ended new told c (Err e) = taken_refused e
 
-    pub taken_feeding : IsNear rd → rd.ended ≡ false → (after : Option Bytes) → IsGiven now after 65536 → (e : PushError) → IsTakenTo {A = ReplayedNames} (waited_by one) before after (Err e)
+    pub taken_feeding : IsNear rd → rd.ended ≡ false → (after : Option Bytes) → IsGiven now after 65536 → (e : PushError) → IsTakenTo {A = Unit} (waited_by one) before after (Err e)
     taken_feeding n un after g e = run_taken_feeding base one S T before now rd v h n un after g e
 
     -- ---- how it ends
@@ -84,26 +84,30 @@ module _ (base : Base) (one : PushStep) (goes : Goes base one) (refname : Bytes)
       same : verdict start input ≡ with_all h.commands later
       same = h.read.same left may_left
 
-      whole : (R : List Object) (result : Result ReplayedNames PushError) → IsRanWhole base (closed last (ran_at one nothing_yet (verdict start input))) S R result → IsPushedFrom before S R result
-      whole R result k = (input, all_bytes before now rd h.commands h.read bytes, all_told before now rd h.commands h.read, k)
+      whole : (R : List Object) (w : Replaying) (result : Result Unit PushError) → IsRanOn base (closed last (ran_at one nothing_yet (verdict start input))) S R w result → IsPushedFrom before S R w result
+      whole R w result k = (input, all_bytes before now rd h.commands h.read bytes, all_told before now rd h.commands h.read, k)
 
-      pub all_given : ((more : Bytes) → MayFollow rd more true → verdict_with more rd ≡ stopped None) → end_refusal from h.state (branch h.state refname) ≡ None → (g : ReplayedNames) → IsReplayedOf T g (given_by h.state)
-          → IsPushedFrom before S T (Ok g)
-      all_given e l g k = whole T (Ok g) (run_given base one last h.commands h.state h.run (verdict start input) later same S T h.grown (e left may_left) l g k)
+      all_given : ((more : Bytes) → MayFollow rd more true → verdict_with more rd ≡ stopped None) → end_refusal from h.state (branch h.state refname) ≡ None → IsPushedFrom before S T v (Ok tt)
+      all_given e l = whole T v (Ok tt) (run_given base one last h.commands h.state h.run (verdict start input) later same S T h.grown v (e left may_left) l h.stands)
 
-      pub end_refused : ((more : Bytes) → MayFollow rd more true → verdict_with more rd ≡ stopped None) → (e : PushError) → Tells (end_refusal from h.state (branch h.state refname)) e → IsPushedFrom before S T (Err e)
+      end_refused : ((more : Bytes) → MayFollow rd more true → verdict_with more rd ≡ stopped None) → (e : PushError) → Tells (end_refusal from h.state (branch h.state refname)) e → IsPushedFrom before S T v (Err e)
       end_refused s e t =
-          whole T (Err e) (run_closed base one last h.commands h.state h.run (verdict start input) later same S T h.grown (s left may_left) e t)
+          whole T v (Err e) (run_closed base one last h.commands h.state h.run (verdict start input) later same S T h.grown v (s left may_left) e t)
 
-      pub reading_refused : (f : StreamFault) → ((more : Bytes) → MayFollow rd more true → (f ≡ OutOfMemory) ⊎ (verdict_with more rd ≡ stopped (Some f))) → IsPushedFrom before S T (Err (errors.Stream f))
-      reading_refused f e = whole T (Err (errors.Stream f)) (run_unread base one last h.commands h.state h.run (verdict start input) later same S T h.grown f (e left may_left))
+      -- the stream's end is reached, and judged
+      pub ended : ((more : Bytes) → MayFollow rd more true → verdict_with more rd ≡ stopped None) → (result : Result Unit PushError) → IsEndJudged v refname from result → IsPushedFrom before S T v result
+      ended s (Ok u) k = all_given s (k.passed T h.state h.stands)
+      ended s (Err e) k = end_refused s e (k.refused T h.state h.stands)
+
+      pub reading_refused : (f : StreamFault) → ((more : Bytes) → MayFollow rd more true → (f ≡ OutOfMemory) ⊎ (verdict_with more rd ≡ stopped (Some f))) → IsPushedFrom before S T v (Err (errors.Stream f))
+      reading_refused f e = whole T v (Err (errors.Stream f)) (run_unread base one last h.commands h.state h.run (verdict start input) later same S T h.grown v f (e left may_left))
 
       -- the source fails, or there is no memory
-      pub feeding_refused : (e : PushError) → (e ≡ errors.ReadFault) ⊎ (e ≡ errors.Stream OutOfMemory) → IsPushedFrom before S T (Err e)
-      feeding_refused e k = whole T (Err e) (run_unfed base one last h.commands h.state h.run (verdict start input) later same S T h.grown e k)
+      pub feeding_refused : (e : PushError) → (e ≡ errors.ReadFault) ⊎ (e ≡ errors.Stream OutOfMemory) → IsPushedFrom before S T v (Err e)
+      feeding_refused e k = whole T v (Err e) (run_unfed base one last h.commands h.state h.run (verdict start input) later same S T h.grown v e k)
 
-      pub step_refused : (p : Placed) (new : Reading) → ((more : Bytes) → MayFollow rd more true → verdict_with more rd ≡ with_command p (verdict_with more new)) → (R : List Object) (e : PushError)
-          → IsPushFault (result_err (one h.state p)) (IsMadeAt h.state p.command) R e → IsGrownBy (IsMadeAt h.state p.command) T R → IsPushedFrom before S R (Err e)
-      step_refused p new follows R e k g =
-          whole R (Err e) (run_refused base one last h.commands h.state h.run (verdict start input) later same S T h.grown goes p (verdict_with left new) (follows left may_left) R e
+      pub step_refused : (p : Placed) (new : Reading) → ((more : Bytes) → MayFollow rd more true → verdict_with more rd ≡ with_command p (verdict_with more new)) → (R : List Object) (w : Replaying) (e : PushError)
+          → IsPushFault (result_err (one h.state p)) (IsMadeAt h.state p.command) R e → IsGrownBy (IsMadeAt h.state p.command) T R → IsPushedFrom before S R w (Err e)
+      step_refused p new follows R w e k g =
+          whole R w (Err e) (run_refused base one last h.commands h.state h.run (verdict start input) later same S T h.grown v goes p (verdict_with left new) (follows left may_left) R w e
           k g)

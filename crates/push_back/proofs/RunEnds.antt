@@ -10,13 +10,13 @@ use Rattle.stream_reader.specs.declared.command.Placed.{Placed}
 use Rattle.stream_reader.specs.declared.fault.StreamFault.{StreamFault}
 use Rattle.stream_reader.specs.declared.fault.StreamFault.TheVariants.{OutOfMemory}
 use Rattle.fast_import.specs.Made.{IsMadeAt, IsMadeBy}
-use Rattle.fast_import.specs.Replays.{Base, Ran, Replay, given_by, gone_on, nothing_yet, ran_by}
-use Rattle.fast_import.specs.Standing.{IsReplayedOf}
-use Rattle.fast_import.specs.declared.replayed.Replayed.{Replayed as ReplayedNames}
+use Rattle.fast_import.specs.Replaying.{Replaying}
+use Rattle.fast_import.specs.Replays.{Base, Ran, Replay, gone_on, nothing_yet, ran_by}
+use Rattle.fast_import.specs.Standing.{IsReplayOf}
 use Rattle.fast_import.proofs.Putting.{fault_as}
 use Rattle.fast_import.proofs.Running.{IsRunTo, Step, after_by, made-behind, made-front, run-on, with_all}
 use Rattle.push_laws.specs.PushReplays.{StreamRefusal, Faulty}
-use Rattle.push_back.specs.Replaying.{Goes, IsFreeFault, IsPushError, IsPushFault, IsRanWhole, Tells}
+use Rattle.push_back.specs.Replaying.{Goes, IsFreeFault, IsPushError, IsPushFault, IsRanOn, Tells}
 use Rattle.push_back.specs.declared.error.PushError.{PushError}
 use Rattle.push_back.specs.declared.error.PushError.TheVariants as errors
 use Rattle.push_back.proofs.Running.{goes-along}
@@ -74,7 +74,7 @@ went-refused p before next (Ok s) f e = absurd (none-some f e)
 went-refused p before next (Err g) f e = e
 
 module _ (base : Base) (one : Step StreamRefusal) (last : Replay → Option StreamRefusal) (cs : List Placed) (s : Replay) (run : after_by one nothing_yet cs ≡ Ok s)
-    (whole later : Verdict) (same : whole ≡ with_all cs later) (S T : List Object) (grown : IsGrownBy (IsMadeBy base nothing_yet cs) S T) where
+    (whole later : Verdict) (same : whole ≡ with_all cs later) (S T : List Object) (grown : IsGrownBy (IsMadeBy base nothing_yet cs) S T) (v : Replaying) where
   abbrev ending : Ran StreamRefusal
   ending = closed last (ran_at one nothing_yet whole)
 
@@ -95,24 +95,24 @@ module _ (base : Base) (one : Step StreamRefusal) (last : Replay → Option Stre
   fault_at : (f : Option StreamFault) → later ≡ stopped f → ending.fault ≡ option_or (option_map Faulty f) (last s)
   fault_at f e = closed-fault last (ran_at one nothing_yet whole) s (option_map Faulty f) (state_at f e) (run_to.same_fault ∙ ap (λ (y : Verdict). (ran_at one s y).fault) e)
 
-  pub run_given : later ≡ stopped None → last s ≡ None → (g : ReplayedNames) → IsReplayedOf T g (given_by s) → IsRanWhole base ending S T (Ok g)
-  run_given e l g k = record {
+  pub run_given : later ≡ stopped None → last s ≡ None → IsReplayOf T v s → IsRanOn base ending S T v (Ok tt)
+  run_given e l k = record {
     taken = fault_at None e ∙ l;
-    given = subst (λ (r : Replay). IsReplayedOf T g (given_by r)) (sym (state_at None e)) k;
+    stands = subst (IsReplayOf T v) (sym (state_at None e)) k;
     refused = tt;
     grown = grown_so_far;
   }
 
-  pub run_closed : later ≡ stopped None → (e : PushError) → Tells (last s) e → IsRanWhole base ending S T (Err e)
+  pub run_closed : later ≡ stopped None → (e : PushError) → Tells (last s) e → IsRanOn base ending S T v (Err e)
   run_closed l e t = record {
     taken = tt;
-    given = tt;
+    stands = tt;
     refused = telling ending.fault (IsMadeIn base ending) T e (subst (λ (o : Option StreamRefusal). Tells o e) (sym (fault_at None l)) t);
     grown = grown_so_far;
   }
 
-  pub run_unread : (f : StreamFault) → (f ≡ OutOfMemory) ⊎ (later ≡ stopped (Some f)) → IsRanWhole base ending S T (Err (errors.Stream f))
-  run_unread f e = record { taken = tt; given = tt; refused = by e; grown = grown_so_far }
+  pub run_unread : (f : StreamFault) → (f ≡ OutOfMemory) ⊎ (later ≡ stopped (Some f)) → IsRanOn base ending S T v (Err (errors.Stream f))
+  run_unread f e = record { taken = tt; stands = tt; refused = by e; grown = grown_so_far }
     where
       by : (f ≡ OutOfMemory) ⊎ (later ≡ stopped (Some f)) → IsPushFault ending.fault (IsMadeIn base ending) T (errors.Stream f)
       by (inl q) = inr (inl q)
@@ -120,8 +120,8 @@ module _ (base : Base) (one : Step StreamRefusal) (last : Replay → Option Stre
 
   -- ---- the source fails, or there is no memory
 
-  pub run_unfed : (e : PushError) → (e ≡ errors.ReadFault) ⊎ (e ≡ errors.Stream OutOfMemory) → IsRanWhole base ending S T (Err e)
-  run_unfed e k = record { taken = tt; given = tt; refused = by k; grown = grown_so_far }
+  pub run_unfed : (e : PushError) → (e ≡ errors.ReadFault) ⊎ (e ≡ errors.Stream OutOfMemory) → IsRanOn base ending S T v (Err e)
+  run_unfed e k = record { taken = tt; stands = tt; refused = by k; grown = grown_so_far }
     where
       by : (e ≡ errors.ReadFault) ⊎ (e ≡ errors.Stream OutOfMemory) → IsPushError ending.fault (IsMadeIn base ending) T e
       by (inl q) = subst (IsPushError ending.fault (IsMadeIn base ending) T) (sym q) tt
@@ -145,10 +145,10 @@ module _ (base : Base) (one : Step StreamRefusal) (last : Replay → Option Stre
     refused_here : (f : StreamRefusal) → result_err (one s p) ≡ Some f → ending.fault ≡ Some f
     refused_here f e = ap (λ (o : Option StreamRefusal). option_or o (last (ran_at one nothing_yet whole).state)) (run_step.same_fault ∙ went-refused p s (λ t. ran_at one t behind) (one s p) f e)
 
-    pub run_refused : (R : List Object) (e : PushError) → IsPushFault (result_err (one s p)) (IsMadeAt s p.command) R e → IsGrownBy (IsMadeAt s p.command) T R → IsRanWhole base ending S R (Err e)
-    run_refused R e k g = record {
+    pub run_refused : (R : List Object) (w : Replaying) (e : PushError) → IsPushFault (result_err (one s p)) (IsMadeAt s p.command) R e → IsGrownBy (IsMadeAt s p.command) T R → IsRanOn base ending S R w (Err e)
+    run_refused R w e k g = record {
       taken = tt;
-      given = tt;
+      stands = tt;
       refused = error_as (result_err (one s p)) ending.fault (IsMadeAt s p.command) (IsMadeIn base ending) R e refused_here made_here k;
       grown = grown_then (IsMadeIn base ending) S T R grown_so_far (grown_as (IsMadeAt s p.command) (IsMadeIn base ending) T R made_here g);
     }

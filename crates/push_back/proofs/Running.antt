@@ -26,7 +26,6 @@ use Rattle.fast_import.specs.Replays.{Base, Replay, nothing_yet, step}
 use Rattle.fast_import.specs.Standing.{IsReplayOf}
 use Rattle.fast_import.specs.Waited.{waited_from, waited_on, waited_told, TakesWithin}
 use Rattle.fast_import.specs.Whole.{IsFed, IsGiven}
-use Rattle.fast_import.specs.declared.replayed.Replayed.{Replayed as ReplayedNames}
 use Rattle.fast_import.proofs.Running.{Step, after-push, after_all, after_by, both_bytes, made-behind, made-front, with_all}
 use Rattle.fast_import.proofs.Taking.{next_near, waited-is}
 use Rattle.push_laws.specs.PushReplays.{StreamRefusal}
@@ -298,10 +297,10 @@ module _ (base : Base) (one : Step StreamRefusal) (S T : List Object) (before no
   taken_few : length h.read.taken ≤ waited_by one (h.read.taken ++ left) + 33488896
   taken_few = subst (λ (n : ℕ). length h.read.taken ≤ n + 33488896) (sym waited_all) (h.near left (may_rest before now rd h.commands h.read))
 
-  pub run_taken : (e : PushError) → IsTakenTo {A = ReplayedNames} (waited_by one) before now (Err e)
-  run_taken e = taken_by {A = ReplayedNames} (waited_by one) before now h.read.taken h.read.gone (Err e) (omega (arith, taken_few)) tt
+  pub run_taken : (e : PushError) → IsTakenTo {A = Unit} (waited_by one) before now (Err e)
+  run_taken e = taken_by {A = Unit} (waited_by one) before now h.read.taken h.read.gone (Err e) (omega (arith, taken_few)) tt
 
-  pub run_taken_whole : (new : Reading) → next_command rd ≡ Ok (record { command = None; progress = new.progress }, new.input) → came new ≡ came rd → (x : ReplayedNames) → IsTakenTo {E = PushError} (waited_by one) before now (Ok x)
+  pub run_taken_whole : (new : Reading) → next_command rd ≡ Ok (record { command = None; progress = new.progress }, new.input) → came new ≡ came rd → {A : Type 0} (x : A) → IsTakenTo {E = PushError} (waited_by one) before now (Ok x)
   run_taken_whole new told c x =
       let here : waited_by one (h.read.taken ++ left) ≡ new.input.at =
       waited_all ∙ waited-is (as_step one) h.state rd.progress (grown left rd.input)
@@ -309,12 +308,12 @@ module _ (base : Base) (one : Step StreamRefusal) (S T : List Object) (before no
       taken_by {E = PushError} (waited_by one) before now h.read.taken h.read.gone (Ok x) (omega (arith, taken_few)) (omega (arith, here, c, h.read.came))
 
   -- the source fails, or there is no memory for what it gave
-  pub run_taken_feeding : IsNear rd → rd.ended ≡ false → (after : Option Bytes) → IsGiven now after 65536 → (e : PushError) → IsTakenTo {A = ReplayedNames} (waited_by one) before after (Err e)
+  pub run_taken_feeding : IsNear rd → rd.ended ≡ false → (after : Option Bytes) → IsGiven now after 65536 → (e : PushError) → IsTakenTo {A = Unit} (waited_by one) before after (Err e)
   run_taken_feeding n un after g e =
       let more : Bytes = g.0 ++ unwrap_or after [] in
       let far : waited_by one ((h.read.taken ++ g.0) ++ unwrap_or after []) ≡ waited_with one h.state rd more =
       ap (waited_by one) (append_assoc h.read.taken g.0 (unwrap_or after [])) ∙ h.waited more (open_follows rd more un) in
-      taken_by {A = ReplayedNames} (waited_by one) before after (h.read.taken ++ g.0) (Consumes-trans before now after h.read.taken g.0 h.read.gone g.1) (Err e)
+      taken_by {A = Unit} (waited_by one) before after (h.read.taken ++ g.0) (Consumes-trans before now after h.read.taken g.0 h.read.gone g.1) (Err e)
       (omega (arith, far, n more, next_near (as_step one) h.state rd.progress (grown more rd.input), h.read.came, g.2, length-append h.read.taken g.0)) tt
 
   -- no more than a stream may have, and a piece

@@ -101,6 +101,13 @@ pub record IsRanWhole (base : Base) (x : Ran StreamRefusal) (S S' : List Object)
   pub refused : IfErr result (IsPushError x.fault (IsMadeBy base nothing_yet x.tried) S')
   pub grown : IsGrownBy (IsMadeBy base nothing_yet x.tried) S S'
 
+-- What became of a stream that is run into a replay, which then stands for what it gives.
+pub record IsRanOn (base : Base) (x : Ran StreamRefusal) (S S' : List Object) (after : Replaying) (result : Result Unit PushError) : Type 0 where
+  pub taken : OnOk result (x.fault ≡ None)
+  pub stands : OnOk result (IsReplayOf S' after x.state)
+  pub refused : IfErr result (IsPushError x.fault (IsMadeBy base nothing_yet x.tried) S')
+  pub grown : IsGrownBy (IsMadeBy base nothing_yet x.tried) S S'
+
 -- where a command goes on, it does what it does in any replay
 abbrev pub Goes : Base → PushStep → Type 0
 Goes base one = (r s : Replay) (p : Placed) → one r p ≡ Ok s → step base r p ≡ Ok s

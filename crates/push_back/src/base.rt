@@ -17,12 +17,24 @@ use std::cmp::Ordering;
 use std::marker::Model;
 
 /// What a pushed stream stands upon: the projection, where there is one, with the tree that is shown and its blobs.
-#[derive(Drop)]
 pub struct PushBase {
     refname: RefName,
     from: Option<Name>,
     shown: Name,
     blobs: Blobs,
+}
+
+// Written out, so that to drop one is a call: a derived drop would stand in full in each function that drops one, and
+// in its proof.
+impl Drop for PushBase {
+    fn drop(self) {
+        let PushBase {
+            refname: _,
+            from: _,
+            shown: _,
+            blobs: _,
+        } = self;
+    }
 }
 
 impl Model for PushBase {

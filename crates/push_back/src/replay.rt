@@ -1,15 +1,19 @@
 // The replay of a pushed stream.
-ghost use Rattle.std.specs.Prelude.{◌≡◌, ◌⊎◌, ◌<◌, ◌≤◌, ◌↔◌, false, true};
+ghost use Rattle.std.specs.Prelude.{◌≡◌, ◌⊎◌, ◌<◌, ◌≤◌, ◌↔◌, false, true, List, []};
 ghost use Rattle.std.specs.Prelude.{length, IfErr, IfOk, IfSome, IsErrOf, OnErr, OnOk};
 ghost use Rattle.git_objects.specs.Paths.{Bytes, is_bytes};
 ghost use Rattle.git_objects.specs.declared.limits.TheConstants.{STREAM_BYTES};
+ghost use Rattle.object_store.specs.Objects.{Object};
 ghost use Rattle.object_store.specs.Unfolding.{flat};
 ghost use Rattle.proj_io.specs.Counts.{Counts};
+ghost use Rattle.fast_import.specs.Replays.{nothing_yet};
+ghost use Rattle.fast_import.specs.Standing.{IsReplayOf};
 ghost use Rattle.fast_import.specs.Waited.{TakesWithin};
 ghost use Rattle.fast_import.specs.Whole.{IsFed, IsGiven};
 ghost use Rattle.push_back.specs.Grounds.{IsGroundIn, from_of};
-ghost use Rattle.push_back.specs.Replaying.{Goes, IsPushedWhole, IsRanWhole, Lasts, ran_whole};
+ghost use Rattle.push_back.specs.Replaying.{Goes, IsPushedWhole, IsRanOn, IsRanWhole, Lasts, ran_whole};
 ghost use Rattle.push_back.specs.Waited.{IsTakenTo, push_waited, waited_by};
+ghost use Rattle.stream_reader.specs.Verdicts.{start};
 ghost use Rattle.stream_reader.specs.declared.fault.StreamFault.TheVariants.{OutOfMemory};
 
 use crate::commands::{Pushed, end_judged};
@@ -66,46 +70,50 @@ pub fn replay_upon<S: Source, P: Pushed>(
     ensures cause { Counts (S.faults input.old) (S.faults input.new) (IsErrOf result PushError.ReadFault) }
 {
     let mut piece = [0u8; PIECE];
-    replay_by(alloc, input, base, store, &mut piece)
+    let mut reader = Reader::new(alloc);
+    let mut replay = Replay::new(alloc);
+    match run_on(&mut reader, &mut replay, input, base, store, &mut piece) {
+        Err(error) => Err(error),
+        Ok(()) => Ok(replay.finish()),
+    }
 }
 
-// Replays such a stream, read in pieces of at most the buffer's length.
-fn replay_by<S: Source, P: Pushed>(
-    alloc: Global,
+// Replays such a stream, read in pieces of at most the buffer's length, by a reader of which nothing has come, into a
+// replay that has done nothing. Who owns the two drops them in one place, which keeps the proof small.
+fn run_on<S: Source, P: Pushed>(
+    reader: &mut Reader,
+    replay: &mut Replay,
     input: &mut S,
     base: &P,
     store: &mut Store,
     piece: &mut [u8],
-) -> Result<Replayed, PushError>
+) -> Result<(), PushError>
+    requires unread { reader.old ≡ record { progress = start; input = record { at = 0; rest = [] }; ended = false } }
+    requires fresh { (T : List Object) → IsReplayOf T replay.old nothing_yet }
     requires base { P.stands store.old base.now }
     requires lasts { Lasts P.stands P.one store.old base.now }
     requires goes { Goes (P.upon store.old base.now) (P.one store.old base.now) }
     requires some { 0 < length piece.old }
     requires few { length piece.old ≤ 65536 }
     ensures stream { (all : Bytes) × (is_bytes all ≡ true) × IfSome (S.left input.old) (λ bytes. bytes ≡ all) ×
-        IsRanWhole (P.upon store.old base.now)
-        (ran_whole (P.one store.old base.now) (P.refname base.now) (P.from base.now) all) store.old store.new result }
+        IsRanOn (P.upon store.old base.now)
+        (ran_whole (P.one store.old base.now) (P.refname base.now) (P.from base.now) all)
+        store.old store.new replay.new result }
     ensures taken { IsTakenTo (waited_by (P.one store.old base.now)) (S.left input.old) (S.left input.new) result }
     ensures within { TakesWithin (S.left input.old) (S.left input.new) }
-    ensures few { IfOk result (λ g. length g.commits.items ≤ STREAM_BYTES) }
     ensures told { S.tells input.new ↔ S.tells input.old }
     ensures cause { Counts (S.faults input.old) (S.faults input.new) (IsErrOf result PushError.ReadFault) }
 {
     store_law(store);
-    let mut reader = Reader::new(alloc);
-    let mut replay = Replay::new(alloc);
     'stream: loop {
         match reader.next() {
             Err(fault) => return Err(PushError::Stream(fault)),
-            Ok(Next::Ended) => match end_judged(&replay, base) {
-                Err(error) => return Err(error),
-                Ok(()) => return Ok(replay.finish()),
-            },
-            Ok(Next::Command(placed)) => match base.push_on(&mut replay, store, placed) {
+            Ok(Next::Ended) => return end_judged(replay, base),
+            Ok(Next::Command(placed)) => match base.push_on(replay, store, placed) {
                 Err(error) => return Err(error),
                 Ok(()) => {}
             },
-            Ok(Next::More) => match feed(input, &mut reader, piece) {
+            Ok(Next::More) => match feed(input, reader, piece) {
                 Err(error) => return Err(error),
                 Ok(()) => {}
             },

@@ -45,7 +45,6 @@ pub enum LoadError {
 }
 
 /// What a keeper's items hold: commits upon which projections are made, refs, and the names of the known blobs.
-#[derive(Drop)]
 pub struct State {
     /// All objects, also some that no item holds, and the commits that items hold. The map is that of the filter that
     /// is selected, and empty where none is.
@@ -65,6 +64,25 @@ pub struct State {
     pub(crate) number: u32,
     pub(crate) size: u64,
     pub(crate) alloc: Global,
+}
+
+// Written out, so that to drop one is a call: a derived drop would stand in full in each function that drops one, and
+// in its proof.
+impl Drop for State {
+    fn drop(self) {
+        let State {
+            ground: _,
+            refs: _,
+            blobs: _,
+            held: _,
+            tags: _,
+            maps: _,
+            kept: _,
+            number: _,
+            size: _,
+            alloc: _,
+        } = self;
+    }
 }
 
 impl Model for State {

@@ -71,7 +71,6 @@ pub struct Loaded {
 
 /// Items that are read one after another. Each is written into the piece and then read there: bodies of objects stay
 /// where they stand.
-#[derive(Drop)]
 pub struct Reading {
     objects: Objects,
     refs: Refs,
@@ -79,6 +78,21 @@ pub struct Reading {
     rule: Rule,
     tags: Vec<Tag>,
     alloc: Global,
+}
+
+// Written out, so that to drop one is a call: a derived drop would stand in full in each function that drops one, and
+// in its proof.
+impl Drop for Reading {
+    fn drop(self) {
+        let Reading {
+            objects: _,
+            refs: _,
+            kept: _,
+            rule: _,
+            tags: _,
+            alloc: _,
+        } = self;
+    }
 }
 
 impl Model for Reading {
@@ -460,7 +474,7 @@ impl Reading {
             kept,
             rule,
             tags,
-            ..
+            alloc: _,
         } = self;
         let Objects {
             incoming,

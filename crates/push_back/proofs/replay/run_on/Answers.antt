@@ -15,8 +15,8 @@ use Rattle.fast_import.proofs.Stopping.{ahead, ahead_fed, more_open, within_fed}
 use Rattle.push_laws.specs.PushReplays.{StreamRefusal}
 use Rattle.push_back.specs.Replaying.{IsPushFault}
 use Rattle.push_back.specs.declared.error.PushError.TheVariants as errors
-use Rattle.push_back.proofs.PushedSoFar.{IsPushSoFar, all_given, end_refused, fed_waiting, feeding_refused, nothing_so_far, one_more, reading_refused, step_refused, taken_feeding, taken_given, taken_refused}
-use Rattle.push_back.proofs.replay.replay_by.Goals as goal
+use Rattle.push_back.proofs.PushedSoFar.{IsPushSoFar, ended, fed_waiting, feeding_refused, nothing_so_far, one_more, reading_refused, step_refused, taken_ended, taken_feeding, taken_refused}
+use Rattle.push_back.proofs.replay.run_on.Goals as goal
 use Rattle.push_back.proofs.Running.{run_within, run_within_feeding}
 
 grown-any : (made : Object → Type 0) (S T : List Object) → IsGrownBy made S T → IsGrownBy (λ o. ⊤) S T
@@ -24,11 +24,11 @@ grown-any made S T h = grown_as made (λ o. ⊤) S T (λ o m. tt) h
 
 pub stream-init : goal.stream-init
 stream-init g c = record {
-  so_far = subst (λ (rd : Reading). IsPushSoFar (g.P.Pushed.upon c.args.store.now c.args.base.now) (g.P.Pushed.one c.args.store.now c.args.base.now) c.requires.goes (g.P.OnRef.refname c.args.base.now) (g.P.OnRef.from c.args.base.now) c.args.store.now c.args.store.now (g.S.Source.left c.args.input.now) (g.S.Source.left c.args.input.now) rd c.new-replay.result) (sym c.new-reader.ensures)
-      (nothing_so_far (g.P.Pushed.upon c.args.store.now c.args.base.now) (g.P.Pushed.one c.args.store.now c.args.base.now) c.requires.goes (g.P.OnRef.refname c.args.base.now) (g.P.OnRef.from c.args.base.now) c.args.store.now (g.S.Source.left c.args.input.now) c.new-replay.result c.store_law.ensures.store (c.new-replay.ensures c.args.store.now));
+  so_far = subst (λ (rd : Reading). IsPushSoFar (g.P.Pushed.upon c.args.store.now c.args.base.now) (g.P.Pushed.one c.args.store.now c.args.base.now) c.requires.goes (g.P.OnRef.refname c.args.base.now) (g.P.OnRef.from c.args.base.now) c.args.store.now c.args.store.now (g.S.Source.left c.args.input.now) (g.S.Source.left c.args.input.now) rd c.args.replay.now) (sym c.requires.unread)
+      (nothing_so_far (g.P.Pushed.upon c.args.store.now c.args.base.now) (g.P.Pushed.one c.args.store.now c.args.base.now) c.requires.goes (g.P.OnRef.refname c.args.base.now) (g.P.OnRef.from c.args.base.now) c.args.store.now (g.S.Source.left c.args.input.now) c.args.replay.now c.store_law.ensures.store (c.requires.fresh c.args.store.now));
   told = (λ x. x, λ x. x);
   later = omega arith;
-  within = let e : came c.new-reader.result ≡ 0 = ap came c.new-reader.ensures in omega arith;
+  within = let e : came c.args.reader.now ≡ 0 = ap came c.requires.unread in omega arith;
 }
 
 pub returns-in-Err-clause-stream : goal.returns-in-Err-clause-stream
@@ -36,15 +36,10 @@ returns-in-Err-clause-stream g c =
     let h = c.stream.invariant.so_far in
     reading_refused (g.P.Pushed.upon c.args.store.now c.args.base.now) (g.P.Pushed.one c.args.store.now c.args.base.now) c.requires.goes (g.P.OnRef.refname c.args.base.now) (g.P.OnRef.from c.args.base.now) c.args.store.now c.stream.store (g.S.Source.left c.args.input.now) (g.S.Source.left c.stream.input) c.stream.reader c.stream.replay h (g.met.S.Source.bytes c.stream.input) c.in-Err.fault c.in-Err.ensures.follows
 
-pub returns-in-Err-end_judged-clause-stream : goal.returns-in-Err-end_judged-clause-stream
-returns-in-Err-end_judged-clause-stream g c =
+pub returns-in-Ok-Ended-clause-stream : goal.returns-in-Ok-Ended-clause-stream
+returns-in-Ok-Ended-clause-stream g c =
     let h = c.stream.invariant.so_far in
-    end_refused (g.P.Pushed.upon c.args.store.now c.args.base.now) (g.P.Pushed.one c.args.store.now c.args.base.now) c.requires.goes (g.P.OnRef.refname c.args.base.now) (g.P.OnRef.from c.args.base.now) c.args.store.now c.stream.store (g.S.Source.left c.args.input.now) (g.S.Source.left c.stream.input) c.stream.reader c.stream.replay h (g.met.S.Source.bytes c.stream.input) (subst (λ (n : Next). Follows (Ok n) c.stream.reader c.next.new.self) c.in-Ok-Ended.field-0-is c.in-Ok-Ended.ensures.follows) c.in-Err-end_judged.error (c.in-Err-end_judged.ensures.judged.refused c.stream.store h.state h.stands)
-
-pub returns-in-Ok-clause-stream : goal.returns-in-Ok-clause-stream
-returns-in-Ok-clause-stream g c =
-    let h = c.stream.invariant.so_far in
-    all_given (g.P.Pushed.upon c.args.store.now c.args.base.now) (g.P.Pushed.one c.args.store.now c.args.base.now) c.requires.goes (g.P.OnRef.refname c.args.base.now) (g.P.OnRef.from c.args.base.now) c.args.store.now c.stream.store (g.S.Source.left c.args.input.now) (g.S.Source.left c.stream.input) c.stream.reader c.stream.replay h (g.met.S.Source.bytes c.stream.input) (subst (λ (n : Next). Follows (Ok n) c.stream.reader c.next.new.self) c.in-Ok-Ended.field-0-is c.in-Ok-Ended.ensures.follows) (c.in-Ok.ensures.judged.passed c.stream.store h.state h.stands) c.finish.result (c.finish.ensures.gives c.stream.store h.state h.stands)
+    ended (g.P.Pushed.upon c.args.store.now c.args.base.now) (g.P.Pushed.one c.args.store.now c.args.base.now) c.requires.goes (g.P.OnRef.refname c.args.base.now) (g.P.OnRef.from c.args.base.now) c.args.store.now c.stream.store (g.S.Source.left c.args.input.now) (g.S.Source.left c.stream.input) c.stream.reader c.stream.replay h (g.met.S.Source.bytes c.stream.input) (subst (λ (n : Next). Follows (Ok n) c.stream.reader c.next.new.self) c.in-Ok-Ended.field-0-is c.in-Ok-Ended.ensures.follows) c.end_judged.result c.end_judged.ensures.judged
 
 pub push_on-requires-clause-base : goal.push_on-requires-clause-base
 push_on-requires-clause-base g c =
@@ -57,16 +52,16 @@ returns-in-Err-push_on-clause-stream g c =
     let p = c.in-Ok-Command.placed in
     let k = c.in-Err-push_on.ensures.stepped h.state h.stands in
     step_refused (g.P.Pushed.upon c.args.store.now c.args.base.now) (g.P.Pushed.one c.args.store.now c.args.base.now) c.requires.goes (g.P.OnRef.refname c.args.base.now) (g.P.OnRef.from c.args.base.now) c.args.store.now c.stream.store (g.S.Source.left c.args.input.now) (g.S.Source.left c.stream.input) c.stream.reader c.stream.replay h (g.met.S.Source.bytes c.stream.input) p c.next.new.self (subst (λ (n : Next). Follows (Ok n) c.stream.reader c.next.new.self) c.in-Ok-Command.field-0-is c.in-Ok-Command.ensures.follows)
-    c.push_on.new.store c.in-Err-push_on.error
+    c.push_on.new.store c.push_on.new.replay c.in-Err-push_on.error
     (subst (λ (x : Result Replay StreamRefusal). IsPushFault (result_err x) (IsMadeAt h.state p.command) c.push_on.new.store c.in-Err-push_on.error) (c.requires.lasts.same c.stream.store (grown-any (IsMadeBy (g.P.Pushed.upon c.args.store.now c.args.base.now) nothing_yet h.commands) c.args.store.now c.stream.store h.grown) h.state p) k.refused)
     k.grown
 
-pub stream-preserved-in-Ok-push_on : goal.stream-preserved-in-Ok-push_on
-stream-preserved-in-Ok-push_on g c =
+pub stream-preserved-in-Ok : goal.stream-preserved-in-Ok
+stream-preserved-in-Ok g c =
     let h = c.stream.invariant.so_far in
     let p = c.in-Ok-Command.placed in
     let t = subst (λ (n : Next). TellsNext (Ok n) c.stream.reader c.next.new.self) c.in-Ok-Command.field-0-is c.in-Ok-Command.ensures.told in
-    let k = c.in-Ok-push_on.ensures.stepped h.state h.stands in
+    let k = c.in-Ok.ensures.stepped h.state h.stands in
     record {
       so_far = one_more (g.P.Pushed.upon c.args.store.now c.args.base.now) (g.P.Pushed.one c.args.store.now c.args.base.now) c.requires.goes (g.P.OnRef.refname c.args.base.now) (g.P.OnRef.from c.args.base.now) c.args.store.now c.stream.store (g.S.Source.left c.args.input.now) (g.S.Source.left c.stream.input) c.stream.reader c.stream.replay h p c.next.new.self t.0 t.1 c.in-Ok-Command.ensures.came
           (subst (λ (n : Next). Follows (Ok n) c.stream.reader c.next.new.self) c.in-Ok-Command.field-0-is c.in-Ok-Command.ensures.follows)
@@ -116,16 +111,11 @@ returns-in-Err-clause-taken g c =
     let h = c.stream.invariant.so_far in
     taken_refused (g.P.Pushed.upon c.args.store.now c.args.base.now) (g.P.Pushed.one c.args.store.now c.args.base.now) c.requires.goes (g.P.OnRef.refname c.args.base.now) (g.P.OnRef.from c.args.base.now) c.args.store.now c.stream.store (g.S.Source.left c.args.input.now) (g.S.Source.left c.stream.input) c.stream.reader c.stream.replay h (errors.Stream c.in-Err.fault)
 
-pub returns-in-Err-end_judged-clause-taken : goal.returns-in-Err-end_judged-clause-taken
-returns-in-Err-end_judged-clause-taken g c =
-    let h = c.stream.invariant.so_far in
-    taken_refused (g.P.Pushed.upon c.args.store.now c.args.base.now) (g.P.Pushed.one c.args.store.now c.args.base.now) c.requires.goes (g.P.OnRef.refname c.args.base.now) (g.P.OnRef.from c.args.base.now) c.args.store.now c.stream.store (g.S.Source.left c.args.input.now) (g.S.Source.left c.stream.input) c.stream.reader c.stream.replay h c.in-Err-end_judged.error
-
-pub returns-in-Ok-clause-taken : goal.returns-in-Ok-clause-taken
-returns-in-Ok-clause-taken g c =
+pub returns-in-Ok-Ended-clause-taken : goal.returns-in-Ok-Ended-clause-taken
+returns-in-Ok-Ended-clause-taken g c =
     let h = c.stream.invariant.so_far in
     let t = subst (λ (n : Next). TellsNext (Ok n) c.stream.reader c.next.new.self) c.in-Ok-Ended.field-0-is c.in-Ok-Ended.ensures.told in
-    taken_given (g.P.Pushed.upon c.args.store.now c.args.base.now) (g.P.Pushed.one c.args.store.now c.args.base.now) c.requires.goes (g.P.OnRef.refname c.args.base.now) (g.P.OnRef.from c.args.base.now) c.args.store.now c.stream.store (g.S.Source.left c.args.input.now) (g.S.Source.left c.stream.input) c.stream.reader c.stream.replay h c.next.new.self t.0 c.in-Ok-Ended.ensures.came c.finish.result
+    taken_ended (g.P.Pushed.upon c.args.store.now c.args.base.now) (g.P.Pushed.one c.args.store.now c.args.base.now) c.requires.goes (g.P.OnRef.refname c.args.base.now) (g.P.OnRef.from c.args.base.now) c.args.store.now c.stream.store (g.S.Source.left c.args.input.now) (g.S.Source.left c.stream.input) c.stream.reader c.stream.replay h c.next.new.self t.0 c.in-Ok-Ended.ensures.came c.end_judged.result
 
 pub returns-in-Err-push_on-clause-taken : goal.returns-in-Err-push_on-clause-taken
 returns-in-Err-push_on-clause-taken g c =
@@ -145,11 +135,8 @@ returns-in-Err-feed-clause-taken g c =
 pub returns-in-Err-clause-within : goal.returns-in-Err-clause-within
 returns-in-Err-clause-within g c = run_within (g.P.Pushed.upon c.args.store.now c.args.base.now) (g.P.Pushed.one c.args.store.now c.args.base.now) c.args.store.now c.stream.store (g.S.Source.left c.args.input.now) (g.S.Source.left c.stream.input) c.stream.reader c.stream.replay c.stream.invariant.so_far c.stream.invariant.within
 
-pub returns-in-Err-end_judged-clause-within : goal.returns-in-Err-end_judged-clause-within
-returns-in-Err-end_judged-clause-within g c = run_within (g.P.Pushed.upon c.args.store.now c.args.base.now) (g.P.Pushed.one c.args.store.now c.args.base.now) c.args.store.now c.stream.store (g.S.Source.left c.args.input.now) (g.S.Source.left c.stream.input) c.stream.reader c.stream.replay c.stream.invariant.so_far c.stream.invariant.within
-
-pub returns-in-Ok-clause-within : goal.returns-in-Ok-clause-within
-returns-in-Ok-clause-within g c = run_within (g.P.Pushed.upon c.args.store.now c.args.base.now) (g.P.Pushed.one c.args.store.now c.args.base.now) c.args.store.now c.stream.store (g.S.Source.left c.args.input.now) (g.S.Source.left c.stream.input) c.stream.reader c.stream.replay c.stream.invariant.so_far c.stream.invariant.within
+pub returns-in-Ok-Ended-clause-within : goal.returns-in-Ok-Ended-clause-within
+returns-in-Ok-Ended-clause-within g c = run_within (g.P.Pushed.upon c.args.store.now c.args.base.now) (g.P.Pushed.one c.args.store.now c.args.base.now) c.args.store.now c.stream.store (g.S.Source.left c.args.input.now) (g.S.Source.left c.stream.input) c.stream.reader c.stream.replay c.stream.invariant.so_far c.stream.invariant.within
 
 pub returns-in-Err-push_on-clause-within : goal.returns-in-Err-push_on-clause-within
 returns-in-Err-push_on-clause-within g c = run_within (g.P.Pushed.upon c.args.store.now c.args.base.now) (g.P.Pushed.one c.args.store.now c.args.base.now) c.args.store.now c.stream.store (g.S.Source.left c.args.input.now) (g.S.Source.left c.stream.input) c.stream.reader c.stream.replay c.stream.invariant.so_far c.stream.invariant.within
