@@ -33,7 +33,7 @@ use Rattle.read_cli.specs.Outputs.{check_output, hands, log_output, new_output, 
 use Rattle.read_cli.specs.Readings.{Check, Log, New, Originals, Reading, Refs, Unknown, verdict}
 use Rattle.read_cli.specs.declared.judging.Asked.{Asked}
 use Rattle.read_cli.specs.declared.judging.Asked.TheVariants as asks
-use Rattle.read_cli.specs.declared.judging.Subject.{Subject}
+use Rattle.proj_commands.specs.declared.judging.Subject.{Subject}
 
 -- ---- looking at a state that holds h
 

@@ -18,7 +18,6 @@ ghost use Rattle.proj_commands.specs.Makes.{IsState, IsStateOf};
 ghost use Rattle.read_cli.specs.Looks.{at_head, IsReport, IsUnreported};
 ghost use Rattle.read_cli.specs.Outputs.{check_output, check_text, gives_text, place_line, workspace_line};
 
-use crate::judging::Subject;
 use filter_apply::ApplyError;
 use filter_text::Filter;
 use git_objects::{Bytes, Name};
@@ -27,7 +26,7 @@ use itoa::Buffer;
 use object_store::Store;
 use path_names::{Path, quote};
 use proj_cli::{Outcome, outcome_text};
-use proj_commands::apply_outcome;
+use proj_commands::{Subject, apply_outcome};
 use projection_ground::Ground;
 use repo_ground::State;
 use std::alloc::{AllocError, Global};

@@ -1,28 +1,17 @@
 // Judging a form: its filter is read before the store is looked at.
-ghost use Rattle.std.specs.Prelude.{◌≡◌, ◌⊎◌, map, string_bytes, Err, IfErr, IfOk, IsSome, Some, true};
+ghost use Rattle.std.specs.Prelude.{◌≡◌, map, string_bytes, IfErr, IfOk, IsSome, Some};
 ghost use Rattle.git_objects.specs.Parts.{name_bytes};
-ghost use Rattle.path_names.specs.RefNames.{is_ref_name};
-ghost use Rattle.proj_commands.specs.Filters.{sound};
 ghost use Rattle.read_cli.specs.Readings.{names_of};
-ghost use Rattle.read_cli.specs.Looks.{IsAsked, IsFormed, IsSubject, IsUnjudged, form_reading};
+ghost use Rattle.read_cli.specs.Looks.{IsAsked, IsFormed, IsUnjudged, form_reading};
 
 use crate::words::Form;
-use filter_text::Filter;
 use git_objects::Name;
-use path_names::{RefFault, RefName};
+use path_names::RefName;
 use proj_cli::Outcome;
-use proj_commands::sound_filter;
+use proj_commands::{Subject, read_subject, ref_name};
 use std::alloc::{AllocError, Global};
 
-/// A sound filter, and a ref's name.
-#[derive(Drop)]
-pub struct Subject {
-    pub filter: Filter,
-    pub refname: RefName,
-}
-
 /// What is asked of a store.
-#[derive(Drop)]
 pub enum Asked {
     /// The refs.
     Refs,
@@ -36,16 +25,16 @@ pub enum Asked {
     Originals(RefName, Vec<Name>),
 }
 
-// The ref name that a text is.
-fn ref_of(alloc: Global, text: &[u8]) -> Result<RefName, Outcome>
-    requires { is_ref_name text.now ≡ true }
-    ensures ok { IfOk result (λ name. name ≡ text.now) }
-    ensures err { IfErr result (λ e. e ≡ Outcome.OutOfMemory) }
-{
-    match RefName::parse(alloc, text) {
-        Ok(refname) => Ok(refname),
-        Err(RefFault::OutOfMemory) => Err(Outcome::OutOfMemory),
-        Err(RefFault::Bad) => unreachable!(),
+// Written out, so that to drop one is a call: a derived drop would stand in full in each function that drops one, and
+// in its proof.
+impl Drop for Asked {
+    fn drop(self) {
+        match self {
+            Asked::Refs => {}
+            Asked::Log(_) | Asked::Check(_) => {}
+            Asked::New(_, _, _) => {}
+            Asked::Originals(_, _) => {}
+        }
     }
 }
 
@@ -65,17 +54,6 @@ fn names_of(alloc: Global, words: &[String]) -> Result<Vec<Name>, AllocError>
     Ok(names)
 }
 
-// The subject that a ref and the text of a filter are.
-fn subject_of(alloc: Global, refname: &[u8], filter: &[u8]) -> Result<Subject, Outcome>
-    requires { is_ref_name refname.now ≡ true }
-    ensures ok { IfOk result (λ s. IsSubject s refname.now filter.now) }
-    ensures err { IfErr result (λ e. (e ≡ Outcome.OutOfMemory) ⊎ (sound filter.now ≡ Err e)) }
-{
-    let filter = sound_filter(alloc, filter)?;
-    let refname = ref_of(alloc, refname)?;
-    Ok(Subject { filter, refname })
-}
-
 /// What a form asks for, or why its filter's text is of none.
 pub fn judge(alloc: Global, form: Form<'_>) -> Result<Asked, Outcome>
     requires { IsFormed form }
@@ -84,14 +62,14 @@ pub fn judge(alloc: Global, form: Form<'_>) -> Result<Asked, Outcome>
 {
     match form {
         Form::Refs => Ok(Asked::Refs),
-        Form::Log(refname, filter) => Ok(Asked::Log(subject_of(alloc, refname, filter)?)),
-        Form::Check(refname, filter) => Ok(Asked::Check(subject_of(alloc, refname, filter)?)),
+        Form::Log(refname, filter) => Ok(Asked::Log(read_subject(alloc, refname, filter)?)),
+        Form::Check(refname, filter) => Ok(Asked::Check(read_subject(alloc, refname, filter)?)),
         Form::New(tagged, refname, filter, haves) => {
-            let subject = subject_of(alloc, refname, filter)?;
+            let subject = read_subject(alloc, refname, filter)?;
             Ok(Asked::New(tagged, subject, names_of(alloc, haves)?))
         }
         Form::Originals(refname, haves) => {
-            let refname = ref_of(alloc, refname)?;
+            let refname = ref_name(alloc, refname)?;
             Ok(Asked::Originals(refname, names_of(alloc, haves)?))
         }
         Form::Unknown => Err(Outcome::Usage),

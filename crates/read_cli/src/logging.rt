@@ -13,12 +13,11 @@ ghost use Rattle.proj_commands.specs.Makes.{IsState, IsStateOf};
 ghost use Rattle.read_cli.specs.Looks.{at_head, IsReport, IsUnreported};
 ghost use Rattle.read_cli.specs.Outputs.{log_output};
 
-use crate::judging::Subject;
 use crate::reports::log_lines;
 use git_objects::{Bytes, Name};
 use history_ground::shown_before;
 use proj_cli::Outcome;
-use proj_commands::apply_outcome;
+use proj_commands::{Subject, apply_outcome};
 use projection_ground::Ground;
 use repo_ground::State;
 use std::alloc::{AllocError, Global};

@@ -29,7 +29,6 @@ ghost use Rattle.read_cli.specs.Looks.{AreFresh, AreNew, at_head};
 ghost use Rattle.read_cli.specs.Looks.{IsAtHand, IsEnd, IsLookedFor, IsUnshown, IsWriteOutcome};
 ghost use Rattle.read_cli.specs.Outputs.{new_output, original_commits, originals_output};
 
-use crate::judging::Subject;
 use crate::logging::history_of;
 use fast_export::ExportError;
 use filter_apply::ApplyError;
@@ -43,7 +42,7 @@ use indexmap::IndexSet;
 use object_store::Store;
 use path_names::RefName;
 use proj_cli::Outcome;
-use proj_commands::{apply_outcome, tags_beside};
+use proj_commands::{Subject, apply_outcome, tags_beside};
 use proj_io::{Sink, SinkError};
 use projection_ground::Ground;
 use projection_laws::history_law;
