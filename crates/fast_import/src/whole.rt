@@ -110,8 +110,8 @@ fn run_whole<S: Source, B: Base>(
     }
 }
 
-// Replays a stream upon what is there, by a reader of which nothing has come, into a replay that has done nothing. Who
-// owns the two drops them in one place, which keeps the proof small.
+// Replays a stream upon what is there, by a reader of which nothing has come, into a replay that has done nothing. Both
+// are borrowed: their owner drops them in one place, which keeps the proof small.
 fn run_on<S: Source, B: Base>(
     reader: &mut Reader,
     replay: &mut Replay,

@@ -79,7 +79,7 @@ pub fn replay_upon<S: Source, P: Pushed>(
 }
 
 // Replays such a stream, read in pieces of at most the buffer's length, by a reader of which nothing has come, into a
-// replay that has done nothing. Who owns the two drops them in one place, which keeps the proof small.
+// replay that has done nothing. Both are borrowed: their owner drops them in one place, which keeps the proof small.
 fn run_on<S: Source, P: Pushed>(
     reader: &mut Reader,
     replay: &mut Replay,

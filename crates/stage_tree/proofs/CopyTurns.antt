@@ -22,9 +22,9 @@ use Rattle.stage_nodes.proofs.Branching.{kept_on}
 
 -- ---- nodes that wait
 
-pub pending_more : (s : Nodes) (ws : List Work) (w : Work) (G H F : Forest) (D1 D2 : ℕ → ℕ) → ArePending s ws G H D1 → IsStep s w H F D2 → ArePending s (ws ++ w ∷ []) G F (λ m. D1 m + D2 m)
-pending_more s [] w G H F D1 D2 p st = (F, D2, (λ m. 0), subst (λ (X : Forest). IsStep s w X F D2) (sym p.0) st, (refl, λ m. refl), λ m. omega (arith, p.1 m))
-pending_more s (v ∷ ws) w G H F D1 D2 p st = (p.0, p.1, (λ m. p.2 m + D2 m), p.3, pending_more s ws w p.0 H F p.2 D2 p.4 st, λ m. omega (arith, p.5 m))
+pub pending_more : (s : Nodes) (ws : List Work) (w : Work) (G H F : Forest) (before now : ℕ → ℕ) → ArePending s ws G H before → IsStep s w H F now → ArePending s (ws ++ w ∷ []) G F (λ m. before m + now m)
+pending_more s [] w G H F before now p st = (F, now, (λ m. 0), subst (λ (X : Forest). IsStep s w X F now) (sym p.0) st, (refl, λ m. refl), λ m. omega (arith, p.1 m))
+pending_more s (v ∷ ws) w G H F before now p st = (p.0, p.1, (λ m. p.2 m + now m), p.3, pending_more s ws w p.0 H F p.2 now p.4 st, λ m. omega (arith, p.5 m))
 
 pub record IsLast (s : Nodes) (ws : List Work) (w : Work) (G F : Forest) (D : ℕ → ℕ) : Type 0 where
   pub top : Forest

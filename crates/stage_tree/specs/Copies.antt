@@ -56,7 +56,7 @@ IsStep s (Children k a) (Bin j c x l r) F D = (k ≡ j) × (l ≡ F) × (A : For
 -- the nodes that wait, the outermost coming first, from all that is copied to what is copied now
 abbrev pub ArePending : Nodes → List Work → Forest → Forest → (ℕ → ℕ) → Type 0
 ArePending s [] G F D = (G ≡ F) × ((m : ℕ) → D m ≡ 0)
-ArePending s (w ∷ ws) G F D = (H : Forest) × (D1 : ℕ → ℕ) × (D2 : ℕ → ℕ) × IsStep s w G H D1 × ArePending s ws H F D2 × ((m : ℕ) → D m ≡ D1 m + D2 m)
+ArePending s (w ∷ ws) G F D = (H : Forest) × (before : ℕ → ℕ) × (now : ℕ → ℕ) × IsStep s w G H before × ArePending s ws H F now × ((m : ℕ) → D m ≡ before m + now m)
 
 -- what comes next: the nodes from a number on as they were, or their copies
 abbrev pub IsNext : Nodes → Nodes → Turn → Forest → (ℕ → ℕ) → Type 0
