@@ -397,6 +397,19 @@ store=$made_store
 tags_in() {
     git -C "$work/$1" for-each-ref --format='%(refname:strip=2) %(objectname)' "${@:2}" refs/tags | sort
 }
+
+# With names `new` writes these, and then what it writes with tags, which is the answer before.
+named() {
+    local filter=$1
+    shift
+    mv "$work/answer" "$work/tagged"
+    answers "log $filter" log $main "$filter"
+    { tail -n 1 "$work/answer" && "$proj" "$store" tags $main "$filter" && printf '\n' && cat "$work/tagged"; } \
+        >"$work/named"
+    answers "new --names $filter $*" new --names $main "$filter" "$@"
+    cmp -s "$work/answer" "$work/named" && right || wrong "what new --names $filter $* writes"
+    mv "$work/tagged" "$work/answer"
+}
 for filter in :nop :/a ':exclude[::a/]' :/none; do
     "$proj" "$store" tags $main "$filter" | sort >"$work/wanted"
     keep
@@ -406,6 +419,7 @@ for filter in :nop :/a ':exclude[::a/]' :/none; do
     if cmp -s -n "$(wc -c <"$work/text")" "$work/text" "$work/answer"; then right; else
         wrong "new --tags $filter does not begin as new"
     fi
+    named "$filter"
     fresh whole
     taken "new --tags $filter" whole "$work/answer"
     tags_in whole >"$work/found"
@@ -417,6 +431,7 @@ for filter in :nop :/a ':exclude[::a/]' :/none; do
         taken "new --tags $filter ^$have" part "$work/answer"
         same "the tags of new --tags $filter ^$have" "$(tags_in whole --no-merged "$have"; printf end)" \
             "$(tags_in part; printf end)"
+        named "$filter" "$have"
     done
 done
 
@@ -562,13 +577,13 @@ equal 'when proj has ended' "$work/wanted" "$work/answer"
 told() {
     same "$1" "$2" "$(cat "$work/told"; printf 'status %d%s' "$status" "$(cat "$work/answer")")"
 }
-usage='usage: proj_read STORE (refs | log REF FILTER | check REF FILTER | new [--tags] REF FILTER [HAVE ..] | '
+usage='usage: proj_read STORE (refs | log REF FILTER | check REF FILTER | new [--tags | --names] REF FILTER [HAVE ..] | '
 usage+=$'originals REF [HAVE ..])\nstatus 2'
 store=$work/store
 keep
 name=$(git -C "$work/made" rev-parse main)
 for words in '' other 'refs x' log "log $main" "log $main :/a x" check "check $main" "check $main :/a x" \
-    'check bad..ref :/a' new 'new --tags' "new $main" "new --tags $main" \
+    'check bad..ref :/a' new 'new --tags' "new $main" "new --tags $main" 'new --names' "new --names --tags $main :/a" \
     "new $main :/a x" "new $main :/a $name $name:" "new $main :/a ${name}0" "new $main :/a ${name%?}" \
     "new $main :/a --tags" originals "originals $main :/a" "originals $main ${name%?}" "originals $main $name x" \
     'log bad..ref :/a' 'new a//b :/a' 'originals /a' "project $main :/a" "export $main :/a" 'rule 1' --help; do
@@ -586,7 +601,7 @@ for words in 'refs/heads/none :/a' "$main :/a:" "$main :[x=:/a,x=:/b]" "$main :[
     # shellcheck disable=SC2086
     wanted=$("$proj" "$store" project $words 2>&1; printf 'status %d' $?)
     keep
-    for form in log check new 'new --tags'; do
+    for form in log check new 'new --tags' 'new --names'; do
         # shellcheck disable=SC2086
         reads $form $words
         told "$form $words" "$wanted"
@@ -624,7 +639,7 @@ for words in refs "log $main :/a" "check $main :/a" "new $main :/a" "originals $
     reads $words
     told "an empty file: $words" $'damaged: journal at 0\nstatus 25'
 done
-for words in refs "log $main :/a" "new --tags $main :nop" "originals $main"; do
+for words in refs "log $main :/a" "new --tags $main :nop" "new --names $main :/a" "originals $main"; do
     # shellcheck disable=SC2086
     same "a directory: $words" $'store fault\nstatus 24' \
         "$("$proj_read" "$work/made" $words 2>&1; printf 'status %d' $?)"

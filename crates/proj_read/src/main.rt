@@ -29,10 +29,12 @@ const HELP: &[u8] = b"proj_read looks into a store of proj, and writes nothing t
 \x20                                  print how many files the filter shows of a ref's commit,\n\
 \x20                                  and what its workspace's file gives\n\
 \x20     proj_read mono.proj check refs/heads/main :workspace=ws\n\
-\x20 proj_read STORE new [--tags] REF FILTER [HAVE ..]\n\
+\x20 proj_read STORE new [--tags | --names] REF FILTER [HAVE ..]\n\
 \x20                                  print the history of what the filter shows, as a stream\n\
 \x20                                  that has what each commit changes, without all that is\n\
-\x20                                  reached from a HAVE, a commit of that history in 40 digits\n\
+\x20                                  reached from a HAVE, a commit of that history in 40 digits;\n\
+\x20                                  --tags adds its annotated tags, and --names these and, in\n\
+\x20                                  front, the names of its head and of all tags\n\
 \x20     proj_read mono.proj new refs/heads/main :/lib | git -C lib fast-import\n\
 \x20 proj_read STORE originals REF [HAVE ..]\n\
 \x20                                  print the same of the ref's own history\n\

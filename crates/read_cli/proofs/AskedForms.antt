@@ -29,9 +29,10 @@ use Rattle.proj_commands.specs.Judging.{IsOwn}
 use Rattle.proj_commands.proofs.Refusing.{sound-own}
 use Rattle.read_cli.specs.Answers.{IsLawful, IsNewLawful, IsReadBackUpon, OfHead}
 use Rattle.read_cli.specs.Looks.{IsAsked, IsLooked, IsLookedFor, IsReport, IsUnreported}
-use Rattle.read_cli.specs.Outputs.{check_output, hands, log_output, new_output, original_commits, originals_output, output, refs_output}
+use Rattle.read_cli.specs.Outputs.{check_output, hands, has_tags, log_output, new_output, original_commits, originals_output, output, refs_output}
 use Rattle.read_cli.specs.Readings.{Check, Log, New, Originals, Reading, Refs, Unknown, verdict}
 use Rattle.read_cli.specs.declared.judging.Asked.{Asked}
+use Rattle.read_cli.specs.declared.words.Beside.{Beside}
 use Rattle.read_cli.specs.declared.judging.Asked.TheVariants as asks
 use Rattle.proj_commands.specs.declared.judging.Subject.{Subject}
 
@@ -70,8 +71,8 @@ module _ (S : List Object) (h : Held) (before after : SinkView) (o : Outcome) wh
       subst (λ (x : Result Filter Outcome). IsLookedFor S (x >>= λ f. head_of r h.refs >>= λ n. Ok (seen_hand h f n)) (x >>= λ f. head_of r h.refs >>= λ n. Ok (check_output h f n)) before after o) (sym w.sound_is)
       (subst (λ (q : Bytes). IsLookedFor S (head_of q h.refs >>= λ n. Ok (seen_hand h (shape s.filter) n)) (head_of q h.refs >>= λ n. Ok (check_output h (shape s.filter) n)) before after o) w.refname l)
 
-  pub look-new : (form : Reading) (b : Bool) (s : Subject) (haves : Vec Name) → IsAsked form (asks.New b s haves)
-      → IsLookedFor S (head_of s.refname h.refs >>= λ n. Ok (export_hand b h (shape s.filter) n)) (head_of s.refname h.refs >>= λ n. Ok (new_output b h (shape s.filter) s.refname n (map name_bytes haves.items))) before after o
+  pub look-new : (form : Reading) (b : Beside) (s : Subject) (haves : Vec Name) → IsAsked form (asks.New b s haves)
+      → IsLookedFor S (head_of s.refname h.refs >>= λ n. Ok (export_hand (has_tags b) h (shape s.filter) n)) (head_of s.refname h.refs >>= λ n. Ok (new_output b h (shape s.filter) s.refname n (map name_bytes haves.items))) before after o
       → IsLooked S (hands form (Ok h)) (output form (Ok h)) before after o
   look-new Refs b s haves w l = absurd w
   look-new (Log r t) b s haves w l = absurd w
@@ -79,10 +80,10 @@ module _ (S : List Object) (h : Held) (before after : SinkView) (o : Outcome) wh
   look-new (Originals r ns) b s haves w l = absurd w
   look-new Unknown b s haves w l = absurd w
   look-new (New k r t ns) b s haves w l =
-      subst (λ (y : Result Filter Outcome). IsLookedFor S (y >>= λ f. head_of r h.refs >>= λ n. Ok (export_hand k h f n)) (y >>= λ f. head_of r h.refs >>= λ n. Ok (new_output k h f r n ns)) before after o) (sym w.1.sound_is)
-      (subst (λ (z : List Bytes). IsLookedFor S (head_of r h.refs >>= λ n. Ok (export_hand k h (shape s.filter) n)) (head_of r h.refs >>= λ n. Ok (new_output k h (shape s.filter) r n z)) before after o) w.2
-      (subst (λ (q : Bytes). IsLookedFor S (head_of q h.refs >>= λ n. Ok (export_hand k h (shape s.filter) n)) (head_of q h.refs >>= λ n. Ok (new_output k h (shape s.filter) q n (map name_bytes haves.items))) before after o) w.1.refname
-      (subst (λ (c : Bool). IsLookedFor S (head_of s.refname h.refs >>= λ n. Ok (export_hand c h (shape s.filter) n)) (head_of s.refname h.refs >>= λ n. Ok (new_output c h (shape s.filter) s.refname n (map name_bytes haves.items))) before after o) w.0 l)))
+      subst (λ (y : Result Filter Outcome). IsLookedFor S (y >>= λ f. head_of r h.refs >>= λ n. Ok (export_hand (has_tags k) h f n)) (y >>= λ f. head_of r h.refs >>= λ n. Ok (new_output k h f r n ns)) before after o) (sym w.1.sound_is)
+      (subst (λ (z : List Bytes). IsLookedFor S (head_of r h.refs >>= λ n. Ok (export_hand (has_tags k) h (shape s.filter) n)) (head_of r h.refs >>= λ n. Ok (new_output k h (shape s.filter) r n z)) before after o) w.2
+      (subst (λ (q : Bytes). IsLookedFor S (head_of q h.refs >>= λ n. Ok (export_hand (has_tags k) h (shape s.filter) n)) (head_of q h.refs >>= λ n. Ok (new_output k h (shape s.filter) q n (map name_bytes haves.items))) before after o) w.1.refname
+      (subst (λ (c : Beside). IsLookedFor S (head_of s.refname h.refs >>= λ n. Ok (export_hand (has_tags c) h (shape s.filter) n)) (head_of s.refname h.refs >>= λ n. Ok (new_output c h (shape s.filter) s.refname n (map name_bytes haves.items))) before after o) w.0 l)))
 
   pub look-originals : (form : Reading) (refname : Bytes) (haves : Vec Name) → IsAsked form (asks.Originals refname haves)
       → IsLookedFor S (Ok (still_hand h.objects [] [])) (head_of refname h.refs >>= λ n. Ok (originals_output h refname n (map name_bytes haves.items))) before after o
@@ -126,8 +127,8 @@ module _ (h : Held) where
   lawful-check (Originals r ns) s w = absurd w
   lawful-check Unknown s w = absurd w
 
-  pub lawful-new : (form : Reading) (b : Bool) (s : Subject) (haves : Vec Name) → IsAsked form (asks.New b s haves)
-      → OfHead (Ok h) s.refname (λ h n. IsNewLawful b h (shape s.filter) s.refname n (map name_bytes haves.items))
+  pub lawful-new : (form : Reading) (b : Beside) (s : Subject) (haves : Vec Name) → IsAsked form (asks.New b s haves)
+      → OfHead (Ok h) s.refname (λ h n. IsNewLawful (has_tags b) h (shape s.filter) s.refname n (map name_bytes haves.items))
       → IsLawful form (Ok h)
   lawful-new Refs b s haves w law = absurd w
   lawful-new (Log r t) b s haves w law = absurd w
@@ -135,10 +136,10 @@ module _ (h : Held) where
   lawful-new (Originals r ns) b s haves w law = absurd w
   lawful-new Unknown b s haves w law = absurd w
   lawful-new (New k r t ns) b s haves w law = λ f is.
-      subst (λ (g : Filter). OfHead (Ok h) r (λ h n. IsNewLawful k h g r n ns)) (ok-same (shape s.filter) f (sym w.1.sound_is ∙ is))
-      (subst (λ (z : List Bytes). OfHead (Ok h) r (λ h n. IsNewLawful k h (shape s.filter) r n z)) w.2
-      (subst (λ (q : Bytes). OfHead (Ok h) q (λ h n. IsNewLawful k h (shape s.filter) q n (map name_bytes haves.items))) w.1.refname
-      (subst (λ (v : Bool). OfHead (Ok h) s.refname (λ h n. IsNewLawful v h (shape s.filter) s.refname n (map name_bytes haves.items))) w.0 law)))
+      subst (λ (g : Filter). OfHead (Ok h) r (λ h n. IsNewLawful (has_tags k) h g r n ns)) (ok-same (shape s.filter) f (sym w.1.sound_is ∙ is))
+      (subst (λ (z : List Bytes). OfHead (Ok h) r (λ h n. IsNewLawful (has_tags k) h (shape s.filter) r n z)) w.2
+      (subst (λ (q : Bytes). OfHead (Ok h) q (λ h n. IsNewLawful (has_tags k) h (shape s.filter) q n (map name_bytes haves.items))) w.1.refname
+      (subst (λ (v : Beside). OfHead (Ok h) s.refname (λ h n. IsNewLawful (has_tags v) h (shape s.filter) s.refname n (map name_bytes haves.items))) w.0 law)))
 
   pub lawful-originals : (form : Reading) (refname : Bytes) (haves : Vec Name) → IsAsked form (asks.Originals refname haves)
       → OfHead (Ok h) refname (λ h n. IsReadBackUpon (tree_at (repo h).commits) (original_commits h n (map name_bytes haves.items)) refname) → IsLawful form (Ok h)
@@ -226,6 +227,6 @@ module _ (h : Held) where
   hands-held Refs = (refl, tt)
   hands-held (Log r t) = held-two (sound t) (head_of r h.refs) (λ f n. seen_hand h f n) (λ f n. refl)
   hands-held (Check r t) = held-two (sound t) (head_of r h.refs) (λ f n. seen_hand h f n) (λ f n. refl)
-  hands-held (New b r t ns) = held-two (sound t) (head_of r h.refs) (λ f n. export_hand b h f n) (λ f n. held-export b f n)
+  hands-held (New b r t ns) = held-two (sound t) (head_of r h.refs) (λ f n. export_hand (has_tags b) h f n) (λ f n. held-export (has_tags b) f n)
   hands-held (Originals r ns) = (refl, tt)
   hands-held Unknown = tt

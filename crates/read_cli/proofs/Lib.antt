@@ -9,6 +9,7 @@ mod SameTexts
 mod WrittenCommits
 mod Looked
 mod HeadReports
+mod HeadNames
 mod Checked
 mod FreshNames
 mod Freshness

@@ -17,7 +17,7 @@ use Rattle.proj_commands.proofs.StatesShown.{commits-are}
 use Rattle.read_cli.specs.Outputs.{log_line, log_output, name_line}
 
 -- each commit beside what is found of it
-paired : (p : Bytes → Option Bytes) (cs : List Name) (os : List (Option Name)) → map (option_map name_bytes) os ≡ map (λ (n : Name). p n.0) cs
+pub paired : (p : Bytes → Option Bytes) (cs : List Name) (os : List (Option Name)) → map (option_map name_bytes) os ≡ map (λ (n : Name). p n.0) cs
     → flat_map (λ e. name_line e.0.0 (option_map name_bytes e.1)) (zip cs os) ≡ flat_map (λ m. name_line m (p m)) (map name_bytes cs)
 paired p [] os e = refl
 paired p (c ∷ cs) [] e = cc

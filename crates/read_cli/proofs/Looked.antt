@@ -1,10 +1,11 @@
 -- What was written of an output, by how looking at a state ends.
-use Rattle.std.proofs.Common.{◌≡◌, ◌≤◌, inr, false, take, List, [], Option, None, Some, Result, Ok, Err, append-nil, refl, sym, ap, subst, ◌∙◌, arith}
+use Rattle.std.proofs.Common.{◌≡◌, ◌≤◌, inr, false, take, List, [], ◌++◌, Option, None, Some, Result, Ok, Err, append-nil, refl, sym, ap, subst, ◌∙◌, arith}
 use Rattle.std.specs.Prelude.{◌≢◌, IfErr, IsErr}
 use Rattle.std.specs.FinMap.{find}
 use Rattle.std.specs.Option.{option_to_list}
 use Rattle.std.specs.Result.{result_ok}
 use Rattle.std.specs.Io.KnownBytes.{Appends, Keeps}
+use Rattle.std.proofs.KnownBytes.{Appends-trans}
 use Rattle.git_objects.specs.Paths.{Bytes}
 use Rattle.git_objects.specs.Refs.{Refs, bytes_cmp}
 use Rattle.git_objects.specs.Results.{◌>>=◌, or_refuse}
@@ -24,6 +25,7 @@ use Rattle.proj_cli.specs.Sent.{IsConcluded, IsSent}
 use Rattle.read_cli.specs.Answers.{IsGiven, IsOutcome, text_of}
 use Rattle.read_cli.specs.Looks.{IsAtHand, IsEnd, IsLooked, IsLookedFor, IsReport, IsUnreported, IsUnshown, IsWriteOutcome}
 use Rattle.proj_commands.proofs.InHands.{twice-at}
+use Rattle.proj_commands.proofs.WrittenTags.{front-behind}
 
 -- ---- nothing written
 
@@ -42,6 +44,13 @@ written-looked S ks text before after Done w g = record { allowed = refl; given 
 written-looked S ks text before after WriteFault w g = record { allowed = refl; given = g }
 written-looked S ks text before after OutOfMemory w g = record { allowed = tt; given = g }
 written-looked S ks text before after o w g = absurd w
+
+-- with another text in front, all of which was written
+pub given-behind : (a b : Bytes) (before mid after : SinkView) (o : Outcome) → IsWriteOutcome o → Appends before.written mid.written a → IsGiven b mid after o → IsGiven (a ++ b) before after o
+given-behind a b before mid after Done w first g = Appends-trans before.written mid.written after.written a b first g
+given-behind a b before mid after WriteFault w first g = front-behind before.written mid.written after.written a b first g
+given-behind a b before mid after OutOfMemory w first g = front-behind before.written mid.written after.written a b first g
+given-behind a b before mid after o w first g = absurd w
 
 pub written-ends : (o : Outcome) → IsWriteOutcome o → IsEnd o
 written-ends Done w = tt

@@ -33,7 +33,7 @@ use Rattle.proj_commands.specs.Export.{tags_beside}
 use Rattle.proj_commands.specs.Filters.{projected, sound}
 use Rattle.proj_commands.specs.Hands.{IsInHands, own}
 use Rattle.proj_commands.specs.Makes.{Fronts}
-use Rattle.read_cli.specs.Outputs.{hands, new_commits, new_tags, original_commits, output, projected_graph}
+use Rattle.read_cli.specs.Outputs.{hands, has_tags, new_commits, new_tags, original_commits, output, projected_graph}
 use Rattle.read_cli.specs.Readings.{Reading, New, Originals}
 
 -- Which outcome there may be of an output, or of its refusal: it is done; there is no memory, or a device has failed; two objects in hand have
@@ -106,8 +106,8 @@ OfHead (Ok h) r Law = (n : Bytes) → head_of r h.refs ≡ Ok n → Law h n
 
 -- of what is done
 abbrev pub IsLawful : Reading → Result Held Outcome → Type 0
-IsLawful (New tagged r text haves) loading =
-    (f : Filter) → sound text ≡ Ok f → OfHead loading r (λ h n. IsNewLawful tagged h f r n haves)
+IsLawful (New beside r text haves) loading =
+    (f : Filter) → sound text ≡ Ok f → OfHead loading r (λ h n. IsNewLawful (has_tags beside) h f r n haves)
 IsLawful (Originals r haves) loading = OfHead loading r (λ h n. IsReadBackUpon (tree_at (repo h).commits) (original_commits h n haves) r)
 IsLawful other loading = ⊤
 

@@ -1,9 +1,10 @@
 -- Worked examples of words.
-use Rattle.std.specs.Prelude.{◌≡◌, true, false, [], ◌∷◌, replicate, codes, refl}
+use Rattle.std.specs.Prelude.{◌≡◌, [], ◌∷◌, replicate, codes, refl}
 use Rattle.git_objects.specs.Paths.{Bytes}
 use Rattle.path_names.specs.RefNames.{is_ref_name}
 use Rattle.hex.specs.Hex.{decode_pairs}
 use Rattle.read_cli.specs.Readings.{Check, Log, New, Originals, Refs, Unknown, reading}
+use Rattle.read_cli.specs.declared.words.Beside.TheVariants.{Names, Nothing, Tags}
 
 abbrev main : Bytes
 main = codes "refs/heads/main"
@@ -25,13 +26,17 @@ check : reading (codes "check" ∷ main ∷ codes ":/lib" ∷ []) ≡ Check main
 unfolding is_ref_name
 check = refl
 
-new : reading (codes "new" ∷ main ∷ codes ":/lib" ∷ digits ∷ []) ≡ New false main (codes ":/lib") (replicate 20 171 ∷ [])
+new : reading (codes "new" ∷ main ∷ codes ":/lib" ∷ digits ∷ []) ≡ New Nothing main (codes ":/lib") (replicate 20 171 ∷ [])
 unfolding is_ref_name decode_pairs
 new = refl
 
-tagged : reading (codes "new" ∷ codes "--tags" ∷ main ∷ codes ":/lib" ∷ []) ≡ New true main (codes ":/lib") []
+tagged : reading (codes "new" ∷ codes "--tags" ∷ main ∷ codes ":/lib" ∷ []) ≡ New Tags main (codes ":/lib") []
 unfolding is_ref_name
 tagged = refl
+
+named : reading (codes "new" ∷ codes "--names" ∷ main ∷ codes ":/lib" ∷ digits ∷ []) ≡ New Names main (codes ":/lib") (replicate 20 171 ∷ [])
+unfolding is_ref_name decode_pairs
+named = refl
 
 short : reading (codes "originals" ∷ main ∷ codes "ab" ∷ []) ≡ Unknown
 unfolding is_ref_name decode_pairs

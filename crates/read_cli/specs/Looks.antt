@@ -1,5 +1,5 @@
 -- How the code looks into a state.
-use Rattle.std.specs.Prelude.{Bool, ◌≡◌, ◌⊎◌, ⊤, true, List, ◌++◌, codes, map, string_bytes, Contains, IsSome, Result, Ok, Err}
+use Rattle.std.specs.Prelude.{Bool, ◌≡◌, ◌⊎◌, ⊤, true, List, [], ◌∷◌, ◌++◌, codes, map, string_bytes, Contains, IsSome, Result, Ok, Err}
 use Rattle.std.specs.Option.{option_to_list}
 use Rattle.std.specs.Result.{result_ok}
 use Rattle.git_objects.specs.Paths.{Bytes}
@@ -7,6 +7,7 @@ use Rattle.git_objects.specs.Results.{◌>>=◌}
 use Rattle.path_names.specs.RefNames.{is_ref_name}
 use Rattle.filter_text.specs.Shapes.{shape}
 use Rattle.git_objects.specs.Parts.{name_bytes}
+use Rattle.object_store.specs.Growth.{IsGrownBy}
 use Rattle.object_store.specs.Objects.{Object}
 use Rattle.git_objects.specs.Snapshots.{Snapshot, snapshot_name, tree_at}
 use Rattle.git_objects.specs.Trees.{Flat}
@@ -24,7 +25,10 @@ use Rattle.proj_words.specs.Outcomes.{text_of as outcome_text}
 use Rattle.proj_words.specs.declared.outcome.Outcome.{Outcome}
 use Rattle.proj_words.specs.declared.outcome.Outcome.TheVariants.{Collision, Done, OutOfMemory, UnknownRef, Usage, WriteFault}
 use Rattle.proj_commands.specs.Cases.{head_of}
+use Rattle.repo_ground.specs.Contents.{Contents}
+use Rattle.proj_commands.specs.Export.{export_hand}
 use Rattle.proj_commands.specs.Filters.{sound}
+use Rattle.proj_commands.specs.Makes.{IsStateOf}
 use Rattle.proj_commands.specs.Hands.{Hand, IsInHands}
 use Rattle.read_cli.specs.Answers.{IsGiven, IsOutcome, IsReadBackUpon, IsTaggedBackUpon, text_of}
 use Rattle.read_cli.specs.Outputs.{new_commits, new_tags, projected_graph}
@@ -40,7 +44,7 @@ abbrev pub form_reading : Form → Reading
 form_reading forms.Refs = Refs
 form_reading (forms.Log r f) = Log r.now f.now
 form_reading (forms.Check r f) = Check r.now f.now
-form_reading (forms.New tagged r f ws) = new_of tagged r.now f.now (names_of (map (λ word. string_bytes word) ws.now))
+form_reading (forms.New beside r f ws) = new_of beside r.now f.now (names_of (map (λ word. string_bytes word) ws.now))
 form_reading (forms.Originals r ws) = originals_of r.now (names_of (map (λ word. string_bytes word) ws.now))
 form_reading forms.Unknown = Unknown
 
@@ -49,7 +53,7 @@ abbrev pub IsFormed : Form → Type 0
 IsFormed forms.Refs = Unit
 IsFormed (forms.Log r f) = is_ref_name r.now ≡ true
 IsFormed (forms.Check r f) = is_ref_name r.now ≡ true
-IsFormed (forms.New tagged r f ws) = (is_ref_name r.now ≡ true) × IsSome (names_of (map (λ word. string_bytes word) ws.now))
+IsFormed (forms.New beside r f ws) = (is_ref_name r.now ≡ true) × IsSome (names_of (map (λ word. string_bytes word) ws.now))
 IsFormed (forms.Originals r ws) = (is_ref_name r.now ≡ true) × IsSome (names_of (map (λ word. string_bytes word) ws.now))
 IsFormed forms.Unknown = Unit
 
@@ -64,7 +68,7 @@ abbrev pub IsAsked : Reading → Asked → Type 0
 IsAsked Refs asks.Refs = Unit
 IsAsked (Log r text) (asks.Log s) = IsSubject s r text
 IsAsked (Check r text) (asks.Check s) = IsSubject s r text
-IsAsked (New tagged r text ns) (asks.New t s haves) = (t ≡ tagged) × IsSubject s r text × (map name_bytes haves.items ≡ ns)
+IsAsked (New beside r text ns) (asks.New b s haves) = (b ≡ beside) × IsSubject s r text × (map name_bytes haves.items ≡ ns)
 IsAsked (Originals r ns) (asks.Originals n haves) = (n ≡ r) × (map name_bytes haves.items ≡ ns)
 IsAsked asked found = ⊥
 
@@ -138,11 +142,16 @@ pub record AreNew (tagged : Bool) (h : Held) (f : Filter) (n : Bytes) (haves : L
   pub fresh : AreFresh S (tree_at (projected_graph h f n)) (new_commits h f n haves) names
   pub same_tags : tags ≡ new_tags tagged h f n haves
 
+-- a state of the same items, whose store has got nothing but what is in hand
+pub record IsStill (tagged : Bool) (items : List Bytes) (h : Held) (s : Contents) (f : Filter) (n : Bytes) (t : Contents) : Type 0 where
+  pub state : IsStateOf items h t
+  pub grown : IsGrownBy (IsInHands (export_hand tagged h f n ∷ [])) s.basis.store t.basis.store
+
 -- the forms of the words
 abbrev pub usage : Bytes
 usage =
     codes "usage: proj_read STORE (refs | log REF FILTER | check REF FILTER | "
-    ++ codes "new [--tags] REF FILTER [HAVE ..] | originals REF [HAVE ..])\n"
+    ++ codes "new [--tags | --names] REF FILTER [HAVE ..] | originals REF [HAVE ..])\n"
 
 -- the line for the error stream
 abbrev pub read_text : Outcome → Bytes

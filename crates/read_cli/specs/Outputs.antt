@@ -1,5 +1,5 @@
 -- What a reading gives for what is held.
-use Rattle.std.specs.Prelude.{ℕ, Bool, List, [], ◌∷◌, ◌++◌, codes, decimal, filter, flat_map, length, map, reverse, Option, Some, None, Result, Ok, Err}
+use Rattle.std.specs.Prelude.{ℕ, Bool, true, false, List, [], ◌∷◌, ◌++◌, codes, decimal, filter, flat_map, length, map, reverse, Option, Some, None, Result, Ok, Err}
 use Rattle.std.specs.Option.{option_and_then, option_to_list}
 use Rattle.std.specs.Result.{result_ok}
 use Rattle.git_objects.specs.Commits.{hex}
@@ -31,7 +31,9 @@ use Rattle.proj_commands.specs.Export.{export_hand, tags_beside}
 use Rattle.proj_commands.specs.Filters.{rule_by, sound}
 use Rattle.proj_commands.specs.Hands.{Hand, seen_hand, still_hand}
 use Rattle.proj_commands.specs.Import.{ref_line}
-use Rattle.proj_commands.specs.Tags.{shown_before}
+use Rattle.proj_commands.specs.Tags.{shown_before, shown_tags, tag_line}
+use Rattle.read_cli.specs.declared.words.Beside.{Beside}
+use Rattle.read_cli.specs.declared.words.Beside.TheVariants.{Names, Nothing, Tags}
 use Rattle.read_cli.specs.Readings.{Reading, Refs, Log, Check, New, Originals, Unknown}
 
 -- ---- refs
@@ -104,9 +106,23 @@ new_commits h f n haves = reverse (unreached (projected_graph h f n) haves)
 abbrev pub new_tags : Bool → Held → Filter → Bytes → List Bytes → List Tag
 new_tags tagged h f n haves = filter (λ t. is_among t.target.0 (map snapshot_name (new_commits h f n haves))) (tags_beside tagged h f n)
 
-abbrev pub new_output : Bool → Held → Filter → Bytes → Bytes → List Bytes → Bytes
-new_output tagged h f refname n haves =
-    changes_text (tree_at (projected_graph h f n)) (new_commits h f n haves) refname ++ tags_text (new_tags tagged h f n haves)
+-- whether they stand behind the commits
+abbrev pub has_tags : Beside → Bool
+has_tags Nothing = false
+has_tags Tags = true
+has_tags Names = true
+
+-- What stands in front where names are asked for: the line of the commit, as in a log, a line for each annotated tag that is shown, with
+-- its name and that of its object, and an empty line.
+abbrev pub names_text : Beside → Held → Filter → Bytes → Bytes
+names_text Nothing h f n = []
+names_text Tags h f n = []
+names_text Names h f n = log_line h f n n ++ (flat_map tag_line (shown_tags h f n) ++ 10 ∷ [])
+
+abbrev pub new_output : Beside → Held → Filter → Bytes → Bytes → List Bytes → Bytes
+new_output beside h f refname n haves =
+    names_text beside h f n
+    ++ (changes_text (tree_at (projected_graph h f n)) (new_commits h f n haves) refname ++ tags_text (new_tags (has_tags beside) h f n haves))
 
 -- ---- originals
 
@@ -124,8 +140,8 @@ abbrev pub output : Reading → Result Held Outcome → Result Bytes Outcome
 output Refs loading = loading >>= λ h. Ok (refs_output h)
 output (Log r text) loading = sound text >>= λ f. loading >>= λ h. head_of r h.refs >>= λ n. Ok (log_output h f n)
 output (Check r text) loading = sound text >>= λ f. loading >>= λ h. head_of r h.refs >>= λ n. Ok (check_output h f n)
-output (New tagged r text haves) loading =
-    sound text >>= λ f. loading >>= λ h. head_of r h.refs >>= λ n. Ok (new_output tagged h f r n haves)
+output (New beside r text haves) loading =
+    sound text >>= λ f. loading >>= λ h. head_of r h.refs >>= λ n. Ok (new_output beside h f r n haves)
 output (Originals r haves) loading = loading >>= λ h. head_of r h.refs >>= λ n. Ok (originals_output h r n haves)
 output Unknown loading = Err Usage
 
@@ -134,8 +150,8 @@ abbrev pub hand : Reading → Result Held Outcome → Result Hand Outcome
 hand Refs loading = loading >>= λ h. Ok (still_hand h.objects [] [])
 hand (Log r text) loading = sound text >>= λ f. loading >>= λ h. head_of r h.refs >>= λ n. Ok (seen_hand h f n)
 hand (Check r text) loading = sound text >>= λ f. loading >>= λ h. head_of r h.refs >>= λ n. Ok (seen_hand h f n)
-hand (New tagged r text haves) loading =
-    sound text >>= λ f. loading >>= λ h. head_of r h.refs >>= λ n. Ok (export_hand tagged h f n)
+hand (New beside r text haves) loading =
+    sound text >>= λ f. loading >>= λ h. head_of r h.refs >>= λ n. Ok (export_hand (has_tags beside) h f n)
 hand (Originals r haves) loading = loading >>= λ h. Ok (still_hand h.objects [] [])
 hand Unknown loading = Err Usage
 

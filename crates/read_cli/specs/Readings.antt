@@ -1,5 +1,5 @@
 -- What the words ask of a store.
-use Rattle.std.specs.Prelude.{◌≡◌, Bool, true, false, if◌then◌else◌, List, [], ◌∷◌, codes, Option, Some, None, Result, Ok, Err}
+use Rattle.std.specs.Prelude.{◌≡◌, true, if◌then◌else◌, List, [], ◌∷◌, codes, Option, Some, None, Result, Ok, Err}
 use Rattle.std.specs.Option.{option_and_then, option_map}
 use Rattle.git_objects.specs.CommitBodies.{digits_name}
 use Rattle.git_objects.specs.Paths.{Bytes, is_nil, same_bytes}
@@ -9,6 +9,8 @@ use Rattle.proj_words.specs.declared.outcome.Outcome.{Outcome}
 use Rattle.proj_words.specs.declared.outcome.Outcome.TheVariants.{Usage}
 use Rattle.proj_commands.specs.Cases.{is_verdict}
 use Rattle.proj_commands.specs.Filters.{sound}
+use Rattle.read_cli.specs.declared.words.Beside.{Beside}
+use Rattle.read_cli.specs.declared.words.Beside.TheVariants.{Names, Nothing, Tags}
 
 pub data Reading : Type 0 where
   -- the refs
@@ -17,8 +19,8 @@ pub data Reading : Type 0 where
   Log : Bytes → Bytes → Reading
   -- of a ref and the text of a filter
   Check : Bytes → Bytes → Reading
-  -- whether with annotated tags, of a ref, the text of a filter, and the names of commits that are there
-  New : Bool → Bytes → Bytes → List Bytes → Reading
+  -- what stands beside, of a ref, the text of a filter, and the names of commits that are there
+  New : Beside → Bytes → Bytes → List Bytes → Reading
   -- of a ref, and the names of commits that are there
   Originals : Bytes → List Bytes → Reading
   -- no form
@@ -34,18 +36,20 @@ abbrev pub subject_words : (Bytes → Bytes → Reading) → List Bytes → Read
 subject_words form (r ∷ f ∷ []) = if is_ref_name r then form r f else Unknown
 subject_words form _ = Unknown
 
-abbrev pub new_of : Bool → Bytes → Bytes → Option (List Bytes) → Reading
-new_of tagged r f None = Unknown
-new_of tagged r f (Some ns) = New tagged r f ns
+abbrev pub new_of : Beside → Bytes → Bytes → Option (List Bytes) → Reading
+new_of beside r f None = Unknown
+new_of beside r f (Some ns) = New beside r f ns
 
 -- of a ref, the text of a filter, and names
-abbrev pub new_subject : Bool → List Bytes → Reading
-new_subject tagged (r ∷ f ∷ ws) = if is_ref_name r then new_of tagged r f (names_of ws) else Unknown
-new_subject tagged _ = Unknown
+abbrev pub new_subject : Beside → List Bytes → Reading
+new_subject beside (r ∷ f ∷ ws) = if is_ref_name r then new_of beside r f (names_of ws) else Unknown
+new_subject beside _ = Unknown
 
 abbrev pub new_words : List Bytes → Reading
 new_words [] = Unknown
-new_words (w ∷ ws) = if same_bytes w (codes "--tags") then new_subject true ws else new_subject false (w ∷ ws)
+new_words (w ∷ ws) =
+    if same_bytes w (codes "--tags") then new_subject Tags ws else
+    (if same_bytes w (codes "--names") then new_subject Names ws else new_subject Nothing (w ∷ ws))
 
 abbrev pub originals_of : Bytes → Option (List Bytes) → Reading
 originals_of r None = Unknown
@@ -70,7 +74,7 @@ abbrev pub verdict : Reading → Result (Unit {0}) Outcome
 verdict Refs = Ok tt
 verdict (Log r text) = sound text >>= λ _. Ok tt
 verdict (Check r text) = sound text >>= λ _. Ok tt
-verdict (New tagged r text ns) = sound text >>= λ _. Ok tt
+verdict (New beside r text ns) = sound text >>= λ _. Ok tt
 verdict (Originals r ns) = Ok tt
 verdict Unknown = Err Usage
 

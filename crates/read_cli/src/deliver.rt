@@ -10,7 +10,7 @@ use proj_io::Sink;
 use std::alloc::Global;
 
 const USAGE: &[u8] = b"usage: proj_read STORE (refs | log REF FILTER | check REF FILTER | \
-    new [--tags] REF FILTER [HAVE ..] | originals REF [HAVE ..])\n";
+    new [--tags | --names] REF FILTER [HAVE ..] | originals REF [HAVE ..])\n";
 
 /// Writes the outcome's text, which for words without a form is the usage of this program. Where there is no memory
 /// for it, the outcome is that.

@@ -4,7 +4,7 @@ ghost use Rattle.git_objects.specs.Parts.{name_bytes};
 ghost use Rattle.read_cli.specs.Readings.{names_of};
 ghost use Rattle.read_cli.specs.Looks.{IsAsked, IsFormed, IsUnjudged, form_reading};
 
-use crate::words::Form;
+use crate::words::{Beside, Form};
 use git_objects::Name;
 use path_names::RefName;
 use proj_cli::Outcome;
@@ -19,8 +19,8 @@ pub enum Asked {
     Log(Subject),
     /// What a filter shows of a ref's commit, and what its workspace's file gives.
     Check(Subject),
-    /// The projected history without what is reached from these commits; and whether with its annotated tags.
-    New(bool, Subject, Vec<Name>),
+    /// The projected history without what is reached from these commits, and what stands beside.
+    New(Beside, Subject, Vec<Name>),
     /// The history itself without what is reached from these commits.
     Originals(RefName, Vec<Name>),
 }
@@ -64,9 +64,9 @@ pub fn judge(alloc: Global, form: Form<'_>) -> Result<Asked, Outcome>
         Form::Refs => Ok(Asked::Refs),
         Form::Log(refname, filter) => Ok(Asked::Log(read_subject(alloc, refname, filter)?)),
         Form::Check(refname, filter) => Ok(Asked::Check(read_subject(alloc, refname, filter)?)),
-        Form::New(tagged, refname, filter, haves) => {
+        Form::New(beside, refname, filter, haves) => {
             let subject = read_subject(alloc, refname, filter)?;
-            Ok(Asked::New(tagged, subject, names_of(alloc, haves)?))
+            Ok(Asked::New(beside, subject, names_of(alloc, haves)?))
         }
         Form::Originals(refname, haves) => {
             let refname = ref_name(alloc, refname)?;

@@ -5,6 +5,7 @@ mod checking;
 mod deliver;
 mod judging;
 mod logging;
+mod named;
 mod newly;
 mod program;
 mod reports;

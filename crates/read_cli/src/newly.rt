@@ -27,9 +27,11 @@ ghost use Rattle.proj_commands.specs.Makes.{IsState, IsStateOf};
 ghost use Rattle.read_cli.specs.Answers.{IsGiven, IsNewLawful, IsReadBackUpon, OfHead};
 ghost use Rattle.read_cli.specs.Looks.{AreFresh, AreNew, at_head};
 ghost use Rattle.read_cli.specs.Looks.{IsAtHand, IsEnd, IsLookedFor, IsUnshown, IsWriteOutcome};
-ghost use Rattle.read_cli.specs.Outputs.{new_output, original_commits, originals_output};
+ghost use Rattle.read_cli.specs.Outputs.{has_tags, names_text, new_output, original_commits, originals_output};
 
 use crate::logging::history_of;
+use crate::named::{has_tags, lines_before};
+use crate::words::Beside;
 use fast_export::ExportError;
 use filter_apply::ApplyError;
 use filter_text::Filter;
@@ -43,7 +45,7 @@ use object_store::Store;
 use path_names::RefName;
 use proj_cli::Outcome;
 use proj_commands::{Subject, apply_outcome, tags_beside};
-use proj_io::{Sink, SinkError};
+use proj_io::{Sink, SinkError, write_whole};
 use projection_ground::Ground;
 use projection_laws::history_law;
 use repo_ground::State;
@@ -94,6 +96,31 @@ fn write_new<O: Sink>(
             Err(SinkError::Failed) => Outcome::WriteFault,
             Err(SinkError::OutOfMemory) => Outcome::OutOfMemory,
         },
+    }
+}
+
+// Writes lines, and then commits and tags so.
+fn write_named<O: Sink>(
+    alloc: Global,
+    lines: &[u8],
+    store: &Store,
+    names: &[Name],
+    refname: &RefName,
+    tags: &[Tag],
+    out: &mut O,
+) -> Outcome
+    requires { AreCommitsIn store.now (map name_bytes names.now) }
+    ensures outcome { IsWriteOutcome result }
+    ensures given { let seen = sink_view O.written O.faults O.refusals in IsGiven (lines.now ++
+        (changes_text (tree_in store.now) (snapshots_at store.now (map name_bytes names.now)) refname.now
+        ++ tags_text tags.now)) (seen out.old) (seen out.new) result }
+    ensures write { Counts (O.faults out.old) (O.faults out.new) (result ≡ Outcome.WriteFault) }
+    ensures memory { O.refusals out.old ≤ O.refusals out.new }
+{
+    match write_whole(out, lines) {
+        Err(SinkError::Failed) => Outcome::WriteFault,
+        Err(SinkError::OutOfMemory) => Outcome::OutOfMemory,
+        Ok(()) => write_new(alloc, store, names, refname, tags, out),
     }
 }
 
@@ -157,13 +184,44 @@ fn fresh(
     }
 }
 
+// The lines that stand in front of what is new, and that.
+fn found(
+    alloc: Global,
+    state: &mut State,
+    subject: &Subject,
+    head: &Name,
+    beside: Beside,
+    haves: &[Name],
+) -> Result<(Vec<u8>, Vec<Name>, Vec<Tag>), Outcome>
+    requires usable { IsUsable (shape subject.now.filter) }
+    requires state { IsState state.old }
+    requires head { IsSome (place_of head.now.0 state.old.basis.graph) }
+    ensures ok { (items : List Bytes) (h : Held) → IsStateOf items h state.old → IfOk result (λ r.
+        (r.0.items ≡ names_text beside h (shape subject.now.filter) head.now.0) ×
+        AreNew (has_tags beside) h (shape subject.now.filter) head.now.0 (map name_bytes haves.now)
+        state.new.basis.store (map name_bytes r.1.items) r.2.items) }
+    ensures err { (items : List Bytes) (h : Held) → IsStateOf items h state.old → IfErr result
+        (IsUnshown (IsAtHand state.old.basis.store
+        (export_hand (has_tags beside) h (shape subject.now.filter) head.now.0 ∷ []))) }
+{
+    let lines = match lines_before(alloc, state, &subject.filter, head, beside) {
+        Err(outcome) => return Err(outcome),
+        Ok(lines) => lines,
+    };
+    match fresh(alloc, state, subject, head, has_tags(beside), haves) {
+        Err(outcome) => Err(outcome),
+        Ok((names, tags)) => Ok((lines, names, tags)),
+    }
+}
+
 /// Writes the projected history of a ref's commit without what is reached from others, as a stream that sets the ref
-/// to its last commit, and behind it the tags of what is written, where they are asked for.
+/// to its last commit, and behind it the tags of what is written, where they are asked for. Where names are asked for,
+/// these stand in front.
 pub fn write_projected<O: Sink>(
     alloc: Global,
     state: &mut State,
     subject: &Subject,
-    tagged: bool,
+    beside: Beside,
     haves: &[Name],
     out: &mut O,
 ) -> Outcome
@@ -172,12 +230,13 @@ pub fn write_projected<O: Sink>(
     ensures looked { let seen = sink_view O.written O.faults O.refusals in
         (items : List Bytes) (h : Held) → IsStateOf items h state.old →
         IsLookedFor state.old.basis.store
-        (at_head subject.now.refname h (export_hand tagged h (shape subject.now.filter)))
-        (at_head subject.now.refname h (λ n. new_output tagged h (shape subject.now.filter) subject.now.refname n
+        (at_head subject.now.refname h (export_hand (has_tags beside) h (shape subject.now.filter)))
+        (at_head subject.now.refname h (λ n. new_output beside h (shape subject.now.filter) subject.now.refname n
         (map name_bytes haves.now))) (seen out.old) (seen out.new) result }
     ensures lawful { (items : List Bytes) (h : Held) → IsStateOf items h state.old → result ≡ Outcome.Done →
         OfHead (Ok h) subject.now.refname (λ h n.
-        IsNewLawful tagged h (shape subject.now.filter) subject.now.refname n (map name_bytes haves.now)) }
+        IsNewLawful (has_tags beside) h (shape subject.now.filter) subject.now.refname n
+        (map name_bytes haves.now)) }
     ensures ends { IsEnd result }
     ensures write { Counts (O.faults out.old) (O.faults out.new) (result ≡ Outcome.WriteFault) }
     ensures memory { O.refusals out.old ≤ O.refusals out.new }
@@ -186,11 +245,11 @@ pub fn write_projected<O: Sink>(
     let Some(head) = state.head(&subject.refname) else {
         return Outcome::UnknownRef;
     };
-    match fresh(alloc, state, subject, &head, tagged, haves) {
+    match found(alloc, state, subject, &head, beside, haves) {
         Err(outcome) => outcome,
-        Ok((names, tags)) => {
+        Ok((lines, names, tags)) => {
             let store = &state.ground.store;
-            write_new(alloc, store, &names, &subject.refname, &tags, out)
+            write_named(alloc, &lines, store, &names, &subject.refname, &tags, out)
         }
     }
 }

@@ -43,8 +43,8 @@ fn look<O: Sink>(alloc: Global, asked: &Asked, state: &mut State, out: &mut O) -
         Asked::Refs => conclude(refs_lines(alloc, &state.refs), out),
         Asked::Log(subject) => conclude(log(alloc, subject, state), out),
         Asked::Check(subject) => conclude(check(alloc, subject, state), out),
-        Asked::New(tagged, subject, haves) => {
-            write_projected(alloc, state, subject, *tagged, haves, out)
+        Asked::New(beside, subject, haves) => {
+            write_projected(alloc, state, subject, *beside, haves, out)
         }
         Asked::Originals(refname, haves) => write_originals(alloc, state, refname, haves, out),
     }

@@ -7,6 +7,16 @@ ghost use Rattle.read_cli.specs.Looks.{IsFormed, form_reading};
 use git_objects::Name;
 use path_names::is_ref_name;
 
+/// What `new` writes beside the commits.
+#[derive(Clone, Copy, Debug, PartialEq, Eq)]
+pub enum Beside {
+    Nothing,
+    /// Their annotated tags, behind them.
+    Tags,
+    /// These tags, and in front of all the name of the head's projection and those of all tags that are shown.
+    Names,
+}
+
 /// What the words ask of a store. A ref stands before the text of a filter, and is a ref name; names have 40 digits of
 /// either case.
 #[derive(Clone, Copy)]
@@ -14,8 +24,8 @@ pub enum Form<'a> {
     Refs,
     Log(&'a [u8], &'a [u8]),
     Check(&'a [u8], &'a [u8]),
-    /// Whether with annotated tags; a ref, the text of a filter, and names.
-    New(bool, &'a [u8], &'a [u8], &'a [String]),
+    /// What stands beside; a ref, the text of a filter, and names.
+    New(Beside, &'a [u8], &'a [u8], &'a [String]),
     /// A ref, and names.
     Originals(&'a [u8], &'a [String]),
     /// The words have none of the forms.
@@ -58,15 +68,15 @@ fn check_words(words: &[String]) -> Form<'_>
 }
 
 // A ref, the text of a filter, and names.
-fn new_subject(tagged: bool, words: &[String]) -> Form<'_>
-    ensures reading { form_reading result ≡ new_subject tagged (map (λ word. string_bytes word) words.now) }
+fn new_subject(beside: Beside, words: &[String]) -> Form<'_>
+    ensures reading { form_reading result ≡ new_subject beside (map (λ word. string_bytes word) words.now) }
     ensures formed { IsFormed result }
 {
     let [refname, filter, haves @ ..] = words else {
         return Form::Unknown;
     };
     if is_ref_name(refname.as_bytes()) && are_names(haves) {
-        return Form::New(tagged, refname.as_bytes(), filter.as_bytes(), haves);
+        return Form::New(beside, refname.as_bytes(), filter.as_bytes(), haves);
     }
     Form::Unknown
 }
@@ -79,9 +89,12 @@ fn new_words(words: &[String]) -> Form<'_>
         return Form::Unknown;
     };
     if first.as_bytes() == b"--tags".as_slice() {
-        return new_subject(true, rest);
+        return new_subject(Beside::Tags, rest);
     }
-    new_subject(false, words)
+    if first.as_bytes() == b"--names".as_slice() {
+        return new_subject(Beside::Names, rest);
+    }
+    new_subject(Beside::Nothing, words)
 }
 
 fn originals_words(words: &[String]) -> Form<'_>

@@ -11,8 +11,8 @@ pub returns-in_ok-names_of-in-New-clause-ok : goal.returns-in_ok-names_of-in-New
 returns-in_ok-names_of-in-New-clause-ok c =
     let s = c.in_ok-subject-in-New.subject in
     let haves = c.in_ok-names_of-in-New.field-0 in
-    subst (λ (form : Form). IsAsked (form_reading form) (asks.New c.in-New.tagged s haves)) (sym c.in-New.is)
-    (asked-new c.in-New.tagged c.in-New.refname.now c.in-New.filter.now (names_of (map (λ word. string_bytes word) c.in-New.haves.now)) s haves (record { refname = c.in_ok-subject-in-New.ensures.refname; sound_is = c.in_ok-subject-in-New.ensures.sound; usable = c.in_ok-subject-in-New.ensures.usable }) c.in_ok-names_of-in-New.ensures)
+    subst (λ (form : Form). IsAsked (form_reading form) (asks.New c.in-New.beside s haves)) (sym c.in-New.is)
+    (asked-new c.in-New.beside c.in-New.refname.now c.in-New.filter.now (names_of (map (λ word. string_bytes word) c.in-New.haves.now)) s haves (record { refname = c.in_ok-subject-in-New.ensures.refname; sound_is = c.in_ok-subject-in-New.ensures.sound; usable = c.in_ok-subject-in-New.ensures.usable }) c.in_ok-names_of-in-New.ensures)
 
 pub returns-in_ok-names_of-in-Originals-clause-ok : goal.returns-in_ok-names_of-in-Originals-clause-ok
 returns-in_ok-names_of-in-Originals-clause-ok c =

@@ -14,7 +14,7 @@ use Rattle.proj_commands.specs.Hands.{still_hand}
 use Rattle.proj_commands.specs.Import.{ref_line}
 use Rattle.read_cli.specs.Answers.{IsNewLawful, OfHead}
 use Rattle.read_cli.specs.Looks.{IsAsked, IsLookedFor, at_head}
-use Rattle.read_cli.specs.Outputs.{new_output, originals_output, refs_output}
+use Rattle.read_cli.specs.Outputs.{has_tags, new_output, originals_output, refs_output}
 use Rattle.read_cli.specs.Readings.{Reading}
 use Rattle.proj_commands.specs.declared.judging.Subject.{Subject}
 use Rattle.read_cli.proofs.AskedForms.{lawful-new, look-new, look-originals, look-refs, refs-report, refs-unreported}
@@ -42,8 +42,8 @@ returns-in-New-clause-looked g c = λ (form : Reading) (items : List Bytes) (h :
     let a = c.in-New in
     let s : Subject = a.subject in
     let S = c.args.state.now.basis.store in
-    look-new S h (seen c.args.out.now) (seen does.new.out) does.result form a.tagged s a.haves (subst (IsAsked form) a.is w)
-    (subst (λ (ns : List Name). IsLookedFor S (at_head s.refname h (export_hand a.tagged h (shape s.filter))) (at_head s.refname h (λ n. new_output a.tagged h (shape s.filter) s.refname n (map name_bytes ns))) (seen c.args.out.now) (seen does.new.out) does.result)
+    look-new S h (seen c.args.out.now) (seen does.new.out) does.result form a.beside s a.haves (subst (IsAsked form) a.is w)
+    (subst (λ (ns : List Name). IsLookedFor S (at_head s.refname h (export_hand (has_tags a.beside) h (shape s.filter))) (at_head s.refname h (λ n. new_output a.beside h (shape s.filter) s.refname n (map name_bytes ns))) (seen c.args.out.now) (seen does.new.out) does.result)
     c.deref.ensures.value (does.ensures.looked items h st))
 
 pub returns-in-Originals-clause-looked : goal.returns-in-Originals-clause-looked
@@ -62,5 +62,5 @@ returns-in-New-clause-lawful g c = λ (form : Reading) (items : List Bytes) (h :
     let does = c.write_projected in
     let a = c.in-New in
     let s : Subject = a.subject in
-    lawful-new h form a.tagged s a.haves (subst (IsAsked form) a.is w)
-    (subst (λ (ns : List Name). OfHead (Ok h) s.refname (λ h n. IsNewLawful a.tagged h (shape s.filter) s.refname n (map name_bytes ns))) c.deref.ensures.value (does.ensures.lawful items h st done))
+    lawful-new h form a.beside s a.haves (subst (IsAsked form) a.is w)
+    (subst (λ (ns : List Name). OfHead (Ok h) s.refname (λ h n. IsNewLawful (has_tags a.beside) h (shape s.filter) s.refname n (map name_bytes ns))) c.deref.ensures.value (does.ensures.lawful items h st done))
