@@ -447,11 +447,12 @@ answered() {
     proj "$store" push --merges $main :/a <"$work/stream" >"$work/out" 2>&1
     same "$1" "$2 $3" "$? $(cat "$work/out")"
 }
+dev=$(proj "$store" project refs/heads/dev :/a)
 cp "$store" "$work/before"
 answered 'a parent twice' 28 'repeated parent: commit 1' "$(git -C "$work/m" rev-parse HEAD)"
 answered "an original's name" 5 "unresolved at $(merging x | sed '/^merge/,$d' | wc -c)" \
     "$(git -C "$work/many" rev-parse dev)"
-merging "$(proj "$store" project refs/heads/dev :/a)" >"$work/stream"
+merging "$dev" >"$work/stream"
 same 'merges without their word' 'merge: commit 1' "$(proj "$store" push $main :/a 2>&1 <"$work/stream")"
 does 'refusals change nothing' cmp "$store" "$work/before"
 
@@ -542,18 +543,19 @@ calls() {
     paste -sd ' ' <"$work/calls"
 }
 does 'a pull before calls are counted' git -C "$work/a" pull -q
-same 'the calls of a fetch of nothing new' batch "$(calls git -C "$work/a" fetch -q)"
+same 'the calls of a fetch of nothing new' new "$(calls git -C "$work/a" fetch -q)"
 same 'the calls of a push of nothing new' batch "$(calls git -C "$work/a" push -q)"
 does 'another pull before calls are counted' git -C "$work/late" pull -q
 change a counted 'once'
 same 'the calls of a push' 'batch push' "$(calls git -C "$work/a" push -q)"
 old=$(git -C "$work/late" rev-parse HEAD)
-same 'the calls of a fetch' 'batch new' "$(calls git -C "$work/late" fetch -q)"
+same 'the calls of a fetch' new "$(calls git -C "$work/late" fetch -q)"
 same 'it says what the clone has' yes "$(grep -q -- " :/a .*$old" "$work/words" && printf yes)"
 same 'it gets what is new' 1 "$(grep -c '^commit ' "$work/wrote")"
 does 'its files are there' git -C "$work/late" merge -q --ff-only '@{upstream}'
 settled 'after calls that were counted' late :/a
-same 'the calls of a clone' 'batch new' "$(calls git clone -q "$(address :/a)" "$work/noted.a")"
+same 'the calls of a clone' new "$(calls git clone -q "$(address :/a)" "$work/noted.a")"
+same 'nothing is left in the clone' none "$(ls "$work/noted.a/.git" | grep '^proj' || printf none)"
 
 # ---- annotated tags, also without `proj_read`
 
@@ -663,13 +665,18 @@ reading() {
 mkdir "$work/reader" "$work/reader/own"
 cp "$store" "$work/reader/store"
 chmod 444 "$work/reader/store"
+{
+    printf 'commit %s\nmark :1\ncommitter A <a@x> 1700000000 +0000\ndata 2\nx\nM 100644 inline a/f\ndata 2\nf\n' $main
+    printf 'tag v1\nfrom :1\ntagger A <a@x> 1700000000 +0000\ndata 2\nt\n'
+} | proj "$work/reader/tagged" import >"$work/out" || wrong 'an import of a tag'
+chmod 444 "$work/reader/tagged"
 if [ ! -w "$work/reader/store" ] || setpriv --reuid=65534 --regid=65534 --clear-groups true 2>"$work/out"; then
     cp "$proj" "$work/reader/proj"
     cp "$proj_read" "$work/reader/proj_read"
     cp contrib/git-remote-proj "$work/reader/git-remote-proj"
     cp "$work/config" "$work/reader/config"
     chmod 755 "$work" "$work/reader" "$work/reader"/*
-    chmod 444 "$work/reader/store"
+    chmod 444 "$work/reader/store" "$work/reader/tagged"
     [ ! -w "$work/reader/store" ] || chmod 777 "$work/reader/own"
     cd "$work/reader/own" || exit 1
     address="proj::$work/reader/store#$main#:/a"
@@ -679,6 +686,9 @@ if [ ! -w "$work/reader/store" ] || setpriv --reuid=65534 --regid=65534 --clear-
     does 'a commit upon it' reading git -C clone commit -q --allow-empty -m own
     refused 'a push to it' 'the store cannot be written' reading git -C clone push
     does 'it is as it was' cmp "$store" "$work/reader/store"
+    does 'a clone of a tag' reading git clone -q "proj::$work/reader/tagged#$main#:/a" tagged
+    same 'its tag' "$(proj "$work/reader/tagged" tags $main :/a)" \
+        "$(reading git -C tagged for-each-ref --format='%(refname:strip=2) %(objectname)' refs/tags)"
     cd "$top" || exit 1
 fi
 
@@ -709,6 +719,7 @@ same 'the progress of a fetch of nothing' nothing "nothing$(cat "$work/out")"
 
 change told tried 'once'
 does 'a pull before a trial' git -C "$work/told" pull -q
+does 'a look before a trial, of which the store keeps what it finds' proj "$store" project $main :/a
 cp "$store" "$work/before"
 does 'a trial' git -C "$work/told" push --dry-run
 does 'a trial changes nothing' cmp "$store" "$work/before"
