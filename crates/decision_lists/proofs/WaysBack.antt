@@ -1,15 +1,14 @@
 -- The way back of one route.
 use Rattle.std.specs.Prelude.{◌≡◌, refl, List, [], ◌∷◌, ◌++◌, Option, Some, None, cond, Bool, true, false, not, ◌&&◌, is_some}
-use Rattle.std.proofs.Common.{ap, ◌∙◌, sym, append_assoc, append-nil}
+use Rattle.std.proofs.Common.{ap, ◌∙◌, sym, append_assoc}
 use Rattle.decision_lists.proofs.Compile.{pulled-hit, pulled-miss, run-app}
 use Rattle.decision_lists.proofs.Locating.{free_is}
 use Rattle.decision_lists.proofs.Making.{pulled-next}
 use Rattle.decision_lists.specs.Backward.{IsWayBack, deads}
-use Rattle.decision_lists.specs.Cells.{cells_at, free_in, is_free, moved, origin, origin_at}
-use Rattle.decision_lists.specs.Entries.{Cone, Entry, at, base, below, cone_of, decide, run, tail}
+use Rattle.decision_lists.specs.Cells.{cells_at, free_in, is_free, moved, origin_at}
+use Rattle.decision_lists.specs.Entries.{Cone, Entry, base, cone_of, decide, run, tail}
 use Rattle.decision_lists.specs.Fronts.{or_else}
-use Rattle.decision_lists.specs.Lists.{part_of}
-use Rattle.decision_lists.specs.Operations.{Part, heads, onward, pull, pulled, put}
+use Rattle.decision_lists.specs.Operations.{heads, pull, pulled, put}
 use Rattle.git_objects.specs.Paths.{Path}
 
 -- ---- a default is what is given where no entry has the path

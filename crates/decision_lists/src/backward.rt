@@ -1,6 +1,5 @@
 // The way back of one route, as a list of its own.
 ghost use Rattle.std.specs.Prelude.{◌≡◌, ◌<◌, None, Some, [], length, ◌++◌, IfOk, OnOk};
-ghost use Rattle.git_objects.specs.Paths.{Path};
 ghost use Rattle.decision_lists.specs.Backward.{IsWayBack, route_cells};
 ghost use Rattle.decision_lists.specs.Cells.{cells_at};
 ghost use Rattle.decision_lists.specs.Entries.{cone_of};

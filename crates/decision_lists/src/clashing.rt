@@ -1,6 +1,5 @@
 // Whether two decision lists clash.
 ghost use Rattle.std.specs.Prelude.{◌≡◌, [], List, IfOk, ◌&&◌, ◌||◌};
-ghost use Rattle.decision_lists.specs.Entries.{cone_of};
 ghost use Rattle.decision_lists.specs.Fronts.{strip};
 ghost use Rattle.decision_lists.specs.Operations.{heads, covers, alive};
 ghost use Rattle.decision_lists.specs.Cells.{Cell, touches, reaches_at, clashes, any_right, any_clash, cells, cells_at};

@@ -1,5 +1,5 @@
 // Entries of decision lists: cones of paths, and where they go.
-ghost use Rattle.std.specs.Prelude.{◌≡◌, ◌≤◌, ◌++◌, length, option_map, is_some, true, false, not, ◌&&◌, IfOk, Some};
+ghost use Rattle.std.specs.Prelude.{◌≡◌, ◌≤◌, ◌++◌, length, option_map, is_some, true, false, ◌&&◌, IfOk, Some};
 ghost use Rattle.decision_lists.specs.Fronts.{strip};
 ghost use Rattle.decision_lists.specs.Entries.{Entry as RouteEntry, cone_of, tail, base};
 ghost use Rattle.decision_lists.specs.Lists.{behind};

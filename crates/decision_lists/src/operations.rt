@@ -114,7 +114,8 @@ pub fn part(
     target: &[Component],
     entry: &Entry,
 ) -> Result<Option<Entry>, AllocError>
-    ensures { IfOk result (λ o. part_of o ≡ put (pull (cone_of point base.now) target.now entry.now.0) entry.now.1 []) }
+    ensures { IfOk result (λ o.
+        part_of o ≡ put (pull (cone_of point base.now) target.now entry.now.0) entry.now.1 []) }
 {
     if point {
         return part_of_point(alloc, base, target, entry);

@@ -1,5 +1,5 @@
 // What a disk in memory leaves, and that a file is a disk.
-ghost use Rattle.std.specs.Prelude.{◌≤◌, ◌<◌, ◌+◌, ◌^◌, length};
+ghost use Rattle.std.specs.Prelude.{◌<◌};
 
 use crate::opened::Found;
 use proj_disk::{Disk, FileDisk, Fill, MemDisk};

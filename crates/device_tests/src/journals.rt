@@ -1,5 +1,5 @@
 // A journal on a disk in memory, and each image that a stop leaves of it.
-ghost use Rattle.std.specs.Prelude.{◌≡◌, ◌≤◌, ◌<◌, Some};
+ghost use Rattle.std.specs.Prelude.{◌<◌, Some};
 ghost use Rattle.proj_disk.specs.MemDisks.{MemDiskState, view_of};
 ghost use Rattle.proj_journal.specs.Journals.{IsOpen};
 

@@ -1,7 +1,7 @@
 // Journals that tests make and open.
-ghost use Rattle.std.specs.Prelude.{◌≡◌, ◌<◌, ◌≤◌, ◌^◌, Some, IfSome, IfOk, length};
+ghost use Rattle.std.specs.Prelude.{◌<◌, Some, IfSome, IfOk};
 ghost use Rattle.proj_disk.specs.MemDisks.{MemDiskState, view_of};
-ghost use Rattle.proj_journal.specs.Journals.{IsOpen, disk_of};
+ghost use Rattle.proj_journal.specs.Journals.{IsOpen};
 
 use proj_disk::MemDisk;
 use proj_io::{KeepError, Keeper};

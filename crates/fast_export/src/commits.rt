@@ -1,14 +1,13 @@
 // Commits, each with its whole tree.
-ghost use Rattle.std.specs.Prelude.{◌≡◌, ◌++◌, ◌∷◌, [], Bool, true, None, codes, decimal, length, map, OnOk};
+ghost use Rattle.std.specs.Prelude.{◌≡◌, ◌++◌, ◌∷◌, [], Bool, true, None, map, OnOk};
 ghost use Rattle.std.specs.Prelude.{if◌then◌else◌};
 ghost use Rattle.std.specs.Map.{lookup};
 ghost use Rattle.std.specs.Option.{unwrap_or};
-ghost use Rattle.git_objects.specs.Paths.{is_nil};
 ghost use Rattle.git_objects.specs.declared.kind.Kind.TheVariants.{Commit as CommitKind, Tree};
 ghost use Rattle.object_store.specs.Objects.{IsStore, has};
 ghost use Rattle.object_store.specs.StoredSnapshots.{snapshot_of};
 ghost use Rattle.object_store.specs.Unfolding.{flat};
-ghost use Rattle.fast_export.specs.ExportTexts.{commit_text, commits_text, line, mark_line, marks_behind};
+ghost use Rattle.fast_export.specs.ExportTexts.{commit_text, commits_text, mark_line, marks_behind};
 ghost use Rattle.fast_export.specs.Given.{HasMarks, commit_mark, commit_names, front_text, head_text};
 ghost use Rattle.fast_export.specs.Given.{is_named, marks_in, parent_word, parents_from};
 ghost use Rattle.fast_export.specs.Histories.{snapshots_at};

@@ -1,5 +1,5 @@
 // Lines of git-fast-import(1), added to a text.
-ghost use Rattle.std.specs.Prelude.{◌≡◌, ◌++◌, ◌∷◌, [], codes, decimal, length, IfOk, OnOk};
+ghost use Rattle.std.specs.Prelude.{◌≡◌, ◌++◌, ◌∷◌, [], codes, decimal, OnOk};
 ghost use Rattle.git_objects.specs.Names.{mode_text};
 ghost use Rattle.fast_export.specs.ExportTexts.{line, mark_line};
 ghost use Rattle.stream_reader.specs.Changes.{is_module};

@@ -1,5 +1,5 @@
 // A text on its way to a sink. It is gathered, so that the sink gets pieces of some size.
-ghost use Rattle.std.specs.Prelude.{◌≡◌, ◌++◌, [], ◌↔◌, true, Ok, OnOk};
+ghost use Rattle.std.specs.Prelude.{◌≡◌, ◌++◌, [], true, Ok, OnOk};
 ghost use Rattle.fast_export.specs.Sending.{IsPut, unit_of};
 
 use crate::ExportError;

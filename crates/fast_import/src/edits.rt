@@ -1,10 +1,9 @@
 // Edits of the tree of the commit that is being made.
-ghost use Rattle.std.specs.Prelude.{◌≡◌, ◌<◌, true, List, Ok};
+ghost use Rattle.std.specs.Prelude.{◌≡◌, ◌<◌, true, Ok};
 ghost use Rattle.git_objects.specs.Results.{refused_by};
 ghost use Rattle.git_objects.specs.Trees.{Flat, remove};
-ghost use Rattle.object_store.specs.Objects.{Object, has_child};
+ghost use Rattle.object_store.specs.Objects.{has_child};
 ghost use Rattle.path_trees.specs.Standing.{node};
-ghost use Rattle.path_trees.specs.declared.found.Found.{Found};
 ghost use Rattle.stage_tree.specs.Edits.{IsEdited, copied, renamed, set_in};
 ghost use Rattle.stage_tree.specs.Stages.{Shows};
 ghost use Rattle.fast_import.specs.Replaying.{fault_at};

@@ -1,5 +1,5 @@
 // The commits that a stream's lines name.
-ghost use Rattle.std.specs.Prelude.{◌≡◌, ◌≤◌, true, IfOk, IfSome, List, length, map};
+ghost use Rattle.std.specs.Prelude.{◌≡◌, true, IfSome, List, map};
 ghost use Rattle.std.specs.Option.{option_map, option_to_list};
 ghost use Rattle.git_objects.specs.Parts.{name_bytes};
 ghost use Rattle.git_objects.specs.declared.kind.Kind.TheVariants.{Tree};

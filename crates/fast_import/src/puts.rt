@@ -7,7 +7,7 @@ ghost use Rattle.git_objects.specs.Parts.{commit_of, name_bytes};
 ghost use Rattle.git_objects.specs.declared.kind.Kind.TheVariants.{Commit, Tree};
 ghost use Rattle.git_objects.specs.declared.name.Name.{Name};
 ghost use Rattle.object_store.specs.Growth.{IsGrownBy, IsOnly};
-ghost use Rattle.object_store.specs.Objects.{IsStore, find_named, has};
+ghost use Rattle.object_store.specs.Objects.{find_named, has};
 ghost use Rattle.fast_import.specs.Made.{IsPutFault};
 ghost use Rattle.stream_reader.specs.declared.fault.StreamFault.TheVariants.{Collision, OutOfMemory};
 

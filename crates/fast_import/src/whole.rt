@@ -40,8 +40,9 @@ pub fn replay_all<S: Source, B: Base>(
     store: &mut Store,
 ) -> Result<Replayed, ReplayError>
     requires { IsBaseIn store.old (B.commits base.now) (B.refs base.now) (B.blobs base.now) }
-    ensures stream { (all : List ℕ) × (is_bytes all ≡ true) × IfSome (S.left input.old) (λ bytes. bytes ≡ all) × IsWhole
-        (base_in store.old (B.commits base.now) (B.refs base.now) (B.blobs base.now)) store.old store.new all result }
+    ensures stream { (all : List ℕ) × (is_bytes all ≡ true) × IfSome (S.left input.old) (λ bytes. bytes ≡ all) ×
+        IsWhole (base_in store.old (B.commits base.now) (B.refs base.now) (B.blobs base.now))
+        store.old store.new all result }
     ensures taken { IsTaken (base_in store.old (B.commits base.now) (B.refs base.now) (B.blobs base.now))
         (S.left input.old) (S.left input.new) result }
     ensures within { TakesWithin (S.left input.old) (S.left input.new) }

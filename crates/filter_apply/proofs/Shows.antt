@@ -16,7 +16,7 @@ use Rattle.git_objects.proofs.Under.{under-tree}
 use Rattle.object_store.specs.Objects.{Object, IsStore, has, has_child}
 use Rattle.object_store.specs.Unfolding.{flat, StandsFor}
 use Rattle.object_store.specs.Hands.{IsLeafOf, IsComponentOf}
-use Rattle.object_store.specs.Growth.{IsGrownBy, IsClash}
+use Rattle.object_store.specs.Growth.{IsGrownBy}
 use Rattle.object_store.proofs.Growth.{grown_as, grown_then, stands-grown, has-grown, flat-grown}
 use Rattle.object_store.proofs.Unfolding.{IsFull, flat_good}
 use Rattle.decision_lists.specs.Entries.{Entry, base, tail, decide, run}
@@ -33,7 +33,7 @@ use Rattle.decision_lists.proofs.Valid.{full-path}
 use Rattle.path_trees.specs.Standing.{node}
 use Rattle.path_trees.specs.Clashes.{IsShared, clash, together}
 use Rattle.path_trees.specs.Levels.{IsDirectory, IsTaken, IsRefused}
-use Rattle.path_trees.specs.Made.{IsGrown, IsCollision, IsTreeFault}
+use Rattle.path_trees.specs.Made.{IsGrown, IsTreeFault}
 use Rattle.path_trees.specs.Walked.{behind}
 use Rattle.path_trees.specs.declared.found.Found.{Found}
 use Rattle.path_trees.specs.declared.found.TreeFault.{TreeFault}
@@ -53,7 +53,7 @@ use Rattle.filter_apply.proofs.Bases.{node_handed}
 use Rattle.filter_apply.proofs.Cones.{in_cone}
 use Rattle.filter_apply.proofs.Handing.{fault_as}
 use Rattle.filter_apply.proofs.Members.{in-each, each-as, each-in}
-use Rattle.filter_apply.proofs.Overs.{IsOver, AreOver, tree_over, over_own, over_as, over_under, over_both, made_as, leaf_over, part_over, grown_over, clash_over, fault_over}
+use Rattle.filter_apply.proofs.Overs.{IsOver, AreOver, tree_over, over_own, over_as, over_under, over_both, made_as, leaf_over, part_over, grown_over, fault_over}
 use Rattle.filter_apply.proofs.Places.{dir_node, leaf_node, dir_held}
 use Rattle.filter_apply.proofs.Restricting.{seen-is-tree, from-passed, seen-at, no-clash, both-seen}
 use Rattle.filter_apply.proofs.Routing.{image-named, lens, no-target, route-is, part-leaf, part-named}

@@ -1,5 +1,5 @@
 -- Memos that stay true.
-use Rattle.std.proofs.Common.{◌≡◌, ℕ, zero, suc, ◌+◌, ◌-◌, ◌<◌, ◌⊎◌, inl, inr, Bool, true, false, List, [], ◌∷◌, ◌++◌, length, take, slice_get, Contains, Option, Some, None, is_some, refl, sym, ap, subst, ◌∙◌, cond, arith}
+use Rattle.std.proofs.Common.{◌≡◌, ℕ, zero, suc, ◌+◌, ◌-◌, ◌<◌, ◌⊎◌, inl, inr, Bool, true, false, List, [], ◌∷◌, length, take, slice_get, Contains, Option, Some, None, is_some, refl, sym, ap, subst, ◌∙◌, cond, arith}
 use Rattle.std.proofs.lemmas.Bool.Decides.{eqb_tells}
 use Rattle.std.proofs.lemmas.Option.{none-some, same_Some, slice_get_within}
 use Rattle.git_objects.specs.Paths.{Bytes}
@@ -17,7 +17,7 @@ use Rattle.filter_routes.specs.TableValues.{Table}
 use Rattle.filter_cache.specs.Memos.{Key, JoinKey, Memo, same_key, same_join, found, without, used, used_for, entered}
 use Rattle.filter_cache.proofs.Lookups.{key-is, join-is}
 use Rattle.filter_apply.specs.Parts.{routed}
-use Rattle.filter_apply.specs.Truth.{IsPaid, IsShownAs, IsRoutedAs, IsJoinedAs, Holds, AreJoins, IsTrueFor, KeepsOthers, AreTrueFor}
+use Rattle.filter_apply.specs.Truth.{IsPaid, IsShownAs, IsRoutedAs, IsJoinedAs, AreJoins, IsTrueFor, KeepsOthers, AreTrueFor}
 use Rattle.filter_apply.proofs.Members.{here_or_later, first_in, later_in, none_in}
 
 -- ---- a store that has grown

@@ -1,5 +1,5 @@
 // The first piece that may not stand inside of its exclude.
-ghost use Rattle.std.specs.Prelude.{◌≡◌, ◌+◌, ◌<◌, ◌^◌, not, cond, false, Ok, Err, OnOk};
+ghost use Rattle.std.specs.Prelude.{◌≡◌, ◌+◌, ◌<◌, ◌^◌, cond, false, Ok, Err};
 ghost use Rattle.filter_text.specs.Filters.{pieces, pieces_in};
 ghost use Rattle.filter_text.specs.Shapes.{shape, shapes};
 ghost use Rattle.filter_routes.specs.Faults.{nodes, nodes_all, walk, FirstNotKeeping};

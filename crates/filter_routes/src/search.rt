@@ -89,7 +89,8 @@ fn first_clash(alloc: Global, lists: &[Indexed]) -> Result<Option<(usize, usize)
 // The fault of a list with this number whose first two branches that clash are these.
 fn overlap_of(list: u32, first: usize, second: usize) -> RouteFault
     requires { first < second }
-    ensures { (fs : Filters) → FirstPairOf list fs (RouteFault.Overlap list first second) → FirstPairOf list fs result }
+    ensures { (fs : Filters) → FirstPairOf list fs (RouteFault.Overlap list first second) →
+        FirstPairOf list fs result }
 {
     // So many branches that their numbers don't fit can't be held.
     if second > u32::MAX as usize {

@@ -1,6 +1,6 @@
 // Workspace files.
 ghost use Rattle.std.specs.Prelude.{◌≡◌, ◌≤◌, ◌<◌, ◌⊎◌, [], Some, None, true, false, IfOk, IfSome, MatchResult};
-ghost use Rattle.std.specs.Prelude.{option_map, length, nat_le};
+ghost use Rattle.std.specs.Prelude.{option_map, length};
 ghost use Rattle.std.specs.Option.{option_and_then};
 ghost use Rattle.std.specs.List.{list_all};
 ghost use Rattle.git_objects.specs.Lists.{Each};

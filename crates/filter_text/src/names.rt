@@ -1,6 +1,5 @@
 // Paths in filter texts: bare, or between quotes.
-ghost use Rattle.std.specs.Prelude.{◌≡◌, ◌≤◌, IfOk, length, take, position, nat_eq};
-ghost use Rattle.std.specs.Option.{option_and_then};
+ghost use Rattle.std.specs.Prelude.{◌≡◌, ◌≤◌, IfOk, length, position};
 ghost use Rattle.filter_text.specs.Texts.{as_path, quoted_at, cut, ends_bare, bare_len, without_slash, name_at};
 ghost use Rattle.filter_text.specs.Texts.{kept_name_at, equals, target_at};
 ghost use Rattle.filter_text.specs.Views.{path_read, target_read};

@@ -1,6 +1,5 @@
 // Leaves that a push would overwrite unseen.
 ghost use Rattle.std.specs.Prelude.{◌≡◌, ◌≤◌, true, Some, is_some, length, IfOk};
-ghost use Rattle.std.specs.Option.{option_map};
 ghost use Rattle.git_objects.specs.Trees.{Leaf as LeafValue, at};
 ghost use Rattle.git_objects.specs.declared.kind.Kind.TheVariants.{Tree};
 ghost use Rattle.object_store.specs.Objects.{has};

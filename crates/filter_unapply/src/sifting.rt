@@ -1,6 +1,6 @@
 // What a decision list takes out of a tree, or leaves in it.
 ghost use Rattle.std.specs.Prelude.{◌≡◌, [], true, false, Some, if◌then◌else◌, IfOk, IfErr, OnOk};
-ghost use Rattle.git_objects.specs.Trees.{Flat, IsTree};
+ghost use Rattle.git_objects.specs.Trees.{Flat};
 ghost use Rattle.git_objects.specs.declared.kind.Kind.TheVariants.{Tree};
 ghost use Rattle.object_store.specs.Growth.{IsGrownBy, IsOnly};
 ghost use Rattle.object_store.specs.Objects.{IsStore, has};

@@ -142,8 +142,8 @@ fn field<'a>(word: &[u8], text: &'a [u8]) -> Option<(&'a [u8], &'a [u8])>
     cut(b'\n', rest)
 }
 
-// The value of a digit. Git writes no upper-case letter. Digits of names are as if drawn at random, so `if` only chooses
-// two numbers, for which the processor doesn't have to guess a jump.
+// The value of a digit. Git writes no upper-case letter. Digits of names are as if drawn at random, so `if` only
+// chooses two numbers, for which the processor doesn't have to guess a jump.
 #[inline(always)]
 fn lower_digit(digit: u8) -> Option<u8>
     ensures none { IfNone result (is_lower digit ≡ false) }

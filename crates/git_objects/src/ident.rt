@@ -72,7 +72,8 @@ fn first_of(byte: u8, text: &[u8]) -> Option<usize>
     text.iter().position(|x| *x == byte)
 }
 
-/// What stands before the first byte of that value, and what stands after it; None where there is none. Takes no memory.
+/// What stands before the first byte of that value, and what stands after it; None where there is none. Takes no
+/// memory.
 #[inline(always)]
 pub fn cut(byte: u8, text: &[u8]) -> Option<(&[u8], &[u8])>
     ensures { option_map (λ r. (r.0.now, r.1.now)) result ≡ cut_at byte text.now }

@@ -326,7 +326,8 @@ fn is_alone(component: &[u8], entries: &[u8]) -> bool
 // Whether neither an entry nor one of those behind it, up to the place of a directory of that component, has the
 // component.
 fn is_apart(component: &[u8], next: &EntryView<'_>, behind: &[u8]) -> bool
-    ensures { ForSome (spelled_entries behind.now) (λ es. result ≡ is_alone component.now (entry_value next.now ∷ es)) }
+    ensures { ForSome (spelled_entries behind.now) (λ es.
+        result ≡ is_alone component.now (entry_value next.now ∷ es)) }
 {
     component != next.component && (!is_before_dir(next, component) || is_alone(component, behind))
 }

@@ -1,7 +1,6 @@
 // Projections from scratch, with the commits that they are.
 ghost use Rattle.std.specs.Prelude.{◌≡◌, ◌<◌, ◌++◌, ◌∷◌, [], length};
-ghost use Rattle.std.specs.Prelude.{None, Some, IfErr, IfOk, IfSome, IsSome, OnOk};
-ghost use Rattle.std.specs.Option.{option_map};
+ghost use Rattle.std.specs.Prelude.{None, Some, IfErr, IfOk, IsSome, OnOk};
 ghost use Rattle.git_objects.specs.Names.{name};
 ghost use Rattle.git_objects.specs.declared.kind.Kind.TheVariants.{Commit};
 ghost use Rattle.commit_graph.specs.Graphs.{place_of};

@@ -40,7 +40,7 @@ use Rattle.stream_reader.specs.PathWords.{behind_quote, first_path, is_quoted, l
 use Rattle.stream_reader.specs.Changes.{ChangeLine, ModifyIs, DeleteIs, RenameIs, CopyIs, DeleteAllIs, NotesAre, EmptyIs, NoChange, blob_ref, change, change_line, data_part, dataref, fitting, mode, modify, modify_line}
 use Rattle.stream_reader.specs.Heads.{author_in, author_or, behind_word, blob, committer_by, committer_of, head, head_of, if_some, mark_in, mark_lines, merges, merges_max, more_merges, parents, people, must_say, ref_in, ref_line, reset, said, tag, tagger_in}
 use Rattle.stream_reader.specs.Commands.{CommandLine, EmptyLine, BlobLine, CommitLine, ResetLine, TagLine, IdleLine, WantsDone, DoneLine, RefusedLine, OtherLine, Told, Turn, ends_at, tag_turn, between, between_at, by_event, changed, command_line, command_within, gives, in_commit_at, read_command, turn, turn_in, turn_on}
-use Rattle.stream_reader.specs.Verdicts.{from_start, go_on, verdict, verdict_from, verdict_within}
+use Rattle.stream_reader.specs.Verdicts.{from_start, go_on, verdict_from, verdict_within}
 use Rattle.stream_reader.specs.declared.command.BlobRef.{BlobRef}
 use Rattle.stream_reader.specs.declared.command.BlobRef.TheVariants as blobs
 use Rattle.stream_reader.specs.declared.command.Change.{Change}

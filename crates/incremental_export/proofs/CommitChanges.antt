@@ -10,7 +10,6 @@ use Rattle.git_objects.specs.Paths.{Bytes, Path, is_nil, text}
 use Rattle.git_objects.specs.Commits.{Commit}
 use Rattle.git_objects.specs.CommitBodies.{commit_from}
 use Rattle.git_objects.specs.Entries.{is_dir}
-use Rattle.git_objects.specs.Names.{leaf_mode, mode_text}
 use Rattle.git_objects.specs.Trees.{Leaf, Flat}
 use Rattle.git_objects.specs.declared.kind.Kind.TheVariants.{Blob, Commit as CommitKind}
 use Rattle.git_objects.specs.declared.mode.Mode.{Mode}
@@ -23,10 +22,10 @@ use Rattle.object_store.specs.Unfolding.{flat}
 use Rattle.object_store.proofs.StoredCommits.{commit-told, stored-commit}
 use Rattle.path_names.specs.Quoting.{quote}
 use Rattle.path_trees.specs.Walked.{leaf_of}
-use Rattle.fast_export.specs.ExportTexts.{Marks, further, leaf_line, leaf_ref, line, mark_line, new_blobs}
+use Rattle.fast_export.specs.ExportTexts.{Marks, further, leaf_line, line, mark_line, new_blobs}
 use Rattle.fast_export.specs.Given.{Given, AreHeldBlobs, commit_mark, data_ref, is_named, leaf_text, marks_in, modify_line, next_of}
 use Rattle.fast_export.proofs.Lookups.{blob_number}
-use Rattle.fast_export.proofs.Marking.{contents, each_so, leaf_blobs}
+use Rattle.fast_export.proofs.Marking.{contents}
 use Rattle.incremental_export.specs.Changes.{changed, deleted}
 use Rattle.incremental_export.specs.ChangeTexts.{commit_text, delete_line, gone, new, parent_lines, tree_upon}
 use Rattle.incremental_export.specs.Compared.{IsHeldLeaf, leaves_behind, placed_leaf, texts_behind, tree_at}

@@ -1,5 +1,5 @@
 -- Commits of a store under their names, each with what it changes.
-use Rattle.std.proofs.Common.{◌≡◌, ℕ, ◌+◌, List, [], ◌∷◌, ◌++◌, length, map, flat_map, refl, sym, ap, subst, ◌∙◌, append_assoc, append-nil, length-append, arith}
+use Rattle.std.proofs.Common.{◌≡◌, ℕ, ◌+◌, List, [], ◌∷◌, ◌++◌, length, map, flat_map, refl, sym, ap, subst, ◌∙◌, append_assoc, append-nil}
 use Rattle.std.proofs.lemmas.List.{map-append}
 use Rattle.std.specs.Option.{option_map}
 use Rattle.std.proofs.lemmas.List.Elements.{filter_map-append}
@@ -10,8 +10,8 @@ use Rattle.git_objects.specs.Trees.{Flat}
 use Rattle.git_objects.specs.declared.name.Name.{Name}
 use Rattle.object_store.specs.Objects.{Object}
 use Rattle.object_store.specs.StoredSnapshots.{commit_named, snapshot_of}
-use Rattle.fast_export.specs.ExportTexts.{Marks, blob_text, new_blobs}
-use Rattle.fast_export.specs.Given.{Given, AreGivenIn, commit_mark, commit_names, marks_in, next_of, with_blobs}
+use Rattle.fast_export.specs.ExportTexts.{Marks, blob_text}
+use Rattle.fast_export.specs.Given.{Given, AreGivenIn, commit_names, marks_in, next_of, with_blobs}
 use Rattle.fast_export.specs.Histories.{snapshots_at}
 use Rattle.fast_export.proofs.StoredHistories.{IsStoredCommit, mark_given, one_commit, with_commit}
 use Rattle.fast_export.proofs.WrittenBlobs.{blobs_text}

@@ -1,10 +1,10 @@
 -- What isn't reached in a graph, by the names of a store's commits.
-use Rattle.std.proofs.Common.{◌≡◌, ℕ, suc, ◌≤◌, Bool, true, false, cond, List, [], ◌∷◌, ◌++◌, length, map, reverse, filter_map, Option, Some, None, refl, sym, ap, subst, ◌∙◌, arith}
-use Rattle.std.specs.List.{cons_option, list_any}
+use Rattle.std.proofs.Common.{◌≡◌, suc, ◌≤◌, Bool, true, false, cond, List, [], ◌∷◌, ◌++◌, length, map, reverse, filter_map, Option, Some, None, refl, sym, ap, subst, ◌∙◌, arith}
+use Rattle.std.specs.List.{cons_option}
 use Rattle.std.specs.Option.{option_map, option_map_or}
 use Rattle.std.proofs.lemmas.List.{map-append, length-map, reverse-append, reverse-reverse}
 use Rattle.git_objects.specs.Lists.{Each}
-use Rattle.git_objects.specs.Paths.{Bytes, same_bytes}
+use Rattle.git_objects.specs.Paths.{Bytes}
 use Rattle.git_objects.specs.Commits.{Commit}
 use Rattle.git_objects.specs.Snapshots.{Graph, Snapshot, is_wanted, snapshot_name, wanted_below}
 use Rattle.object_store.specs.Objects.{Object}

@@ -1,5 +1,5 @@
 -- Names that are wanted, in a set that grows, and what is left of a list of commits.
-use Rattle.std.proofs.Common.{◌≡◌, ℕ, zero, suc, ◌+◌, ◌-◌, ◌<◌, ◌≤◌, Bool, true, false, cond, ◌||◌, List, [], ◌∷◌, ◌++◌, length, map, take, drop, get_or, reverse, slice_get, Option, Some, None, refl, sym, ap, subst, ◌∙◌, append_assoc, append-nil, arith}
+use Rattle.std.proofs.Common.{◌≡◌, ℕ, zero, suc, ◌+◌, ◌-◌, ◌<◌, ◌≤◌, Bool, true, false, cond, ◌||◌, List, [], ◌∷◌, ◌++◌, length, map, take, drop, get_or, reverse, Some, None, refl, sym, ap, ◌∙◌, append_assoc, append-nil, arith}
 use Rattle.std.specs.List.{list_any, list_all}
 use Rattle.std.specs.Option.{option_map_or}
 use Rattle.std.specs.Cmp.{first_so, second_so}
@@ -20,7 +20,7 @@ use Rattle.object_store.proofs.StoredCommits.{commit-told}
 use Rattle.fast_export.specs.ExportTexts.{is_among}
 use Rattle.fast_export.specs.Given.{is_named}
 use Rattle.fast_export.specs.Histories.{parents_in}
-use Rattle.incremental_export.specs.Unreached.{AreSame, left_of, unreached_in}
+use Rattle.incremental_export.specs.Unreached.{AreSame, left_of}
 
 -- ---- a name more
 

@@ -1,7 +1,6 @@
 -- The stream that an incremental export writes: commits with what each changes in the tree of its first parent, upon commits that are
 -- there already.
-use Rattle.std.specs.Prelude.{ℕ, ◌+◌, ◌-◌, if◌then◌else◌, List, [], ◌∷◌, ◌++◌, length, map, flat_map, codes, decimal, Option, Some, None}
-use Rattle.std.specs.Option.{option_map_or}
+use Rattle.std.specs.Prelude.{ℕ, ◌+◌, ◌-◌, if◌then◌else◌, List, [], ◌∷◌, ◌++◌, map, flat_map, codes, decimal}
 use Rattle.git_objects.specs.Paths.{Bytes, Path, is_nil, text}
 use Rattle.git_objects.specs.Trees.{Flat}
 use Rattle.git_objects.specs.Commits.{hex}

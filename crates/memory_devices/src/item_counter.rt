@@ -1,6 +1,6 @@
 // A keeper that keeps nothing but the number of its items.
-ghost use Rattle.std.specs.Prelude.{◌≡◌, ◌<◌, ◌≤◌, ◌+◌, ◌⊎◌, ◌↔◌, List, ℕ, length};
-ghost use Rattle.std.specs.Prelude.{take, drop, Option, None, Ok, IfOk, OnOk, IfSome, IsErr, IsErrOf, MatchResult, ⊤};
+ghost use Rattle.std.specs.Prelude.{◌≡◌, ◌<◌, ◌≤◌, ◌+◌, ◌⊎◌, ◌↔◌, ℕ, length};
+ghost use Rattle.std.specs.Prelude.{take, drop, None, Ok, IfOk, OnOk, IfSome, IsErr, IsErrOf, MatchResult, ⊤};
 ghost use Rattle.git_objects.specs.declared.limits.TheConstants.{ITEM_BYTES, ITEMS};
 ghost use Rattle.proj_io.specs.Counts.{Counts};
 ghost use Rattle.proj_io.specs.Items.{Stays, Gets, item_of, joined};

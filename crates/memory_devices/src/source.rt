@@ -1,5 +1,5 @@
 // A source over borrowed bytes.
-ghost use Rattle.std.specs.Prelude.{◌≡◌, ◌↔◌, ◌++◌, ℕ, List, min, length, take, drop};
+ghost use Rattle.std.specs.Prelude.{◌≡◌, ◌↔◌, ℕ, List, min, length, drop};
 ghost use Rattle.std.specs.Prelude.{IfOk, IsErr, Ok, Some, ⊤, refl};
 ghost use Rattle.std.specs.Io.{ReadsAtMost};
 ghost use Rattle.std.specs.Io.KnownBytes.{ReadConsumes};

@@ -1,6 +1,6 @@
 -- What a push with merges stands upon, as it is made over a ground.
 use Rattle.std.proofs.Common.{◌≡◌, ◌⊎◌, inl, inr, true, List, [], ◌∷◌, ◌++◌, map, Contains, Option, Some, None, IfSome, IsSome, Result, Ok, Err, IfOk, refl, sym, ap, subst, ◌∙◌}
-use Rattle.std.specs.Option.{is_some, option_map, option_or}
+use Rattle.std.specs.Option.{option_map, option_or}
 use Rattle.git_objects.specs.Lists.{Each}
 use Rattle.git_objects.specs.Parts.{name_bytes}
 use Rattle.git_objects.specs.Paths.{Bytes}
@@ -11,25 +11,25 @@ use Rattle.git_objects.specs.declared.name.Name.{Name}
 use Rattle.object_store.specs.Objects.{Object, has}
 use Rattle.object_store.specs.StoredSnapshots.{IsTreeOf, snapshot_object}
 use Rattle.object_store.specs.Unfolding.{flat}
-use Rattle.object_store.proofs.Growth.{clash_as, has-grown, stands-grown}
+use Rattle.object_store.proofs.Growth.{has-grown, stands-grown}
 use Rattle.commit_map.specs.declared.rule.Rule.{Rule}
 use Rattle.filter_text.specs.Filters.{Filter}
 use Rattle.filter_apply.specs.Faults.{IsApplyFault}
 use Rattle.filter_apply.specs.declared.fault.ApplyError.{ApplyError}
 use Rattle.workspace.specs.Workspaces.{shown}
-use Rattle.projection_laws.specs.Projections.{own_commits, projection, projections}
+use Rattle.projection_laws.specs.Projections.{own_commits, projections}
 use Rattle.projection_laws.proofs.HistoryLemmas.{each-append, each-map, map-append}
 use Rattle.projection_ground.specs.Grounds.{Extends, IsGround, IsShownOf, commits_of}
 use Rattle.projection_ground.specs.declared.ground.Ground.{Ground}
 use Rattle.projection_ground.proofs.Growing.{commits-same, extends-as, extends-then, tree-of-grown}
 use Rattle.history_ground.specs.Heads.{IsSeen, IsSeenObject}
-use Rattle.history_ground.specs.Origins.{AreFirsts, Firsts, IsProjectionObject, first_of, first_place}
+use Rattle.history_ground.specs.Origins.{AreFirsts, Firsts, IsProjectionObject, first_place}
 use Rattle.history_ground.specs.declared.heads.Seen.{Seen}
 use Rattle.history_ground.proofs.TakenTurns.{fault-as}
-use Rattle.fast_import.specs.Bases.{IsBaseIn, base_in}
-use Rattle.fast_import.specs.Replays.{Base, value_at}
+use Rattle.fast_import.specs.Bases.{base_in}
+use Rattle.fast_import.specs.Replays.{value_at}
 use Rattle.fast_import.proofs.Resolving.{value-append}
-use Rattle.push_back.specs.Grounds.{blobs_of, from_of, refs_of}
+use Rattle.push_back.specs.Grounds.{blobs_of, refs_of}
 use Rattle.push_back.specs.Grounds as pushes
 use Rattle.merge_push.specs.Bringing.{IsBaseObject, IsMergeBaseOf, IsPushBaseOf}
 use Rattle.merge_push.specs.Grounds as merges

@@ -1,5 +1,5 @@
 -- What a replayed stream's commits bring, with their originals.
-use Rattle.std.proofs.Common.{◌≡◌, ℕ, ◌+◌, suc, List, [], ◌∷◌, length, map, Option, Some, None, Result, Ok, Err, IfErr, IfOk, refl, sym, ap, subst, ◌∙◌}
+use Rattle.std.proofs.Common.{◌≡◌, ℕ, ◌+◌, suc, List, [], ◌∷◌, length, map, None, Result, Ok, Err, refl, sym, ap, subst, ◌∙◌}
 use Rattle.std.specs.Global.{Vec}
 use Rattle.std.specs.Result.{result_err}
 use Rattle.git_objects.specs.Results.{◌>>=◌, refused_by}
@@ -11,7 +11,6 @@ use Rattle.commit_map.specs.declared.rule.Rule.{Rule}
 use Rattle.filter_text.specs.Filters.{Filter}
 use Rattle.projection_ground.specs.declared.ground.Ground.{Ground}
 use Rattle.projection_ground.specs.Grounds.{commits_of}
-use Rattle.fast_import.specs.Standing.{AreCommitsIn}
 use Rattle.fast_import.specs.declared.replayed.Made.{Made}
 use Rattle.fast_import.specs.declared.replayed.Replayed.{Replayed}
 use Rattle.push_laws.specs.PushVerdicts.{Pair as PairOf, Refusal, Verdict}
@@ -25,8 +24,8 @@ use Rattle.push_back.specs.declared.refusal.OriginalError.{OriginalError}
 use Rattle.push_back.specs.declared.refusal.TreeRefusal.TheVariants as trees
 use Rattle.push_back.proofs.Planned.{commits-length, named-length}
 use Rattle.merge_laws.specs.MergeVerdicts.{Progress, after, begun, made_from, made_upon, original, verdict_from, with_number}
-use Rattle.merge_push.specs.Bringing.{AreBroughtBy, IsBroughtBy}
-use Rattle.merge_push.specs.Originals.{AreOriginals, ArePushed, AreWorkedOut, IsMadeOver, IsOriginalError}
+use Rattle.merge_push.specs.Bringing.{IsBroughtBy}
+use Rattle.merge_push.specs.Originals.{ArePushed, AreWorkedOut, IsMadeOver}
 
 accepted-before : (p : PairOf) (v : Verdict) → result_err (v >>= λ ps. Ok (p ∷ ps)) ≡ None → result_err v ≡ None
 accepted-before p (Ok ps) e = refl

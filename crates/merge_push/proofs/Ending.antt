@@ -1,7 +1,7 @@
 -- Originals over a ground whose map was filled up, and the ground as it was before.
 use Rattle.std.proofs.Math.Seq.{take-append_seam}
 use Rattle.std.proofs.lemmas.List.{length-append}
-use Rattle.std.proofs.Common.{◌≡◌, inl, inr, ◌≤◌, ◌+◌, ℕ, List, [], ◌++◌, length, take, Option, Some, IfErr, IfOk, Result, Ok, Err, refl, sym, ap, subst, ◌∙◌, arith, append-nil}
+use Rattle.std.proofs.Common.{◌≡◌, inl, inr, ◌≤◌, ◌+◌, List, [], length, take, IfErr, IfOk, Result, Ok, Err, sym, ap, subst, ◌∙◌, arith, append-nil}
 use Rattle.std.specs.Global.{Vec}
 use Rattle.git_objects.specs.Paths.{Bytes}
 use Rattle.git_objects.specs.Snapshots.{Snapshot, Graph}
@@ -30,7 +30,7 @@ use Rattle.history_ground.specs.Origins.{AreFirsts, Firsts, first_place}
 use Rattle.fast_import.specs.declared.replayed.Made.{Made}
 use Rattle.fast_import.proofs.Growing.{commits-grown}
 use Rattle.push_laws.specs.PushLaws.{commit_of}
-use Rattle.push_back.specs.Refusals.{IsRefusedBy, of_apply}
+use Rattle.push_back.specs.Refusals.{of_apply}
 use Rattle.push_back.specs.declared.refusal.OriginalError.{OriginalError}
 use Rattle.push_back.proofs.LaidTrees.{refused-as}
 use Rattle.merge_laws.specs.MergeLaws.{AreJoined, projected_names}

@@ -2,10 +2,8 @@
 use Rattle.std.proofs.Common.{◌≡◌, ◌<◌, ◌≤◌, ◌+◌, ℕ, Bool, true, false, List, [], ◌∷◌, ◌++◌, length, Option, Some, None, IsSome, refl, sym, ap, subst, ◌∙◌, arith, append-nil, append_assoc, nat_lt, true≢false}
 use Rattle.std.specs.Option.{is_some}
 use Rattle.std.proofs.lemmas.Bool.{ltb-false, ltb-true}
-use Rattle.git_objects.specs.Lists.{Each}
 use Rattle.git_objects.specs.Paths.{Bytes}
-use Rattle.git_objects.specs.Snapshots.{Graph, ancestors, has, snapshot_name}
-use Rattle.git_objects.specs.Trees.{Flat}
+use Rattle.git_objects.specs.Snapshots.{Graph, ancestors, has}
 use Rattle.object_store.specs.Objects.{Object}
 use Rattle.commit_map.specs.Shown.{Entries, Shown, kept_at}
 use Rattle.commit_map.specs.declared.rule.Rule.{Rule}
@@ -15,7 +13,7 @@ use Rattle.filter_text.specs.Filters.{Filter}
 use Rattle.workspace.specs.Workspaces.{shown}
 use Rattle.projection_laws.specs.Filled.{IsFilled}
 use Rattle.projection_laws.specs.ProjectionLaws.{AreOf, AreTrue, ProjectionLaw}
-use Rattle.projection_laws.specs.Projections.{known_at, projection, projection_by, projections}
+use Rattle.projection_laws.specs.Projections.{known_at}
 use Rattle.projection_laws.specs.StoredGraphs.{name_at}
 use Rattle.projection_laws.proofs.HistoryLemmas.{reached-in}
 use Rattle.projection_laws.proofs.Reached.{has-each}
@@ -25,7 +23,6 @@ use Rattle.projection_ground.specs.Grounds.{Extends, IsGround, IsShownOf, commit
 use Rattle.projection_ground.specs.declared.ground.Ground.{Ground}
 use Rattle.projection_ground.proofs.Filling.{filled-value, kept-append, kept-each, kept-front}
 use Rattle.projection_ground.proofs.Growing.{commits-same, extends-self, extends-then}
-use Rattle.history_ground.proofs.TakenTurns.{fault-as}
 use Rattle.merge_push.specs.Progressing.{HasTrueMap, IsFilledUp}
 
 -- of the commits before a place something is kept

@@ -1,6 +1,6 @@
 -- The projections that the code has are those of the graph's commits, whatever trees stand beside them.
-use Rattle.std.specs.Prelude.{◌≡◌, refl, ℕ, ◌+◌, Bool, true, false, cond, is_some, ◌||◌, List, [], ◌∷◌, ◌++◌, map, filter_map, zip, reverse, Option, Some, None}
-use Rattle.std.specs.Option.{option_map, option_map_or}
+use Rattle.std.specs.Prelude.{◌≡◌, refl, ◌+◌, Bool, true, false, cond, is_some, ◌||◌, List, [], ◌∷◌, map, reverse, Option, Some, None}
+use Rattle.std.specs.Option.{option_map}
 use Rattle.std.specs.List.{cons_option, list_any}
 use Rattle.std.proofs.Common.{ap, ◌∙◌, sym}
 use Rattle.git_objects.specs.Paths.{Bytes, same_bytes}
@@ -9,7 +9,7 @@ use Rattle.git_objects.specs.Trees.{Flat}
 use Rattle.git_objects.proofs.Basics.{same_bytes-back}
 use Rattle.object_store.specs.Objects.{Object}
 use Rattle.object_store.specs.Unfolding.{flat}
-use Rattle.commit_map.specs.Shown.{Entries, Shown}
+use Rattle.commit_map.specs.Shown.{Shown}
 use Rattle.commit_map.specs.declared.rule.Rule.{Rule}
 use Rattle.filter_text.specs.Filters.{Filter}
 use Rattle.workspace.specs.Workspaces.{shown}
@@ -17,7 +17,7 @@ use Rattle.projection_laws.proofs.HistoryLemmas.{any-reverse}
 use Rattle.projection_laws.specs.Projections.{choice_of, projected, projections}
 use Rattle.projection_ground.specs.Grounds.{commits_of}
 use Rattle.projection_ground.specs.declared.ground.Ground.{Ground}
-use Rattle.history_ground.specs.Origins.{AreFirsts, Firsts, first_at, first_of, first_place, is_shown_by}
+use Rattle.history_ground.specs.Origins.{AreFirsts, Firsts, first_at, first_of, is_shown_by}
 use Rattle.fast_import.specs.Replays.{Replay, value_at}
 use Rattle.stream_reader.specs.declared.command.Placed.{Placed}
 use Rattle.push_back.specs.Waited.{waited_by}

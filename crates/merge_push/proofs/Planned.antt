@@ -1,17 +1,15 @@
 -- What a push with merges brings, and why it brings nothing.
-use Rattle.std.proofs.Common.{◌≡◌, ◌⊎◌, inl, inr, ℕ, ◌≤◌, true, List, [], ◌∷◌, ◌++◌, length, map, Option, Some, None, IfSome, IsSome, Result, Ok, Err, IfOk, IfErr, OnOk, refl, sym, ap, subst, ◌∙◌}
-use Rattle.std.specs.Option.{is_some, option_map, option_or, option_to_list}
-use Rattle.std.specs.Global.{Vec}
+use Rattle.std.proofs.Common.{◌≡◌, inl, inr, ℕ, ◌≤◌, true, List, [], ◌∷◌, ◌++◌, map, Option, Some, None, IsSome, Result, Ok, Err, IfOk, IfErr, OnOk, refl, sym, ap, subst, ◌∙◌}
+use Rattle.std.specs.Option.{is_some, option_map, option_or}
 use Rattle.std.specs.List.{list_all}
 use Rattle.std.specs.Result.{result_err}
 use Rattle.git_objects.specs.Lists.{Each}
 use Rattle.git_objects.specs.Parts.{name_bytes}
 use Rattle.git_objects.specs.Paths.{Bytes, is_bytes}
-use Rattle.git_objects.specs.Snapshots.{Snapshot, Graph, snapshot_name, tree_at}
+use Rattle.git_objects.specs.Snapshots.{Snapshot, Graph, tree_at}
 use Rattle.git_objects.specs.Trees.{Flat, IsTree}
-use Rattle.git_objects.specs.declared.kind.Kind.TheVariants.{Blob, Tree}
+use Rattle.git_objects.specs.declared.kind.Kind.TheVariants.{Blob}
 use Rattle.git_objects.specs.declared.name.Name.{Name}
-use Rattle.object_store.specs.Growth.{IsGrownBy}
 use Rattle.object_store.specs.Objects.{Object, IsStore, body_of, has}
 use Rattle.object_store.specs.StoredSnapshots.{IsTreeOf}
 use Rattle.object_store.specs.Unfolding.{flat}
@@ -37,17 +35,15 @@ use Rattle.projection_ground.specs.declared.ground.Ground.{Ground}
 use Rattle.projection_ground.proofs.Growing.{commits-same, extends-as, extends-then, tree-of-grown}
 use Rattle.history_ground.specs.Origins.{AreFirsts, first_place}
 use Rattle.history_ground.proofs.TakenTurns.{extends-store}
-use Rattle.fast_import.specs.Made.{IsMadeBy, IsPutFault}
+use Rattle.fast_import.specs.Made.{IsMadeBy}
 use Rattle.fast_import.specs.Replays.{Base, Ran, given_by, nothing_yet, value_at}
-use Rattle.fast_import.specs.Standing.{AreBlobsIn, AreCommitsIn, IsReplayedOf}
-use Rattle.fast_import.specs.declared.replayed.Made.{Made}
+use Rattle.fast_import.specs.Standing.{AreBlobsIn, IsReplayedOf}
 use Rattle.fast_import.specs.declared.replayed.Replayed.{Replayed as ReplayedNames}
 use Rattle.fast_import.proofs.Growing.{blobs-grown}
 use Rattle.fast_import.proofs.Putting.{fault_as}
 use Rattle.push_laws.specs.PushLaws.{commit_of}
 use Rattle.push_laws.specs.PushReplays.{StreamRefusal}
-use Rattle.push_laws.specs.Pushes.{Pushing, PushRefusal, StreamRefused, refusal_of}
-use Rattle.push_laws.specs.PushVerdicts.{Verdict}
+use Rattle.push_laws.specs.Pushes.{Pushing, StreamRefused, refusal_of}
 use Rattle.push_back.specs.Faults.{IsPushFault, of_apply, of_original, of_stream}
 use Rattle.push_back.specs.Grounds.{blobs_of, from_of}
 use Rattle.push_back.specs.Originals.{AreNamedIn}

@@ -1,5 +1,5 @@
 -- A push that has come a commit further, over a ground that has the original.
-use Rattle.std.proofs.Common.{◌≡◌, ◌<◌, ◌≤◌, ◌+◌, inl, inr, ℕ, suc, Bool, true, false, cond, List, [], ◌∷◌, ◌++◌, length, map, reverse, slice_get, find, All, Option, Some, None, IsSome, refl, sym, ap, ap₂, subst, ◌∙◌, arith, true≢false, add-one, nat_lt}
+use Rattle.std.proofs.Common.{◌≡◌, ◌<◌, ◌≤◌, ◌+◌, ℕ, Bool, true, false, cond, List, [], ◌∷◌, ◌++◌, length, map, reverse, slice_get, find, All, Option, Some, None, IsSome, refl, sym, ap, ap₂, subst, ◌∙◌, arith, true≢false, nat_lt}
 use Rattle.std.specs.Option.{is_some, option_map, option_or, unwrap_or}
 use Rattle.std.specs.Cmp.Lexicographic.{bytes_decides}
 use Rattle.std.proofs.lemmas.Bool.{ltb-false, ltb-true}
@@ -7,15 +7,12 @@ use Rattle.std.proofs.lemmas.List.{length-append}
 use Rattle.std.proofs.lemmas.Option.{none-some, same_Some}
 use Rattle.git_objects.specs.Lists.{Each}
 use Rattle.git_objects.specs.Paths.{Bytes, same_bytes}
-use Rattle.git_objects.specs.Snapshots.{Snapshot, Graph, add, add_all, commit_at, has, has_name, is_graph, snapshot_name}
+use Rattle.git_objects.specs.Snapshots.{Snapshot, Graph, add, commit_at, has, has_name, is_graph, snapshot_name}
 use Rattle.git_objects.specs.Trees.{Flat, IsTree}
-use Rattle.git_objects.specs.declared.kind.Kind.TheVariants.{Tree, Commit as CommitKind}
-use Rattle.git_objects.proofs.Basics.{same_bytes-back, same_bytes-self}
-use Rattle.object_store.specs.Growth.{IsGrownBy}
+use Rattle.git_objects.proofs.Basics.{same_bytes-self}
 use Rattle.object_store.specs.Objects.{Object}
 use Rattle.object_store.specs.Unfolding.{flat}
 use Rattle.object_store.proofs.Growth.{flat-grown}
-use Rattle.object_store.proofs.Unfolding.{unfolding_law}
 use Rattle.commit_graph.specs.Graphs.{Row, place_of}
 use Rattle.commit_map.specs.Shown.{Entries, Shown, kept_at}
 use Rattle.commit_map.specs.declared.rule.Rule.{Rule}
@@ -30,7 +27,7 @@ use Rattle.projection_laws.proofs.HistoryLemmas.{each-map, reverse-more}
 use Rattle.projection_laws.proofs.ProjectionLemmas.{projection-added}
 use Rattle.projection_laws.proofs.StoredGraphs.{whole-graph}
 use Rattle.projection_ground.specs.Choosing.{KeepsAll, names_at}
-use Rattle.projection_ground.specs.Grounds.{Extends, IsGround, commits_of}
+use Rattle.projection_ground.specs.Grounds.{Extends, IsGround}
 use Rattle.projection_ground.specs.declared.ground.Ground.{Ground}
 use Rattle.projection_ground.proofs.Filling.{kept-append, kept-front, kept-new}
 use Rattle.projection_ground.proofs.Growing.{commits-same}

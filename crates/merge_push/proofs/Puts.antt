@@ -1,12 +1,12 @@
 -- The original of a pushed commit, as it is worked out and put into a store.
-use Rattle.std.proofs.Common.{◌≡◌, ◌<◌, ◌≤◌, inl, inr, ℕ, Bool, true, false, List, [], ◌∷◌, length, map, All, Option, Some, None, Result, Ok, Err, IfOk, IfErr, IsOkAnd, refl, sym, ap, subst, ◌∙◌, arith, nat_le}
+use Rattle.std.proofs.Common.{◌≡◌, ◌<◌, ◌≤◌, inl, inr, ℕ, Bool, true, false, List, [], ◌∷◌, length, map, All, Some, None, Result, Ok, Err, IfOk, IfErr, IsOkAnd, refl, sym, ap, subst, ◌∙◌, arith, nat_le}
 use Rattle.std.proofs.lemmas.Bool.Decides.{nat_tests}
 use Rattle.std.proofs.lemmas.List.Elements.{All-tail}
 use Rattle.std.proofs.lemmas.List.{length-map}
 use Rattle.git_objects.specs.CommitBodies.{commit_from}
 use Rattle.git_objects.specs.Commits.{Commit, Letter, commit_body}
 use Rattle.git_objects.specs.Lists.{Each}
-use Rattle.git_objects.specs.Names.{name, tree_name}
+use Rattle.git_objects.specs.Names.{name}
 use Rattle.git_objects.specs.Paths.{Bytes}
 use Rattle.git_objects.specs.Results.{◌>>=◌, must}
 use Rattle.git_objects.specs.Snapshots.{Snapshot, snapshot_commit}
@@ -16,7 +16,7 @@ use Rattle.git_objects.specs.declared.limits.TheConstants.{PARENTS}
 use Rattle.git_objects.specs.declared.name.Name.{Name}
 use Rattle.git_objects.specs.declared.quantity.Quantity.TheVariants.{Parents}
 use Rattle.object_store.specs.Growth.{IsGrownBy, IsOnly}
-use Rattle.object_store.specs.Objects.{Object, IsStore, find_named, has}
+use Rattle.object_store.specs.Objects.{Object, find_named, has}
 use Rattle.object_store.specs.Puts.{of_body}
 use Rattle.object_store.specs.StoredSnapshots.{commit_named, snapshot_object}
 use Rattle.object_store.specs.Unfolding.{StandsFor, flat}
@@ -48,7 +48,7 @@ use Rattle.push_back.specs.declared.refusal.TreeRefusal.TheVariants as trees
 use Rattle.push_back.proofs.LaidTrees.{grows-as, grows-self, grows-store, grows-then, refused-as}
 use Rattle.push_back.proofs.OneOriginal.{commit-in-grown, ok-and, original-in}
 use Rattle.merge_push.specs.Originals.{IsMadeOne, IsMadeUpon, IsOriginal, IsPut, IsReadAgain, original_upon}
-use Rattle.merge_push.proofs.Stored.{in-store, read-as}
+use Rattle.merge_push.proofs.Stored.{read-as}
 
 -- the commits at places are in the store
 pub named-has : (S : List Object) (rows : List Row) → IsGraphIn S rows → (ps : List ℕ) → All (λ p. p < length rows) ps → Each (λ n. has CommitKind S n ≡ true) (map (name_at rows) ps)

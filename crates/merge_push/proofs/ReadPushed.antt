@@ -1,12 +1,11 @@
 -- Pushed commits of a store are read again from their bodies.
-use Rattle.std.proofs.Common.{◌≡◌, ◌≤◌, ℕ, suc, Bool, true, false, cond, ◌&&◌, ◌||◌, List, [], ◌∷◌, ◌++◌, length, filter_map, find, Option, Some, None, IfSome, refl, sym, ap, subst, ◌∙◌, arith, true≢false}
+use Rattle.std.proofs.Common.{◌≡◌, ◌≤◌, suc, Bool, true, false, cond, ◌&&◌, ◌||◌, List, [], ◌∷◌, ◌++◌, length, filter_map, find, Option, Some, None, IfSome, refl, sym, ap, ◌∙◌, arith, true≢false}
 use Rattle.std.specs.Prelude.{codes}
-use Rattle.std.specs.Option.{is_some, option_to_list, unwrap_or}
+use Rattle.std.specs.Option.{option_to_list, unwrap_or}
 use Rattle.std.specs.List.{cons_option, list_all, list_any}
 use Rattle.std.specs.Cmp.Lexicographic.{bytes_decides}
 use Rattle.std.proofs.lemmas.Bool.{and_parts}
 use Rattle.git_objects.specs.Bodies.{is_name}
-use Rattle.git_objects.specs.CommitBodies.{IsCommitBody, commit_from}
 use Rattle.git_objects.specs.Commits.{Commit, Letter, commit_body, commit_name, hex, letter_text, parent_lines}
 use Rattle.git_objects.specs.Lists.{Each}
 use Rattle.git_objects.specs.Names.{body}
@@ -24,9 +23,9 @@ use Rattle.object_store.proofs.StoredCommits.{stored-commit}
 use Rattle.commit_map.specs.Shown.{Entries, Shown, kept_at}
 use Rattle.commit_map.specs.declared.rule.Rule.{Rule}
 use Rattle.commit_map.specs.declared.rule.Rule.TheVariants.{One, Two}
-use Rattle.projection_laws.specs.Projections.{Choice, Nothing, Member, New, add_shown, choice_of, chosen, distinct, distinct_from, has_tree, is_same, known_at, leads, member_or, members, own, projected, projections, shown_of}
+use Rattle.projection_laws.specs.Projections.{Nothing, Member, New, add_shown, chosen, distinct_from, has_tree, is_same, known_at, leads, member_or, members, own, projected, projections, shown_of}
 use Rattle.projection_laws.proofs.HeldCommits.{held}
-use Rattle.projection_laws.proofs.HistoryLemmas.{each-append, each-map}
+use Rattle.projection_laws.proofs.HistoryLemmas.{each-append}
 use Rattle.fast_import.specs.Standing.{AreCommitsIn, IsCommitIn}
 use Rattle.fast_import.specs.declared.replayed.Made.{Made}
 use Rattle.push_laws.specs.Given.{IsGivenCommit}

@@ -1,10 +1,8 @@
 -- Originals of commits with merges, one after another.
-use Rattle.std.proofs.Common.{◌≡◌, inl, inr, ℕ, suc, ◌+◌, ◌<◌, ◌≤◌, true, List, [], ◌∷◌, ◌++◌, length, drop, get_or, Option, Some, Result, Ok, Err, IfOk, IfErr, OnOk, refl, sym, ap, subst, ◌∙◌, arith, append-nil, append_assoc, drop-cons}
-use Rattle.std.specs.Prelude.{None}
+use Rattle.std.proofs.Common.{◌≡◌, inl, inr, ℕ, suc, ◌+◌, ◌<◌, ◌≤◌, List, [], ◌∷◌, ◌++◌, length, drop, get_or, Some, Result, Ok, Err, IfErr, OnOk, refl, sym, ap, subst, ◌∙◌, arith, append-nil, append_assoc, drop-cons}
 use Rattle.std.specs.Result.{result_err}
 use Rattle.std.proofs.lemmas.List.{drop_all}
 use Rattle.git_objects.specs.Lists.{Each}
-use Rattle.git_objects.specs.Paths.{Bytes}
 use Rattle.git_objects.specs.Results.{◌>>=◌, refused_by}
 use Rattle.git_objects.specs.Snapshots.{Snapshot, snapshot_name}
 use Rattle.git_objects.specs.declared.name.Name.{Name}
@@ -22,7 +20,6 @@ use Rattle.push_laws.specs.PushLaws.{commit_of}
 use Rattle.push_laws.specs.PushVerdicts.{Pair, Refusal, Verdict}
 use Rattle.push_back.specs.Originals.{AreNamedIn}
 use Rattle.push_back.specs.Refusals.{IsRefusedBy}
-use Rattle.push_back.specs.declared.refusal.OriginalError.{OriginalError}
 use Rattle.push_back.specs.declared.refusal.TreeRefusal.{TreeRefusal}
 use Rattle.push_back.proofs.LaidTrees.{refused-as}
 use Rattle.push_back.proofs.OneOriginal.{commit-in-grown}

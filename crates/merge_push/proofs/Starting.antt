@@ -1,5 +1,5 @@
 -- Where a push with merges begins over a ground.
-use Rattle.std.proofs.Common.{◌≡◌, ◌<◌, ◌≤◌, ◌+◌, ℕ, zero, suc, Bool, true, false, cond, List, [], ◌∷◌, length, map, reverse, find, filter_map, slice_get, Option, Some, None, IfSome, IsSome, refl, sym, ap, subst, ◌∙◌, arith, true≢false, add-one}
+use Rattle.std.proofs.Common.{◌≡◌, ◌<◌, ◌+◌, ℕ, zero, suc, Bool, true, false, cond, List, [], ◌∷◌, length, map, reverse, find, filter_map, slice_get, Option, Some, None, IfSome, IsSome, refl, sym, ap, subst, ◌∙◌, arith, true≢false, add-one}
 use Rattle.std.specs.Option.{is_some, option_map, option_map_or, option_or, unwrap_or}
 use Rattle.std.specs.List.{cons_option}
 use Rattle.std.proofs.lemmas.List.{length-map, reverse-reverse}

@@ -1,18 +1,17 @@
 -- Originals in a store, and their rows behind a graph's.
 use Rattle.std.proofs.Math.Seq.{take-append_seam}
 use Rattle.std.proofs.lemmas.List.{length-append}
-use Rattle.std.proofs.Common.{add-one, ◌≡◌, ◌<◌, ◌≤◌, ◌+◌, inl, inr, ℕ, zero, suc, Bool, true, false, cond, List, [], ◌∷◌, ◌++◌, length, map, take, slice_get, All, Option, Some, None, IfSome, IsSome, refl, sym, ap, subst, ◌∙◌, arith, true≢false}
-use Rattle.std.specs.Option.{is_some, option_map, option_map_or}
+use Rattle.std.proofs.Common.{add-one, ◌≡◌, ◌<◌, ◌+◌, inl, inr, ℕ, zero, suc, Bool, true, false, cond, List, [], ◌∷◌, ◌++◌, length, map, take, slice_get, All, Option, Some, None, IfSome, IsSome, refl, sym, ap, subst, ◌∙◌, arith, true≢false}
+use Rattle.std.specs.Option.{is_some, option_map}
 use Rattle.std.specs.Cmp.Lexicographic.{bytes_decides}
 use Rattle.std.proofs.lemmas.List.Elements.{All-tail}
-use Rattle.std.proofs.lemmas.Option.{none-some, same_Some, slice_get_within}
-use Rattle.git_objects.specs.Commits.{Commit, commit_body}
+use Rattle.std.proofs.lemmas.Option.{same_Some, slice_get_within}
+use Rattle.git_objects.specs.Commits.{Commit}
 use Rattle.git_objects.specs.CommitBodies.{commit_from}
 use Rattle.git_objects.specs.Names.{tree_name}
 use Rattle.git_objects.specs.Paths.{Bytes, same_bytes}
-use Rattle.git_objects.specs.Snapshots.{Snapshot, Graph, add, commit_at, has, has_name, snapshot_commit, snapshot_name}
-use Rattle.git_objects.specs.declared.kind.Kind.TheVariants.{Tree, Commit as CommitKind}
-use Rattle.git_objects.proofs.Basics.{same_bytes-self}
+use Rattle.git_objects.specs.Snapshots.{Snapshot, Graph, commit_at, has, snapshot_commit, snapshot_name}
+use Rattle.git_objects.specs.declared.kind.Kind.TheVariants.{Commit as CommitKind}
 use Rattle.object_store.specs.Objects.{Object, IsStore}
 use Rattle.object_store.specs.Objects as objects
 use Rattle.object_store.specs.StoredSnapshots.{commit_named, snapshot_object, snapshot_of}

@@ -2,20 +2,18 @@
 use Rattle.std.specs.Prelude.{◌≡◌, refl, ℕ, ◌<◌, Bool, true, cond, is_some, length, List, [], ◌∷◌, filter_map, map, Option, Some, None, All}
 use Rattle.std.specs.Option.{option_map}
 use Rattle.std.specs.List.{cons_option}
-use Rattle.std.proofs.Common.{ap, ◌∙◌, sym, subst}
+use Rattle.std.proofs.Common.{ap, ◌∙◌, sym}
 use Rattle.std.proofs.lemmas.List.Elements.{All-cons, All-nil}
 use Rattle.git_objects.specs.Lists.{Each}
 use Rattle.git_objects.specs.Paths.{Bytes}
-use Rattle.git_objects.specs.Snapshots.{Snapshot, Graph, has, ancestors}
+use Rattle.git_objects.specs.Snapshots.{Snapshot, has}
 use Rattle.filter_text.specs.Filters.{Filter}
 use Rattle.workspace.specs.Workspaces.{shown}
-use Rattle.commit_map.specs.Shown.{Shown, Entries}
-use Rattle.commit_map.specs.declared.rule.Rule.{Rule}
+use Rattle.commit_map.specs.Shown.{Shown}
 use Rattle.projection_laws.specs.Projections.{Choice, Nothing, Member, New, chosen, distinct, known_at, leads, members, own_commit, projection}
 use Rattle.projection_laws.specs.StoredGraphs.{name_at}
-use Rattle.projection_laws.proofs.HistoryLemmas.{each-map, filter-same, names}
+use Rattle.projection_laws.proofs.HistoryLemmas.{each-map, filter-same}
 use Rattle.projection_ground.specs.Choosing.{is_own_by, names_at}
-use Rattle.projection_ground.specs.Grounds.{commits_of}
 use Rattle.projection_ground.specs.declared.ground.Ground.{Ground}
 use Rattle.history_ground.specs.Origins.{Firsts}
 use Rattle.push_laws.specs.PushLaws.{commit_of}

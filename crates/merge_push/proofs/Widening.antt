@@ -1,5 +1,5 @@
 -- Grounds whose graph and map grew, and originals that were added.
-use Rattle.std.proofs.Common.{◌≡◌, ◌⊎◌, inl, inr, ◌<◌, ℕ, Bool, true, false, List, [], ◌∷◌, ◌++◌, length, map, slice_get, All, Option, Some, None, IfSome, Result, Ok, Err, IfOk, IfErr, IsOkAnd, refl, sym, ap, subst, ◌∙◌, arith, append-nil, append_assoc, nat_le, true≢false}
+use Rattle.std.proofs.Common.{◌≡◌, inl, inr, ◌<◌, ℕ, Bool, true, false, List, [], ◌∷◌, ◌++◌, length, map, slice_get, All, Option, Some, None, IfSome, Result, Ok, Err, refl, sym, ap, subst, ◌∙◌, arith, append-nil, append_assoc, nat_le, true≢false}
 use Rattle.std.proofs.lemmas.List.{length-map}
 use Rattle.git_objects.specs.Paths.{Bytes}
 use Rattle.git_objects.specs.Names.{tree_name}
@@ -9,7 +9,6 @@ use Rattle.git_objects.specs.Trees.{Flat, IsTree}
 use Rattle.git_objects.specs.declared.limits.TheConstants.{PARENTS}
 use Rattle.git_objects.specs.declared.name.Name.{Name}
 use Rattle.git_objects.specs.declared.quantity.Quantity.TheVariants.{Parents}
-use Rattle.object_store.specs.Growth.{IsGrownBy}
 use Rattle.object_store.specs.Objects.{Object, IsStore, has}
 use Rattle.git_objects.specs.declared.kind.Kind.TheVariants.{Tree}
 use Rattle.std.proofs.lemmas.Option.{none-some}
@@ -29,10 +28,9 @@ use Rattle.commit_graph.specs.Graphs.{Row, place_of}
 use Rattle.commit_map.specs.Shown.{Entries, Shown}
 use Rattle.filter_text.specs.Filters.{Filter}
 use Rattle.workspace.specs.Laws.{IsUsable}
-use Rattle.projection_laws.specs.Projections.{known_at, shown_of}
-use Rattle.projection_laws.specs.StoredGraphs.{name_at}
+use Rattle.projection_laws.specs.Projections.{shown_of}
 use Rattle.projection_ground.specs.Choosing.{is_own_by, names_at}
-use Rattle.projection_ground.specs.Grounds.{Extends, IsGround}
+use Rattle.projection_ground.specs.Grounds.{IsGround}
 use Rattle.projection_ground.specs.declared.ground.Ground.{Ground}
 use Rattle.filter_routes.specs.TableValues.{Table}
 use Rattle.projection_ground.specs.Grounds.{AreInFront}
@@ -43,7 +41,6 @@ use Rattle.fast_import.specs.Standing.{IsCommitIn}
 use Rattle.fast_import.specs.declared.replayed.Made.{Made}
 use Rattle.push_laws.specs.PushVerdicts.{NoChange, Refusal, TreeLimit, tree_upon}
 use Rattle.push_back.specs.Originals.{Grows}
-use Rattle.push_back.specs.Refusals.{IsRefusedBy}
 use Rattle.push_back.specs.declared.refusal.TreeRefusal.{TreeRefusal}
 use Rattle.push_back.specs.declared.refusal.TreeRefusal.TheVariants as trees
 use Rattle.push_back.proofs.OneOriginal.{commit-in-grown, ok-and}
@@ -51,8 +48,8 @@ use Rattle.merge_laws.specs.MergeVerdicts.{Progress, after, choice_upon, is_new,
 use Rattle.merge_laws.proofs.Merging.{IsTaken, taken}
 use Rattle.merge_push.specs.Originals.{IsMadeOne, IsOriginal, IsReadAgain, original_upon}
 use Rattle.merge_push.specs.Places.{Places, with_place}
-use Rattle.merge_push.specs.Progressing.{IsAdded, IsAddedTo, IsEnteredAs, IsHalfEntered, IsNext, IsProgress, Widens, made_as, row_of}
-use Rattle.merge_push.proofs.Progressed.{progress-grown, progress-more, progress-there, wider}
+use Rattle.merge_push.specs.Progressing.{IsAddedTo, IsEnteredAs, IsHalfEntered, IsNext, IsProgress, Widens, made_as, row_of}
+use Rattle.merge_push.proofs.Progressed.{progress-grown, progress-more, progress-there}
 use Rattle.merge_push.proofs.Stored.{rows-more, tree-named}
 use Rattle.merge_push.proofs.Tied.{own-is, places, places-in, places-named}
 

@@ -1,10 +1,10 @@
 -- How far the originals of pushed commits have been worked out over a ground.
-use Rattle.std.specs.Prelude.{◌≡◌, ◌⊎◌, ◌<◌, ℕ, true, List, ◌∷◌, ◌++◌, [], length, slice_get, OnOk, IfErr, Result, Option, Some, None, Ok, Err}
+use Rattle.std.specs.Prelude.{◌≡◌, ◌⊎◌, ◌<◌, ℕ, true, List, ◌∷◌, ◌++◌, [], length, slice_get, OnOk, IfErr, Result, Some, None, Ok, Err}
 use Rattle.std.specs.Option.{option_map}
 use Rattle.git_objects.specs.Lists.{Each}
 use Rattle.git_objects.specs.Names.{tree_name}
 use Rattle.git_objects.specs.Paths.{Bytes}
-use Rattle.git_objects.specs.Snapshots.{Snapshot, Graph, has}
+use Rattle.git_objects.specs.Snapshots.{Snapshot, has}
 use Rattle.git_objects.specs.Trees.{IsTree}
 use Rattle.git_objects.specs.declared.name.Name.{Name}
 use Rattle.object_store.specs.Growth.{IsGrownBy}
@@ -12,7 +12,6 @@ use Rattle.object_store.specs.Objects.{Object}
 use Rattle.object_store.specs.Unfolding.{flat}
 use Rattle.commit_graph.specs.Graphs.{Row, place_of}
 use Rattle.commit_map.specs.Shown.{Entries}
-use Rattle.commit_map.specs.declared.rule.Rule.{Rule}
 use Rattle.filter_text.specs.Filters.{Filter}
 use Rattle.workspace.specs.Workspaces.{shown}
 use Rattle.projection_laws.specs.ProjectionLaws.{AreOf, AreTrue}

@@ -1,5 +1,5 @@
 // The originals of pushed commits with merges.
-ghost use Rattle.std.specs.Prelude.{◌≡◌, ◌<◌, ◌≤◌, ◌^◌, ◌++◌, ◌∷◌, [], All, List, true, length, map, None};
+ghost use Rattle.std.specs.Prelude.{◌≡◌, ◌<◌, ◌≤◌, ◌++◌, ◌∷◌, [], All, List, true, length, map, None};
 ghost use Rattle.std.specs.Prelude.{IfOk, IsSome, OnErr, OnOk};
 ghost use Rattle.git_objects.specs.Snapshots.{Snapshot};
 ghost use Rattle.git_objects.specs.declared.kind.Kind.TheVariants.{Tree};
@@ -12,7 +12,7 @@ ghost use Rattle.filter_text.specs.Shapes.{shape};
 ghost use Rattle.workspace.specs.Laws.{IsUsable};
 ghost use Rattle.projection_laws.specs.StoredGraphs.{name_at};
 ghost use Rattle.projection_ground.specs.Choosing.{KeepsAll, is_own_by, names_at};
-ghost use Rattle.projection_ground.specs.Grounds.{Extends, IsGround, commits_of};
+ghost use Rattle.projection_ground.specs.Grounds.{Extends, IsGround};
 ghost use Rattle.history_ground.specs.Origins.{AreFirsts};
 ghost use Rattle.fast_import.specs.Standing.{IsCommitIn};
 ghost use Rattle.merge_laws.specs.MergeVerdicts.{Progress as ProgressOf};

@@ -1,5 +1,5 @@
 // Projections of all commits of a graph, kept.
-ghost use Rattle.std.specs.Prelude.{◌≡◌, ◌<◌, IfErr, IfOk, IsSome, OnOk};
+ghost use Rattle.std.specs.Prelude.{◌≡◌, ◌<◌, IfErr, IsSome, OnOk};
 ghost use Rattle.commit_graph.specs.Graphs.{place_of};
 ghost use Rattle.commit_map.specs.Shown.{kept_at};
 ghost use Rattle.filter_apply.specs.Faults.{IsApplyFault};

@@ -10,7 +10,7 @@ ghost use Rattle.object_store.specs.Objects.{IsStore};
 ghost use Rattle.object_store.specs.Puts.{of_body, refusal, with_object};
 ghost use Rattle.object_store.specs.Errors.{object_value, refusal_told};
 ghost use Rattle.object_store.specs.Sizes.{sizes, stats_of};
-ghost use Rattle.object_store.specs.Unfolding.{below, body_flat};
+ghost use Rattle.object_store.specs.Unfolding.{body_flat};
 
 use crate::shelf::{Judged, Place, Shelf};
 use git_objects::{EntryView, Kind, Name};
@@ -86,9 +86,9 @@ impl Store {
         self.shelf().get(name)
     }
 
-    /// What `get` gives, faster where objects are asked for in the order of their arrival: the object that arrived with
-    /// the number `near`, from 0 on, is looked at first, and `near` becomes the number of the one behind the object that
-    /// is found. Needs no memory.
+    /// What `get` gives, faster where objects are asked for in the order of their arrival: the object that arrived
+    /// with the number `near`, from 0 on, is looked at first, and `near` becomes the number of the one behind the
+    /// object that is found. Needs no memory.
     pub fn get_near(&self, near: &mut usize, name: &Name) -> Option<ObjectRef<'_>>
         ensures { option_map object_value result ≡ find_named self.now name.now.0 }
     {

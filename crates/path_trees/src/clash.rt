@@ -1,9 +1,8 @@
 // The first clash of two trees.
-ghost use Rattle.std.specs.Prelude.{◌≡◌, ◌++◌, [], ◌∷◌, true, false, ◌&&◌, IfOk, Some, slice_get};
+ghost use Rattle.std.specs.Prelude.{◌≡◌, [], ◌∷◌, true, false, ◌&&◌, IfOk, Some};
 ghost use Rattle.std.specs.Option.{option_map};
-ghost use Rattle.std.specs.List.{list_all};
 ghost use Rattle.git_objects.specs.Entries.{is_dir};
-ghost use Rattle.git_objects.specs.Paths.{Path, is_component, is_path};
+ghost use Rattle.git_objects.specs.Paths.{Path, is_path};
 ghost use Rattle.git_objects.specs.Trees.{rests};
 ghost use Rattle.git_objects.specs.declared.kind.Kind.TheVariants.{Tree};
 ghost use Rattle.object_store.specs.Objects.{IsStore, has, has_child};

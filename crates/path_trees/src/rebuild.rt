@@ -1,9 +1,7 @@
 // The body of a directory with one entry changed.
 ghost use Rattle.std.specs.Prelude.{◌≡◌, ◌++◌, ◌∷◌, [], List, IfOk, OnOk, Option, Some, None};
 ghost use Rattle.std.specs.Option.{option_map};
-ghost use Rattle.std.specs.Ordering.{nat_cmp};
-ghost use Rattle.std.specs.Cmp.Lexicographic.{slice_cmp};
-ghost use Rattle.git_objects.specs.Entries.{body_text, dir_key};
+ghost use Rattle.git_objects.specs.Entries.{body_text};
 ghost use Rattle.git_objects.specs.Parts.{name_bytes};
 ghost use Rattle.git_objects.specs.Views.{entry_value};
 ghost use Rattle.git_objects.specs.declared.entry.Entry.{Entry};

@@ -1,8 +1,7 @@
 // A keeper over one in memory that says wrong sizes.
-ghost use Rattle.std.specs.Prelude.{◌≡◌, ◌<◌, ◌≤◌, ◌+◌, ◌-◌, ◌^◌, ◌↔◌, ⊤, false, length, List, ℕ, Option, None};
-ghost use Rattle.proj_io.specs.Counts.{Counts, held, held_bound};
-ghost use Rattle.proj_io.specs.Items.{Gets, Stays, item_of, joined};
-ghost use Rattle.proj_io.specs.Stops.{OnlyAdds, Nothing, Untold, IsPresent, IsBeforeOrAfter};
+ghost use Rattle.std.specs.Prelude.{◌≡◌, ◌<◌, ◌-◌, false, length, None};
+ghost use Rattle.proj_io.specs.Counts.{held, held_bound};
+ghost use Rattle.proj_io.specs.Stops.{Untold};
 
 use proj_io::{Failed, KeepError, Keeper, MemKeeper};
 

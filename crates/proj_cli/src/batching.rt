@@ -1,6 +1,6 @@
 // Batches: commands one after another, upon one state.
-ghost use Rattle.std.specs.Prelude.{◌≡◌, ◌≢◌, ◌≤◌, ◌^◌, IfErr, IfOk, IfSome, List, Err, None, Some};
-ghost use Rattle.std.specs.Prelude.{false, length, map, true};
+ghost use Rattle.std.specs.Prelude.{◌≡◌, ◌≢◌, ◌≤◌, List, Err, Some};
+ghost use Rattle.std.specs.Prelude.{false, map};
 ghost use Rattle.git_objects.specs.Paths.{Bytes};
 ghost use Rattle.proj_io.specs.Counts.{Counts};
 ghost use Rattle.proj_io.specs.Stops.{OnlyAdds};

@@ -1,5 +1,5 @@
 // The top call.
-ghost use Rattle.std.specs.Prelude.{◌≡◌, ◌≢◌, ◌⊎◌, List, map, string_bytes, Some, Err, IsErr, true, false};
+ghost use Rattle.std.specs.Prelude.{◌≡◌, ◌≢◌, List, map, string_bytes, Some, Err, IsErr, true, false};
 ghost use Rattle.git_objects.specs.Paths.{Bytes};
 ghost use Rattle.fast_import.specs.Waited.{TakesWithin};
 ghost use Rattle.proj_io.specs.Stops.{OnlyAdds};

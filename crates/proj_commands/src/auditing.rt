@@ -1,5 +1,5 @@
 // The certificate of what a filter shows of a ref's commit at a path.
-ghost use Rattle.std.specs.Prelude.{◌≡◌, ◌≢◌, List, Err};
+ghost use Rattle.std.specs.Prelude.{◌≢◌, List, Err};
 ghost use Rattle.git_objects.specs.Paths.{Bytes};
 ghost use Rattle.filter_text.specs.Shapes.{shape};
 ghost use Rattle.proj_io.specs.Views.{KeeperView};

@@ -1,5 +1,5 @@
 // The projection of a ref of a stream.
-ghost use Rattle.std.specs.Prelude.{◌≡◌, ◌≢◌, ◌↔◌, ◌<◌, Err, Ok, IfErr, IfOk, IfSome, IsSome, map, true, List};
+ghost use Rattle.std.specs.Prelude.{◌≡◌, ◌≢◌, ◌↔◌, ◌<◌, Err, Ok, IfErr, IfOk, IfSome, IsSome, map, true};
 ghost use Rattle.std.specs.FinMap.{find};
 ghost use Rattle.std.specs.Option.{option_map};
 ghost use Rattle.git_objects.specs.Parts.{name_bytes};
@@ -16,19 +16,14 @@ ghost use Rattle.projection_laws.specs.Projections.{projection_by};
 ghost use Rattle.projection_ground.specs.Grounds.{Extends, IsGround, IsShownOf, commits_of};
 ghost use Rattle.fast_import.specs.Waited.{TakesWithin};
 ghost use Rattle.proj_io.specs.Counts.{Counts};
-ghost use Rattle.proj_io.specs.Views.{KeeperView};
 ghost use Rattle.repo_ground.specs.Loads.{IsEmpty};
-ghost use Rattle.state_items.specs.Changes.{NoPlan};
 ghost use Rattle.workspace.specs.Laws.{IsUsable};
 ghost use Rattle.workspace.specs.Workspaces.{shown};
-ghost use Rattle.proj_commands.specs.Cases.{NameCase, loaded};
-ghost use Rattle.proj_commands.specs.Steps.{case};
-ghost use Rattle.proj_commands.specs.Forms.{IsFormMade};
+ghost use Rattle.proj_commands.specs.Cases.{NameCase};
 ghost use Rattle.proj_commands.specs.Import.{tagged_ran};
 ghost use Rattle.proj_commands.specs.Intake.{TakesUpTo, tagged_waited};
 ghost use Rattle.proj_commands.specs.Makes.{IsReportOf};
 ghost use Rattle.proj_commands.specs.StreamsGiven.{IsGiven, IsUnnamed};
-ghost use Rattle.proj_commands.specs.Inputs.{ForInput};
 
 use crate::lines::projection_report;
 use crate::refusals::{apply_outcome, commit_outcome, replay_outcome};

@@ -1,5 +1,5 @@
 // A disk.
-ghost use Rattle.std.specs.Prelude.{◌≡◌, ◌<◌, ◌≤◌, ◌+◌, ◌-◌, ◌^◌, List, ℕ, length, take, drop, Option, Some, IfOk};
+ghost use Rattle.std.specs.Prelude.{◌≡◌, ◌<◌, ◌≤◌, ◌+◌, ◌-◌, ◌^◌, List, ℕ, length, take, drop, Option, IfOk};
 ghost use Rattle.std.specs.Prelude.{OnOk, IfSome, IsErr, IsErrOf};
 ghost use Rattle.std.specs.Option.{option_map};
 ghost use Rattle.proj_io.specs.Counts.{Counts};

@@ -1,10 +1,10 @@
 // A disk in memory. Which call fails is decided by its number alone.
-ghost use Rattle.std.specs.Prelude.{◌≡◌, ◌<◌, ◌≤◌, ◌+◌, ◌-◌, ◌^◌, ◌↔◌, [], ◌∷◌, ◌++◌, ℕ, List, length, take, drop};
-ghost use Rattle.std.specs.Prelude.{Contains, IsTrue, Option, IfOk, OnOk, OnErr, IsErr, IsErrOf, Some, None};
+ghost use Rattle.std.specs.Prelude.{◌≡◌, ◌<◌, ◌≤◌, ◌+◌, ◌-◌, ◌^◌, ◌↔◌, [], ◌∷◌, ◌++◌, length, take, drop};
+ghost use Rattle.std.specs.Prelude.{Contains, Option, IfOk, OnOk, OnErr, IsErr, IsErrOf, Some, None};
 ghost use Rattle.std.specs.Prelude.{unwrap_or};
 ghost use Rattle.std.specs.Option.{option_map, is_some};
 ghost use Rattle.proj_io.specs.Counts.{Counts, held, held_bound, one_more};
-ghost use Rattle.proj_disk.specs.Disks.{DiskView, IsImage, IsLeftBy, IsTornIfKnown, Elapses, put, written, stable};
+ghost use Rattle.proj_disk.specs.Disks.{DiskView, IsImage, IsTornIfKnown, Elapses, put, written, stable};
 ghost use Rattle.proj_disk.specs.Disks.{front_at};
 ghost use Rattle.proj_disk.specs.MemDisks.{view_of, view_after, moment_of, LeftSince, marked, after, settled};
 ghost use Rattle.proj_disk.specs.MemDisks.{after_read, after_write, after_sync, FailsByNumber, early, early_writes};

@@ -1,5 +1,5 @@
 // A keeper of items.
-ghost use Rattle.std.specs.Prelude.{◌≡◌, ◌<◌, ◌≤◌, ◌+◌, ◌-◌, ◌^◌, ◌⊎◌, ◌↔◌, List, ℕ, min, length, take, drop, Option};
+ghost use Rattle.std.specs.Prelude.{◌≡◌, ◌<◌, ◌≤◌, ◌+◌, ◌-◌, ◌^◌, ◌⊎◌, ◌↔◌, List, ℕ, length, take, drop, Option};
 ghost use Rattle.std.specs.Prelude.{IfOk, OnOk, IfSome, IsErr, IsErrOf, IsSome, MatchResult};
 ghost use Rattle.git_objects.specs.declared.limits.TheConstants.{ITEM_BYTES, ITEMS};
 ghost use Rattle.proj_io.specs.Counts.{Counts};

@@ -1,7 +1,7 @@
 // A keeper in memory. Which call fails is decided by its number alone.
 ghost use Rattle.std.specs.Prelude.{◌≡◌, ◌==◌, ◌<◌, ◌≤◌, ◌+◌, ◌^◌, ◌⊎◌, ◌↔◌, ◌++◌, [], ◌∷◌, List, ℕ, min, length};
 ghost use Rattle.std.specs.Prelude.{take, drop, All, find, true, false, Option, Some, None, IfOk, OnOk, OnErr};
-ghost use Rattle.std.specs.Prelude.{IfSome, IsErr, IsErrOf, IsSome, MatchResult, ⊤, refl};
+ghost use Rattle.std.specs.Prelude.{IfSome, IsErr, IsErrOf, MatchResult, ⊤, refl};
 ghost use Rattle.git_objects.specs.declared.limits.TheConstants.{ITEM_BYTES, ITEMS};
 ghost use Rattle.proj_io.specs.Counts.{Counts, held, held_bound, one_more};
 ghost use Rattle.proj_io.specs.Items.{Stays, Gets, item_of, joined};

@@ -2,7 +2,7 @@
 ghost use Rattle.std.specs.Prelude.{◌≡◌, ◌≤◌, length, take, drop, IsErr, IfOk, OnOk, IfSome};
 ghost use Rattle.proj_io.specs.Counts.{Counts};
 ghost use Rattle.proj_io.specs.Stops.{OnlyAdds, Nothing};
-ghost use Rattle.proj_disk.specs.Disks.{Elapses, front_at};
+ghost use Rattle.proj_disk.specs.Disks.{front_at};
 ghost use Rattle.proj_journal.specs.Windows.{IsWindow, ShowsAt};
 
 use proj_disk::Disk;

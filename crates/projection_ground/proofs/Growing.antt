@@ -1,7 +1,6 @@
 -- What stays when a store and the tables grow.
-use Rattle.std.proofs.Common.{◌≡◌, ℕ, zero, suc, ◌<◌, ◌≤◌, ◌==◌, ◌+◌, ◌⊎◌, inl, inr, Bool, true, false, List, [], ◌∷◌, ◌++◌, length, slice_get, Some, None, cond, ◌||◌, true≢false, refl, sym, ap, subst, ◌∙◌, arith, append-nil, append_assoc, take}
+use Rattle.std.proofs.Common.{◌≡◌, ℕ, zero, suc, ◌<◌, ◌≤◌, ◌+◌, ◌⊎◌, inl, inr, Bool, true, false, List, [], ◌∷◌, ◌++◌, length, slice_get, Some, None, cond, ◌||◌, true≢false, refl, sym, ap, subst, ◌∙◌, arith, append-nil, append_assoc, take}
 use Rattle.std.specs.Option.{option_map}
-use Rattle.std.proofs.lemmas.Bool.{eqb-true, eqb-false}
 use Rattle.std.proofs.lemmas.List.{length-append}
 use Rattle.std.proofs.lemmas.Option.{none-some, same_Some, slice_get_within}
 use Rattle.git_objects.specs.Commits.{Commit}
@@ -10,11 +9,10 @@ use Rattle.git_objects.specs.CommitBodies.{commit_from}
 use Rattle.git_objects.specs.declared.kind.Kind.TheVariants.{Tree, Commit as CommitKind}
 use Rattle.object_store.specs.Objects.{Object, IsStore, has, body_of, is_named}
 use Rattle.git_objects.specs.Snapshots.{Graph}
-use Rattle.git_objects.specs.Trees.{Flat}
-use Rattle.object_store.specs.Unfolding.{flat, StandsFor}
+use Rattle.object_store.specs.Unfolding.{flat}
 use Rattle.object_store.specs.Growth.{IsGrownBy}
 use Rattle.object_store.specs.StoredSnapshots.{IsTreeOf, commit_named, snapshot_of}
-use Rattle.object_store.proofs.Growth.{grown_self, grown_then, grown_as, has-grown, flat-grown, stands-grown}
+use Rattle.object_store.proofs.Growth.{grown_self, grown_then, grown_as, has-grown, flat-grown}
 use Rattle.path_trees.proofs.Grown.{body-above}
 use Rattle.commit_map.specs.Shown.{Entries}
 use Rattle.commit_map.specs.declared.rule.Rule.{Rule}
@@ -22,14 +20,11 @@ use Rattle.commit_graph.specs.Graphs.{Row}
 use Rattle.filter_text.specs.Filters.{Filter, same_filter}
 use Rattle.filter_text.specs.Shapes.{shape}
 use Rattle.filter_text.proofs.Equals.{filter-equal}
-use Rattle.filter_routes.specs.Lenses.{seen_through}
-use Rattle.filter_routes.specs.Origins.{lens_of}
 use Rattle.filter_routes.specs.Interned.{HasAt, HasNone, Interns}
 use Rattle.filter_routes.specs.TableValues.{Table}
 use Rattle.filter_routes.proofs.Interning.{other-at}
 use Rattle.filter_cache.specs.Memos.{Memo}
 use Rattle.filter_apply.specs.Truth.{IsTrueFor, AreTrueFor}
-use Rattle.filter_apply.proofs.Truths.{are_grown}
 use Rattle.projection_laws.specs.StoredGraphs.{IsRowIn, IsGraphIn, graph_of, snapshot_named}
 use Rattle.projection_laws.proofs.HistoryLemmas.{each-map}
 use Rattle.projection_laws.proofs.StoredGraphs.{at-row, older-suc, older-all, row-at}

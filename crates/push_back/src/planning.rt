@@ -1,5 +1,5 @@
 // What a push brings.
-ghost use Rattle.std.specs.Prelude.{◌≡◌, ◌↔◌, ◌≤◌, true, length, map, IfOk, IfSome, IsErrOf, IsSome};
+ghost use Rattle.std.specs.Prelude.{◌≡◌, ◌↔◌, true, length, map, IfOk, IfSome, IsErrOf, IsSome};
 ghost use Rattle.git_objects.specs.Paths.{Bytes, is_bytes};
 ghost use Rattle.commit_graph.specs.Graphs.{place_of};
 ghost use Rattle.filter_text.specs.Shapes.{shape};

@@ -4,7 +4,6 @@ use Rattle.std.specs.Option.{option_map, option_and_then, option_map_or}
 use Rattle.std.proofs.Common.{ap, ◌∙◌, sym, true≢false}
 use Rattle.std.proofs.lemmas.Bool.{or_parts}
 use Rattle.std.proofs.lemmas.Option.{none-some, same_Some}
-use Rattle.std.specs.Cmp.Lexicographic.{bytes_decides}
 use Rattle.git_objects.specs.Paths.{Path, is_path, same_bytes, same_path}
 use Rattle.git_objects.specs.Trees.{Leaf, Flat, IsTree, at, same_leaf}
 use Rattle.git_objects.proofs.Pointwise.{leaf-is}

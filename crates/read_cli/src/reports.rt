@@ -1,5 +1,5 @@
 // Lines that are told of a store.
-ghost use Rattle.std.specs.Prelude.{◌≡◌, ◌++◌, [], flat_map, length, map, zip, IfErr, IfOk, OnOk};
+ghost use Rattle.std.specs.Prelude.{◌≡◌, ◌++◌, [], flat_map, map, zip, IfErr, IfOk, OnOk};
 ghost use Rattle.std.specs.Option.{option_map};
 ghost use Rattle.git_objects.specs.Parts.{name_bytes};
 ghost use Rattle.fast_import.specs.Replaying.{setting_value};

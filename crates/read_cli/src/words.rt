@@ -1,6 +1,6 @@
 // The forms of the words.
 ghost use Rattle.std.specs.Prelude.{◌≡◌, ◌↔◌, map, string_bytes, IsSome, true};
-ghost use Rattle.read_cli.specs.Readings.{Reading, Check, Log, names_of, new_subject, new_words};
+ghost use Rattle.read_cli.specs.Readings.{Check, Log, names_of, new_subject, new_words};
 ghost use Rattle.read_cli.specs.Readings.{originals_words, reading, subject_words};
 ghost use Rattle.read_cli.specs.Looks.{IsFormed, form_reading};
 

@@ -48,8 +48,8 @@ fn parents_tree(store: &Store, commit: &Name) -> Option<Name> {
     tree_in_commit(store.get(&parent)?.body)
 }
 
-// Holds these commits and the objects of their trees, one commit after another. What the first commit's tree shares with
-// its first parent's isn't looked up either, if that is held.
+// Holds these commits and the objects of their trees, one commit after another. What the first commit's tree shares
+// with its first parent's isn't looked up either, if that is held.
 fn hold_commits(
     alloc: Global,
     store: &Store,

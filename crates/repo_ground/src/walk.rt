@@ -1,7 +1,7 @@
 // The objects of stored trees, each after its children.
-ghost use Rattle.std.specs.Prelude.{◌≡◌, ◌+◌, ◌<◌, ◌++◌, ◌∷◌, [], ℕ, List, Some, None};
+ghost use Rattle.std.specs.Prelude.{◌≡◌, ◌+◌, ◌<◌, ◌++◌, ◌∷◌, [], List, Some, None};
 ghost use Rattle.std.specs.Prelude.{IfNone, IfSome, OnOk, length};
-ghost use Rattle.object_store.specs.Objects.{Object, IsStore, find_named, HasChildren};
+ghost use Rattle.object_store.specs.Objects.{Object, find_named, HasChildren};
 ghost use Rattle.git_objects.specs.declared.entry.Entry.{Entry};
 ghost use Rattle.repo_ground.specs.Beside.{AreBeside, IsPassed};
 ghost use Rattle.repo_ground.specs.Growing.{Extends, Holds, IsReady, IsStep, held_of};

@@ -23,7 +23,7 @@ use Rattle.path_trees.proofs.Gathering.{is_less}
 use Rattle.stage_nodes.proofs.Order.{less_trans, less_back}
 use Rattle.stage_nodes.proofs.Seeking.{inside_link}
 use Rattle.stage_nodes.proofs.Framing.{reads_kept, holder, target_up, count_plug, ReadsAll}
-use Rattle.stage_nodes.proofs.Pools.{own_count, one_most, forest_is, walk_is}
+use Rattle.stage_nodes.proofs.Pools.{own_count, one_most}
 use Rattle.stage_nodes.proofs.Places.{IsFound, found_here}
 use Rattle.stage_nodes.proofs.Pointing.{IsBeside, pointed_all, pointed_beside, pointed_stay, next_stay, next_beside, next_before, next_up, base_written}
 

@@ -100,7 +100,8 @@ impl Nodes {
     /// Takes out what stands at the end of a way to a path, if its directory keeps another child. Whether nothing
     /// stands at the path then. Needs no memory.
     pub fn cut_end(&mut self, way: Way, components: &[Component]) -> bool
-        requires { (S : List Object) × IsWay S self.old self.old components.now way.level way.spot.link way.spot.child }
+        requires { (S : List Object) ×
+            IsWay S self.old self.old components.now way.level way.spot.link way.spot.child }
         ensures cut { result ≡ true → (S : List Object)
             → (w : IsWay S self.old self.old components.now way.level way.spot.link way.spot.child)
             → IsCutAt S self.old self.new components.now w.place.frames }

@@ -1,8 +1,7 @@
 // The way to a path, from the root down.
-ghost use Rattle.std.specs.Prelude.{◌≡◌, ◌<◌, true, length, IfOk, OnErr, Some};
+ghost use Rattle.std.specs.Prelude.{◌≡◌, ◌<◌, true, IfOk, OnErr, Some};
 ghost use Rattle.git_objects.specs.Paths.{is_path};
 ghost use Rattle.git_objects.specs.Entries.{is_dir};
-ghost use Rattle.object_store.specs.Objects.{IsStore};
 ghost use Rattle.stage_nodes.specs.Forests.{is_link, sought, target};
 ghost use Rattle.stage_nodes.specs.Pools.{Walks, hanging};
 ghost use Rattle.stage_nodes.specs.Ways.{HasPlace, IsEntered, IsOpen, IsStart, IsStill, IsWayBy, named_first};

@@ -6,7 +6,7 @@ ghost use Rattle.object_store.specs.Objects.{Object};
 ghost use Rattle.stage_nodes.specs.Forests.{Forest};
 ghost use Rattle.stage_nodes.specs.Frames.{Frame, dirs_of, link_of, path_of, plug};
 ghost use Rattle.stage_tree.specs.Sets.{IsArrived, IsChildOf, IsMarked, IsUnmoved};
-ghost use Rattle.stage_nodes.specs.Roots.{IsOpened, IsRooted, IsStage, items_of};
+ghost use Rattle.stage_nodes.specs.Roots.{IsOpened, IsRooted, items_of};
 ghost use Rattle.stage_nodes.specs.Ways.{IsOpen, IsStart, kids_of};
 
 use git_objects::Component;

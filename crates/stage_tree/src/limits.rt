@@ -1,5 +1,5 @@
 // How long the paths are that a move or a copy puts.
-ghost use Rattle.std.specs.Prelude.{◌≡◌, ◌≤◌, ◌<◌, ◌^◌, true, length, IfOk, Some};
+ghost use Rattle.std.specs.Prelude.{◌≡◌, ◌≤◌, ◌<◌, ◌^◌, true, IfOk, Some};
 ghost use Rattle.git_objects.specs.Paths.{is_path};
 ghost use Rattle.git_objects.specs.Trees.{Flat, Node as FlatNode};
 ghost use Rattle.object_store.specs.Objects.{IsStore};

@@ -4,14 +4,14 @@ ghost use Rattle.git_objects.specs.Paths.{comparable, is_path};
 ghost use Rattle.git_objects.specs.Trees.{Flat, IsTree, under};
 ghost use Rattle.git_objects.specs.Names.{tops};
 ghost use Rattle.object_store.specs.Objects.{IsStore};
-ghost use Rattle.stage_nodes.specs.Branches.{IsRemoved, Stands};
+ghost use Rattle.stage_nodes.specs.Branches.{Stands};
 ghost use Rattle.stage_tree.specs.Edits.{IsEdited, renamed};
 ghost use Rattle.stage_nodes.specs.Expanding.{IsWaste};
 ghost use Rattle.stage_nodes.specs.Pools.{IsPool};
 ghost use Rattle.stage_tree.specs.Stages.{Shows};
 ghost use Rattle.stage_nodes.specs.Ways.{IsOpen, IsStill};
 ghost use Rattle.stage_tree.specs.Renames.{CanMove, IsEditedTo, IsGraft, IsMoved, IsNoSource, IsSource, stand_in};
-ghost use Rattle.stage_nodes.specs.Walks.{CanPrune, above_both, entries_of};
+ghost use Rattle.stage_nodes.specs.Walks.{above_both, entries_of};
 
 use crate::fault::StageFault;
 use crate::limits::within;

@@ -10,7 +10,7 @@ ghost use Rattle.git_objects.specs.CommitBodies.{commit_from};
 ghost use Rattle.git_objects.specs.Parts.{name_bytes};
 ghost use Rattle.commit_graph.specs.Graphs.{place_of};
 ghost use Rattle.object_store.specs.Fits.{body_fits, tree_fits};
-ghost use Rattle.object_store.specs.Objects.{Object, has, has_name, IsStore};
+ghost use Rattle.object_store.specs.Objects.{Object, has, IsStore};
 ghost use Rattle.object_store.specs.Puts.{refusal};
 ghost use Rattle.object_store.specs.Unfolding.{flat};
 ghost use Rattle.state_items.specs.HeldObjects.{HoldsObjects};

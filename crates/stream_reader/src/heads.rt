@@ -1,9 +1,10 @@
 // Blobs, the heads of commits, and resets.
-ghost use Rattle.std.specs.Prelude.{◌≡◌, ◌≤◌, ◌<◌, ◌^◌, [], codes, IfOk};
+ghost use Rattle.std.specs.Prelude.{◌≡◌, ◌≤◌, ◌<◌, [], codes, IfOk};
 ghost use Rattle.git_objects.specs.declared.limits.TheConstants.{STREAM_BYTES};
 ghost use Rattle.stream_lex.specs.Views.{input, line, maybe_bytes, maybe_line};
-ghost use Rattle.stream_reader.specs.Heads.{if_some, said, mark_in, mark_lines, blob, author_in, author_or, committer_of};
-ghost use Rattle.stream_reader.specs.Heads.{people, ref_in, ref_line, merges, merges_max, parents, head, reset};
+ghost use Rattle.stream_reader.specs.Heads.{if_some, said, mark_in, mark_lines, blob, author_in, author_or};
+ghost use Rattle.stream_reader.specs.Heads.{committer_of, people, ref_in, ref_line, merges};
+ghost use Rattle.stream_reader.specs.Heads.{merges_max, parents, head, reset};
 ghost use Rattle.stream_reader.specs.Heads.{behind_word, must_say, tag, tagger_in};
 ghost use Rattle.stream_reader.specs.Views.{Tells, same, with_rest, people_read, parents_read};
 

@@ -1,7 +1,7 @@
 // A reader of a stream that is fed in pieces.
 ghost use Rattle.std.specs.Prelude.{◌≡◌, ◌≤◌, ◌<◌, [], false, true, IfSome, OnOk, OnErr};
 ghost use Rattle.git_objects.specs.declared.limits.TheConstants.{STREAM_BYTES};
-ghost use Rattle.stream_lex.specs.Cutting.{grown, place};
+ghost use Rattle.stream_lex.specs.Cutting.{place};
 ghost use Rattle.stream_reader.specs.Readers.{IsPlace, TellsTurn, TellsNext, reading, fed, wanted_now};
 ghost use Rattle.stream_reader.specs.Readers.{Follows, OnCommand, OnMore, came, left};
 ghost use Rattle.stream_reader.specs.Replayable.{IfTold};

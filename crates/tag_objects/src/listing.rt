@@ -1,5 +1,5 @@
 // Lists of tags, one of each name, in the byte order of their names.
-ghost use Rattle.std.specs.Prelude.{◌≡◌, ◌≤◌, ◌++◌, length, take, drop, OnErr, OnOk};
+ghost use Rattle.std.specs.Prelude.{◌≡◌, OnErr, OnOk};
 ghost use Rattle.tag_objects.specs.TagLists.{put_tag};
 
 use crate::Tag;

@@ -1,5 +1,5 @@
 -- What the list of items gives by the first fault of it.
-use Rattle.std.specs.Prelude.{◌≡◌, refl, ℕ, true, List, [], ◌∷◌, length, suc}
+use Rattle.std.specs.Prelude.{◌≡◌, refl, ℕ, true, List, [], ◌∷◌, length}
 use Rattle.std.proofs.Common.{ap, ◌∙◌, sym, subst, arith}
 use Rattle.filter_text.specs.Filters.{Filter, has_paths}
 use Rattle.filter_text.specs.Views.{item_values}

@@ -1,12 +1,12 @@
 -- How many pieces the list has that takes a workspace's place.
-use Rattle.std.specs.Prelude.{◌≡◌, refl, ◌+◌, ◌*◌, ◌^◌, ◌≤◌, ◌<◌, Some, List, [], ◌∷◌, ◌++◌, length, map, flat_map, sum_by}
-use Rattle.std.proofs.Common.{arith, ap, ◌∙◌}
+use Rattle.std.specs.Prelude.{◌≡◌, refl, ◌+◌, ◌*◌, ◌^◌, ◌≤◌, ◌<◌, Some, List, [], ◌∷◌, length, map, flat_map, sum_by}
+use Rattle.std.proofs.Common.{arith, ap}
 use Rattle.std.proofs.lemmas.List.{length-map}
 use Rattle.std.proofs.lemmas.List.Sums.{sum_by-cons}
 use Rattle.git_objects.specs.Lists.{Each}
 use Rattle.git_objects.specs.Paths.{Bytes, Path}
-use Rattle.git_objects.specs.declared.limits.TheConstants.{FILTER_COMPONENTS, FILTER_PIECES, WORKSPACE_BYTES}
-use Rattle.filter_text.specs.Filters.{Filter, Filters, no_more, more, append, only, file, pieces, pieces_in}
+use Rattle.git_objects.specs.declared.limits.TheConstants.{FILTER_COMPONENTS}
+use Rattle.filter_text.specs.Filters.{Filters, no_more, more, append, only, file, pieces, pieces_in}
 use Rattle.filter_text.specs.Items.{Item, items}
 use Rattle.workspace.proofs.ItemRooms.{AreFew, IsShallow, items-few}
 use Rattle.workspace.specs.Workspaces.{around, filters_of, fronts, listed, own_branch}

@@ -1,8 +1,7 @@
 // The filter for a tree.
 ghost use Rattle.std.specs.Prelude.{◌≡◌, not, true, Some, [], IfOk, IfSome, IfNone, OnErr, is_none};
-ghost use Rattle.std.specs.Option.{option_map, option_and_then};
+ghost use Rattle.std.specs.Option.{option_and_then};
 ghost use Rattle.git_objects.specs.Lists.{Each};
-ghost use Rattle.git_objects.specs.Paths.{is_path};
 ghost use Rattle.git_objects.specs.Trees.{at};
 ghost use Rattle.git_objects.specs.declared.kind.Kind.TheVariants.{Blob, Tree};
 ghost use Rattle.object_store.specs.Objects.{body_of, has, has_child};

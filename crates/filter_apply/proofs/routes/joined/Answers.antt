@@ -1,6 +1,4 @@
 use Rattle.std.proofs.Common.{sym}
-use Rattle.path_trees.specs.Clashes.{IsShared}
-use Rattle.object_store.specs.Unfolding.{flat}
 use Rattle.filter_cache.specs.Memos.{same_join}
 use Rattle.filter_cache.proofs.Lookups.{join-is}
 use Rattle.filter_apply.specs.Faults.{IsApplyFault, fault_of}

@@ -1,6 +1,6 @@
-use Rattle.std.proofs.Common.{◌≡◌, ◌∙◌, true, slice_get, IfSome, Option, Some, sym, ap, subst}
+use Rattle.std.proofs.Common.{◌≡◌, ◌∙◌, true, slice_get, IfSome, Option, sym, ap, subst}
 use Rattle.std.specs.Option.{option_map}
-use Rattle.git_objects.specs.Trees.{rests, standing}
+use Rattle.git_objects.specs.Trees.{rests}
 use Rattle.object_store.specs.Objects.{has_child}
 use Rattle.object_store.specs.Unfolding.{flat}
 use Rattle.object_store.proofs.Unfolding.{flat_good}

@@ -1,6 +1,5 @@
-use Rattle.std.proofs.Common.{◌≡◌, ◌∙◌, true, ◌+◌, slice_get, get_or, List, Option, Some, None, IfSome, sym, ap, subst}
+use Rattle.std.proofs.Common.{◌≡◌, ◌∙◌, true, ◌+◌, slice_get, get_or, List, Option, Some, IfSome, sym, ap, subst}
 use Rattle.std.specs.Option.{option_map}
-use Rattle.git_objects.specs.Paths.{Path}
 use Rattle.git_objects.specs.Trees.{Flat, rests, standing}
 use Rattle.git_objects.specs.Entries.{is_dir}
 use Rattle.object_store.specs.Objects.{has_child}

@@ -2,7 +2,7 @@ use Rattle.std.proofs.Common.{sym}
 use Rattle.filter_text.specs.Shapes.{shape}
 use Rattle.filter_cache.specs.Memos.{Key, same_key}
 use Rattle.filter_cache.proofs.Lookups.{key-is}
-use Rattle.filter_apply.proofs.Truths.{after_get, after_put, true_less, keeps_less, true_more, keeps_more, keeps_then, true_grown, in-found, paid_same, shown-now}
+use Rattle.filter_apply.proofs.Truths.{after_get, after_put, true_less, keeps_less, true_more, keeps_more, keeps_then, in-found, paid_same, shown-now}
 use Rattle.filter_apply.proofs.showing.shown.Goals as goal
 
 pub returns-in-Some-clause-ok : goal.returns-in-Some-clause-ok

@@ -1,4 +1,4 @@
-use Rattle.std.proofs.Common.{◌≡◌, ◌++◌, ℕ, Global, Vec, [], ◌∷◌, ap}
+use Rattle.std.proofs.Common.{ℕ, Global, Vec, [], ◌∷◌, ap}
 use Rattle.std.specs.Prelude.{codes, flat_map}
 use Rattle.git_objects.specs.Paths.{Bytes}
 use Rattle.path_names.specs.Quoting.{quote}

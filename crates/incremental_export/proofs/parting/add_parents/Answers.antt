@@ -1,4 +1,4 @@
-use Rattle.std.proofs.Common.{◌≡◌, ◌∙◌, ◌++◌, ℕ, ◌≤◌, List, length, map, ap, sym, subst, refl}
+use Rattle.std.proofs.Common.{◌∙◌, ◌++◌, ℕ, ◌≤◌, List, length, map, ap, sym, subst, refl}
 use Rattle.git_objects.specs.Paths.{Bytes}
 use Rattle.git_objects.specs.Parts.{name_bytes}
 use Rattle.object_store.proofs.StoredCommits.{commit-read}

@@ -1,10 +1,8 @@
-use Rattle.std.proofs.Common.{◌≡◌, ◌∙◌, ◌++◌, ◌-◌, ◌<◌, ◌≤◌, [], List, length, map, reverse, ap, sym, append-nil, arith}
+use Rattle.std.proofs.Common.{◌≡◌, ◌∙◌, ◌++◌, ◌-◌, ◌<◌, ◌≤◌, [], length, map, reverse, ap, sym, append-nil, arith}
 use Rattle.std.proofs.lemmas.List.{length-map}
-use Rattle.git_objects.specs.Paths.{Bytes}
 use Rattle.git_objects.specs.Parts.{name_bytes}
 use Rattle.git_objects.specs.declared.name.Name.{Name}
 use Rattle.fast_export.specs.ExportTexts.{is_among}
-use Rattle.incremental_export.specs.Unreached.{left_of}
 use Rattle.incremental_export.proofs.StoredUnreached.{map-reverse}
 use Rattle.incremental_export.proofs.WantedNames.{all_added, all_passed, among_names, commit_there, more_added, name_added, next_name, none_passed, one_left, one_wanted}
 use Rattle.incremental_export.proofs.parting.unreached.Goals as goal

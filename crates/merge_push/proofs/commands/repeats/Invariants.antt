@@ -1,5 +1,4 @@
 use Rattle.std.proofs.Common.{◌≡◌, true, List, length, take}
-use Rattle.git_objects.specs.Paths.{Bytes}
 use Rattle.object_store.specs.Objects.{Object}
 use Rattle.fast_import.specs.Replays.{Replay, target_name}
 use Rattle.fast_import.specs.Standing.{IsReplayOf}

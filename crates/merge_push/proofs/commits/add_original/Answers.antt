@@ -1,10 +1,7 @@
-use Rattle.std.proofs.Common.{◌≡◌, ◌<◌, List, All, length, ℕ, Err, Ok, refl, sym, ap, subst, ◌∙◌}
-use Rattle.std.specs.Prelude.{Result, IfOk}
+use Rattle.std.proofs.Common.{◌<◌, List, All, length, ℕ, Err, sym, ap, subst, ◌∙◌}
+use Rattle.std.specs.Prelude.{Result}
 use Rattle.std.proofs.lemmas.Result.{err_from_is_err_and}
-use Rattle.commit_graph.specs.Graphs.{Row}
-use Rattle.object_store.specs.Unfolding.{flat}
 use Rattle.filter_text.specs.Shapes.{shape}
-use Rattle.projection_ground.specs.Choosing.{is_own_by, names_at}
 use Rattle.fast_import.specs.declared.replayed.Made.{Made}
 use Rattle.push_back.specs.declared.refusal.TreeRefusal.{TreeRefusal}
 use Rattle.merge_laws.specs.MergeVerdicts.{original}

@@ -1,11 +1,6 @@
-use Rattle.std.proofs.Common.{◌≡◌, ◌<◌, ◌≤◌, true, false, length, map, nat_le, ◌∙◌, ap, sym, subst, refl, Err, arith, not}
+use Rattle.std.proofs.Common.{true, false, ◌∙◌, ap, sym, subst, Err}
 use Rattle.std.specs.Prelude.{Result}
-use Rattle.std.proofs.lemmas.Bool.Decides.{nat_tests}
-use Rattle.std.proofs.lemmas.List.{length-map}
 use Rattle.std.proofs.lemmas.Result.{err_from_is_err_and}
-use Rattle.git_objects.specs.Snapshots.{Snapshot}
-use Rattle.git_objects.specs.Trees.{Flat}
-use Rattle.git_objects.specs.declared.limits.TheConstants.{PARENTS}
 use Rattle.object_store.specs.Unfolding.{flat}
 use Rattle.filter_text.specs.Shapes.{shape}
 use Rattle.projection_laws.specs.StoredGraphs.{name_at}

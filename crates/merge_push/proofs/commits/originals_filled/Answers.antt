@@ -1,4 +1,4 @@
-use Rattle.std.proofs.Common.{◌≡◌, List, length, sym, subst, Err, IsSome, Option, ap}
+use Rattle.std.proofs.Common.{List, sym, subst, Err, IsSome}
 use Rattle.commit_graph.specs.Graphs.{Row, place_of}
 use Rattle.filter_text.specs.Shapes.{shape}
 use Rattle.push_back.specs.declared.refusal.TreeRefusal.{TreeRefusal}

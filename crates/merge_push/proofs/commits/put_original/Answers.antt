@@ -1,5 +1,5 @@
 use Rattle.std.proofs.Common.{◌∙◌, ap, sym, subst, refl, Err}
-use Rattle.std.specs.Prelude.{Result, List, map}
+use Rattle.std.specs.Prelude.{Result, map}
 use Rattle.std.proofs.lemmas.Result.{err_from_is_err_and}
 use Rattle.git_objects.specs.Names.{name}
 use Rattle.git_objects.specs.declared.kind.Kind.TheVariants.{Commit}

@@ -1,16 +1,14 @@
-use Rattle.std.proofs.Common.{◌≤◌, ◌∙◌, List, Ok, refl, sym, ap, subst, arith}
-use Rattle.git_objects.specs.declared.limits.TheConstants.{STREAM_BYTES}
+use Rattle.std.proofs.Common.{◌≤◌, refl, sym, subst, arith}
 use Rattle.filter_text.specs.Shapes.{shape}
-use Rattle.push_back.specs.Faults.{of_apply, of_stream}
+use Rattle.push_back.specs.Faults.{of_apply}
 use Rattle.push_back.proofs.Planned.{apply-reads, err-taken, input-bytes, input-of, input-told, none-taken, quiet-fault, told-fault}
 use Rattle.history_ground.specs.Origins.{AreFirsts, Firsts}
 use Rattle.merge_push.specs.Planning.{IsPlannedAs}
 use Rattle.merge_push.specs.Waited.{merges_waited}
-use Rattle.push_back.specs.declared.brought.Plan.{Plan}
 use Rattle.push_back.specs.declared.fault.PushFault.{PushFault}
 use Rattle.merge_laws.specs.Merges.{merging}
 use Rattle.projection_ground.specs.Grounds.{commits_of}
-use Rattle.std.specs.Prelude.{Result, Err}
+use Rattle.std.specs.Prelude.{Err}
 use Rattle.merge_push.proofs.Planned.{brought-quiet, firsts-there, later-taken, not-based, not-replayed, planned, pushed-by, replayed-head, replayed-same, upon-waited}
 use Rattle.merge_push.proofs.planning.planned.Goals as goal
 use Rattle.fast_import.proofs.Stopping.{within_none}

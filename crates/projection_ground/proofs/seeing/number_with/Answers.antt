@@ -1,4 +1,3 @@
-use Rattle.std.proofs.Common.{sym}
 use Rattle.filter_text.specs.Shapes.{shape}
 use Rattle.workspace.specs.Views.{found_value}
 use Rattle.workspace.specs.Workspaces.{with_leaf}

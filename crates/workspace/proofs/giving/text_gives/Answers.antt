@@ -1,4 +1,4 @@
-use Rattle.std.proofs.Common.{◌≡◌, ◌∙◌, ap, sym, subst, true, Some, IfSome, ◌<◌, ◌^◌}
+use Rattle.std.proofs.Common.{◌≡◌, ◌∙◌, ap, sym, subst, true, IfSome, ◌<◌, ◌^◌}
 use Rattle.git_objects.specs.Lists.{Each}
 use Rattle.filter_text.specs.Items.{IsMadeOfPaths, items}
 use Rattle.filter_text.specs.Views.{item_values, items_read}
