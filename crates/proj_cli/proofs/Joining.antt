@@ -9,7 +9,7 @@ use Rattle.proj_io.specs.Views.{SourceView, SinkView, KeeperView}
 use Rattle.state_items.specs.Items.{Held, read_items}
 use Rattle.state_items.specs.Changes.{Plan, plan_items, room_of, NoPlan}
 use Rattle.state_items.specs.Hands.{IsTwice}
-use Rattle.proj_words.specs.Words.{Command, As, Import, Project, Push, PushMerges, Export, ExportTags, Tags, Name, Batch, Trial, Rule, Audit, Verify, Unknown}
+use Rattle.proj_words.specs.Words.{Command, As, Import, Project, Push, PushMerges, Export, ExportTags, Name, Batch, Trial, Rule, Ask, Verify, Unknown}
 use Rattle.proj_words.specs.declared.outcome.Outcome.{Outcome}
 use Rattle.proj_words.specs.declared.outcome.Outcome.TheVariants.{Done, OutOfMemory, Collision, ReadFault, WriteFault, StoreFault}
 use Rattle.proj_cli.specs.Answers.{AreItems, Devices, IsCommandAnswer, IsCollision, IsCommandComplete, IsDelivered, IsOutcome, IsRecalled, IsSafe, IsStepDelivered, HasAnswer, outcome_of, IsRecalledDone}
@@ -69,12 +69,11 @@ any-input (As u _) items all Says w = tt
 any-input (Import force) items all Says w = not-recalling (Import force) items Says refl
 any-input (Export x y) items all Says w = not-recalling (Export x y) items Says refl
 any-input (ExportTags x y) items all Says w = not-recalling (ExportTags x y) items Says refl
-any-input (Tags x y) items all Says w = not-recalling (Tags x y) items Says refl
 any-input (Push x y) items all Says w = not-recalling (Push x y) items Says refl
 any-input (PushMerges x y) items all Says w = not-recalling (PushMerges x y) items Says refl
 any-input (Name x y) items all Says w = not-recalling (Name x y) items Says refl
 any-input (Rule n) items all Says w = not-recalling (Rule n) items Says refl
-any-input (Audit x y z) items all Says w = not-recalling (Audit x y z) items Says refl
+any-input (Ask q) items all Says w = not-recalling (Ask q) items Says refl
 any-input (Verify x y z) items all Says w = not-recalling (Verify x y z) items Says refl
 any-input Batch items all Says w = not-recalling Batch items Says refl
 any-input (Trial n) items all Says w = not-recalling (Trial n) items Says refl

@@ -25,19 +25,20 @@ use Rattle.repo_ground.specs.Contents.{Contents, room_in}
 use Rattle.repo_ground.proofs.CommitGraphs.{has-commit}
 use Rattle.proj_words.specs.declared.outcome.Outcome.{Outcome}
 use Rattle.proj_words.specs.declared.outcome.Outcome.TheVariants.{OutOfMemory, UnknownRef}
-use Rattle.proj_commands.specs.Audit.{IsAudited, audit_case}
-use Rattle.proj_commands.specs.Cases.{AuditCase, unchanged}
+use Rattle.proj_commands.specs.Audit.{IsAudited}
+use Rattle.proj_commands.specs.Cases.{QueryCase, query_case, unchanged}
 use Rattle.proj_commands.specs.Hands.{IsInHands}
 use Rattle.proj_commands.specs.Makes.{IsMadeOf, IsStateOf}
+use Rattle.proj_commands.specs.Queries.{AuditOf, AuditSight}
 use Rattle.proj_commands.proofs.Committing.{good-none}
 use Rattle.proj_commands.proofs.Forming.{keeps-self}
 use Rattle.proj_commands.proofs.Heads.{head-stored, tree-is}
 use Rattle.proj_commands.proofs.StatesShown.{head-there}
 
 module _ (items : List Bytes) (h : Held) (s : Contents) (f : Filter) (refname : Bytes) (q : Path) (w : IsStateOf items h s) where
-  pub no-ref : find bytes_cmp refname h.refs ≡ None → (before : KeeperView) → IsMadeOf (audit_case h f refname q) items h s s before before NoPlan (Err UnknownRef)
+  pub no-ref : find bytes_cmp refname h.refs ≡ None → (before : KeeperView) → IsMadeOf (query_case h (AuditOf f refname q)) items h s s before before NoPlan (Err UnknownRef)
   no-ref e before =
-      subst (λ (o : Option Bytes). IsMadeOf (or_refuse UnknownRef o >>= λ m. Ok (AuditCase h f m q)) items h s s before before NoPlan (Err UnknownRef)) (sym e)
+      subst (λ (o : Option Bytes). IsMadeOf (or_refuse UnknownRef (option_map (λ m. AuditSight f m q) o) >>= λ x. Ok (QueryCase h x)) items h s s before before NoPlan (Err UnknownRef)) (sym e)
       (record {
         reported = refl;
         planned = refl;
@@ -70,10 +71,10 @@ module _ (items : List Bytes) (h : Held) (s : Contents) (f : Filter) (refname : 
         told : Flat → Result (Option Found) Fault
         told t = Ok (option_map found_of (at (shown f t) q))
 
-    came-up : (before : KeeperView) (result : Result Bytes Outcome) → IsMadeOf (Ok (AuditCase h f n q)) items h s s before before NoPlan result → IsMadeOf (audit_case h f refname q) items h s s before before NoPlan result
-    came-up before result m = subst (λ (o : Option Bytes). IsMadeOf (or_refuse UnknownRef o >>= λ m. Ok (AuditCase h f m q)) items h s s before before NoPlan result) (sym e) m
+    came-up : (before : KeeperView) (result : Result Bytes Outcome) → IsMadeOf (Ok (QueryCase h (AuditSight f n q))) items h s s before before NoPlan result → IsMadeOf (query_case h (AuditOf f refname q)) items h s s before before NoPlan result
+    came-up before result m = subst (λ (o : Option Bytes). IsMadeOf (or_refuse UnknownRef (option_map (λ m. AuditSight f m q) o) >>= λ x. Ok (QueryCase h x)) items h s s before before NoPlan result) (sym e) m
 
-    pub no-memory : (before : KeeperView) → IsMadeOf (audit_case h f refname q) items h s s before before NoPlan (Err OutOfMemory)
+    pub no-memory : (before : KeeperView) → IsMadeOf (query_case h (AuditOf f refname q)) items h s s before before NoPlan (Err OutOfMemory)
     no-memory before = came-up before (Err OutOfMemory) (record {
       reported = tt;
       planned = refl;
@@ -83,10 +84,10 @@ module _ (items : List Bytes) (h : Held) (s : Contents) (f : Filter) (refname : 
       grown = grown_self _ S w.ground.graph.store;
     })
 
-    pub whole : StoreLaw → GrownLaw → IsUsable f → is_path q ≡ true → (text : Bytes) → text ≡ audit S f q n → (before : KeeperView) → IsMadeOf (audit_case h f refname q) items h s s before before NoPlan (Ok text)
+    pub whole : StoreLaw → GrownLaw → IsUsable f → is_path q ≡ true → (text : Bytes) → text ≡ audit S f q n → (before : KeeperView) → IsMadeOf (query_case h (AuditOf f refname q)) items h s s before before NoPlan (Ok text)
     whole law grown usable path text is before = came-up before (Ok text) (record {
       reported = sym (is ∙ same-text grown);
-      planned = record { case = AuditCase h f n q; came_up = refl; step = unchanged h (audit h.objects f q n); done = refl; planned = (refl, lawful law grown usable path) };
+      planned = record { case = QueryCase h (AuditSight f n q); came_up = refl; step = unchanged h (audit h.objects f q n); done = refl; planned = (refl, lawful law grown usable path) };
       good = good-none items h (room_in s);
       stored = keeps-self before;
       state = subst (λ (list : List Bytes). IsStateOf list h s) (sym (append-nil items)) w;

@@ -3,7 +3,7 @@ use Rattle.std.proofs.Common.{◌≡◌, ◌⊎◌, inl, inr, true, false, List,
 use Rattle.std.specs.Prelude.{length, nat_le, reverse}
 use Rattle.std.proofs.lemmas.List.Elements.{All-cons, All-nil}
 use Rattle.git_objects.specs.Paths.{Bytes, Path}
-use Rattle.git_objects.specs.Results.{◌>>=◌, must, refused_by}
+use Rattle.git_objects.specs.Results.{◌>>=◌, must, or_refuse, refused_by}
 use Rattle.git_objects.specs.declared.limits.TheConstants.{INPUT_BYTES}
 use Rattle.git_objects.specs.declared.quantity.Quantity.TheVariants.{Input}
 use Rattle.object_store.specs.Objects.{IsStore}
@@ -20,17 +20,19 @@ use Rattle.state_items.specs.Changes.{KeepPlan, NoPlan, Plan, Room, fresh, held_
 use Rattle.state_items.proofs.ReadObjects.{ok-same, value-of}
 use Rattle.import_laws.specs.Bases.{base_of}
 use Rattle.proj_gate.specs.Policies.{See, Push as PushAct}
-use Rattle.proj_words.specs.Words.{Command, As, Import, Project, Push, Export, ExportTags, Tags, Name, Batch, Trial, Rule, Audit, Verify, Unknown, writes, PushMerges}
+use Rattle.proj_words.specs.Words.{Command, As, Import, Project, Push, Export, ExportTags, Name, Batch, Trial, Rule, Ask, Verify, Unknown, writes, PushMerges}
 use Rattle.proj_words.specs.declared.outcome.Outcome.{Outcome}
+use Rattle.proj_words.specs.declared.outcome.Outcome.TheVariants.{UnknownRef}
 use Rattle.proj_words.specs.declared.outcome.Outcome.TheVariants as outcomes
 use Rattle.proj_commands.specs.Audit.{path_by}
-use Rattle.proj_commands.specs.Cases.{Case, ImportCase, ProjectCase, TagsCase, ExportCase, PushCase, NameCase, RuleCase, AuditCase, VerifyCase, Made, break_outcome, head_of, loaded, no_limit, streamed, unchanged}
+use Rattle.proj_commands.specs.Cases.{Case, ImportCase, ProjectCase, ExportCase, PushCase, NameCase, RuleCase, QueryCase, VerifyCase, query_case, Made, break_outcome, head_of, loaded, no_limit, streamed, unchanged}
 use Rattle.proj_commands.specs.Steps.{case, made, hand, IsLawful, IsPlanOf, ArePlanned}
 use Rattle.proj_commands.specs.Project.{name_line, IsKeepPlan}
 use Rattle.proj_commands.specs.Filters.{entries_of, projected, projection, recalled, rule_by, sound}
 use Rattle.proj_commands.specs.Makes.{IsKeepOf, IsKeepPlanOf, IsPlanIn, recalled_made, OfProject, recalled_line, IsPlanned}
 use Rattle.proj_commands.specs.Plans.{HoldWhatTheyShould, RecallLaw, recalls, IsSameState, changes_state}
 use Rattle.proj_commands.specs.Policy.{granted}
+use Rattle.proj_commands.specs.Queries.{sight, sound_query}
 use Rattle.proj_commands.specs.Push.{push_case}
 use Rattle.proj_commands.specs.Verify.{name_by, verify_outcome}
 use Rattle.proj_commands.specs.declared.lines.Telling.TheVariants.{Both, PushedAlone}
@@ -52,12 +54,11 @@ pub record IsProject (asked : Command) (items : List Bytes) (h : Held) (f : Filt
 abbrev pub IsFrom : Command → List Bytes → Case → Type 0
 IsFrom asked items (ProjectCase h f n) = IsProject asked items h f
 IsFrom asked items (ImportCase force h x) = changes_state asked ≡ true
-IsFrom asked items (TagsCase h f n) = Unit {0}
 IsFrom asked items (ExportCase tagged h f refname n) = Unit {0}
 IsFrom asked items (PushCase manner telling h f refname n p) = changes_state asked ≡ true
 IsFrom asked items (NameCase f refname x) = Unit {0}
 IsFrom asked items (RuleCase h k) = changes_state asked ≡ true
-IsFrom asked items (AuditCase h f n q) = Unit {0}
+IsFrom asked items (QueryCase h x) = Unit {0}
 IsFrom asked items (VerifyCase f n q text) = Unit {0}
 
 was-read : (r : Result Held Break) (h : Held) → refused_by break_outcome r ≡ Ok h → r ≡ Ok h
@@ -90,11 +91,6 @@ from (ExportTags r t) items all c g =
     let h = value-of (loaded items) (λ h. head_of r h.refs >>= λ n. Ok (ExportCase true h f.value r n)) c f.rest in
     let n = value-of (head_of r h.value.refs) (λ n. Ok (ExportCase true h.value f.value r n)) c h.rest in
     subst (IsFrom (ExportTags r t) items) (ok-same (ExportCase true h.value f.value r n.value) c n.rest) tt
-from (Tags r t) items all c g =
-    let f = value-of (sound t) (λ f. loaded items >>= λ h. head_of r h.refs >>= λ n. Ok (TagsCase h f n)) c g in
-    let h = value-of (loaded items) (λ h. head_of r h.refs >>= λ n. Ok (TagsCase h f.value n)) c f.rest in
-    let n = value-of (head_of r h.value.refs) (λ n. Ok (TagsCase h.value f.value n)) c h.rest in
-    subst (IsFrom (Tags r t) items) (ok-same (TagsCase h.value f.value n.value) c n.rest) tt
 from (Push r t) items all c g =
     let f = value-of (sound t) (λ f. loaded items >>= λ h. head_of r h.refs >>= λ n. Ok (PushCase InLine Both h f r n (pushing (rule_by h.rule) f (repo h).commits n r all))) c g in
     let h = value-of (loaded items) (λ h. head_of r h.refs >>= λ n. Ok (PushCase InLine Both h f.value r n (pushing (rule_by h.rule) f.value (repo h).commits n r all))) c f.rest in
@@ -111,11 +107,11 @@ from (Name r t) items all c g =
 from (Rule k) items all c g =
     let h = value-of (loaded items) (λ h. Ok (RuleCase h k)) c g in
     subst (IsFrom (Rule k) items) (ok-same (RuleCase h.value k) c h.rest) refl
-from (Audit r t p) items all c g =
-    let f = value-of (sound t) (λ f. loaded items >>= λ h. head_of r h.refs >>= λ n. Ok (AuditCase h f n (path_by p))) c g in
-    let h = value-of (loaded items) (λ h. head_of r h.refs >>= λ n. Ok (AuditCase h f.value n (path_by p))) c f.rest in
-    let n = value-of (head_of r h.value.refs) (λ n. Ok (AuditCase h.value f.value n (path_by p))) c h.rest in
-    subst (IsFrom (Audit r t p) items) (ok-same (AuditCase h.value f.value n.value (path_by p)) c n.rest) tt
+from (Ask q) items all c g =
+    let s = value-of (sound_query q) (λ s. loaded items >>= λ h. query_case h s) c g in
+    let h = value-of (loaded items) (λ h. query_case h s.value) c s.rest in
+    let x = value-of (or_refuse UnknownRef (sight h.value s.value)) (λ x. Ok (QueryCase h.value x)) c h.rest in
+    subst (IsFrom (Ask q) items) (ok-same (QueryCase h.value x.value) c x.rest) tt
 from (Verify n t p) items all c g =
     let f = value-of (sound t) (λ f. Ok (VerifyCase f (name_by n) (path_by p) all)) c g in
     subst (IsFrom (Verify n t p) items) (ok-same (VerifyCase f.value (name_by n) (path_by p) all) c f.rest) tt
@@ -194,7 +190,7 @@ module _ (law : RecallLaw) (asked : Command) (items : List Bytes) (kept : HoldWh
   kept-plan (ProjectCase h f n) m p w store k = keep-plan h f n p w store k
   kept-plan (ExportCase tagged h f refname n) m p w store k = k.0
   kept-plan (PushCase manner telling h f refname n x) m p w store k = k.0
-  kept-plan (AuditCase h f n q) m p w store k = k.0
+  kept-plan (QueryCase h x) m p w store k = k.0
   kept-plan (VerifyCase f n q text) m p w store k = k.0
   kept-plan _ m p w store k = k
 
@@ -202,7 +198,7 @@ pub lawful-plan : (items : List Bytes) (c : Case) (m : Made) (p : Plan) → IsPl
 lawful-plan items (ProjectCase h f n) m p k = k.holds
 lawful-plan items (ExportCase tagged h f refname n) m p k = k.1
 lawful-plan items (PushCase manner telling h f refname n x) m p k = k.1
-lawful-plan items (AuditCase h f n q) m p k = k.1
+lawful-plan items (QueryCase h x) m p k = k.1
 lawful-plan items (VerifyCase f n q text) m p k = k.1
 lawful-plan items _ m p k = tt
 
@@ -225,12 +221,11 @@ pub stays-plan : (asked : Command) (items : List Bytes) (room : Room) (c : Case)
     → changes_state asked ≡ false → (h : Held) → IsSameState h (held_after h p)
 stays-plan asked items room (ProjectCase g f n) m p w done k leaves h = same-kept g h f n room p k
 stays-plan asked items room (ImportCase force g x) m p w done k leaves h = no-change asked w leaves
-stays-plan asked items room (TagsCase g f n) m p w done k leaves h = same-none h p (k ∙ sym (ap (λ (y : Made). y.plan) (ok-same _ m done)))
 stays-plan asked items room (ExportCase tagged g f refname n) m p w done k leaves h = same-none h p (k.0 ∙ sym (ap (λ (y : Made). y.plan) (ok-same _ m done)))
 stays-plan asked items room (PushCase manner telling g f refname n x) m p w done k leaves h = no-change asked w leaves
 stays-plan asked items room (NameCase f refname x) m p w done k leaves h = same-none h p (k ∙ name-plan room f refname x m done)
 stays-plan asked items room (RuleCase g j) m p w done k leaves h = no-change asked w leaves
-stays-plan asked items room (AuditCase g f n q) m p w done k leaves h = same-none h p (k.0 ∙ sym (ap (λ (y : Made). y.plan) (ok-same _ m done)))
+stays-plan asked items room (QueryCase g x) m p w done k leaves h = same-none h p (k.0 ∙ sym (ap (λ (y : Made). y.plan) (ok-same _ m done)))
 stays-plan asked items room (VerifyCase f n q text) m p w done k leaves h = same-none h p (k.0 ∙ verify-plan room f n q text m done)
 
 -- ---- forms that don't write
@@ -248,12 +243,11 @@ pub unwritten-plan : (asked : Command) (items : List Bytes) (room : Room) (c : C
     → writes asked ≡ false → p ≡ NoPlan
 unwritten-plan asked items room (ProjectCase g f n) m p w done k none = no-write asked w.may_append none
 unwritten-plan asked items room (ImportCase force g x) m p w done k none = no-write asked (may-write asked w) none
-unwritten-plan asked items room (TagsCase g f n) m p w done k none = k ∙ sym (ap (λ (y : Made). y.plan) (ok-same _ m done))
 unwritten-plan asked items room (ExportCase tagged g f refname n) m p w done k none = k.0 ∙ sym (ap (λ (y : Made). y.plan) (ok-same _ m done))
 unwritten-plan asked items room (PushCase manner telling g f refname n x) m p w done k none = no-write asked (may-write asked w) none
 unwritten-plan asked items room (NameCase f refname x) m p w done k none = k ∙ name-plan room f refname x m done
 unwritten-plan asked items room (RuleCase g j) m p w done k none = no-write asked (may-write asked w) none
-unwritten-plan asked items room (AuditCase g f n q) m p w done k none = k.0 ∙ sym (ap (λ (y : Made). y.plan) (ok-same _ m done))
+unwritten-plan asked items room (QueryCase g x) m p w done k none = k.0 ∙ sym (ap (λ (y : Made). y.plan) (ok-same _ m done))
 unwritten-plan asked items room (VerifyCase f n q text) m p w done k none = k.0 ∙ verify-plan room f n q text m done
 
 -- ---- what is said of a projection
@@ -294,10 +288,9 @@ own-in items c f (Err e) = tt
 pub own-planned : (items : List Bytes) (room : Room) (c : Case) → ArePlanned items (c ∷ []) (made room c) (own_plan (made room c))
 own-planned items room (ProjectCase h f n) = all-one (λ d. IsPlanOf items d (unchanged h (name_line (projected h f n))) NoPlan) (ProjectCase h f n) tt
 own-planned items room (ImportCase force h x) = own-in items (ImportCase force h x) (λ m. refl) (made room (ImportCase force h x))
-own-planned items room (TagsCase h f n) = own-in items (TagsCase h f n) (λ m. refl) (made room (TagsCase h f n))
 own-planned items room (ExportCase tagged h f refname n) = own-in items (ExportCase tagged h f refname n) (λ m. refl) (made room (ExportCase tagged h f refname n))
 own-planned items room (PushCase manner telling h f refname n p) = own-in items (PushCase manner telling h f refname n p) (λ m. refl) (made room (PushCase manner telling h f refname n p))
 own-planned items room (NameCase f refname x) = own-in items (NameCase f refname x) (λ m. refl) (made room (NameCase f refname x))
 own-planned items room (RuleCase h k) = own-in items (RuleCase h k) (λ m. refl) (made room (RuleCase h k))
-own-planned items room (AuditCase h f n q) = own-in items (AuditCase h f n q) (λ m. refl) (made room (AuditCase h f n q))
+own-planned items room (QueryCase h x) = own-in items (QueryCase h x) (λ m. refl) (made room (QueryCase h x))
 own-planned items room (VerifyCase f n q text) = own-in items (VerifyCase f n q text) (λ m. refl) (made room (VerifyCase f n q text))

@@ -25,7 +25,7 @@ use Rattle.proj_commands.specs.declared.lines.Telling.TheVariants.{Both, PushedA
 use Rattle.proj_commands.specs.declared.judging.Claim.{Claim}
 use Rattle.proj_commands.specs.declared.judging.Judged.{Judged}
 use Rattle.proj_commands.specs.declared.judging.Judged.TheVariants as judged
-use Rattle.proj_commands.specs.declared.judging.Subject.{Subject}
+use Rattle.proj_commands.specs.declared.subjects.Subject.{Subject}
 use Rattle.proj_commands.proofs.JudgedCases.{case-upon, upon}
 use Rattle.proj_commands.specs.declared.pushing.Manner.TheVariants.{InLine, Merging}
 use Rattle.merge_laws.specs.Merges.{merging}

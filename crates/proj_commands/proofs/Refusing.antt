@@ -23,13 +23,13 @@ use Rattle.repo_ground.specs.Loads.{IsLoadFault}
 use Rattle.repo_ground.specs.declared.state.LoadError.{LoadError}
 use Rattle.repo_ground.specs.declared.state.LoadError.TheVariants as load
 use Rattle.proj_words.specs.Faults.{filter_outcome, route_outcome}
-use Rattle.proj_words.specs.Words.{Command, As, Import, Project, Push, Export, ExportTags, Tags, Name, Rule, Audit, Verify, PushMerges}
+use Rattle.proj_words.specs.Words.{Command, As, Import, Project, Push, Export, ExportTags, Name, Rule, Ask, Verify, PushMerges}
 use Rattle.proj_words.specs.declared.outcome.Outcome.{Outcome}
 use Rattle.proj_words.specs.declared.outcome.Outcome.TheVariants.{Done, OutOfMemory, Collision, ReadFault, WriteFault, StoreFault, Usage}
 use Rattle.proj_words.specs.declared.outcome.Outcome.TheVariants as outcomes
-use Rattle.proj_commands.specs.Cases.{Case, Made, break_outcome, loaded, NameCase, VerifyCase, verdict}
+use Rattle.proj_commands.specs.Cases.{Case, Made, break_outcome, loaded, NameCase, VerifyCase, query_case, verdict}
 use Rattle.proj_commands.specs.Steps.{case}
-use Rattle.proj_commands.specs.Audit.{audit_case, path_by}
+use Rattle.proj_commands.specs.Audit.{path_by}
 use Rattle.proj_commands.specs.Export.{export_case}
 use Rattle.proj_commands.specs.Project.{project_case}
 use Rattle.proj_commands.specs.Push.{push_case}
@@ -39,7 +39,7 @@ use Rattle.proj_commands.specs.Hands.{IsInHands}
 use Rattle.proj_commands.specs.Judging.{IsOwn, IsUnjudged}
 use Rattle.proj_commands.specs.Makes.{IsGoodPlan, IsRefusal, IsReported, IsStored, hands_of, step_in}
 use Rattle.proj_commands.specs.Plans.{AreKept}
-use Rattle.proj_commands.specs.Tags.{tags_case}
+use Rattle.proj_commands.specs.Queries.{sound_query}
 use Rattle.proj_commands.specs.Policy.{allowed, granted, policy_text}
 use Rattle.proj_commands.specs.Verify.{name_by}
 use Rattle.proj_commands.specs.declared.lines.Telling.TheVariants.{Both, PushedAlone}
@@ -231,13 +231,13 @@ load-refused asked items all e first early =
 
 -- of one that is refused by judging
 
-of-text : {A : Type 0} (s : Result Filter Outcome) (next : Filter → Result A Outcome) (e : Outcome) → ◌≡◌ {A = Result (Unit {0}) Outcome} (s >>= λ _. Ok tt) (Err e) → (s >>= next) ≡ Err e
+of-text : {A B : Type 0} (s : Result B Outcome) (next : B → Result A Outcome) (e : Outcome) → ◌≡◌ {A = Result (Unit {0}) Outcome} (s >>= λ _. Ok tt) (Err e) → (s >>= next) ≡ Err e
 of-text (Ok f) next e g = cc
 of-text (Err x) next e g = ap Err (err-same {A = Unit {0}} x e g)
 
 -- it has no case, whatever is loaded and read
 verdict-case : (asked : Command) (e : Outcome) → verdict asked ≡ Err e → (loading : Result Held Outcome) (all : Bytes) → case asked loading all ≡ Err e
-verdict-case (Audit r t p) e g loading all = of-text (sound t) (λ f. loading >>= λ h. audit_case h f r (path_by p)) e g
+verdict-case (Ask q) e g loading all = of-text (sound_query q) (λ s. loading >>= λ h. query_case h s) e g
 verdict-case (Verify n t p) e g loading all = of-text (sound t) (λ f. Ok (VerifyCase f (name_by n) (path_by p) all)) e g
 verdict-case (Import force) e g loading all = cc
 verdict-case (Project r t) e g loading all = of-text (sound t) (λ f. loading >>= λ h. project_case h f r) e g
@@ -245,7 +245,6 @@ verdict-case (Push r t) e g loading all = of-text (sound t) (λ f. loading >>= �
 verdict-case (PushMerges r t) e g loading all = of-text (sound t) (λ f. loading >>= λ h. push_case Merging Both h f r all) e g
 verdict-case (Export r t) e g loading all = of-text (sound t) (λ f. loading >>= λ h. export_case false h f r) e g
 verdict-case (ExportTags r t) e g loading all = of-text (sound t) (λ f. loading >>= λ h. export_case true h f r) e g
-verdict-case (Tags r t) e g loading all = of-text (sound t) (λ f. loading >>= λ h. tags_case h f r) e g
 verdict-case (Name r t) e g loading all = of-text (sound t) (λ f. Ok (NameCase f r (tagged_ran empty_base all))) e g
 verdict-case (Rule k) e g loading all = cc
 verdict-case (As u (Project r t)) e g loading all = of-text (sound t) (λ f. loading >>= λ h. granted h u See r f >>= λ _. project_case h f r) e g

@@ -32,16 +32,17 @@ use Rattle.repo_ground.specs.Moves.{Move, first_backward}
 use Rattle.repo_ground.specs.declared.state.LoadError.{LoadError}
 use Rattle.repo_ground.specs.declared.state.LoadError.TheVariants as load
 use Rattle.proj_words.specs.Faults.{stream_outcome}
-use Rattle.proj_words.specs.Words.{Command, As, Import, Project, Push, Export, ExportTags, Tags, Name, Batch, Trial, Rule, Audit, Verify, Unknown, PushMerges}
+use Rattle.proj_words.specs.Words.{Command, As, Import, Project, Push, Export, ExportTags, Name, Batch, Trial, Rule, Ask, Verify, Unknown, PushMerges}
 use Rattle.proj_words.specs.declared.outcome.Outcome.{Outcome}
 use Rattle.proj_words.specs.declared.outcome.Outcome.TheVariants.{Done, Limit, OutOfMemory, UnknownRef, Collision, ReadFault, WriteFault, StoreFault}
 use Rattle.proj_words.specs.declared.outcome.Outcome.TheVariants as outcomes
-use Rattle.proj_commands.specs.Cases.{Case, ImportCase, ProjectCase, TagsCase, ExportCase, PushCase, NameCase, RuleCase, AuditCase, VerifyCase, IsJudgedRightly, Made, break_outcome, head_of, is_verdict, loaded, no_limit, streamed, verdict, within}
+use Rattle.proj_commands.specs.Cases.{Case, ImportCase, ProjectCase, ExportCase, PushCase, NameCase, RuleCase, QueryCase, VerifyCase, IsJudgedRightly, Made, break_outcome, head_of, is_verdict, loaded, no_limit, streamed, verdict, within}
 use Rattle.proj_commands.specs.Import.{all_forward, all_free, import_plan, no_backward, no_taken, ref_line}
 use Rattle.proj_commands.specs.Steps.{case}
 use Rattle.proj_commands.specs.Push.{commit_refusal, no_refusal, push_outcome, push_plan, stream_refusal, told_line, parents_refusal}
 use Rattle.proj_commands.specs.Export.{export_case}
 use Rattle.proj_commands.specs.Policy.{allowed, granted, policy_text}
+use Rattle.proj_commands.specs.Queries.{sight, sound_query}
 use Rattle.proj_commands.specs.Rule.{rule_line}
 use Rattle.proj_commands.specs.Verify.{verify_outcome}
 use Rattle.proj_commands.specs.Filters.{sound}
@@ -162,7 +163,6 @@ made-other room (ImportCase force h x) =
     (forward-other force (reverse r.commits ++ (repo h).commits) h.refs r.heads) (λ _. other-on (all_free force h.tags x.state.tags) _
     (free-other force h.tags x.state.tags) (λ _. within-other room h (flat_map ref_line r.heads) (import_plan h r x.state.tags))))
 made-other room (ProjectCase h f n) = tt
-made-other room (TagsCase h f n) = tt
 made-other room (ExportCase tagged h f refname n) = tt
 made-other room (PushCase manner telling h f refname n p) =
     other-on (no_refusal manner p.refusal) _ (pushed-other manner p.refusal)
@@ -172,7 +172,7 @@ made-other room (NameCase f refname x) =
     (limit-other (passed_by_objects (fresh [] (objects_of r.blobs r.commits)) None))
     (λ _. other-on (head_of refname r.heads) _ (other-found (find_entry bytes_cmp refname r.heads)) (λ n. tt)))
 made-other room (RuleCase h k) = within-other room h (rule_line k) (rule_plan h k)
-made-other room (AuditCase h f n q) = tt
+made-other room (QueryCase h x) = tt
 made-other room (VerifyCase f n q text) =
     other-on (must (Limit Input None) (nat_le (length text) INPUT_BYTES)) _ (must-other (Limit Input None) (nat_le (length text) INPUT_BYTES) refl)
     (λ _. other-on (refused_by verify_outcome (verify n f q text)) _ (other-by verify_outcome (verify n f q text) certificate-other) (λ x. tt))
@@ -197,7 +197,7 @@ other-judged : {A : Type 0} (asked : Command) (r : Result A Outcome) → IsOther
 other-judged asked (Ok a) w = tt
 other-judged asked (Err e) w = apart-judged asked e w
 
-of-sound : (asked : Command) (s : Result Filter Outcome) (K : Filter → Result Case Outcome) → ((f : Filter) → IsOther (K f)) → verdict asked ≡ (s >>= λ _. Ok tt) → IfErr (s >>= K) (IsJudgedRightly asked)
+of-sound : {A : Type 0} (asked : Command) (s : Result A Outcome) (K : A → Result Case Outcome) → ((f : A) → IsOther (K f)) → verdict asked ≡ (s >>= λ _. Ok tt) → IfErr (s >>= K) (IsJudgedRightly asked)
 of-sound asked (Ok f) K w same = other-judged asked (K f) (w f)
 of-sound asked (Err e) K w same = λ is. same
 
@@ -210,16 +210,14 @@ case-judged (Export r t) loading input w =
     of-sound (Export r t) (sound t) _ (λ f. other-on loading _ w (λ h. other-on (head_of r h.refs) _ (other-found (find_entry bytes_cmp r h.refs)) (λ n. tt))) refl
 case-judged (ExportTags r t) loading input w =
     of-sound (ExportTags r t) (sound t) _ (λ f. other-on loading _ w (λ h. other-on (head_of r h.refs) _ (other-found (find_entry bytes_cmp r h.refs)) (λ n. tt))) refl
-case-judged (Tags r t) loading input w =
-    of-sound (Tags r t) (sound t) _ (λ f. other-on loading _ w (λ h. other-on (head_of r h.refs) _ (other-found (find_entry bytes_cmp r h.refs)) (λ n. tt))) refl
 case-judged (Push r t) loading input w =
     of-sound (Push r t) (sound t) _ (λ f. other-on loading _ w (λ h. other-on (head_of r h.refs) _ (other-found (find_entry bytes_cmp r h.refs)) (λ n. tt))) refl
 case-judged (PushMerges r t) loading input w =
     of-sound (PushMerges r t) (sound t) _ (λ f. other-on loading _ w (λ h. other-on (head_of r h.refs) _ (other-found (find_entry bytes_cmp r h.refs)) (λ n. tt))) refl
 case-judged (Name r t) loading input w = of-sound (Name r t) (sound t) _ (λ f. tt) refl
 case-judged (Rule k) loading input w = other-judged (Rule k) (case (Rule k) loading input) (other-on loading _ w (λ h. tt))
-case-judged (Audit r t p) loading input w =
-    of-sound (Audit r t p) (sound t) _ (λ f. other-on loading _ w (λ h. other-on (head_of r h.refs) _ (other-found (find_entry bytes_cmp r h.refs)) (λ n. tt))) refl
+case-judged (Ask q) loading input w =
+    of-sound (Ask q) (sound_query q) _ (λ s. other-on loading _ w (λ h. other-on (or_refuse UnknownRef (sight h s)) _ (other-found (sight h s)) (λ x. tt))) refl
 case-judged (Verify n t p) loading input w = of-sound (Verify n t p) (sound t) _ (λ f. tt) refl
 case-judged (As u (Project r t)) loading input w =
     of-sound (As u (Project r t)) (sound t) _

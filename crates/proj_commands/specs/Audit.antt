@@ -1,8 +1,7 @@
--- The command `audit`: a certificate of what a filter shows of a ref's commit at a path.
-use Rattle.std.specs.Prelude.{Result, Ok, [], ◌≡◌, ◌<◌, ◌^◌, length, unwrap_or}
+-- The query `audit`: a certificate of what a filter shows of a ref's commit at a path.
+use Rattle.std.specs.Prelude.{Ok, [], ◌≡◌, ◌<◌, ◌^◌, length, unwrap_or}
 use Rattle.std.specs.Option.{option_map}
 use Rattle.git_objects.specs.Paths.{Bytes, Path}
-use Rattle.git_objects.specs.Results.{◌>>=◌}
 use Rattle.git_objects.specs.Snapshots.{tree_at}
 use Rattle.git_objects.specs.Trees.{at}
 use Rattle.path_names.specs.PathTexts.{ok_path, path_of}
@@ -12,21 +11,12 @@ use Rattle.proj_audit.specs.Certificates.{audit, verify}
 use Rattle.proj_audit.specs.Laws.{found_of}
 use Rattle.state_items.specs.Items.{Held}
 use Rattle.state_items.specs.Repos.{repo}
-use Rattle.proj_words.specs.declared.outcome.Outcome.{Outcome}
-use Rattle.proj_commands.specs.Cases.{AuditCase, Case, Made, head_of, unchanged}
 
 -- the path that a text names
 abbrev pub path_by : Bytes → Path
 path_by text = unwrap_or (ok_path (path_of text)) []
 
-abbrev pub audit_case : Held → Filter → Bytes → Path → Result Case Outcome
-audit_case h f refname q = head_of refname h.refs >>= λ n. Ok (AuditCase h f n q)
-
--- what comes of it: the objects that tell what is shown at the path, among those that are held
-abbrev pub audit_made : Held → Filter → Bytes → Path → Result Made Outcome
-audit_made h f n q = Ok (unchanged h (audit h.objects f q n))
-
--- The certificate is accepted for the commit's name, with the leaf that the filter shows of the commit's tree at the path, or that there is
+-- The certificate, of the objects that tell what is shown at the path among those that are held, is accepted for the commit's name, with the leaf that the filter shows of the commit's tree at the path, or that there is
 -- none. So it is where each size in it has at most 20 digits.
 abbrev pub IsAudited : Held → Filter → Bytes → Path → Type 0
 IsAudited h f n q = length (audit h.objects f q n) < 2 ^ 64

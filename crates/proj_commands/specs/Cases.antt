@@ -13,10 +13,11 @@ use Rattle.state_items.specs.Fields.{BrokenAt, Clash}
 use Rattle.state_items.specs.Items.{Break, Held, read_items, nothing}
 use Rattle.push_laws.specs.Pushes.{Pushing}
 use Rattle.proj_words.specs.Faults.{stream_outcome}
-use Rattle.proj_words.specs.Words.{Command, Import, Project, Push, PushMerges, Export, ExportTags, Tags, Name, Rule, Audit, Verify, As, Batch, Trial}
+use Rattle.proj_words.specs.Words.{Command, Import, Project, Push, PushMerges, Export, ExportTags, Name, Rule, Ask, Verify, As, Batch, Trial}
 use Rattle.proj_words.specs.declared.outcome.Outcome.TheVariants.{Usage, FilterFault, Overlap, NotKeeping, Collision, Damaged, UnknownRef, Limit}
 use Rattle.proj_words.specs.declared.outcome.Outcome.{Outcome}
 use Rattle.proj_commands.specs.Filters.{sound}
+use Rattle.proj_commands.specs.Queries.{Sight, SoundQuery, sight, sound_query}
 use Rattle.proj_commands.specs.declared.lines.Telling.{Telling}
 use Rattle.proj_commands.specs.declared.pushing.Manner.{Manner}
 
@@ -30,9 +31,8 @@ verdict (Push refname text) = sound text >>= λ _. Ok tt
 verdict (PushMerges refname text) = sound text >>= λ _. Ok tt
 verdict (Export refname text) = sound text >>= λ _. Ok tt
 verdict (ExportTags refname text) = sound text >>= λ _. Ok tt
-verdict (Tags refname text) = sound text >>= λ _. Ok tt
 verdict (Name refname text) = sound text >>= λ _. Ok tt
-verdict (Audit refname text path) = sound text >>= λ _. Ok tt
+verdict (Ask query) = sound_query query >>= λ _. Ok tt
 verdict (Verify digits text path) = sound text >>= λ _. Ok tt
 verdict (As user (Project refname text)) = sound text >>= λ _. Ok tt
 verdict (As user (Export refname text)) = sound text >>= λ _. Ok tt
@@ -81,8 +81,6 @@ pub data Case : Type 0 where
   ImportCase : Bool → Held → Ran StreamFault → Case
   -- of the commit of the ref
   ProjectCase : Held → Filter → Bytes → Case
-  -- of the ref's commit
-  TagsCase : Held → Filter → Bytes → Case
   -- whether with tags; of the ref and its commit
   ExportCase : Bool → Held → Filter → Bytes → Bytes → Case
   -- and of how commits may stand, and of what is told of each pushed commit
@@ -90,8 +88,7 @@ pub data Case : Type 0 where
   -- of the ref, and the stream upon nothing
   NameCase : Filter → Bytes → Ran StreamFault → Case
   RuleCase : Held → ℕ → Case
-  -- of the ref's commit, at a path
-  AuditCase : Held → Filter → Bytes → Path → Case
+  QueryCase : Held → Sight → Case
   -- of a commit's name, at a path, and a text, which may be a certificate
   VerifyCase : Filter → Bytes → Path → Bytes → Case
 
@@ -99,13 +96,16 @@ pub data Case : Type 0 where
 abbrev pub held_in : Case → Held
 held_in (ImportCase force h x) = h
 held_in (ProjectCase h f n) = h
-held_in (TagsCase h f n) = h
 held_in (ExportCase w h f refname n) = h
 held_in (PushCase m w h f refname n p) = h
 held_in (NameCase f refname x) = nothing
 held_in (RuleCase h k) = h
-held_in (AuditCase h f n q) = h
+held_in (QueryCase h x) = h
 held_in (VerifyCase f n q text) = nothing
+
+-- the case of a query, or the refusal of its ref
+abbrev pub query_case : Held → SoundQuery → Result Case Outcome
+query_case h q = or_refuse UnknownRef (sight h q) >>= λ x. Ok (QueryCase h x)
 
 -- ---- what comes of a case
 

@@ -29,7 +29,7 @@ use Rattle.stream_reader.specs.Blocks.{tag_data}
 use Rattle.stream_reader.specs.Heads.{tag}
 use Rattle.tag_objects.specs.Tags.{tag_body, tag_object_name}
 use Rattle.proj_gate.specs.Policies.{decide, rules}
-use Rattle.proj_words.specs.Words.{As, Import, Project, Export, ExportTags, Tags, Push, Name, Rule, Trial, Batch, Unknown}
+use Rattle.proj_words.specs.Words.{As, Import, Project, Export, ExportTags, Ask, Tags, Push, Name, Rule, Trial, Batch, Unknown}
 use Rattle.proj_words.specs.declared.outcome.Outcome.{Outcome}
 use Rattle.proj_words.specs.declared.outcome.Outcome.TheVariants.{Usage, UnknownRef, NotForward, NotAtHead, Limit, FilterFault, Overlap, Damaged, Syntax, Denied, BadPolicy}
 use Rattle.proj_words.specs.declared.outcome.FilterWhat.TheVariants as filters
@@ -264,7 +264,7 @@ tagged = items_or_none (items_of (step (Import false) [] (stream
     ++ codes "tag v2\nfrom refs/heads/other\ntagger A <a@x> 1700000000 +0000\ndata 3\nv2\n")))
 
 -- of the projected commit, which is no ancestor of the other one
-pub a_tag_is_shown : output_of (step (Tags main (codes ":/a")) tagged []) ≡ Ok (codes "v1 d88c050478c5950055596d4c1e52f78a773f00eb\n")
+pub a_tag_is_shown : output_of (step (Ask (Tags main (codes ":/a"))) tagged []) ≡ Ok (codes "v1 d88c050478c5950055596d4c1e52f78a773f00eb\n")
 unfolding judging showing loading holding replaying reading naming digits tagging
 a_tag_is_shown = refl
 
@@ -272,11 +272,11 @@ pub the_body_of_its_object : (loaded tagged >>= λ h. head_of main h.refs >>= λ
 unfolding judging showing loading holding replaying reading naming digits tagging
 the_body_of_its_object = refl
 
-pub no_tag_is_shown : output_of (step (Tags main (codes ":/c")) tagged []) ≡ Ok []
+pub no_tag_is_shown : output_of (step (Ask (Tags main (codes ":/c"))) tagged []) ≡ Ok []
 unfolding judging showing loading holding replaying reading naming digits tagging
 no_tag_is_shown = refl
 
-pub tags_of_no_ref : step (Tags (codes "refs/heads/none") (codes ":/a")) tagged [] ≡ Err UnknownRef
+pub tags_of_no_ref : step (Ask (Tags (codes "refs/heads/none") (codes ":/a"))) tagged [] ≡ Err UnknownRef
 unfolding judging showing loading holding replaying reading naming digits tagging
 tags_of_no_ref = refl
 

@@ -24,14 +24,14 @@ use Rattle.repo_ground.specs.Contents.{Contents, IsCurrent, Spells, room_in}
 use Rattle.proj_words.specs.declared.outcome.Outcome.{Outcome}
 use Rattle.proj_words.specs.declared.outcome.Outcome.TheVariants.{Done, OutOfMemory, Collision, ReadFault, WriteFault, StoreFault}
 use Rattle.proj_words.specs.Words.{Command, loads}
-use Rattle.proj_commands.specs.Audit.{IsAudited}
-use Rattle.proj_commands.specs.Cases.{AuditCase, Case, ExportCase, ProjectCase, PushCase, VerifyCase, Made, unchanged}
+use Rattle.proj_commands.specs.Cases.{Case, ExportCase, ProjectCase, PushCase, QueryCase, VerifyCase, Made, unchanged}
 use Rattle.proj_commands.specs.Steps.{made, hand, IsLawful, case}
 use Rattle.proj_commands.specs.Project.{name_line, in_order_of}
 use Rattle.proj_commands.specs.Filters.{entries_of, recalled}
 use Rattle.proj_commands.specs.Hands.{Hand, IsInHands}
 use Rattle.proj_commands.specs.Export.{IsExportOf}
 use Rattle.proj_commands.specs.Push.{IsPushed}
+use Rattle.proj_commands.specs.Queries.{IsLawfulSight}
 use Rattle.proj_commands.specs.Verify.{IsVerified}
 use Rattle.proj_commands.specs.Plans.{AreKept}
 
@@ -128,7 +128,7 @@ pub record IsKeepPlanOf (h : Held) (f : Filter) (n : Bytes) (room : Room) (p : P
 abbrev pub IsPlanIn : Room → Case → Made → Plan → Type 0
 IsPlanIn room (ProjectCase h f n) m p = IsKeepPlanOf h f n room p
 IsPlanIn room (ExportCase tagged h f refname n) m p = (p ≡ m.plan) × IsExportOf tagged h f refname n
-IsPlanIn room (AuditCase h f n q) m p = (p ≡ m.plan) × IsAudited h f n q
+IsPlanIn room (QueryCase h x) m p = (p ≡ m.plan) × IsLawfulSight h x
 IsPlanIn room (VerifyCase f n q text) m p = (p ≡ m.plan) × IsVerified f n q text
 IsPlanIn room (PushCase k w h f refname n x) m p = (p ≡ m.plan) × IsPushed k h (held_after h p) f refname n x
 IsPlanIn room other m p = p ≡ m.plan

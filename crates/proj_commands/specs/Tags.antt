@@ -1,18 +1,15 @@
--- The command `tags`: the annotated tags that are shown beside the projected history of a ref's commit.
+-- The query `tags`: the annotated tags that are shown beside the projected history of a ref's commit.
 use Rattle.std.specs.List.{filter_map, flat_map}
 use Rattle.std.specs.Option.{option_map}
-use Rattle.std.specs.Prelude.{Result, Ok, if◌then◌else◌, List, [], ◌∷◌, ◌++◌, Option, None}
+use Rattle.std.specs.Prelude.{if◌then◌else◌, List, [], ◌∷◌, ◌++◌, Option, None}
 use Rattle.git_objects.specs.Commits.{hex}
 use Rattle.git_objects.specs.Paths.{Bytes}
-use Rattle.git_objects.specs.Results.{◌>>=◌}
 use Rattle.git_objects.specs.Snapshots.{ancestors, has}
 use Rattle.filter_text.specs.Filters.{Filter}
 use Rattle.state_items.specs.Items.{Held}
 use Rattle.state_items.specs.Repos.{repo}
 use Rattle.tag_objects.specs.Tags.{tag_object_name}
 use Rattle.tag_objects.specs.declared.tag.Tag.{Tag}
-use Rattle.proj_words.specs.declared.outcome.Outcome.{Outcome}
-use Rattle.proj_commands.specs.Cases.{Case, Made, TagsCase, head_of, unchanged}
 use Rattle.proj_commands.specs.Filters.{projected}
 
 -- the tag of another commit
@@ -39,9 +36,5 @@ shown_tags h f n = filter_map (shown_tag h f n) h.tags
 abbrev pub tag_line : Tag → Bytes
 tag_line t = t.name ++ 32 ∷ (hex (tag_object_name t) ++ 10 ∷ [])
 
-abbrev pub tags_case : Held → Filter → Bytes → Result Case Outcome
-tags_case h f refname = head_of refname h.refs >>= λ n. Ok (TagsCase h f n)
-
--- what comes of it
-abbrev pub tags_made : Held → Filter → Bytes → Result Made Outcome
-tags_made h f n = Ok (unchanged h (flat_map tag_line (shown_tags h f n)))
+abbrev pub tags_text : Held → Filter → Bytes → Bytes
+tags_text h f n = flat_map tag_line (shown_tags h f n)

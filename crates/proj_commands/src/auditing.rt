@@ -6,10 +6,11 @@ ghost use Rattle.proj_io.specs.Views.{KeeperView};
 ghost use Rattle.state_items.specs.Changes.{NoPlan};
 ghost use Rattle.state_items.specs.Items.{Held};
 ghost use Rattle.workspace.specs.Laws.{IsUsable};
-ghost use Rattle.proj_commands.specs.Audit.{audit_case};
+ghost use Rattle.proj_commands.specs.Cases.{query_case};
 ghost use Rattle.proj_commands.specs.Makes.{IsMadeOf, IsState, IsStateOf};
+ghost use Rattle.proj_commands.specs.Queries.{AuditOf};
 
-use crate::judging::Subject;
+use crate::subjects::Subject;
 use git_objects::Bytes;
 use path_names::{Path, path_law};
 use proj_audit::{audit_text, grown_law, store_law};
@@ -27,7 +28,7 @@ pub(crate) fn audited(
     requires usable { IsUsable (shape subject.now.filter) }
     requires state { IsState state.now }
     ensures made { (items : List Bytes) (h : Held) (store : KeeperView) → IsStateOf items h state.now →
-        IsMadeOf (audit_case h (shape subject.now.filter) subject.now.refname path.now) items h
+        IsMadeOf (query_case h (AuditOf (shape subject.now.filter) subject.now.refname path.now)) items h
         state.now state.now store store NoPlan result }
     ensures early { (result ≢ Err Outcome.WriteFault) × (result ≢ Err Outcome.ReadFault) ×
         (result ≢ Err Outcome.StoreFault) }

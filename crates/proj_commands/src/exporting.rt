@@ -21,9 +21,9 @@ ghost use Rattle.proj_commands.specs.Forms.{IsExport, exported_case, user_export
 ghost use Rattle.proj_commands.specs.Makes.{IsExported, IsMadeOf, IsState, IsStateOf};
 
 use crate::gating::granted;
-use crate::judging::Subject;
 use crate::loading::load;
 use crate::refusals::apply_outcome;
+use crate::subjects::Subject;
 use crate::tagging::tags_beside;
 use fast_export::{ExportError, stored_history_law, tagged_again_law, write_history};
 use filter_text::Filter;

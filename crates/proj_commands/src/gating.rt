@@ -16,7 +16,8 @@ ghost use Rattle.proj_commands.specs.Judging.{IsSomeJudged, permission};
 ghost use Rattle.proj_commands.specs.Makes.{IsState, IsStateOf};
 ghost use Rattle.proj_commands.specs.Policy.{granted, policy_place, policy_text};
 
-use crate::judging::{Judged, Subject, ref_name};
+use crate::judging::Judged;
+use crate::subjects::{Subject, ref_name};
 use git_objects::{Component, Mode, Name};
 use object_store::{Store, tree_of};
 use path_names::Path;

@@ -1,40 +1,18 @@
 // Judging a command: its words and its filter, before any device is touched.
-ghost use Rattle.std.specs.Prelude.{◌≡◌, ◌⊎◌, Err, Ok, IfErr, IfOk, true};
-ghost use Rattle.filter_text.specs.Shapes.{shape};
-ghost use Rattle.std.specs.Result.{is_ok};
-ghost use Rattle.path_names.specs.PathTexts.{path_of};
-ghost use Rattle.path_names.specs.RefNames.{is_ref_name};
+ghost use Rattle.std.specs.Prelude.{◌≡◌, Err, IfErr, IfOk, true};
 ghost use Rattle.proj_words.specs.Views.{command_of};
 ghost use Rattle.proj_words.specs.Words.{Unknown, is_formed};
-ghost use Rattle.workspace.specs.Laws.{IsUsable};
-ghost use Rattle.proj_commands.specs.Audit.{path_by};
-ghost use Rattle.proj_commands.specs.Filters.{sound};
 ghost use Rattle.proj_commands.specs.Judging.{IsJudged, IsUnjudged};
 
 use crate::filters::sound_filter;
+use crate::querying::{JudgedQuery, judge_query};
+use crate::subjects::{Subject, path_in, read_subject};
 use commit_map::Rule;
 use filter_text::Filter;
 use git_objects::{Bytes, Name};
-use path_names::{Path, PathFault, RefFault, RefName};
+use path_names::Path;
 use proj_words::{Command, Outcome};
 use std::alloc::Global;
-
-/// What a command is about: a sound filter, and a ref name.
-pub struct Subject {
-    pub filter: Filter,
-    pub refname: RefName,
-}
-
-// Written out, so that to drop one is a call: a derived drop would stand in full in each function that drops one, and
-// in its proof.
-impl Drop for Subject {
-    fn drop(self) {
-        let Subject {
-            filter: _,
-            refname: _,
-        } = self;
-    }
-}
 
 /// What a certificate is asked to prove: what a sound filter shows of a commit at a path.
 #[derive(Drop)]
@@ -53,11 +31,9 @@ pub enum Judged {
     PushMerges(Subject),
     Export(Subject),
     ExportTags(Subject),
-    Tags(Subject),
     Name(Subject),
     Rule(Rule),
-    /// At a path.
-    Audit(Subject, Path),
+    Ask(JudgedQuery),
     Verify(Claim),
     /// Each of a user, whom the policy has to let do it.
     AsProject(Bytes, Subject),
@@ -75,52 +51,11 @@ impl Drop for Judged {
             | Judged::PushMerges(_)
             | Judged::Export(_)
             | Judged::ExportTags(_)
-            | Judged::Tags(_)
             | Judged::Name(_) => {}
-            Judged::Audit(_, _) => {}
-            Judged::Verify(_) => {}
+            Judged::Ask(_) | Judged::Verify(_) => {}
             Judged::AsProject(_, _) | Judged::AsPush(_, _) | Judged::AsExport(_, _) => {}
         }
     }
-}
-
-/// The ref name that a text is.
-pub fn ref_name(alloc: Global, text: &[u8]) -> Result<RefName, Outcome>
-    requires { is_ref_name text.now ≡ true }
-    ensures ok { IfOk result (λ name. name ≡ text.now) }
-    ensures err { IfErr result (λ e. e ≡ Outcome.OutOfMemory) }
-{
-    match RefName::parse(alloc, text) {
-        Ok(refname) => Ok(refname),
-        Err(RefFault::OutOfMemory) => Err(Outcome::OutOfMemory),
-        Err(RefFault::Bad) => unreachable!(),
-    }
-}
-
-/// The path that a text is.
-fn path_in(alloc: Global, text: &[u8]) -> Result<Path, Outcome>
-    requires { is_ok (path_of text.now) ≡ true }
-    ensures ok { IfOk result (λ path. path_by text.now ≡ path) }
-    ensures err { IfErr result (λ e. e ≡ Outcome.OutOfMemory) }
-{
-    match Path::parse(alloc, text) {
-        Ok(path) => Ok(path),
-        Err(PathFault::OutOfMemory) => Err(Outcome::OutOfMemory),
-        Err(_) => unreachable!(),
-    }
-}
-
-/// The subject that two texts spell, or why the filter's text is of none.
-pub fn read_subject(alloc: Global, refname: &[u8], filter: &[u8]) -> Result<Subject, Outcome>
-    requires { is_ref_name refname.now ≡ true }
-    ensures refname { IfOk result (λ s. s.refname ≡ refname.now) }
-    ensures sound { IfOk result (λ s. sound filter.now ≡ Ok (shape s.filter)) }
-    ensures usable { IfOk result (λ s. IsUsable (shape s.filter)) }
-    ensures err { IfErr result (λ e. (e ≡ Outcome.OutOfMemory) ⊎ (sound filter.now ≡ Err e)) }
-{
-    let filter = sound_filter(alloc, filter)?;
-    let refname = ref_name(alloc, refname)?;
-    Ok(Subject { filter, refname })
 }
 
 // A user's name.
@@ -163,10 +98,6 @@ pub fn judge(alloc: Global, asked: Command<'_>) -> Result<Judged, Outcome>
             let subject = read_subject(alloc, refname, filter)?;
             Ok(Judged::ExportTags(subject))
         }
-        Command::Tags(refname, filter) => {
-            let subject = read_subject(alloc, refname, filter)?;
-            Ok(Judged::Tags(subject))
-        }
         Command::Name(refname, filter) => {
             let subject = read_subject(alloc, refname, filter)?;
             Ok(Judged::Name(subject))
@@ -175,10 +106,9 @@ pub fn judge(alloc: Global, asked: Command<'_>) -> Result<Judged, Outcome>
             Some(rule) => Ok(Judged::Rule(rule)),
             None => unreachable!(),
         },
-        Command::Audit(refname, filter, path) => {
-            let subject = read_subject(alloc, refname, filter)?;
-            let path = path_in(alloc, path)?;
-            Ok(Judged::Audit(subject, path))
+        Command::Ask(query) => {
+            let query = judge_query(alloc, query)?;
+            Ok(Judged::Ask(query))
         }
         Command::Verify(commit, filter, path) => {
             let filter = sound_filter(alloc, filter)?;

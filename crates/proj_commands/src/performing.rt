@@ -15,7 +15,6 @@ ghost use Rattle.proj_commands.specs.Judging.{IsJudged, IsSomeJudged, permission
 ghost use Rattle.proj_commands.specs.Makes.{IsState, IsStateOf, IsCommandMade};
 ghost use Rattle.proj_commands.specs.Inputs.{ForInput};
 
-use crate::auditing::audited;
 use crate::exporting::exported;
 use crate::gating::permitted;
 use crate::importing::import;
@@ -24,8 +23,8 @@ use crate::lines::Telling;
 use crate::naming::name;
 use crate::projecting::project_upon;
 use crate::pushing::{Manner, push};
+use crate::querying::query_upon;
 use crate::rule::set_rule;
-use crate::tagging::tags_upon;
 use crate::verifying::verify_text;
 use git_objects::Bytes;
 use memory_devices::SliceSource;
@@ -127,10 +126,9 @@ fn perform_permitted<S: Source, K: Keeper>(
         ),
         Judged::Export(subject) => exported(alloc, subject, state, false),
         Judged::ExportTags(subject) => exported(alloc, subject, state, true),
-        Judged::Tags(subject) => tags_upon(alloc, subject, state),
         Judged::Name(subject) => name(alloc, &subject.filter, &subject.refname, input),
         Judged::Rule(rule) => set_rule(alloc, state, store, *rule),
-        Judged::Audit(subject, path) => audited(alloc, subject, path, state),
+        Judged::Ask(query) => query_upon(alloc, query, state),
         Judged::Verify(claim) => {
             verify_text(alloc, &claim.commit, &claim.filter, &claim.path, input)
         }

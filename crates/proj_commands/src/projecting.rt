@@ -20,9 +20,9 @@ ghost use Rattle.proj_commands.specs.Project.{name_line, project_case};
 ghost use Rattle.proj_commands.specs.Filters.{sound};
 ghost use Rattle.proj_commands.specs.Makes.{IsMadeOf, IsState, IsStateOf};
 
-use crate::judging::Subject;
 use crate::laws::recall_law;
 use crate::lines::projection_report;
+use crate::subjects::Subject;
 use filter_apply::ApplyError;
 use filter_text::Filter;
 use git_objects::{Bytes, Name, Steps};

@@ -13,13 +13,15 @@ ghost use Rattle.proj_io.specs.Views.{KeeperView};
 ghost use Rattle.state_items.specs.Changes.{NoPlan};
 ghost use Rattle.state_items.specs.Items.{Held};
 ghost use Rattle.workspace.specs.Laws.{IsUsable};
+ghost use Rattle.proj_commands.specs.Cases.{query_case};
 ghost use Rattle.proj_commands.specs.Export.{IsMadeBeside, tags_beside};
 ghost use Rattle.proj_commands.specs.Makes.{IsMadeOf, IsState, IsStateOf};
-ghost use Rattle.proj_commands.specs.Tags.{retargeted, retargeted_one, shown_tags, tags_case};
+ghost use Rattle.proj_commands.specs.Queries.{TagsOf};
+ghost use Rattle.proj_commands.specs.Tags.{retargeted, retargeted_one, shown_tags};
 
-use crate::judging::Subject;
 use crate::lines::tags_report;
 use crate::refusals::apply_outcome;
+use crate::subjects::Subject;
 use filter_apply::ApplyError;
 use filter_text::Filter;
 use git_objects::{Bytes, Name};
@@ -130,7 +132,7 @@ pub(crate) fn tags_upon(
     requires usable { IsUsable (shape subject.now.filter) }
     requires state { IsState state.old }
     ensures made { (items : List Bytes) (h : Held) (store : KeeperView) → IsStateOf items h state.old →
-        IsMadeOf (tags_case h (shape subject.now.filter) subject.now.refname) items h
+        IsMadeOf (query_case h (TagsOf (shape subject.now.filter) subject.now.refname)) items h
         state.old state.new store store NoPlan result }
     ensures early { (result ≢ Err Outcome.WriteFault) × (result ≢ Err Outcome.ReadFault) ×
         (result ≢ Err Outcome.StoreFault) }

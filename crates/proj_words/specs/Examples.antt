@@ -14,8 +14,8 @@ use Rattle.stream_reader.specs.declared.fault.Feature.TheVariants as features
 use Rattle.stream_reader.specs.declared.fault.StreamFault.TheVariants as streams
 use Rattle.filter_text.specs.declared.filter.FilterFault.TheVariants as texts
 use Rattle.filter_routes.specs.declared.fault.RouteFault.TheVariants as routes
-use Rattle.proj_words.specs.Words.{Import, Project, Push, PushMerges, Export, ExportTags, Tags, Name, Batch}
-use Rattle.proj_words.specs.Words.{Trial, Rule, Audit, Verify, As, Unknown}
+use Rattle.proj_words.specs.Words.{Import, Project, Push, PushMerges, Export, ExportTags, Name, Batch}
+use Rattle.proj_words.specs.Words.{Trial, Rule, Ask, Verify, As, Unknown, Tags, Audit}
 use Rattle.proj_words.specs.Words.{command, line_command, loads, reads, writes}
 use Rattle.proj_words.specs.Outcomes.{code_of, text_of, usage}
 use Rattle.proj_words.specs.Entries.{byte_count, entries, reply_text}
@@ -173,7 +173,7 @@ pub an_option_of_a_projection : command (codes "project" ∷ codes "--tags" ∷ 
 unfolding path_of
 an_option_of_a_projection = refl
 
-pub the_tags : command (codes "tags" ∷ main ∷ codes ":/a" ∷ []) ≡ Tags main (codes ":/a")
+pub the_tags : command (codes "tags" ∷ main ∷ codes ":/a" ∷ []) ≡ Ask (Tags main (codes ":/a"))
 unfolding is_ref_name
 the_tags = refl
 
@@ -189,7 +189,7 @@ unfolding path_of
 tags_with_a_path = refl
 
 -- the filter is all that is left of a line
-pub tags_in_a_batch : line_command (codes "tags refs/heads/main :/a b") ≡ Tags main (codes ":/a b")
+pub tags_in_a_batch : line_command (codes "tags refs/heads/main :/a b") ≡ Ask (Tags main (codes ":/a b"))
 unfolding is_ref_name
 tags_in_a_batch = refl
 
@@ -203,7 +203,7 @@ an_export_with_tags_in_a_batch = refl
 abbrev digits_of_a_commit : Bytes
 digits_of_a_commit = replicate 40 97
 
-pub an_audit : command (codes "audit" ∷ main ∷ codes ":/a" ∷ codes "b/f" ∷ []) ≡ Audit main (codes ":/a") (codes "b/f")
+pub an_audit : command (codes "audit" ∷ main ∷ codes ":/a" ∷ codes "b/f" ∷ []) ≡ Ask (Audit main (codes ":/a") (codes "b/f"))
 unfolding is_ref_name path_of
 an_audit = refl
 
@@ -483,13 +483,13 @@ an_export_with_tags_loads = refl
 pub an_export_with_tags_writes_no_item : writes (ExportTags main []) ≡ false
 an_export_with_tags_writes_no_item = refl
 
-pub tags_read_nothing : reads (Tags main []) ≡ false
+pub tags_read_nothing : reads (Ask (Tags main [])) ≡ false
 tags_read_nothing = refl
 
-pub tags_load : loads (Tags main []) ≡ true
+pub tags_load : loads (Ask (Tags main [])) ≡ true
 tags_load = refl
 
-pub tags_write_no_item : writes (Tags main []) ≡ false
+pub tags_write_no_item : writes (Ask (Tags main [])) ≡ false
 tags_write_no_item = refl
 
 pub a_projection_may_write : writes (Project main []) ≡ true
@@ -505,13 +505,13 @@ pub a_trial_reads_nothing : reads (Trial 1) ≡ false
 a_trial_reads_nothing = refl
 
 -- an audit loads as an export does, and a verification reads as a name does
-pub an_audit_loads : loads (Audit main [] []) ≡ true
+pub an_audit_loads : loads (Ask (Audit main [] [])) ≡ true
 an_audit_loads = refl
 
-pub an_audit_reads_nothing : reads (Audit main [] []) ≡ false
+pub an_audit_reads_nothing : reads (Ask (Audit main [] [])) ≡ false
 an_audit_reads_nothing = refl
 
-pub an_audit_writes_no_item : writes (Audit main [] []) ≡ false
+pub an_audit_writes_no_item : writes (Ask (Audit main [] [])) ≡ false
 an_audit_writes_no_item = refl
 
 pub a_verification_reads : reads (Verify digits_of_a_commit [] []) ≡ true

@@ -12,6 +12,13 @@ use Rattle.path_names.specs.RefNames.{is_ref_name}
 use Rattle.path_names.specs.UserNames.{is_user}
 use Rattle.path_names.specs.Words.{number}
 
+-- what a command asks of a store, without any input, and without an item that it appends
+pub data Query : Type 0 where
+  -- the annotated tags, of a ref and the text of a filter
+  Tags : Bytes → Bytes → Query
+  -- a certificate, of a ref, the text of a filter, and that of a path
+  Audit : Bytes → Bytes → Bytes → Query
+
 pub data Command : Type 0 where
   -- of a stream, and whether a ref may move anywhere
   Import : Bool → Command
@@ -23,15 +30,12 @@ pub data Command : Type 0 where
   Export : Bytes → Bytes → Command
   -- an export with its annotated tags
   ExportTags : Bytes → Bytes → Command
-  -- the annotated tags alone
-  Tags : Bytes → Bytes → Command
   Name : Bytes → Bytes → Command
   Batch : Command
   Trial : ℕ → Command
   -- of the number of a rule
   Rule : ℕ → Command
-  -- of a ref, the text of a filter, and that of a path
-  Audit : Bytes → Bytes → Bytes → Command
+  Ask : Query → Command
   -- of a commit's digits, the text of a filter, and that of a path
   Verify : Bytes → Bytes → Bytes → Command
   -- of a user, and of the command that a policy may let him do: one of Project, Push and Export
@@ -70,7 +74,7 @@ three_words w r f =
     if same_bytes w (codes "project") then Project r f else
     (if same_bytes w (codes "push") then Push r f else
     (if same_bytes w (codes "export") then Export r f else
-    (if same_bytes w (codes "tags") then Tags r f else
+    (if same_bytes w (codes "tags") then Ask (Tags r f) else
     (if same_bytes w (codes "name") then Name r f else Unknown))))
 
 -- 40 digits of either case
@@ -84,7 +88,7 @@ is_path_word t = is_ok (path_of t)
 -- of a word, a ref or a commit's digits, the text of a filter, and that of a path
 abbrev pub certificate_words : Bytes → Bytes → Bytes → Bytes → Command
 certificate_words w n f p =
-    if same_bytes w (codes "audit") then (if is_ref_name n then Audit n f p else Unknown) else
+    if same_bytes w (codes "audit") then (if is_ref_name n then Ask (Audit n f p) else Unknown) else
     (if same_bytes w (codes "verify") then (if is_commit_word n then Verify n f p else Unknown) else Unknown)
 
 -- of an option of the word `export`, a ref, and the text of a filter
@@ -122,6 +126,11 @@ command (w ∷ a ∷ b ∷ c ∷ []) = four_words w a b c
 command (a ∷ u ∷ w ∷ r ∷ f ∷ []) = five_words a u w r f
 command _ = Unknown
 
+-- whether the ref of a query is a ref name, and its path one that can be read
+abbrev pub is_query : Query → Bool
+is_query (Tags r f) = is_ref_name r
+is_query (Audit r f p) = is_ref_name r && is_path_word p
+
 -- Whether the ref of a command is a ref name, its commit 40 digits, its path one that can be read, the number of a
 -- rule 1 or 2, and that of a trial from 1 to 100,000; and whether its user can be one, and does what a policy may let
 -- him do.
@@ -131,11 +140,10 @@ is_formed (Push r f) = is_ref_name r
 is_formed (PushMerges r f) = is_ref_name r
 is_formed (Export r f) = is_ref_name r
 is_formed (ExportTags r f) = is_ref_name r
-is_formed (Tags r f) = is_ref_name r
 is_formed (Name r f) = is_ref_name r
 is_formed (Trial n) = nat_le 1 n && nat_le n 100000
 is_formed (Rule k) = k == 1 || k == 2
-is_formed (Audit r f p) = is_ref_name r && is_path_word p
+is_formed (Ask query) = is_query query
 is_formed (Verify n f p) = is_commit_word n && is_path_word p
 is_formed (As u (Project r f)) = is_user u && is_ref_name r
 is_formed (As u (Push r f)) = is_user u && is_ref_name r
@@ -189,7 +197,6 @@ loads _ = true
 abbrev pub writes : Command → Bool
 writes (Export r f) = false
 writes (ExportTags r f) = false
-writes (Tags r f) = false
-writes (Audit r f p) = false
+writes (Ask query) = false
 writes (As u c) = writes c
 writes c = loads c

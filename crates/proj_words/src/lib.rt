@@ -13,4 +13,4 @@ pub use entries::{Entry, read_entries};
 pub use outcome::{FilterWhat, Outcome, outcome_code};
 pub use texts::{outcome_text, plain_text};
 pub use trial::{TrialPush, first_push, push_stream, second_push, third_push, trial_stream};
-pub use words::{Command, line_command, read_command};
+pub use words::{Command, Query, line_command, read_command};

@@ -14,6 +14,15 @@ use path_names::{is_path_text, is_ref_name, is_user, number};
 // The most commits of a trial.
 const TRIAL_COMMITS: u64 = 100_000;
 
+/// What a command asks of a store, without any input, and without an item that it appends.
+#[derive(Clone, Copy)]
+pub enum Query<'a> {
+    /// The annotated tags that a ref has through the text of a filter.
+    Tags(&'a [u8], &'a [u8]),
+    /// A certificate: of a ref, the text of a filter, and that of a path, which is read as one.
+    Audit(&'a [u8], &'a [u8], &'a [u8]),
+}
+
 /// What the words ask for. A ref stands before the text of a filter, and is a ref name. Each may have any bytes.
 #[derive(Clone, Copy)]
 pub enum Command<'a> {
@@ -26,16 +35,13 @@ pub enum Command<'a> {
     Export(&'a [u8], &'a [u8]),
     /// An export with its annotated tags.
     ExportTags(&'a [u8], &'a [u8]),
-    /// The annotated tags alone.
-    Tags(&'a [u8], &'a [u8]),
     Name(&'a [u8], &'a [u8]),
     Batch,
     /// How many commits, from 1 to 100,000.
     Trial(u64),
     /// The number of a rule, 1 or 2.
     Rule(u8),
-    /// A ref, the text of a filter, and that of a path, which is read as one.
-    Audit(&'a [u8], &'a [u8], &'a [u8]),
+    Ask(Query<'a>),
     /// A commit's 40 digits of either case, the text of a filter, and that of a path, which is read as one.
     Verify(&'a [u8], &'a [u8], &'a [u8]),
     /// A user, and the ref and the filter's text of the command that a policy may let him do.
@@ -121,7 +127,7 @@ fn three_words<'a>(word: &[u8], refname: &'a [u8], filter: &'a [u8]) -> Command<
         return Command::Export(refname, filter);
     }
     if word == b"tags".as_slice() {
-        return Command::Tags(refname, filter);
+        return Command::Ask(Query::Tags(refname, filter));
     }
     if word == b"name".as_slice() {
         return Command::Name(refname, filter);
@@ -142,7 +148,7 @@ fn certificate_words<'a>(
 {
     if word == b"audit".as_slice() {
         if is_ref_name(name) {
-            return Command::Audit(name, filter, path);
+            return Command::Ask(Query::Audit(name, filter, path));
         }
         return Command::Unknown;
     }

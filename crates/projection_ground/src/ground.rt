@@ -28,6 +28,14 @@ pub struct Ground {
 // in its proof.
 impl Drop for Ground {
     fn drop(self) {
-        let Ground { store: _, graph: _, map: _, tables: _, memo: _, rule: _, true_maps: _ } = self;
+        let Ground {
+            store: _,
+            graph: _,
+            map: _,
+            tables: _,
+            memo: _,
+            rule: _,
+            true_maps: _,
+        } = self;
     }
 }

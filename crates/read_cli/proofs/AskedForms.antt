@@ -34,7 +34,7 @@ use Rattle.read_cli.specs.Readings.{Check, Log, New, Originals, Reading, Refs, U
 use Rattle.read_cli.specs.declared.judging.Asked.{Asked}
 use Rattle.read_cli.specs.declared.words.Beside.{Beside}
 use Rattle.read_cli.specs.declared.judging.Asked.TheVariants as asks
-use Rattle.proj_commands.specs.declared.judging.Subject.{Subject}
+use Rattle.proj_commands.specs.declared.subjects.Subject.{Subject}
 
 -- ---- looking at a state that holds h
 

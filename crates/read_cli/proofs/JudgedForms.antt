@@ -10,7 +10,7 @@ use Rattle.read_cli.specs.Looks.{IsAsked, IsSubject, IsUnjudged}
 use Rattle.read_cli.specs.Readings.{Check, Log, New, Originals, Reading, Refs, Unknown, new_of, originals_of, verdict}
 use Rattle.read_cli.specs.declared.judging.Asked.TheVariants as asks
 use Rattle.read_cli.specs.declared.words.Beside.{Beside}
-use Rattle.proj_commands.specs.declared.judging.Subject.{Subject}
+use Rattle.proj_commands.specs.declared.subjects.Subject.{Subject}
 
 pub asked-new : (k : Beside) (r t : Bytes) (o : Option (List Bytes)) (s : Subject) (haves : Vec Name) → IsSubject s r t → o ≡ Some (map name_bytes haves.items) → IsAsked (new_of k r t o) (asks.New k s haves)
 asked-new k r t o s haves w e = subst (λ (p : Option (List Bytes)). IsAsked (new_of k r t p) (asks.New k s haves)) (sym e) (refl, w, refl)

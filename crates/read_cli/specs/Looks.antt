@@ -37,7 +37,7 @@ use Rattle.read_cli.specs.declared.words.Form.{Form}
 use Rattle.read_cli.specs.declared.words.Form.TheVariants as forms
 use Rattle.read_cli.specs.declared.judging.Asked.{Asked}
 use Rattle.read_cli.specs.declared.judging.Asked.TheVariants as asks
-use Rattle.proj_commands.specs.declared.judging.Subject.{Subject}
+use Rattle.proj_commands.specs.declared.subjects.Subject.{Subject}
 
 -- the reading that a form is
 abbrev pub form_reading : Form → Reading

@@ -8,7 +8,7 @@ use git_objects::Name;
 use path_names::is_ref_name;
 
 /// What `new` writes beside the commits.
-#[derive(Clone, Copy, Debug, PartialEq, Eq)]
+#[derive(Clone, Copy)]
 pub enum Beside {
     Nothing,
     /// Their annotated tags, behind them.

@@ -4,8 +4,9 @@ use Rattle.filter_text.specs.Shapes.{shape}
 use Rattle.state_items.specs.Changes.{NoPlan}
 use Rattle.repo_ground.specs.Contents.{Contents}
 use Rattle.repo_ground.specs.contracts.state.State.{the_view}
-use Rattle.proj_commands.specs.Audit.{audit_case}
+use Rattle.proj_commands.specs.Cases.{query_case}
 use Rattle.proj_commands.specs.Makes.{IsMadeOf, IsStateOf}
+use Rattle.proj_commands.specs.Queries.{AuditOf}
 use Rattle.proj_commands.proofs.Audits.{whole}
 use Rattle.proj_commands.proofs.Heads.{head-stored}
 use Rattle.proj_commands.proofs.auditing.audited.Goals as goal
@@ -23,5 +24,5 @@ returns-clause-made c = λ items h store w.
     let q = c.args.path.now in
     let r = c.args.subject.now.refname in
     let s = subst (IsStateOf items h) (sym c.state.view_is) w in
-    subst (λ (x : Contents). IsMadeOf (audit_case h f r q) items h x x store store NoPlan (Ok c.of.result)) c.state.view_is
+    subst (λ (x : Contents). IsMadeOf (query_case h (AuditOf f r q)) items h x x store store NoPlan (Ok c.of.result)) c.state.view_is
     (whole items h v f r q s c.in-Some.head.0 (sym (c.in-Some.ensures.held h w.spells)) c.store_law.ensures c.grown_law.ensures c.requires.usable c.path_law.ensures.path c.of.result (c.of.ensures ∙ c.in_ok-text.ensures) store)

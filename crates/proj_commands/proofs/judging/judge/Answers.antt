@@ -1,8 +1,8 @@
 -- Proves what src/judging.rt needs of `judge`.
 use Rattle.std.proofs.Common.{sym, refl, ap}
-use Rattle.proj_words.specs.Views.{command_of}
-use Rattle.proj_words.specs.Words.{As, Project, Push, PushMerges, Export, ExportTags, Tags, Name, Audit, Verify}
-use Rattle.proj_commands.proofs.JudgedCases.{text-refused}
+use Rattle.proj_words.specs.Views.{command_of, query_of}
+use Rattle.proj_words.specs.Words.{As, Project, Push, PushMerges, Export, ExportTags, Name, Verify}
+use Rattle.proj_commands.proofs.JudgedCases.{query-refused, text-refused}
 use Rattle.proj_commands.proofs.judging.judge.Goals as goal
 
 pub returns-in_err-subject-in-Project-clause-err : goal.returns-in_err-subject-in-Project-clause-err
@@ -30,20 +30,14 @@ returns-in_err-subject-in-ExportTags-clause-err c =
     let t = c.in-ExportTags.filter.now in
     text-refused (ExportTags c.in-ExportTags.refname.now t) (command_of c.args.asked) t (sym (ap command_of c.in-ExportTags.is)) refl c.from_residual-in_err-subject-in-ExportTags.result c.in_err-subject-in-ExportTags.field-0.0 c.from_residual-in_err-subject-in-ExportTags.ensures.1 c.in_err-subject-in-ExportTags.ensures.err
 
-pub returns-in_err-subject-in-Tags-clause-err : goal.returns-in_err-subject-in-Tags-clause-err
-returns-in_err-subject-in-Tags-clause-err c =
-    let t = c.in-Tags.filter.now in
-    text-refused (Tags c.in-Tags.refname.now t) (command_of c.args.asked) t (sym (ap command_of c.in-Tags.is)) refl c.from_residual-in_err-subject-in-Tags.result c.in_err-subject-in-Tags.field-0.0 c.from_residual-in_err-subject-in-Tags.ensures.1 c.in_err-subject-in-Tags.ensures.err
-
 pub returns-in_err-subject-in-Name-clause-err : goal.returns-in_err-subject-in-Name-clause-err
 returns-in_err-subject-in-Name-clause-err c =
     let t = c.in-Name.filter.now in
     text-refused (Name c.in-Name.refname.now t) (command_of c.args.asked) t (sym (ap command_of c.in-Name.is)) refl c.from_residual-in_err-subject-in-Name.result c.in_err-subject-in-Name.field-0.0 c.from_residual-in_err-subject-in-Name.ensures.1 c.in_err-subject-in-Name.ensures.err
 
-pub returns-in_err-subject-in-Audit-clause-err : goal.returns-in_err-subject-in-Audit-clause-err
-returns-in_err-subject-in-Audit-clause-err c =
-    let t = c.in-Audit.filter.now in
-    text-refused (Audit c.in-Audit.refname.now t c.in-Audit.path.now) (command_of c.args.asked) t (sym (ap command_of c.in-Audit.is)) refl c.from_residual-in_err-subject-in-Audit.result c.in_err-subject-in-Audit.field-0.0 c.from_residual-in_err-subject-in-Audit.ensures.1 c.in_err-subject-in-Audit.ensures.err
+pub returns-in_err-query-in-Ask-clause-err : goal.returns-in_err-query-in-Ask-clause-err
+returns-in_err-query-in-Ask-clause-err c =
+    query-refused (query_of c.in-Ask.query) (command_of c.args.asked) (sym (ap command_of c.in-Ask.is)) c.from_residual-in_err-query-in-Ask.result c.in_err-query-in-Ask.field-0.0 c.from_residual-in_err-query-in-Ask.ensures.1 c.in_err-query-in-Ask.ensures.err
 
 pub returns-in_err-filter-in-Verify-clause-err : goal.returns-in_err-filter-in-Verify-clause-err
 returns-in_err-filter-in-Verify-clause-err c =

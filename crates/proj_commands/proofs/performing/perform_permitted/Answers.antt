@@ -65,17 +65,11 @@ returns-in-ExportTags-clause-made g c = λ (asked : Command) (items : List Bytes
     for-any (g.S.Source.left c.args.input.now) _
     (λ all. performed asked (judged.ExportTags _) (subst (IsJudged asked) c.in-ExportTags.is w) refl all items h _ _ _ _ _ _ _ _ _ NoPlan (c.exported-in-ExportTags.ensures.made items h seen st) (adds_none _ _ (IsStopOf h c.args.state.now NoPlan seen.items)))
 
-pub returns-in-Tags-clause-made : goal.returns-in-Tags-clause-made
-returns-in-Tags-clause-made g c = λ (asked : Command) (items : List Bytes) (h : Held) w st.
+pub returns-in-Ask-clause-made : goal.returns-in-Ask-clause-made
+returns-in-Ask-clause-made g c = λ (asked : Command) (items : List Bytes) (h : Held) w st.
     let seen = keeper_view g.K.Keeper.items g.K.Keeper.number g.K.Keeper.faults c.args.store.now in
     for-any (g.S.Source.left c.args.input.now) _
-    (λ all. performed asked (judged.Tags _) (subst (IsJudged asked) c.in-Tags.is w) refl all items h _ _ _ _ _ _ _ _ _ NoPlan (c.tags_upon.ensures.made items h seen st) (adds_none _ _ (IsStopOf h c.args.state.now NoPlan seen.items)))
-
-pub returns-in-Audit-clause-made : goal.returns-in-Audit-clause-made
-returns-in-Audit-clause-made g c = λ (asked : Command) (items : List Bytes) (h : Held) w st.
-    let seen = keeper_view g.K.Keeper.items g.K.Keeper.number g.K.Keeper.faults c.args.store.now in
-    for-any (g.S.Source.left c.args.input.now) _
-    (λ all. performed asked (judged.Audit _ _) (subst (IsJudged asked) c.in-Audit.is w) refl all items h _ _ _ _ _ _ _ _ _ NoPlan (c.audited.ensures.made items h seen st) (adds_none _ _ (IsStopOf h c.args.state.now NoPlan seen.items)))
+    (λ all. performed asked (judged.Ask _) (subst (IsJudged asked) c.in-Ask.is w) refl all items h _ _ _ _ _ _ _ _ _ NoPlan (c.query_upon.ensures.made items h seen st) (adds_none _ _ (IsStopOf h c.args.state.now NoPlan seen.items)))
 
 pub returns-in-Name-clause-made : goal.returns-in-Name-clause-made
 returns-in-Name-clause-made g c = λ (asked : Command) (items : List Bytes) (h : Held) w st.
@@ -209,14 +203,11 @@ returns-in-Export-clause-taken g c = λ (asked : Command) (items : List Bytes) (
 pub returns-in-ExportTags-clause-taken : goal.returns-in-ExportTags-clause-taken
 returns-in-ExportTags-clause-taken g c = λ (asked : Command) (items : List Bytes) (h : Held) w st. takes-none (waited_by (case asked (Ok h))) (g.S.Source.left c.args.input.now)
 
-pub returns-in-Tags-clause-taken : goal.returns-in-Tags-clause-taken
-returns-in-Tags-clause-taken g c = λ (asked : Command) (items : List Bytes) (h : Held) w st. takes-none (waited_by (case asked (Ok h))) (g.S.Source.left c.args.input.now)
-
 pub returns-in-Rule-clause-taken : goal.returns-in-Rule-clause-taken
 returns-in-Rule-clause-taken g c = λ (asked : Command) (items : List Bytes) (h : Held) w st. takes-none (waited_by (case asked (Ok h))) (g.S.Source.left c.args.input.now)
 
-pub returns-in-Audit-clause-taken : goal.returns-in-Audit-clause-taken
-returns-in-Audit-clause-taken g c = λ (asked : Command) (items : List Bytes) (h : Held) w st. takes-none (waited_by (case asked (Ok h))) (g.S.Source.left c.args.input.now)
+pub returns-in-Ask-clause-taken : goal.returns-in-Ask-clause-taken
+returns-in-Ask-clause-taken g c = λ (asked : Command) (items : List Bytes) (h : Held) w st. takes-none (waited_by (case asked (Ok h))) (g.S.Source.left c.args.input.now)
 
 pub returns-in-Verify-clause-taken : goal.returns-in-Verify-clause-taken
 returns-in-Verify-clause-taken g c = λ (asked : Command) (items : List Bytes) (h : Held) w st.
@@ -233,14 +224,11 @@ returns-in-Export-clause-within g c = within_none (g.S.Source.left c.args.input.
 pub returns-in-ExportTags-clause-within : goal.returns-in-ExportTags-clause-within
 returns-in-ExportTags-clause-within g c = within_none (g.S.Source.left c.args.input.now)
 
-pub returns-in-Tags-clause-within : goal.returns-in-Tags-clause-within
-returns-in-Tags-clause-within g c = within_none (g.S.Source.left c.args.input.now)
-
 pub returns-in-Rule-clause-within : goal.returns-in-Rule-clause-within
 returns-in-Rule-clause-within g c = within_none (g.S.Source.left c.args.input.now)
 
-pub returns-in-Audit-clause-within : goal.returns-in-Audit-clause-within
-returns-in-Audit-clause-within g c = within_none (g.S.Source.left c.args.input.now)
+pub returns-in-Ask-clause-within : goal.returns-in-Ask-clause-within
+returns-in-Ask-clause-within g c = within_none (g.S.Source.left c.args.input.now)
 
 pub returns-in-AsProject-clause-within : goal.returns-in-AsProject-clause-within
 returns-in-AsProject-clause-within g c = within_none (g.S.Source.left c.args.input.now)

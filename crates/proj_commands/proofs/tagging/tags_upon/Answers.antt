@@ -6,8 +6,10 @@ use Rattle.git_objects.specs.Paths.{Bytes}
 use Rattle.state_items.specs.Changes.{NoPlan}
 use Rattle.proj_words.specs.declared.outcome.Outcome.{Outcome}
 use Rattle.proj_words.specs.declared.outcome.Outcome.TheVariants.{OutOfMemory}
+use Rattle.proj_commands.specs.Cases.{query_case}
 use Rattle.proj_commands.specs.Makes.{IsMadeOf}
-use Rattle.proj_commands.specs.Tags.{tag_line, tags_case}
+use Rattle.proj_commands.specs.Queries.{TagsOf}
+use Rattle.proj_commands.specs.Tags.{tag_line}
 use Rattle.proj_commands.proofs.NamesGiven.{passed-whole}
 use Rattle.proj_commands.proofs.StatesShown.{head-placed}
 use Rattle.proj_commands.proofs.TagsMade.{no-memory, unshown, whole}
@@ -25,7 +27,7 @@ returns-in-Err-clause-made c = λ items h store w.
     let r = c.args.subject.now.refname in
     let t = c.shown_tags.new.state in
     let d = c.in-Err.ensures in
-    subst (λ (o : Outcome). IsMadeOf (tags_case h f r) items h s t store store NoPlan (Err o)) (sym c.apply_outcome.ensures)
+    subst (λ (o : Outcome). IsMadeOf (query_case h (TagsOf f r)) items h s t store store NoPlan (Err o)) (sym c.apply_outcome.ensures)
     (unshown items h s f r w c.in-Some.head.0 (sym (c.in-Some.ensures.held h w.spells)) t d.rest d.same c.in-Err.error d.err store)
 
 pub returns-in_err-report-clause-made : goal.returns-in_err-report-clause-made
@@ -35,7 +37,7 @@ returns-in_err-report-clause-made c = λ items h store w.
     let r = c.args.subject.now.refname in
     let t = c.shown_tags.new.state in
     let d = c.in-Ok.ensures in
-    passed-whole Bytes c.from_residual.result OutOfMemory c.from_residual.ensures.1 (IsMadeOf (tags_case h f r) items h s t store store NoPlan)
+    passed-whole Bytes c.from_residual.result OutOfMemory c.from_residual.ensures.1 (IsMadeOf (query_case h (TagsOf f r)) items h s t store store NoPlan)
     (no-memory items h s f r w c.in-Some.head.0 (sym (c.in-Some.ensures.held h w.spells)) t d.rest d.same store)
 
 pub returns-clause-made : goal.returns-clause-made

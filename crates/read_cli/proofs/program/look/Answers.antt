@@ -16,7 +16,7 @@ use Rattle.read_cli.specs.Answers.{IsNewLawful, OfHead}
 use Rattle.read_cli.specs.Looks.{IsAsked, IsLookedFor, at_head}
 use Rattle.read_cli.specs.Outputs.{has_tags, new_output, originals_output, refs_output}
 use Rattle.read_cli.specs.Readings.{Reading}
-use Rattle.proj_commands.specs.declared.judging.Subject.{Subject}
+use Rattle.proj_commands.specs.declared.subjects.Subject.{Subject}
 use Rattle.read_cli.proofs.AskedForms.{lawful-new, look-new, look-originals, look-refs, refs-report, refs-unreported}
 use Rattle.read_cli.proofs.Looked.{concluded-looked}
 use Rattle.read_cli.proofs.program.look.Goals as goal
