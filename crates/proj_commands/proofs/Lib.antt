@@ -23,6 +23,7 @@ pub mod StreamHands
 pub mod StreamBatches
 pub mod StateBases
 pub mod StreamTags
+pub mod Settings
 pub mod Intaking
 pub mod Imports
 pub mod RecalledTexts

@@ -27,7 +27,7 @@ pub use filters::sound_filter;
 pub use importing::import;
 pub use judging::{Judged, judge};
 pub use laws::{alike_law, recall_law, stay_law};
-pub use lines::{Telling, leaf_report, projection_report, refs_report, rule_report, tags_report};
+pub use lines::{Telling, leaf_report, projection_report, refs_lines, rule_report, tags_report};
 pub use loading::load;
 pub use naming::name;
 pub use performing::{perform, run_upon};

@@ -1,5 +1,5 @@
 // The lines of reports.
-ghost use Rattle.std.specs.Prelude.{◌≡◌, ◌++◌, map, IfOk, OnOk};
+ghost use Rattle.std.specs.Prelude.{◌≡◌, ◌++◌, [], map, IfErr, IfOk, OnOk};
 ghost use Rattle.std.specs.List.{flat_map};
 ghost use Rattle.std.specs.Option.{option_map};
 ghost use Rattle.fast_import.specs.Replaying.{setting_value};
@@ -8,6 +8,7 @@ ghost use Rattle.commit_map.specs.Shown.{shown_value};
 ghost use Rattle.git_objects.specs.Names.{mode_text};
 ghost use Rattle.proj_audit.specs.Certificates.{found_text};
 ghost use Rattle.proj_audit.specs.Steps.{found_value};
+ghost use Rattle.state_items.specs.Changes.{with_refs};
 ghost use Rattle.proj_commands.specs.Project.{name_line};
 ghost use Rattle.proj_commands.specs.Import.{ref_line};
 ghost use Rattle.proj_commands.specs.Rule.{rule_line};
@@ -16,10 +17,13 @@ ghost use Rattle.proj_commands.specs.Tags.{tag_line};
 
 use commit_map::{Rule, Shown};
 use fast_import::Setting;
-use git_objects::Mode;
+use git_objects::{Bytes, Mode};
 use path_trees::Leaf;
+use proj_words::Outcome;
 use push_back::Pair;
+use ref_store::Refs;
 use std::alloc::{AllocError, Global};
+use std::collections::BTreeMap;
 use tag_objects::{Tag, tag_object_name};
 
 // Adds the line of a ref and its commit.
@@ -34,7 +38,7 @@ fn add_ref_line(report: &mut Vec<u8>, set: &Setting) -> Result<(), AllocError>
 }
 
 /// The lines of refs with their commits.
-pub fn refs_report(alloc: Global, refs: &[Setting]) -> Result<Vec<u8>, AllocError>
+pub(crate) fn refs_report(alloc: Global, refs: &[Setting]) -> Result<Vec<u8>, AllocError>
     ensures { IfOk result (λ report. report.items ≡ flat_map ref_line (map setting_value refs.now)) }
 {
     let mut report = Vec::new(alloc);
@@ -42,6 +46,31 @@ pub fn refs_report(alloc: Global, refs: &[Setting]) -> Result<Vec<u8>, AllocErro
         add_ref_line(&mut report, set)?;
     }
     Ok(report)
+}
+
+// The refs with their commits, in byte order.
+fn settings_of(alloc: Global, refs: &Refs) -> Result<Vec<Setting>, AllocError>
+    ensures { IfOk result (λ settings. map setting_value settings.items ≡ with_refs [] refs.now) }
+{
+    let mut heads = BTreeMap::new(alloc);
+    for i in 0..refs.len() {
+        let (refname, head) = refs.entry(i);
+        heads.insert(refname.copy(alloc)?, head)?;
+    }
+    let mut settings = Vec::with_capacity(alloc, heads.len())?;
+    for (refname, head) in heads {
+        settings.push(Setting { refname, head })?;
+    }
+    Ok(settings)
+}
+
+/// The lines of a store's refs, in byte order.
+pub fn refs_lines(alloc: Global, refs: &Refs) -> Result<Bytes, Outcome>
+    ensures ok { IfOk result (λ lines. lines ≡ flat_map ref_line (with_refs [] refs.now)) }
+    ensures err { IfErr result (λ e. e ≡ Outcome.OutOfMemory) }
+{
+    let settings = settings_of(alloc, refs)?;
+    Ok(Bytes::of(refs_report(alloc, &settings)?))
 }
 
 // Adds the line of a tag and its object.

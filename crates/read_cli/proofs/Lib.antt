@@ -1,6 +1,5 @@
 mod NameWords
 mod LogLines
-mod Settings
 mod Tagging
 mod PlacesNamed
 mod FoundCommits

@@ -1,8 +1,8 @@
--- Proves what src/reports.rt needs of `settings_of`.
+-- Proves what src/lines.rt needs of `settings_of`.
 use Rattle.std.proofs.Common.{◌∙◌, Some, ap, sym}
 use Rattle.git_objects.specs.Paths.{Bytes}
-use Rattle.read_cli.proofs.Settings.{one-more}
-use Rattle.read_cli.proofs.reports.settings_of.Goals as goal
+use Rattle.proj_commands.proofs.Settings.{one-more}
+use Rattle.proj_commands.proofs.lines.settings_of.Goals as goal
 
 pub loop-i-preserved : goal.loop-i-preserved
 loop-i-preserved c =

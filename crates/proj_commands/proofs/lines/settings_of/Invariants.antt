@@ -1,7 +1,7 @@
 use Rattle.std.proofs.Common.{◌≡◌, ◌++◌, [], map, take}
 use Rattle.fast_import.specs.Replaying.{head_values, setting_value}
 use Rattle.state_items.specs.Changes.{with_refs}
-use Rattle.read_cli.proofs.reports.settings_of.Given as goal
+use Rattle.proj_commands.proofs.lines.settings_of.Given as goal
 
 abbrev pub invariant-loop-i : goal.invariant-loop-i
 invariant-loop-i l = head_values l.heads.entries ≡ with_refs [] (take l.i l.refs)
