@@ -39,7 +39,7 @@ use Rattle.proj_commands.specs.Alike.{told, IsAlike, IsAlikeForPush, OfHeads, he
 use Rattle.proj_commands.specs.Cases.{Case, ProjectCase, ExportCase, PushCase, break_outcome, head_of, no_limit}
 use Rattle.proj_commands.specs.Filters.{history, projected, rule_by, sound}
 use Rattle.proj_commands.specs.Policy.{allowed, granted, policy_text}
-use Rattle.proj_commands.specs.Project.{name_line}
+use Rattle.proj_commands.specs.Lines.{name_line}
 use Rattle.proj_commands.specs.Push.{no_refusal, push_outcome, push_plan, told_line}
 use Rattle.proj_commands.specs.Steps.{made, step}
 use Rattle.proj_commands.specs.declared.lines.Telling.TheVariants.{PushedAlone}

@@ -27,7 +27,8 @@ use Rattle.proj_words.specs.declared.outcome.Outcome.TheVariants as outcomes
 use Rattle.proj_commands.specs.Audit.{path_by}
 use Rattle.proj_commands.specs.Cases.{Case, ImportCase, ProjectCase, ExportCase, PushCase, NameCase, RuleCase, QueryCase, VerifyCase, query_case, Made, break_outcome, head_of, loaded, no_limit, streamed, unchanged}
 use Rattle.proj_commands.specs.Steps.{case, made, hand, IsLawful, IsPlanOf, ArePlanned}
-use Rattle.proj_commands.specs.Project.{name_line, IsKeepPlan}
+use Rattle.proj_commands.specs.Project.{IsKeepPlan}
+use Rattle.proj_commands.specs.Lines.{name_line}
 use Rattle.proj_commands.specs.Filters.{entries_of, projected, projection, recalled, rule_by, sound}
 use Rattle.proj_commands.specs.Makes.{IsKeepOf, IsKeepPlanOf, IsPlanIn, recalled_made, OfProject, recalled_line, IsPlanned}
 use Rattle.proj_commands.specs.Plans.{HoldWhatTheyShould, RecallLaw, recalls, IsSameState, changes_state}

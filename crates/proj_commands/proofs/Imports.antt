@@ -49,7 +49,8 @@ use Rattle.proj_words.specs.Faults.{stream_outcome}
 use Rattle.proj_words.specs.declared.outcome.Outcome.{Outcome}
 use Rattle.proj_words.specs.declared.outcome.Outcome.TheVariants as outcomes
 use Rattle.proj_commands.specs.Cases.{Case, ImportCase, Made, within}
-use Rattle.proj_commands.specs.Import.{all_forward, all_free, import_plan, no_backward, no_taken, ref_line, tagged_ran}
+use Rattle.proj_commands.specs.Import.{all_forward, all_free, import_plan, no_backward, no_taken, tagged_ran}
+use Rattle.proj_commands.specs.Lines.{ref_line}
 use Rattle.proj_commands.specs.Steps.{made, hand}
 use Rattle.proj_commands.specs.Filters.{project_by}
 use Rattle.proj_commands.specs.Hands.{IsInHand, IsInHands}

@@ -63,7 +63,7 @@ use Rattle.proj_words.specs.Faults.{stream_outcome}
 use Rattle.proj_words.specs.declared.outcome.Outcome.{Outcome}
 use Rattle.proj_words.specs.declared.outcome.Outcome.TheVariants as outcomes
 use Rattle.proj_commands.specs.Cases.{Case, Made, NameCase, head_of, no_limit, unchanged}
-use Rattle.proj_commands.specs.Project.{name_line}
+use Rattle.proj_commands.specs.Lines.{name_line}
 use Rattle.proj_commands.specs.Filters.{projection}
 use Rattle.proj_commands.specs.Hands.{Hand, IsInHand, IsInHands, TreeMade, all_components, all_leaves, components_for}
 use Rattle.proj_commands.specs.Steps.{hand}

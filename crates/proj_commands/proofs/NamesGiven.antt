@@ -34,7 +34,7 @@ use Rattle.repo_ground.specs.declared.commit.CommitError.TheVariants as commits
 use Rattle.proj_words.specs.declared.outcome.Outcome.{Outcome}
 use Rattle.proj_words.specs.declared.outcome.Outcome.TheVariants as outcomes
 use Rattle.proj_commands.specs.Cases.{NameCase}
-use Rattle.proj_commands.specs.Project.{name_line}
+use Rattle.proj_commands.specs.Lines.{name_line}
 use Rattle.proj_commands.specs.Makes.{IsReportOf}
 use Rattle.proj_commands.specs.Refusals.{apply_outcome, commit_outcome, replay_outcome}
 use Rattle.proj_commands.specs.StreamsGiven.{IsGiven, IsUnnamed}

@@ -35,7 +35,7 @@ use Rattle.repo_ground.proofs.ItemRuns.{stays-self}
 use Rattle.proj_words.specs.declared.outcome.Outcome.{Outcome}
 use Rattle.proj_words.specs.declared.outcome.Outcome.TheVariants.{Collision, OutOfMemory, StoreFault, UnknownRef}
 use Rattle.proj_commands.specs.Cases.{Case, ProjectCase, head_of, unchanged}
-use Rattle.proj_commands.specs.Project.{name_line}
+use Rattle.proj_commands.specs.Lines.{name_line}
 use Rattle.proj_commands.specs.Filters.{entries_of, project_by, project_of, recalled, sound}
 use Rattle.proj_commands.specs.Hands.{IsInHands}
 use Rattle.proj_commands.specs.Makes.{IsGoodPlan, IsKeepOf, IsKeepPlanOf, IsMadeOf, IsPlanned, IsStateOf, hands_of}

@@ -26,7 +26,8 @@ use Rattle.proj_commands.specs.Hands.{IsInHands}
 use Rattle.proj_commands.specs.Makes.{IsMadeOf, IsStateOf, hands_of}
 use Rattle.proj_commands.specs.Queries.{TagsOf, TagsSight}
 use Rattle.proj_commands.specs.Refusals.{apply_outcome}
-use Rattle.proj_commands.specs.Tags.{shown_tags, tag_line, tags_text}
+use Rattle.proj_commands.specs.Tags.{shown_tags, tags_text}
+use Rattle.proj_commands.specs.Lines.{tag_line}
 use Rattle.proj_commands.proofs.Committing.{good-none}
 use Rattle.proj_commands.proofs.Forming.{keeps-self}
 use Rattle.proj_commands.proofs.InHands.{twice-at}

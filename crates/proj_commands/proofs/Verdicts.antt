@@ -37,7 +37,8 @@ use Rattle.proj_words.specs.declared.outcome.Outcome.{Outcome}
 use Rattle.proj_words.specs.declared.outcome.Outcome.TheVariants.{Done, Limit, OutOfMemory, UnknownRef, Collision, ReadFault, WriteFault, StoreFault}
 use Rattle.proj_words.specs.declared.outcome.Outcome.TheVariants as outcomes
 use Rattle.proj_commands.specs.Cases.{Case, ImportCase, ProjectCase, ExportCase, PushCase, NameCase, RuleCase, QueryCase, VerifyCase, IsJudgedRightly, Made, break_outcome, head_of, is_verdict, loaded, no_limit, streamed, verdict, within}
-use Rattle.proj_commands.specs.Import.{all_forward, all_free, import_plan, no_backward, no_taken, ref_line}
+use Rattle.proj_commands.specs.Import.{all_forward, all_free, import_plan, no_backward, no_taken}
+use Rattle.proj_commands.specs.Lines.{ref_line}
 use Rattle.proj_commands.specs.Steps.{case}
 use Rattle.proj_commands.specs.Push.{commit_refusal, no_refusal, push_outcome, push_plan, stream_refusal, told_line, parents_refusal}
 use Rattle.proj_commands.specs.Export.{export_case}

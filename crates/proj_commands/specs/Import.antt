@@ -1,7 +1,6 @@
 -- The command `import`: a stream that is replayed upon the state.
 use Rattle.std.specs.Prelude.{Option, Some, None, Result, Ok, Err, Bool, true, false, List, [], ◌∷◌, ◌++◌, reverse}
 use Rattle.std.specs.List.{flat_map}
-use Rattle.git_objects.specs.Commits.{hex}
 use Rattle.git_objects.specs.Paths.{Bytes}
 use Rattle.git_objects.specs.Refs.{Refs}
 use Rattle.git_objects.specs.Snapshots.{Snapshot}
@@ -20,6 +19,7 @@ use Rattle.proj_words.specs.declared.outcome.Outcome.TheVariants.{NotForward, Ta
 use Rattle.proj_words.specs.declared.outcome.Outcome.{Outcome}
 use Rattle.proj_commands.specs.Cases.{Made, streamed, within}
 use Rattle.proj_commands.specs.Hands.{Hand, hand_of}
+use Rattle.proj_commands.specs.Lines.{ref_line}
 
 -- a stream upon what is there, which may have annotated tags
 abbrev pub tagged_ran : Base → Bytes → Ran StreamFault
@@ -42,10 +42,6 @@ no_taken (Some n) = Err (TagExists n)
 abbrev pub all_free : Bool → List Tag → List Tag → Result (Unit {0}) Outcome
 all_free true tags ts = Ok tt
 all_free false tags ts = no_taken (first_taken tags ts)
-
--- a ref, a space, and its commit's digits
-abbrev pub ref_line : Bytes × Bytes → Bytes
-ref_line e = e.0 ++ 32 ∷ (hex e.1 ++ 10 ∷ [])
 
 -- what a stream adds, with the tags that it has
 abbrev pub import_plan : Held → Replayed → List Tag → Plan

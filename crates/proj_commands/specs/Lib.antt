@@ -1,5 +1,6 @@
 pub mod Filters
 pub mod Hands
+pub mod Lines
 pub mod Tags
 pub mod Audit
 pub mod Queries

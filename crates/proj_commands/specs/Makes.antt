@@ -26,7 +26,8 @@ use Rattle.proj_words.specs.declared.outcome.Outcome.TheVariants.{Done, OutOfMem
 use Rattle.proj_words.specs.Words.{Command, loads}
 use Rattle.proj_commands.specs.Cases.{Case, ExportCase, ProjectCase, PushCase, QueryCase, VerifyCase, Made, unchanged}
 use Rattle.proj_commands.specs.Steps.{made, hand, IsLawful, case}
-use Rattle.proj_commands.specs.Project.{name_line, in_order_of}
+use Rattle.proj_commands.specs.Project.{in_order_of}
+use Rattle.proj_commands.specs.Lines.{name_line}
 use Rattle.proj_commands.specs.Filters.{entries_of, recalled}
 use Rattle.proj_commands.specs.Hands.{Hand, IsInHands}
 use Rattle.proj_commands.specs.Export.{IsExportOf}

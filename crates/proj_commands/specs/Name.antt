@@ -14,7 +14,7 @@ use Rattle.proj_words.specs.declared.outcome.Outcome.{Outcome}
 use Rattle.proj_commands.specs.Filters.{history, projection}
 use Rattle.proj_commands.specs.Cases.{Made, head_of, no_limit, streamed, unchanged}
 use Rattle.proj_commands.specs.Hands.{Hand, components_for, hand_of}
-use Rattle.proj_commands.specs.Project.{name_line}
+use Rattle.proj_commands.specs.Lines.{name_line}
 
 -- the projections that a head and its ancestors have, under the first rule
 abbrev pub history_at : Filter → List Snapshot → Option Bytes → List Snapshot

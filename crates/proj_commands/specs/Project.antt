@@ -1,7 +1,6 @@
 -- The command `project`: the projection of a ref's commit, which may be kept.
 use Rattle.std.specs.List.{list_any}
-use Rattle.std.specs.Prelude.{Result, Ok, [], ◌∷◌, ◌++◌, codes, Option, Some, None, Bool, true, false, if◌then◌else◌, List, ◌≡◌, ℕ, map, reverse, All, ⊤, ◌+◌, ◌*◌, ◌^◌, ◌<◌, ◌≤◌, length, sum_by}
-use Rattle.git_objects.specs.Commits.{hex}
+use Rattle.std.specs.Prelude.{Result, Ok, [], ◌∷◌, Option, None, Bool, true, false, if◌then◌else◌, List, ◌≡◌, ℕ, map, reverse, All, ⊤, ◌+◌, ◌*◌, ◌^◌, ◌<◌, ◌≤◌, length, sum_by}
 use Rattle.git_objects.specs.Paths.{Bytes, same_bytes}
 use Rattle.git_objects.specs.Results.{◌>>=◌}
 use Rattle.git_objects.specs.Snapshots.{snapshot_name}
@@ -14,15 +13,11 @@ use Rattle.state_items.specs.Repos.{repo}
 use Rattle.proj_words.specs.declared.outcome.Outcome.{Outcome}
 use Rattle.proj_commands.specs.Cases.{head_of, Case, ProjectCase, Made, unchanged}
 use Rattle.proj_commands.specs.Filters.{projected}
+use Rattle.proj_commands.specs.Lines.{name_line}
 
 -- the cases of a ref's commit, or that there is no such ref
 abbrev pub project_case : Held → Filter → Bytes → Result Case Outcome
 project_case h f refname = head_of refname h.refs >>= λ n. Ok (ProjectCase h f n)
-
--- the digits of a projection, or `none`
-abbrev pub name_line : Option Shown → Bytes
-name_line None = codes "none\n"
-name_line (Some p) = hex p.commit ++ 10 ∷ []
 
 -- what comes of it; what is kept beside it is told below
 abbrev pub project_made : Held → Filter → Bytes → Result Made Outcome

@@ -16,7 +16,7 @@ use Rattle.repo_ground.specs.Contents.{Contents}
 use Rattle.import_laws.specs.Bases.{base_of}
 use Rattle.repo_ground.specs.declared.commit.Batch.{Batch}
 use Rattle.proj_words.specs.declared.outcome.Outcome.{Outcome}
-use Rattle.proj_commands.specs.Import.{ref_line}
+use Rattle.proj_commands.specs.Lines.{ref_line}
 use Rattle.proj_commands.specs.Makes.{IsStateOf}
 use Rattle.proj_commands.specs.Refusals.{replay_outcome}
 

@@ -1,16 +1,15 @@
 -- The query `tags`: the annotated tags that are shown beside the projected history of a ref's commit.
 use Rattle.std.specs.List.{filter_map, flat_map}
 use Rattle.std.specs.Option.{option_map}
-use Rattle.std.specs.Prelude.{if◌then◌else◌, List, [], ◌∷◌, ◌++◌, Option, None}
-use Rattle.git_objects.specs.Commits.{hex}
+use Rattle.std.specs.Prelude.{if◌then◌else◌, List, [], ◌∷◌, Option, None}
 use Rattle.git_objects.specs.Paths.{Bytes}
 use Rattle.git_objects.specs.Snapshots.{ancestors, has}
 use Rattle.filter_text.specs.Filters.{Filter}
 use Rattle.state_items.specs.Items.{Held}
 use Rattle.state_items.specs.Repos.{repo}
-use Rattle.tag_objects.specs.Tags.{tag_object_name}
 use Rattle.tag_objects.specs.declared.tag.Tag.{Tag}
 use Rattle.proj_commands.specs.Filters.{projected}
+use Rattle.proj_commands.specs.Lines.{tag_line}
 
 -- the tag of another commit
 abbrev pub retargeted : Tag → Bytes → Tag
@@ -31,10 +30,6 @@ shown_tag h f n t = retargeted_one (t, shown_before h f n t.target.0)
 -- those of the state, in the byte order of their names
 abbrev pub shown_tags : Held → Filter → Bytes → List Tag
 shown_tags h f n = filter_map (shown_tag h f n) h.tags
-
--- a tag's name, a space, and the digits of its object
-abbrev pub tag_line : Tag → Bytes
-tag_line t = t.name ++ 32 ∷ (hex (tag_object_name t) ++ 10 ∷ [])
 
 abbrev pub tags_text : Held → Filter → Bytes → Bytes
 tags_text h f n = flat_map tag_line (shown_tags h f n)

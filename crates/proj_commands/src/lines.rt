@@ -9,11 +9,9 @@ ghost use Rattle.git_objects.specs.Names.{mode_text};
 ghost use Rattle.proj_audit.specs.Certificates.{found_text};
 ghost use Rattle.proj_audit.specs.Steps.{found_value};
 ghost use Rattle.state_items.specs.Changes.{with_refs};
-ghost use Rattle.proj_commands.specs.Project.{name_line};
-ghost use Rattle.proj_commands.specs.Import.{ref_line};
+ghost use Rattle.proj_commands.specs.Lines.{name_line, ref_line, tag_line};
 ghost use Rattle.proj_commands.specs.Rule.{rule_line};
 ghost use Rattle.proj_commands.specs.Push.{told_digits};
-ghost use Rattle.proj_commands.specs.Tags.{tag_line};
 
 use commit_map::{Rule, Shown};
 use fast_import::Setting;

@@ -16,7 +16,8 @@ ghost use Rattle.state_items.specs.Changes.{Plan};
 ghost use Rattle.state_items.specs.Items.{Held};
 ghost use Rattle.workspace.specs.Laws.{IsUsable};
 ghost use Rattle.workspace.specs.Workspaces.{shown};
-ghost use Rattle.proj_commands.specs.Project.{name_line, project_case};
+ghost use Rattle.proj_commands.specs.Project.{project_case};
+ghost use Rattle.proj_commands.specs.Lines.{name_line};
 ghost use Rattle.proj_commands.specs.Filters.{sound};
 ghost use Rattle.proj_commands.specs.Makes.{IsMadeOf, IsState, IsStateOf};
 

@@ -24,7 +24,7 @@ use Rattle.proj_commands.specs.Cases.{head_of}
 use Rattle.proj_commands.specs.Export.{export_hand}
 use Rattle.proj_commands.specs.Filters.{sound}
 use Rattle.proj_commands.specs.Hands.{Hand, seen_hand, still_hand}
-use Rattle.proj_commands.specs.Import.{ref_line}
+use Rattle.proj_commands.specs.Lines.{ref_line}
 use Rattle.proj_commands.specs.Judging.{IsOwn}
 use Rattle.proj_commands.proofs.Refusing.{sound-own}
 use Rattle.read_cli.specs.Answers.{IsLawful, IsNewLawful, IsReadBackUpon, OfHead}

@@ -30,8 +30,8 @@ use Rattle.proj_commands.specs.Cases.{head_of}
 use Rattle.proj_commands.specs.Export.{export_hand, tags_beside}
 use Rattle.proj_commands.specs.Filters.{rule_by, sound}
 use Rattle.proj_commands.specs.Hands.{Hand, seen_hand, still_hand}
-use Rattle.proj_commands.specs.Import.{ref_line}
-use Rattle.proj_commands.specs.Tags.{shown_before, shown_tags, tag_line}
+use Rattle.proj_commands.specs.Lines.{ref_line, tag_line}
+use Rattle.proj_commands.specs.Tags.{shown_before, shown_tags}
 use Rattle.read_cli.specs.declared.words.Beside.{Beside}
 use Rattle.read_cli.specs.declared.words.Beside.TheVariants.{Names, Nothing, Tags}
 use Rattle.read_cli.specs.Readings.{Reading, Refs, Log, Check, New, Originals, Unknown}

@@ -7,7 +7,7 @@ ghost use Rattle.state_items.specs.Items.{Held};
 ghost use Rattle.workspace.specs.Laws.{IsUsable};
 ghost use Rattle.proj_commands.specs.Export.{export_hand};
 ghost use Rattle.proj_commands.specs.Makes.{IsState, IsStateOf};
-ghost use Rattle.proj_commands.specs.Tags.{tag_line};
+ghost use Rattle.proj_commands.specs.Lines.{tag_line};
 ghost use Rattle.read_cli.specs.Looks.{IsAtHand, IsStill, IsUnshown};
 ghost use Rattle.read_cli.specs.Outputs.{has_tags, log_line, names_text};
 ghost use Rattle.read_cli.specs.declared.words.Beside.TheVariants.{Names};

@@ -1,7 +1,7 @@
 use Rattle.std.proofs.Common.{◌≡◌, map, take}
 use Rattle.std.specs.List.{flat_map}
 use Rattle.fast_import.specs.Replaying.{setting_value}
-use Rattle.proj_commands.specs.Import.{ref_line}
+use Rattle.proj_commands.specs.Lines.{ref_line}
 use Rattle.proj_commands.proofs.lines.refs_report.Given as goal
 
 abbrev pub invariant-loop-set : goal.invariant-loop-set

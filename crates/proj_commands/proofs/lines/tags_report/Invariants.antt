@@ -1,6 +1,6 @@
 use Rattle.std.proofs.Common.{◌≡◌, take}
 use Rattle.std.specs.List.{flat_map}
-use Rattle.proj_commands.specs.Tags.{tag_line}
+use Rattle.proj_commands.specs.Lines.{tag_line}
 use Rattle.proj_commands.proofs.lines.tags_report.Given as goal
 
 abbrev pub invariant-loop-tag : goal.invariant-loop-tag

@@ -9,7 +9,7 @@ use Rattle.proj_words.specs.declared.outcome.Outcome.TheVariants.{OutOfMemory}
 use Rattle.proj_commands.specs.Cases.{query_case}
 use Rattle.proj_commands.specs.Makes.{IsMadeOf}
 use Rattle.proj_commands.specs.Queries.{TagsOf}
-use Rattle.proj_commands.specs.Tags.{tag_line}
+use Rattle.proj_commands.specs.Lines.{tag_line}
 use Rattle.proj_commands.proofs.NamesGiven.{passed-whole}
 use Rattle.proj_commands.proofs.StatesShown.{head-placed}
 use Rattle.proj_commands.proofs.TagsMade.{no-memory, unshown, whole}

@@ -5,7 +5,7 @@ use Rattle.filter_text.specs.Shapes.{shape}
 use Rattle.git_objects.specs.Paths.{Bytes}
 use Rattle.repo_ground.specs.Contents.{Contents}
 use Rattle.proj_commands.specs.Export.{export_hand}
-use Rattle.proj_commands.specs.Tags.{tag_line}
+use Rattle.proj_commands.specs.Lines.{tag_line}
 use Rattle.read_cli.specs.Looks.{IsAtHand, IsUnshown}
 use Rattle.read_cli.proofs.Freshness.{reached-tags, tags-unshown}
 use Rattle.read_cli.proofs.HeadNames.{still-placed, still-reached, still-then, unshown-first}

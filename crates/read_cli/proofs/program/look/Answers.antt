@@ -11,7 +11,7 @@ use Rattle.state_items.specs.Items.{Held}
 use Rattle.repo_ground.specs.Contents.{Contents}
 use Rattle.proj_commands.specs.Export.{export_hand}
 use Rattle.proj_commands.specs.Hands.{still_hand}
-use Rattle.proj_commands.specs.Import.{ref_line}
+use Rattle.proj_commands.specs.Lines.{ref_line}
 use Rattle.read_cli.specs.Answers.{IsNewLawful, OfHead}
 use Rattle.read_cli.specs.Looks.{IsAsked, IsLookedFor, at_head}
 use Rattle.read_cli.specs.Outputs.{has_tags, new_output, originals_output, refs_output}
