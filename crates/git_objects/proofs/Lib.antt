@@ -20,3 +20,4 @@ pub mod Inserts
 pub mod Digests
 pub mod Tops
 pub mod Standing
+pub mod Beside

@@ -1,5 +1,6 @@
 // Names of objects.
-ghost use Rattle.std.specs.Prelude.{true, ◌≡◌, ◌↔◌, ◌≤◌, ◌∷◌, ◌++◌, [], IsSome, IsTrue, drop, length, replicate, take};
+ghost use Rattle.std.specs.Prelude.{true, ◌≡◌, ◌↔◌, ◌≤◌, ◌∷◌, ◌++◌, [], IsSome, IsTrue};
+ghost use Rattle.std.specs.Prelude.{drop, length, replicate, take};
 ghost use Rattle.std.proofs.Common.{rules};
 ghost use Rattle.std.specs.Cmp.Rules.{hashing};
 ghost use Rattle.std.specs.List.{AllPass};

@@ -1,5 +1,6 @@
 // What a tree's body lists, seen in place.
-ghost use Rattle.std.specs.Prelude.{◌≡◌, ◌≢◌, List, Some, None, IfSome, ◌∷◌, ◌++◌, [], drop, is_some};
+ghost use Rattle.std.specs.Prelude.{◌≡◌, ◌≢◌, List, Some, None, IfSome, ◌∷◌, ◌++◌, [], drop};
+ghost use Rattle.std.specs.Prelude.{is_some};
 ghost use Rattle.std.specs.Prelude.{◌<◌, ◌≤◌, length, take, slice_get, true, false};
 ghost use Rattle.std.specs.Option.{ForSome};
 ghost use Rattle.std.specs.Option.{option_map};
@@ -99,6 +100,24 @@ impl<'a> TreeView<'a> {
         }
     }
 
+    /// The next entry, where other bytes begin with the same mode and component: the entry, the name that they give it,
+    /// and what follows there. Where they don't, the view stays as it was.
+    #[inline(always)]
+    pub fn next_beside<'b>(&mut self, other: &'b [u8]) -> Option<(EntryView<'a>, Name, &'b [u8])>
+        ensures entry { IfSome result (λ r. self.old ≡ entry_value r.0 ∷ self.new) }
+        ensures other { IfSome result (λ r.
+            entry_from other.now ≡ Some (record (entry_value r.0) { name = r.1 }, r.2.now)) }
+        ensures kept { result ≡ None → self.new ≡ self.old }
+    {
+        match first_beside(self.rest, other) {
+            None => None,
+            Some((entry, after, name, behind)) => {
+                self.rest = after;
+                Some((entry, name, behind))
+            }
+        }
+    }
+
     /// Passes by the entries at the front that another view has at its front, too; all of both, where both list the
     /// same.
     pub fn pass_same(&mut self, other: &mut TreeView<'_>)
@@ -122,9 +141,11 @@ impl<'a> TreeView<'a> {
 
     // Passes by the first entry, where the other view has it first, too.
     fn pass_first(&mut self, other: &mut TreeView<'_>) -> bool
-        ensures passed { result ≡ true → (e : Entry) × (self.old ≡ e ∷ self.new) × (other.old ≡ e ∷ other.new) }
+        ensures passed { result ≡ true → (e : Entry) × (self.old ≡ e ∷ self.new)
+            × (other.old ≡ e ∷ other.new) }
         ensures kept { result ≡ false → (self.new ≡ self.old) × (other.new ≡ other.old) }
-        ensures apart { result ≡ false → (e : Entry) → slice_get self.new 0 ≡ Some e → slice_get other.new 0 ≢ Some e }
+        ensures apart { result ≡ false → (e : Entry) → slice_get self.new 0 ≡ Some e →
+            slice_get other.new 0 ≢ Some e }
     {
         match after_same(self.rest, other.rest) {
             None => false,
@@ -199,6 +220,25 @@ fn first_entry<'a>(body: &'a [u8]) -> Option<(EntryView<'a>, &'a [u8])>
     let (mode, rest) = first_mode(body)?;
     let (component, rest) = cut(0, rest)?;
     target(mode, component, rest)
+}
+
+// The first entry of a body and what follows it, where other bytes begin with the same mode and component; and the
+// name that they give it, and what follows there.
+#[inline(always)]
+fn first_beside<'a, 'b>(
+    body: &'a [u8],
+    other: &'b [u8],
+) -> Option<(EntryView<'a>, &'a [u8], Name, &'b [u8])>
+    ensures first { IfSome result (λ r. entry_from body.now ≡ Some (entry_value r.0, r.1.now)) }
+    ensures other { IfSome result (λ r.
+        entry_from other.now ≡ Some (record (entry_value r.0) { name = r.2 }, r.3.now)) }
+{
+    let (entry, after) = first_entry(body)?;
+    let (line, _) = body.split_at(body.len() - after.len());
+    let (key, _) = line.split_at(line.len() - 20);
+    let text = other.strip_prefix(key)?;
+    let (name, behind) = text.split_first_chunk::<20>()?;
+    Some((entry, after, Name(*name), behind))
 }
 
 // What follows the first entry of each of two bodies, where both spell the same one.

@@ -14,3 +14,4 @@ pub mod StoredCommits
 pub mod Growth
 pub mod Pieces
 pub mod PutObjects
+pub mod Swaps

@@ -125,7 +125,7 @@ entry_step S (d ∷ es) e sum part h g p =
 -- ---- by places
 
 -- the sizes at a name's place
-sized-at : (S : List Object) (es : List (Name × Place)) (k : Name) (p : Place) → AreSized S es → lookup (λ (j : Name). same_bytes k.0 j.0) es ≡ Some p → p.stats ≡ sizes (flat S k.0)
+pub sized-at : (S : List Object) (es : List (Name × Place)) (k : Name) (p : Place) → AreSized S es → lookup (λ (j : Name). same_bytes k.0 j.0) es ≡ Some p → p.stats ≡ sizes (flat S k.0)
 sized-at S [] k p h e = cc
 sized-at S (d ∷ es) k p h e =
     elim (same_bytes k.0 d.0.0) as (λ b. same_bytes k.0 d.0.0 ≡ b → cond b (Some d.1) (lookup (λ (j : Name). same_bytes k.0 j.0) es) ≡ Some p → p.stats ≡ sizes (flat S k.0)) [

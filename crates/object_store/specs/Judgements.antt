@@ -3,14 +3,19 @@ use Rattle.std.specs.Prelude.{◌≡◌, List, ◌∷◌, None, true}
 use Rattle.git_objects.specs.Paths.{Bytes}
 use Rattle.git_objects.specs.Names.{name}
 use Rattle.git_objects.specs.declared.kind.Kind.{Kind}
+use Rattle.git_objects.specs.declared.kind.Kind.TheVariants.{Tree}
 use Rattle.git_objects.specs.declared.name.Name.{Name}
 use Rattle.object_store.specs.Objects.{Object, find_named, is_body}
-use Rattle.object_store.specs.Puts.{refusal, with_object}
+use Rattle.object_store.specs.Puts.{of_body, refusal, with_object}
 use Rattle.object_store.specs.Sizes.{sizes}
 use Rattle.object_store.specs.Unfolding.{body_flat}
 use Rattle.object_store.specs.declared.store.TreeStats.{TreeStats}
 use Rattle.object_store.specs.declared.shelf.Judged.{Judged}
 use Rattle.object_store.specs.declared.shelf.Judged.TheVariants.{Held, New}
+
+-- The bytes are the body of a tree whose children are held, and these are its sizes.
+abbrev pub IsTreeOf : List Object → Bytes → TreeStats → Type 0
+IsTreeOf S b stats = (of_body S Tree b None ≡ None) × (stats ≡ sizes (body_flat S Tree b))
 
 -- it is held
 pub record IsHeld (S : List Object) (k : Kind) (b : Bytes) (n : Name) : Type 0 where

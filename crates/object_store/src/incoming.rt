@@ -1,5 +1,6 @@
 // A store that is filled from bytes that are read into its own memory.
-ghost use Rattle.std.specs.Prelude.{◌≡◌, ◌⊎◌, ◌+◌, ◌≤◌, ◌∷◌, [], length, take, drop, true, None, IfOk, IfErr};
+ghost use Rattle.std.specs.Prelude.{◌≡◌, ◌⊎◌, ◌+◌, ◌≤◌, ◌∷◌, [], length, take};
+ghost use Rattle.std.specs.Prelude.{drop, true, None, IfOk, IfErr};
 ghost use Rattle.std.specs.Prelude.{OnOk, OnErr, replicate};
 ghost use Rattle.std.specs.Option.{option_map};
 ghost use Rattle.std.specs.Borrow.{sem};
@@ -12,6 +13,7 @@ ghost use Rattle.object_store.specs.Puts.{refusal, with_object};
 ghost use Rattle.object_store.specs.Sizes.{sizes, stats_of};
 ghost use Rattle.object_store.specs.Unfolding.{body_flat};
 
+use crate::recent::{RECENT, recent_of};
 use crate::shelf::{Judged, Place, Shelf};
 use crate::{ObjectRef, PutError, Store, TreeStats};
 use git_objects::{Kind, Name};
@@ -27,6 +29,8 @@ pub struct Incoming {
     places: IndexMap<Name, Place>,
     from: usize,
     is_open: bool,
+    // The numbers of trees that were put last, in order of arrival, where `recent_of` has them.
+    recent: [usize; RECENT],
 }
 
 impl Model for Incoming {
@@ -54,6 +58,7 @@ impl Incoming {
             places: IndexMap::new(alloc),
             from: 0,
             is_open: true,
+            recent: [0; RECENT],
         }
     }
 
@@ -178,18 +183,27 @@ impl Incoming {
     pub fn put(&mut self, kind: Kind, at: usize, len: usize) -> Result<Name, PutError>
         requires { at + len ≤ length self.old.piece }
         ensures ok { let b = take len (drop at self.old.piece) in IfOk result (λ n. (n.0 ≡ name kind b)
-            × (refusal self.old.objects kind b ≡ None) × (self.new.objects ≡ with_object self.old.objects kind b)) }
+            × (refusal self.old.objects kind b ≡ None)
+            × (self.new.objects ≡ with_object self.old.objects kind b)) }
         ensures err { let b = take len (drop at self.old.piece) in IfErr result (λ e.
             (self.new.objects ≡ self.old.objects)
             × ((e ≡ PutError.OutOfMemory) ⊎ (refusal self.old.objects kind b ≡ refusal_told e))) }
         ensures piece { self.new.piece ≡ self.old.piece }
         ensures store { IsStore self.new.objects }
     {
+        let place = recent_of(&self.piece()[at..at + len]);
+        let near = self.recent[place];
+        let number = self.places.len();
         let body = &self.piece()[at..at + len];
-        match self.shelf().judge(kind, body)? {
+        match self.shelf().judge(kind, body, near)? {
             Judged::Held { name } => Ok(name),
             Judged::New { name, stats } => match self.enter(kind, name, at, len, stats) {
-                Ok(()) => Ok(name),
+                Ok(()) => {
+                    if kind == Kind::Tree {
+                        self.recent[place] = number;
+                    }
+                    Ok(name)
+                }
                 Err(_) => Err(PutError::OutOfMemory),
             },
         }
@@ -199,7 +213,16 @@ impl Incoming {
     pub fn finish(self) -> Store
         ensures { result ≡ self.objects }
     {
-        let Incoming { arena, places, .. } = self;
-        Store { arena, places }
+        let Incoming {
+            arena,
+            places,
+            recent,
+            ..
+        } = self;
+        Store {
+            arena,
+            places,
+            recent,
+        }
     }
 }

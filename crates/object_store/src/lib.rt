@@ -4,6 +4,7 @@
 mod commits;
 mod incoming;
 mod laws;
+mod recent;
 mod shelf;
 mod store;
 mod tree_stats;

@@ -5,10 +5,11 @@ ghost use Rattle.std.specs.Option.{option_map};
 ghost use Rattle.std.specs.Result.{result_err};
 ghost use Rattle.git_objects.specs.Names.{name};
 ghost use Rattle.git_objects.specs.Parts.{name_bytes};
-ghost use Rattle.git_objects.specs.Bodies.{tree_entries};
+ghost use Rattle.git_objects.specs.Bodies.{is_listing, tree_entries};
 ghost use Rattle.git_objects.specs.CommitBodies.{commit_from};
 ghost use Rattle.git_objects.specs.Views.{entry_value};
-ghost use Rattle.git_objects.specs.declared.kind.Kind.TheVariants.{Blob};
+ghost use Rattle.git_objects.specs.Paths.{Bytes};
+ghost use Rattle.git_objects.specs.declared.kind.Kind.TheVariants.{Blob, Tree};
 ghost use Rattle.object_store.specs.Objects.{body_of, find_named, has, has_child, missing_entry, missing_of_commit};
 ghost use Rattle.object_store.specs.Objects.{IsStore};
 ghost use Rattle.object_store.specs.Puts.{if_missing, of_body, of_commit, of_tree, refusal, same_object};
@@ -16,9 +17,9 @@ ghost use Rattle.object_store.specs.Errors.{object_value, refusal_told, error_of
 ghost use Rattle.object_store.specs.Places.{is_full_tree, placed};
 ghost use Rattle.object_store.specs.Sizes.{leaf_sizes, sizes, stats_of};
 ghost use Rattle.object_store.specs.Unfolding.{below, body_flat, entry_flat, flat, joined};
-ghost use Rattle.object_store.specs.Judgements.{IsJudged};
+ghost use Rattle.object_store.specs.Judgements.{IsJudged, IsTreeOf};
 
-use crate::tree_stats::{NO_PATH, leaf_stats, stats_below, stats_joined};
+use crate::tree_stats::{NO_PATH, leaf_stats, stats_below, stats_joined, stats_swapped};
 use crate::{ObjectRef, PutError, TreeStats};
 use git_objects::{CommitView, EntryView, Kind, Mode, Name, TreeView, name_of};
 use indexmap::IndexMap;
@@ -178,6 +179,7 @@ impl<'a> Shelf<'a> {
     }
 
     // The sizes of what an entry adds. None: its child is not held.
+    #[inline(always)]
     fn entry_stats(&self, entry: &EntryView<'_>) -> Option<TreeStats>
         ensures held { is_some result ≡ has_child self.now entry.now.mode entry.now.name.0 }
         ensures sizes { IfSome result (λ s. s ≡ sizes (entry_flat self.now (entry_value entry.now))) }
@@ -268,6 +270,65 @@ impl<'a> Shelf<'a> {
         }
     }
 
+    // The sizes of a tree whose body lists what these entries list, some of them with other names; its children are
+    // held. None where it lists anything else, where a child is not held, or where the sizes can't be told so.
+    fn swapped_stats(
+        &self,
+        mut entries: TreeView<'_>,
+        total: TreeStats,
+        body: &[u8],
+    ) -> Option<TreeStats>
+        requires listing { is_listing entries ≡ true }
+        requires held { missing_entry self.now entries ≡ None }
+        requires total { total ≡ sizes (joined (body_of Blob self.now) (flat self.now) entries) }
+        ensures { IfSome result (IsTreeOf self.now body.now) }
+    {
+        let mut less = NO_PATH;
+        let mut more = NO_PATH;
+        let mut rest = body;
+        'entries: while let Some((entry, name, behind)) = entries.next_beside(rest) {
+            if name != entry.name {
+                let other = EntryView {
+                    mode: entry.mode,
+                    component: entry.component,
+                    name,
+                };
+                let came = self.entry_stats(&other)?;
+                more = stats_joined(more, came);
+                let went = self.held_entry_stats(&entry);
+                less = stats_joined(less, went);
+            }
+            rest = behind;
+        }
+        if !entries.bytes().is_empty() || !rest.is_empty() {
+            return None;
+        }
+        stats_swapped(total, less, more)
+    }
+
+    // The body and the sizes of the tree that arrived with that number, where that is a tree of so many bytes.
+    #[inline(always)]
+    fn tree_at(&self, number: usize, len: usize) -> Option<(&'a [u8], TreeStats)>
+        ensures tree { IfSome result (λ t. (n : Bytes) × (has Tree self.now n ≡ true)
+            × (body_of Tree self.now n ≡ t.0.now) × (t.1 ≡ sizes (flat self.now n))) }
+        ensures store { IsStore self.now }
+    {
+        let (_, place) = self.places.get_index(number)?;
+        if place.kind != Kind::Tree || place.len != len {
+            return None;
+        }
+        let tree = lend(self.arena, *place);
+        Some((tree.body, place.stats))
+    }
+
+    // The sizes of a tree with that body, where the tree that arrived with that number lists the same but for names.
+    fn stats_beside(&self, near: usize, body: &[u8]) -> Option<TreeStats>
+        ensures { IfSome result (IsTreeOf self.now body.now) }
+    {
+        let (other, total) = self.tree_at(near, body.len())?;
+        self.swapped_stats(TreeView::of_canonical(other), total, body)
+    }
+
     // The first of a commit's tree and parents that is not held.
     fn missing_of_commit(&self, commit: &CommitView<'_>) -> Option<Name>
         ensures { option_map name_bytes result ≡ missing_of_commit self.now commit.now }
@@ -312,13 +373,29 @@ impl<'a> Shelf<'a> {
         }
     }
 
-    /// What is said of a body of that kind, or why it may not be taken in.
-    pub(crate) fn judge(&self, kind: Kind, body: &[u8]) -> Result<Judged, PutError>
+    // What `body_stats` gives, faster where the tree with the number `near` lists the same but for
+    // names.
+    fn body_stats_beside(&self, kind: Kind, body: &[u8], near: usize) -> Result<TreeStats, PutError>
+        ensures fault { result_err result ≡ option_map error_of (of_body self.now kind body.now None) }
+        ensures sizes { IfOk result (λ s. s ≡ sizes (body_flat self.now kind body.now)) }
+    {
+        match kind {
+            Kind::Tree => match self.stats_beside(near, body) {
+                Some(stats) => Ok(stats),
+                None => self.body_stats(Kind::Tree, body),
+            },
+            Kind::Blob | Kind::Commit => self.body_stats(kind, body),
+        }
+    }
+
+    // What is said of a body of that kind whose children are held, with the sizes of what it stands for.
+    fn judge_sized(&self, kind: Kind, body: &[u8], stats: TreeStats) -> Result<Judged, PutError>
+        requires body { of_body self.now kind body.now None ≡ None }
+        requires stats { stats ≡ sizes (body_flat self.now kind body.now) }
         ensures { MatchResult result
             (IsJudged self.now kind body.now)
             (λ e. refusal self.now kind body.now ≡ refusal_told e) }
     {
-        let stats = self.body_stats(kind, body)?;
         let name = name_of(kind, body);
         match self.is_same(&name, kind, body) {
             Some(true) => Ok(Judged::Held { name }),
@@ -327,20 +404,52 @@ impl<'a> Shelf<'a> {
         }
     }
 
-    // The sizes of what a body of that kind stands for, whose children are held.
-    fn fitting_stats(&self, kind: Kind, body: &[u8]) -> TreeStats
+    /// What is said of a body of that kind, or why it may not be taken in. Faster where the tree that arrived with the
+    /// number `near` lists the same as the body but for names.
+    pub(crate) fn judge(&self, kind: Kind, body: &[u8], near: usize) -> Result<Judged, PutError>
+        ensures { MatchResult result
+            (IsJudged self.now kind body.now)
+            (λ e. refusal self.now kind body.now ≡ refusal_told e) }
+    {
+        let stats = self.body_stats_beside(kind, body, near)?;
+        self.judge_sized(kind, body, stats)
+    }
+
+    // The sizes of what a body of that kind stands for, whose children are held, as `body_stats_beside` tells them.
+    fn fitting_stats(&self, kind: Kind, body: &[u8], near: usize) -> TreeStats
         requires { of_body self.now kind body.now None ≡ None }
         ensures { result ≡ sizes (body_flat self.now kind body.now) }
     {
         match kind {
-            Kind::Tree => self.held_entries_stats(TreeView::of_canonical(body)),
+            Kind::Tree => match self.stats_beside(near, body) {
+                Some(stats) => stats,
+                None => self.held_entries_stats(TreeView::of_canonical(body)),
+            },
             Kind::Blob | Kind::Commit => NO_PATH,
         }
     }
 
+    // What `fitting_stats` gives of a tree's body with these entries.
+    fn fitting_listed_stats(&self, entries: &[EntryView<'_>], body: &[u8], near: usize) -> TreeStats
+        requires body { of_body self.now Kind.Tree body.now None ≡ None }
+        requires entries { tree_entries body.now ≡ Some (map entry_value entries.now) }
+        ensures { result ≡ sizes (body_flat self.now Kind.Tree body.now) }
+    {
+        match self.stats_beside(near, body) {
+            Some(stats) => stats,
+            None => self.listed_stats(entries),
+        }
+    }
+
     /// What is said of a body of which the caller knows that it is one of that kind and that its children are held:
-    /// only its name may be refused. The sizes are worked out where no object has the name.
-    pub(crate) fn judge_fitting(&self, kind: Kind, body: &[u8]) -> Result<Judged, PutError>
+    /// only its name may be refused. The sizes are worked out where no object has the name, faster where the tree that
+    /// arrived with the number `near` lists the same but for names.
+    pub(crate) fn judge_fitting(
+        &self,
+        kind: Kind,
+        body: &[u8],
+        near: usize,
+    ) -> Result<Judged, PutError>
         requires { of_body self.now kind body.now None ≡ None }
         ensures { MatchResult result
             (IsJudged self.now kind body.now)
@@ -351,7 +460,7 @@ impl<'a> Shelf<'a> {
             Some(true) => Ok(Judged::Held { name }),
             Some(false) => Err(PutError::Collision { name }),
             None => {
-                let stats = self.fitting_stats(kind, body);
+                let stats = self.fitting_stats(kind, body, near);
                 Ok(Judged::New { name, stats })
             }
         }
@@ -362,6 +471,7 @@ impl<'a> Shelf<'a> {
         &self,
         entries: &[EntryView<'_>],
         body: &[u8],
+        near: usize,
     ) -> Result<Judged, PutError>
         requires body { of_body self.now Kind.Tree body.now None ≡ None }
         requires entries { tree_entries body.now ≡ Some (map entry_value entries.now) }
@@ -374,8 +484,8 @@ impl<'a> Shelf<'a> {
             Some(true) => Ok(Judged::Held { name }),
             Some(false) => Err(PutError::Collision { name }),
             None => {
-                let total = self.listed_stats(entries);
-                Ok(Judged::New { name, stats: total })
+                let stats = self.fitting_listed_stats(entries, body, near);
+                Ok(Judged::New { name, stats })
             }
         }
     }

@@ -6,12 +6,14 @@ ghost use Rattle.git_objects.specs.Views.{entry_value};
 ghost use Rattle.std.specs.Option.{option_map};
 ghost use Rattle.git_objects.specs.Names.{name};
 ghost use Rattle.object_store.specs.Objects.{find_named, has, is_body};
+ghost use Rattle.object_store.specs.Judgements.{IsJudged};
 ghost use Rattle.object_store.specs.Objects.{IsStore};
 ghost use Rattle.object_store.specs.Puts.{of_body, refusal, with_object};
 ghost use Rattle.object_store.specs.Errors.{object_value, refusal_told};
 ghost use Rattle.object_store.specs.Sizes.{sizes, stats_of};
 ghost use Rattle.object_store.specs.Unfolding.{body_flat};
 
+use crate::recent::{RECENT, recent_of};
 use crate::shelf::{Judged, Place, Shelf};
 use git_objects::{EntryView, Kind, Name};
 use indexmap::IndexMap;
@@ -54,6 +56,8 @@ pub struct TreeStats {
 pub struct Store {
     pub(crate) arena: Vec<u8>,
     pub(crate) places: IndexMap<Name, Place>,
+    // The numbers of trees that were put last, in order of arrival, where `recent_of` has them.
+    pub(crate) recent: [usize; RECENT],
 }
 
 impl Model for Store {
@@ -75,6 +79,7 @@ impl Store {
         Store {
             arena: Vec::new(alloc),
             places: IndexMap::new(alloc),
+            recent: [0; RECENT],
         }
     }
 
@@ -158,6 +163,30 @@ impl Store {
         Ok(())
     }
 
+    // Takes in what was judged of a body, and gives its name.
+    fn take(&mut self, kind: Kind, body: &[u8], judged: Judged) -> Result<Name, PutError>
+        requires store { IsStore self.old }
+        requires judged { IsJudged self.old kind body.now judged }
+        ensures ok { IfOk result (λ n. (n.0 ≡ name kind body.now) × (refusal self.old kind body.now ≡ None)
+            × (self.new ≡ with_object self.old kind body.now)) }
+        ensures err { IfErr result (λ e. (self.new ≡ self.old) × (e ≡ PutError.OutOfMemory)) }
+        ensures store { IsStore self.new }
+    {
+        match judged {
+            Judged::Held { name } => Ok(name),
+            Judged::New { name, stats } => {
+                let number = self.places.len();
+                if self.add(kind, name, body, stats).is_err() {
+                    return Err(PutError::OutOfMemory);
+                }
+                if kind == Kind::Tree {
+                    self.recent[recent_of(body)] = number;
+                }
+                Ok(name)
+            }
+        }
+    }
+
     /// Takes an object in, and gives its name. One that is held already changes nothing. Of several faults the body's
     /// comes first, then the first child in the body's order, then a collision.
     pub fn put(&mut self, kind: Kind, body: Vec<u8>) -> Result<Name, PutError>
@@ -178,13 +207,9 @@ impl Store {
             × ((e ≡ PutError.OutOfMemory) ⊎ (refusal self.old kind body.now ≡ refusal_told e))) }
         ensures store { IsStore self.new }
     {
-        match self.shelf().judge(kind, body)? {
-            Judged::Held { name } => Ok(name),
-            Judged::New { name, stats } => match self.add(kind, name, body, stats) {
-                Ok(()) => Ok(name),
-                Err(_) => Err(PutError::OutOfMemory),
-            },
-        }
+        let near = self.recent[recent_of(body)];
+        let judged = self.shelf().judge(kind, body, near)?;
+        self.take(kind, body, judged)
     }
 
     /// Takes an object in as `put_slice` does, from a body of which the caller knows that it is one of that kind and
@@ -197,31 +222,24 @@ impl Store {
             × ((e ≡ PutError.OutOfMemory) ⊎ (refusal self.old kind body.now ≡ refusal_told e))) }
         ensures store { IsStore self.new }
     {
-        match self.shelf().judge_fitting(kind, body)? {
-            Judged::Held { name } => Ok(name),
-            Judged::New { name, stats } => match self.add(kind, name, body, stats) {
-                Ok(()) => Ok(name),
-                Err(_) => Err(PutError::OutOfMemory),
-            },
-        }
+        let near = self.recent[recent_of(body)];
+        let judged = self.shelf().judge_fitting(kind, body, near)?;
+        self.take(kind, body, judged)
     }
 
     /// Takes a tree in as `put_fitting` does, from its entries too: they aren't read from the body.
     pub fn put_listed(&mut self, entries: &[EntryView<'_>], body: &[u8]) -> Result<Name, PutError>
         requires body { of_body self.old Kind.Tree body.now None ≡ None }
         requires entries { tree_entries body.now ≡ Some (map entry_value entries.now) }
-        ensures ok { IfOk result (λ n. (n.0 ≡ name Kind.Tree body.now) × (refusal self.old Kind.Tree body.now ≡ None)
+        ensures ok { IfOk result (λ n. (n.0 ≡ name Kind.Tree body.now)
+            × (refusal self.old Kind.Tree body.now ≡ None)
             × (self.new ≡ with_object self.old Kind.Tree body.now)) }
         ensures err { IfErr result (λ e. (self.new ≡ self.old)
             × ((e ≡ PutError.OutOfMemory) ⊎ (refusal self.old Kind.Tree body.now ≡ refusal_told e))) }
         ensures store { IsStore self.new }
     {
-        match self.shelf().judge_listed(entries, body)? {
-            Judged::Held { name } => Ok(name),
-            Judged::New { name, stats } => match self.add(Kind::Tree, name, body, stats) {
-                Ok(()) => Ok(name),
-                Err(_) => Err(PutError::OutOfMemory),
-            },
-        }
+        let near = self.recent[recent_of(body)];
+        let judged = self.shelf().judge_listed(entries, body, near)?;
+        self.take(Kind::Tree, body, judged)
     }
 }

@@ -1,6 +1,7 @@
 // Sizes of trees, from those of their parts.
-ghost use Rattle.std.specs.Prelude.{◌≡◌, length};
+ghost use Rattle.std.specs.Prelude.{◌≡◌, ℕ, length, max, IfSome};
 ghost use Rattle.object_store.specs.Sizes.{held_number, leaf_sizes, sizes_below, sizes_joined};
+ghost use Rattle.object_store.specs.declared.store.TreeStats.{TreeStats};
 
 use crate::TreeStats;
 
@@ -51,4 +52,39 @@ pub fn stats_joined(a: TreeStats, b: TreeStats) -> TreeStats
         depth: a.depth.max(b.depth),
         longest: a.longest.max(b.longest),
     }
+}
+
+// The greater of what was kept and of what came for what went, of which the greater was `total`; None where that can't
+// be told.
+fn most_swapped(total: u32, less: u32, more: u32) -> Option<u32>
+    ensures { IfSome result (λ n. (kept : ℕ) → total ≡ max kept less → n ≡ max kept more) }
+{
+    if more >= total {
+        return Some(more);
+    }
+    if less < total {
+        return Some(total);
+    }
+    None
+}
+
+/// The sizes of a tree in which some paths came for others: of what was kept and of what came, from those of what was
+/// kept and of what went. None where these don't tell.
+pub fn stats_swapped(total: TreeStats, less: TreeStats, more: TreeStats) -> Option<TreeStats>
+    ensures { IfSome result (λ s. (kept : TreeStats) → total ≡ sizes_joined kept less →
+        s ≡ sizes_joined kept more) }
+{
+    if total.files == u32::MAX {
+        return None;
+    }
+    let depth = most_swapped(total.depth, less.depth, more.depth)?;
+    let longest = most_swapped(total.longest, less.longest, more.longest)?;
+    Some(TreeStats {
+        files: total
+            .files
+            .saturating_sub(less.files)
+            .saturating_add(more.files),
+        depth,
+        longest,
+    })
 }

@@ -1,13 +1,11 @@
-use Rattle.std.proofs.Common.{◌≡◌, Some, None, true, [], sym, ap, ◌∙◌}
-use Rattle.std.specs.Option.{option_map, unwrap_or}
+use Rattle.std.proofs.Common.{◌≡◌, Some, None, true, sym, ap, ◌∙◌}
+use Rattle.std.specs.Option.{option_map}
 use Rattle.git_objects.specs.Names.{name}
-use Rattle.git_objects.specs.declared.kind.Kind.TheVariants.{Tree, Blob}
+use Rattle.git_objects.specs.declared.kind.Kind.TheVariants.{Tree}
 use Rattle.git_objects.proofs.Basics.{bytes_fit}
 use Rattle.object_store.specs.Errors.{error_of}
-use Rattle.object_store.specs.Objects.{find_named, body_of}
+use Rattle.object_store.specs.Objects.{find_named}
 use Rattle.object_store.specs.Puts.{same_object}
-use Rattle.object_store.specs.Sizes.{sizes}
-use Rattle.object_store.specs.Unfolding.{joined, flat}
 use Rattle.object_store.proofs.Putting.{fits, same_refusal, same_objects, is_new_object, new_refusal, new_objects}
 use Rattle.object_store.proofs.shelf.Shelf.judge_listed.Goals as goal
 
@@ -38,5 +36,5 @@ returns-in-None c =
       joins = new_objects S Tree b fault new;
       new = ap (find_named S) c.name_of-name.ensures ∙ new;
       whole = fits S Tree b c.requires.body (bytes_fit _ c.type_inv.body);
-      sized = c.listed_stats-total.ensures ∙ ap (λ o. sizes (joined (body_of Blob S) (flat S) (unwrap_or o []))) (sym c.requires.entries);
+      sized = c.fitting_listed_stats-stats.ensures;
     }
