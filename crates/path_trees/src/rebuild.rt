@@ -13,6 +13,9 @@ use git_objects::{EntryView, Name, TreeView, add_entry, compare_components};
 use object_store::Store;
 use std::alloc::{AllocError, Global};
 
+// Room for an entry more, so that a body mostly takes memory once.
+const ENTRY_ROOM: usize = 64;
+
 // Whether the entry of a component stands before another entry in Git's order.
 fn is_before(component: &[u8], found: &Found, entry: &EntryView<'_>) -> bool
     ensures { result ≡ is_before (named component.now found.now) (entry_value entry.now) }
@@ -45,7 +48,8 @@ fn with_change(
 ) -> Result<Vec<u8>, AllocError>
     ensures { IfOk result (λ body. body.items ≡ body_text (changed component.now change entries.entry)) }
 {
-    let mut body = Vec::new(alloc);
+    let room = entries.bytes().len().saturating_add(ENTRY_ROOM);
+    let mut body = Vec::with_capacity(alloc, room)?;
     let mut waiting = change;
     'entries: while let Some(entry) = entries.next() {
         if component != entry.component {
