@@ -1,5 +1,6 @@
 // Graphs of commits.
-ghost use Rattle.std.specs.Prelude.{◌≡◌, ℕ, ◌+◌, ◌<◌, ◌≤◌, ◌^◌, ◌↔◌, List, [], ◌∷◌, ◌++◌, length, take, None};
+ghost use Rattle.std.specs.Prelude.{◌≡◌, ℕ, ◌+◌, ◌<◌, ◌≤◌, ◌^◌, ◌↔◌, List, []};
+ghost use Rattle.std.specs.Prelude.{◌∷◌, ◌++◌, length, take, None};
 ghost use Rattle.std.specs.Prelude.{slice_get, All, Contains, IsTrue, IfSome, IfOk, OnOk, OnErr};
 ghost use Rattle.std.specs.List.Sorted.{IsStrictlyIncreasing};
 ghost use Rattle.commit_graph.specs.Graphs.{Row, IsGraph, place_of, Reaches};
@@ -137,7 +138,8 @@ impl Graph {
         requires there { head < length self.now }
         requires low { low ≤ head }
         ensures rising { IfOk result (λ v. IsStrictlyIncreasing v.items) }
-        ensures exact { IfOk result (λ v. (i : ℕ) → Contains v.items i ↔ ((low ≤ i) × Reaches self.now head i)) }
+        ensures exact { IfOk result (λ v. (i : ℕ) → Contains v.items i ↔ ((low ≤ i)
+            × Reaches self.now head i)) }
     {
         let marks = self.reached(head, low)?;
         let mut found = Vec::new(*self.nodes.allocator());

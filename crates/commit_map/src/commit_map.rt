@@ -1,5 +1,6 @@
 // Kept projections of commits.
-ghost use Rattle.std.specs.Prelude.{◌≡◌, ◌<◌, ◌++◌, ◌∷◌, [], length, None, Some, OnOk, OnErr, slice_get, take};
+ghost use Rattle.std.specs.Prelude.{◌≡◌, ◌<◌, ◌++◌, ◌∷◌, [], length, None, Some, OnOk, OnErr};
+ghost use Rattle.std.specs.Prelude.{slice_get, take};
 ghost use Rattle.std.specs.Option.{option_map};
 ghost use Rattle.commit_map.specs.Shown.{entry_value, kept_at, shown_value};
 

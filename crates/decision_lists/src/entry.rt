@@ -1,5 +1,6 @@
 // Entries of decision lists: cones of paths, and where they go.
-ghost use Rattle.std.specs.Prelude.{◌≡◌, ◌≤◌, ◌++◌, length, option_map, is_some, true, false, ◌&&◌, IfOk, Some};
+ghost use Rattle.std.specs.Prelude.{◌≡◌, ◌≤◌, ◌++◌, length, option_map, is_some, true, false, ◌&&◌};
+ghost use Rattle.std.specs.Prelude.{IfOk, Some};
 ghost use Rattle.decision_lists.specs.Fronts.{strip};
 ghost use Rattle.decision_lists.specs.Entries.{Entry as RouteEntry, cone_of, tail, base};
 ghost use Rattle.decision_lists.specs.Lists.{behind};
@@ -142,7 +143,8 @@ pub fn onward(
     target: &Option<Vec<Component>>,
     rest: &[Component],
 ) -> Result<Option<Vec<Component>>, AllocError>
-    ensures { IfOk result (λ t. option_map (λ v. v.items) t ≡ onward (option_map (λ v. v.items) target.now) rest.now) }
+    ensures { IfOk result (λ t. option_map (λ v. v.items) t
+        ≡ onward (option_map (λ v. v.items) target.now) rest.now) }
 {
     match target {
         None => Ok(None),

@@ -1,5 +1,6 @@
 // The way of a path through a decision list, and the way back.
-ghost use Rattle.std.specs.Prelude.{◌≡◌, ◌≤◌, ◌++◌, [], None, Some, is_some, true, length, slice_get, IfSome};
+ghost use Rattle.std.specs.Prelude.{◌≡◌, ◌≤◌, ◌++◌, [], None, Some, is_some, true, length, slice_get};
+ghost use Rattle.std.specs.Prelude.{IfSome};
 ghost use Rattle.decision_lists.specs.Fronts.{strip};
 ghost use Rattle.decision_lists.specs.Entries.{base, cone_of, tail, run};
 ghost use Rattle.decision_lists.specs.Operations.{heads};

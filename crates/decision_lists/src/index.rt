@@ -1,5 +1,6 @@
 // Where each cone of a decision list first stands, found by a number of the cone in place of a walk through the list.
-ghost use Rattle.std.specs.Prelude.{◌≡◌, ◌++◌, [], ◌∷◌, true, false, cond, is_some, nat_eq, slice_get, IfOk, OnOk};
+ghost use Rattle.std.specs.Prelude.{◌≡◌, ◌++◌, [], ◌∷◌, true, false, cond, is_some, nat_eq, slice_get};
+ghost use Rattle.std.specs.Prelude.{IfOk, OnOk};
 ghost use Rattle.std.specs.HashMap.{get};
 ghost use Rattle.git_objects.specs.Paths.{same_path};
 ghost use Rattle.decision_lists.specs.Entries.{cone_of};

@@ -1,5 +1,6 @@
 // Decision lists with an index of their cones.
-ghost use Rattle.std.specs.Prelude.{◌≡◌, ◌++◌, ◌≤◌, [], ◌∷◌, List, length, take, nat_eq, is_some, ◌&&◌, IfOk, OnOk};
+ghost use Rattle.std.specs.Prelude.{◌≡◌, ◌++◌, ◌≤◌, [], ◌∷◌, List, length, take, nat_eq, is_some};
+ghost use Rattle.std.specs.Prelude.{◌&&◌, IfOk, OnOk};
 ghost use Rattle.std.specs.HashMap.{get};
 ghost use Rattle.decision_lists.specs.Entries.{Entry as RouteEntry, cone_of};
 ghost use Rattle.decision_lists.specs.Operations.{alive_in, are_live};

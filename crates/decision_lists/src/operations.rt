@@ -1,6 +1,7 @@
 // Decision lists that are made of others: one asked where another gives nothing, one after another, and one turned
 // around.
-ghost use Rattle.std.specs.Prelude.{◌≡◌, ◌≤◌, ◌++◌, [], ◌∷◌, length, option_map, Some, IfOk, OnOk, List, cond};
+ghost use Rattle.std.specs.Prelude.{◌≡◌, ◌≤◌, ◌++◌, [], ◌∷◌, length, option_map, Some, IfOk};
+ghost use Rattle.std.specs.Prelude.{OnOk, List, cond};
 ghost use Rattle.decision_lists.specs.Entries.{Entry as RouteEntry, cone_of, at, below};
 ghost use Rattle.decision_lists.specs.Operations.{pull, put, pulled, block, heads, thin, grown, how, either_left};
 ghost use Rattle.decision_lists.specs.Operations.{after_left, turned, onward};

@@ -60,7 +60,8 @@ impl Replay {
 
     // The blob of a mark.
     fn marked_blob(&self, at: u64, mark: u64) -> Result<Name, StreamFault>
-        ensures { (S : List Object) (base : BaseOf) (r : ReplayOf) (mode : Mode) → is_fit mode (Mark mark) ≡ true →
+        ensures { (S : List Object) (base : BaseOf) (r : ReplayOf) (mode : Mode) →
+            is_fit mode (Mark mark) ≡ true →
             IsReplayOf S self.now r → Gives (IsLeafIn S mode) (given_bytes base r at mode (Mark mark)) result }
     {
         match self.marks.get(mark) {

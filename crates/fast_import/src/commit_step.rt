@@ -90,7 +90,8 @@ impl Replay {
     ) -> Result<(), StreamFault>
         requires base { IsBaseIn store.now (B.commits base.now) (B.refs base.now) (B.blobs base.now) }
         requires so_far { (r : ReplayOf) × IsReplayOf store.now self.old r }
-        ensures { (at : ℕ) (r : ReplayOf) → IsReplayOf store.now self.old r → IsTried store.now self.new (command_step
+        ensures { (at : ℕ) (r : ReplayOf) → IsReplayOf store.now self.old r →
+            IsTried store.now self.new (command_step
             (base_in store.now (B.commits base.now) (B.refs base.now) (B.blobs base.now)) r at (Commit head)) result }
     {
         match self.begun(base, store, &head) {

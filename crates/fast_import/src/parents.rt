@@ -19,7 +19,8 @@ impl Replay {
     /// The commit that a head's line `from` names, there or not. Without this line it is the head of a branch that the
     /// stream has set, else none. Unresolved exactly where nothing stands for the line's name. Takes no memory.
     pub fn parent<B: Base>(&self, base: &B, head: &CommitHead) -> Result<Option<Name>, StreamFault>
-        ensures { (S : List Object) (r : ReplayOf) → IsReplayOf S self.now r → Answers (option_map name_bytes) result
+        ensures { (S : List Object) (r : ReplayOf) → IsReplayOf S self.now r →
+            Answers (option_map name_bytes) result
             (named_parent (base_in S (B.commits base.now) (B.refs base.now) (B.blobs base.now)) r head.now) }
     {
         match &head.from {
@@ -33,7 +34,8 @@ impl Replay {
 
     // The tree of a commit that is there or that the stream has made.
     pub(crate) fn tree_of<B: Base>(&self, base: &B, name: &Name) -> Option<Name>
-        ensures tree { (S : List Object) (r : ReplayOf) → IsReplayOf S self.now r → option_map (λ t. flat S t.0) result
+        ensures tree { (S : List Object) (r : ReplayOf) → IsReplayOf S self.now r →
+            option_map (λ t. flat S t.0) result
             ≡ tree_of (base_in S (B.commits base.now) (B.refs base.now) (B.blobs base.now)) r name.now.0 }
         ensures held { (S : List Object) (r : ReplayOf) → IsReplayOf S self.now r →
             IsBaseIn S (B.commits base.now) (B.refs base.now) (B.blobs base.now) →
@@ -65,7 +67,8 @@ impl Replay {
         base: &B,
         from: &Option<CommitRef>,
     ) -> Result<Option<Name>, StreamFault>
-        ensures { (S : List Object) (r : ReplayOf) → IsReplayOf S self.now r → Answers (option_map name_bytes) result
+        ensures { (S : List Object) (r : ReplayOf) → IsReplayOf S self.now r →
+            Answers (option_map name_bytes) result
             (said (base_in S (B.commits base.now) (B.refs base.now) (B.blobs base.now)) r from.now) }
     {
         match from {
@@ -83,7 +86,8 @@ impl Replay {
         base: &B,
         head: &CommitHead,
     ) -> Result<Option<Name>, StreamFault>
-        ensures { (S : List Object) (r : ReplayOf) → IsReplayOf S self.now r → Answers (option_map name_bytes) result
+        ensures { (S : List Object) (r : ReplayOf) → IsReplayOf S self.now r →
+            Answers (option_map name_bytes) result
             (first_parent (base_in S (B.commits base.now) (B.refs base.now) (B.blobs base.now)) r head.now) }
     {
         match self.said(base, &head.from) {

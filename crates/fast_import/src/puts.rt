@@ -39,7 +39,8 @@ pub(crate) fn put_commit(
     requires tree { has Tree store.old parts.now.tree.0 ≡ true }
     requires parents { Each (λ n. has Commit store.old n ≡ true) (map name_bytes parts.now.parents.items) }
     requires few { length parts.now.parents.items ≤ 16 }
-    ensures ok { IfOk result (λ n. (n.0 ≡ name Commit (commit_body (commit_of parts.now))) × (find_named store.new n.0
+    ensures ok { IfOk result (λ n. (n.0 ≡ name Commit (commit_body (commit_of parts.now)))
+        × (find_named store.new n.0
         ≡ Some (record { kind = Commit; body = commit_body (commit_of parts.now) }))) }
     ensures err { IfErr result (IsPutFault (IsOnly Commit (commit_body (commit_of parts.now))) store.new) }
     ensures store { IsGrownBy (IsOnly Commit (commit_body (commit_of parts.now))) store.old store.new }

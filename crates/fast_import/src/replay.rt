@@ -84,7 +84,8 @@ impl Replay {
 
     /// What the commands have given, without the tags. Takes no memory.
     pub fn finish(self) -> Replayed
-        ensures gives { (S : List Object) (r : ReplayOf) → IsReplayOf S self r → IsReplayedOf S result (given_by r) }
+        ensures gives { (S : List Object) (r : ReplayOf) → IsReplayOf S self r →
+            IsReplayedOf S result (given_by r) }
         ensures few { length result.commits.items ≤ STREAM_BYTES }
     {
         let TaggedReplay { replayed, tags: _ } = self.finish_tagged();
@@ -153,7 +154,8 @@ impl Replay {
 
     /// The name that stands for a commit in the stream: digits give themselves. Takes no memory.
     pub fn named<B: Base>(&self, base: &B, r: &CommitRef) -> Option<Name>
-        ensures { (S : List Object) (so_far : ReplayOf) → IsReplayOf S self.now so_far → option_map name_bytes result
+        ensures { (S : List Object) (so_far : ReplayOf) → IsReplayOf S self.now so_far →
+            option_map name_bytes result
             ≡ target_name (base_in S (B.commits base.now) (B.refs base.now) (B.blobs base.now)) so_far r.now.target }
     {
         match &r.target {

@@ -1,5 +1,6 @@
 // The replay of a whole stream.
-ghost use Rattle.std.specs.Prelude.{◌≡◌, ◌⊎◌, ◌<◌, ◌≤◌, ◌↔◌, ℕ, List, true, false, length, take, IfErr, IfOk};
+ghost use Rattle.std.specs.Prelude.{◌≡◌, ◌⊎◌, ◌<◌, ◌≤◌, ◌↔◌, ℕ, List, true, false};
+ghost use Rattle.std.specs.Prelude.{length, take, IfErr, IfOk};
 ghost use Rattle.std.specs.Prelude.{[], IfSome, IsErrOf, None, OnErr, OnOk};
 ghost use Rattle.git_objects.specs.Paths.{is_bytes};
 ghost use Rattle.git_objects.specs.declared.limits.TheConstants.{STREAM_BYTES};
@@ -40,7 +41,8 @@ pub fn replay_all<S: Source, B: Base>(
     store: &mut Store,
 ) -> Result<Replayed, ReplayError>
     requires { IsBaseIn store.old (B.commits base.now) (B.refs base.now) (B.blobs base.now) }
-    ensures stream { (all : List ℕ) × (is_bytes all ≡ true) × IfSome (S.left input.old) (λ bytes. bytes ≡ all) ×
+    ensures stream { (all : List ℕ) × (is_bytes all ≡ true)
+        × IfSome (S.left input.old) (λ bytes. bytes ≡ all) ×
         IsWhole (base_in store.old (B.commits base.now) (B.refs base.now) (B.blobs base.now))
         store.old store.new all result }
     ensures taken { IsTaken (base_in store.old (B.commits base.now) (B.refs base.now) (B.blobs base.now))

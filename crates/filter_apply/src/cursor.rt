@@ -125,8 +125,10 @@ fn opened<'a, 'b, L: Ledger>(
     steps: &mut Steps<L>,
 ) -> Option<Cursor<'a, 'b>>
     requires { has Tree store.now root.0 ≡ true }
-    ensures cursor { IfSome result (λ k. IsCursor store.now (flat store.now root.0) k × (k.parent.now ≡ parent.now)) }
-    ensures none { result ≡ None → (c : Bytes) → None ≡ standing (flat store.now root.0) (parent.now ++ c ∷ []) }
+    ensures cursor { IfSome result (λ k. IsCursor store.now (flat store.now root.0) k
+        × (k.parent.now ≡ parent.now)) }
+    ensures none { result ≡ None → (c : Bytes) →
+        None ≡ standing (flat store.now root.0) (parent.now ++ c ∷ []) }
     ensures paid { steps.new ≤ steps.old + (length parent.now + 1) }
 {
     let found = found_at(store, root, parent, steps)?;
@@ -154,8 +156,10 @@ pub fn cursor_at<'a, 'b, L: Ledger>(
 ) -> Option<Cursor<'a, 'b>>
     requires root { has Tree store.now root.0 ≡ true }
     requires cursor { IfSome cursor (IsCursor store.now (flat store.now root.0)) }
-    ensures cursor { IfSome result (λ k. IsCursor store.now (flat store.now root.0) k × (k.parent.now ≡ parent.now)) }
-    ensures none { result ≡ None → (c : Bytes) → None ≡ standing (flat store.now root.0) (parent.now ++ c ∷ []) }
+    ensures cursor { IfSome result (λ k. IsCursor store.now (flat store.now root.0) k
+        × (k.parent.now ≡ parent.now)) }
+    ensures none { result ≡ None → (c : Bytes) →
+        None ≡ standing (flat store.now root.0) (parent.now ++ c ∷ []) }
     ensures paid { steps.new ≤ steps.old + (length parent.now + 1) }
 {
     if let Some(kept) = cursor {

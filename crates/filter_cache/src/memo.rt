@@ -96,9 +96,10 @@ impl Memo {
         ensures entered { (self.new ≡ record self.old {
           entries = entered same_key self.old.capacity ((table, part), tree.0) shown.0 self.old.entries;
         }) ⊎ (self.new ≡ self.old) }
-        ensures known { IsSome (found same_key ((table, part), tree.0) self.old.entries) → self.new ≡ record self.old {
-          entries = entered same_key self.old.capacity ((table, part), tree.0) shown.0 self.old.entries;
-        } }
+        ensures known { IsSome (found same_key ((table, part), tree.0) self.old.entries) →
+            self.new ≡ record self.old {
+              entries = entered same_key self.old.capacity ((table, part), tree.0) shown.0 self.old.entries;
+            } }
     {
         let _ = self.places.put(Place { table, part, tree }, shown);
     }

@@ -1,5 +1,6 @@
 // The tables of many filters.
-ghost use Rattle.std.specs.Prelude.{◌≡◌, ◌↔◌, ◌<◌, ◌^◌, ◌∷◌, [], ℕ, List, length, nat_eq, slice_get, ◌++◌, IsTrue};
+ghost use Rattle.std.specs.Prelude.{◌≡◌, ◌↔◌, ◌<◌, ◌^◌, ◌∷◌, [], ℕ, List, length, nat_eq};
+ghost use Rattle.std.specs.Prelude.{slice_get, ◌++◌, IsTrue};
 ghost use Rattle.std.specs.Prelude.{IfOk, IfErr, IfSome, IfNone, OnOk, OnErr};
 ghost use Rattle.std.proofs.Common.{rules};
 ghost use Rattle.std.specs.Cmp.{partial_equiv_from_equiv};
@@ -136,7 +137,8 @@ impl Tables {
     pub fn intern_if_sound(&mut self, filter: &Filter) -> Result<Option<usize>, AllocError>
         ensures number { IfOk result (λ o. IfSome o (Interns self.old self.new (shape filter.now))) }
         ensures sound { IfOk result (λ o. IfSome o (λ _. IsSound (shape filter.now))) }
-        ensures unsound { IfOk result (λ o. IfNone o ((IsSound (shape filter.now) → ⊥) × (self.new ≡ self.old))) }
+        ensures unsound { IfOk result (λ o. IfNone o ((IsSound (shape filter.now) → ⊥)
+            × (self.new ≡ self.old))) }
         ensures err { OnErr result (self.new ≡ self.old) }
     {
         let alloc = self.alloc;

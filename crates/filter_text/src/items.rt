@@ -1,5 +1,6 @@
 // Workspace files.
-ghost use Rattle.std.specs.Prelude.{◌≡◌, ◌≤◌, ◌<◌, ◌⊎◌, [], Some, None, true, false, IfOk, IfSome, MatchResult};
+ghost use Rattle.std.specs.Prelude.{◌≡◌, ◌≤◌, ◌<◌, ◌⊎◌, [], Some, None, true, false, IfOk};
+ghost use Rattle.std.specs.Prelude.{IfSome, MatchResult};
 ghost use Rattle.std.specs.Prelude.{option_map, length};
 ghost use Rattle.std.specs.Option.{option_and_then};
 ghost use Rattle.std.specs.List.{list_all};
@@ -198,7 +199,8 @@ fn read_items(alloc: Global, text: &[u8]) -> Result<Option<Vec<Item>>, AllocErro
 #[tactic(auto, unfolding(crate::specs::Items::items))]
 fn items_in(alloc: Global, text: &[u8]) -> Result<Vec<Item>, ItemsFault>
     ensures { MatchResult result (λ v. items text.now ≡ Some (item_values v.items))
-        (λ fault. (fault ≡ ItemsFault.OutOfMemory) ⊎ ((fault ≡ ItemsFault.Unreadable) × (items text.now ≡ None))) }
+        (λ fault. (fault ≡ ItemsFault.OutOfMemory) ⊎ ((fault ≡ ItemsFault.Unreadable)
+        × (items text.now ≡ None))) }
 {
     if text.len() > WORKSPACE_BYTES {
         return Err(ItemsFault::Unreadable);
@@ -217,7 +219,8 @@ fn items_in(alloc: Global, text: &[u8]) -> Result<Vec<Item>, ItemsFault>
 /// and its place and its filter are made of paths.
 pub fn parse_items(alloc: Global, text: &[u8]) -> Result<Vec<Item>, ItemsFault>
     ensures read { MatchResult result (λ v. items text.now ≡ Some (item_values v.items))
-        (λ fault. (fault ≡ ItemsFault.OutOfMemory) ⊎ ((fault ≡ ItemsFault.Unreadable) × (items text.now ≡ None))) }
+        (λ fault. (fault ≡ ItemsFault.OutOfMemory) ⊎ ((fault ≡ ItemsFault.Unreadable)
+        × (items text.now ≡ None))) }
     ensures valid { IfOk result (λ v. list_all (λ i. is_item_filter i.1) (item_values v.items) ≡ true) }
     ensures paths { IfOk result (λ v. Each IsMadeOfPaths (item_values v.items)) }
 {

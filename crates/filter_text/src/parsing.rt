@@ -1,5 +1,6 @@
 // Reading a whole filter text.
-ghost use Rattle.std.specs.Prelude.{◌≡◌, ◌≤◌, ◌⊎◌, true, Ok, Err, Some, IfOk, MatchResult, option_map};
+ghost use Rattle.std.specs.Prelude.{◌≡◌, ◌≤◌, ◌⊎◌, true, Ok, Err, Some, IfOk, MatchResult};
+ghost use Rattle.std.specs.Prelude.{option_map};
 ghost use Rattle.git_objects.specs.declared.limits.TheConstants.{FILTER_PIECES};
 ghost use Rattle.filter_text.specs.Shapes.{shape};
 ghost use Rattle.filter_text.specs.Reading.{filter_of};

@@ -1,6 +1,7 @@
 // Reading the filter at the front of a text. The open brackets stand in a vector, so a text of any nesting takes no
 // more of the stack than another.
-ghost use Rattle.std.specs.Prelude.{◌≡◌, ◌≤◌, ◌<◌, ◌+◌, ◌*◌, ◌||◌, ◌∷◌, Some, IfOk, length};
+ghost use Rattle.std.specs.Prelude.{◌≡◌, ◌≤◌, ◌<◌, ◌+◌, ◌*◌, ◌||◌, ◌∷◌, Some, IfOk};
+ghost use Rattle.std.specs.Prelude.{length};
 ghost use Rattle.std.specs.Option.{option_and_then};
 ghost use Rattle.filter_text.specs.Shapes.{shape, shapes};
 ghost use Rattle.filter_text.specs.Reading.{piece_of, more_pieces, bracketed, goes_on, member_of, more_members};

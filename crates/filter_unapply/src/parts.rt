@@ -1,5 +1,6 @@
 // A pushed tree as parts, and the parts put together with what is kept.
-ghost use Rattle.std.specs.Prelude.{◌≡◌, ◌<◌, ◌⊎◌, [], ◌∷◌, true, Some, None, length, IfOk, IfErr, OnOk};
+ghost use Rattle.std.specs.Prelude.{◌≡◌, ◌<◌, ◌⊎◌, [], ◌∷◌, true, Some, None, length, IfOk};
+ghost use Rattle.std.specs.Prelude.{IfErr, OnOk};
 ghost use Rattle.git_objects.specs.Lists.{Each};
 ghost use Rattle.git_objects.specs.Paths.{Path as PathValue};
 ghost use Rattle.git_objects.specs.Trees.{Leaf as LeafValue, at};

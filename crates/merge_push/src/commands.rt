@@ -138,7 +138,8 @@ fn commit_judged(
 // Whether two of the names that a commit's lines give are one: the chain's end, and those of the lines `merge`. A name
 // that isn't there is left to the replay, which refuses it before. It takes no memory.
 fn repeats(replay: &Replay, base: &MergeBase, head: &CommitHead) -> bool
-    ensures { (S : List Object) (r : ReplayOf) → IsReplayOf S replay.now r → result ≡ repeats S base.now r head.now }
+    ensures { (S : List Object) (r : ReplayOf) → IsReplayOf S replay.now r →
+        result ≡ repeats S base.now r head.now }
 {
     let merges = head.merges.refs();
     for i in 0..merges.len() {

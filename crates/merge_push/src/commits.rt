@@ -1,5 +1,6 @@
 // The originals of pushed commits with merges.
-ghost use Rattle.std.specs.Prelude.{◌≡◌, ◌<◌, ◌≤◌, ◌++◌, ◌∷◌, [], All, List, true, length, map, None};
+ghost use Rattle.std.specs.Prelude.{◌≡◌, ◌<◌, ◌≤◌, ◌++◌, ◌∷◌, [], All, List, true, length};
+ghost use Rattle.std.specs.Prelude.{map, None};
 ghost use Rattle.std.specs.Prelude.{IfOk, IsSome, OnErr, OnOk};
 ghost use Rattle.git_objects.specs.Snapshots.{Snapshot};
 ghost use Rattle.git_objects.specs.declared.kind.Kind.TheVariants.{Tree};

@@ -1,5 +1,6 @@
 // Paths.
-ghost use Rattle.std.specs.Prelude.{◌≡◌, ◌⊎◌, ◌++◌, ◌+◌, ◌<◌, ℕ, List, length, true, IfOk, OnOk, MatchResult, Ok};
+ghost use Rattle.std.specs.Prelude.{◌≡◌, ◌⊎◌, ◌++◌, ◌+◌, ◌<◌, ℕ, List, length, true, IfOk};
+ghost use Rattle.std.specs.Prelude.{OnOk, MatchResult, Ok};
 ghost use Rattle.std.specs.Prelude.{Err};
 ghost use Rattle.std.specs.List.{list_all};
 ghost use Rattle.std.specs.Result.{is_ok};

@@ -1,5 +1,6 @@
 // Texts between double quotes.
-ghost use Rattle.std.specs.Prelude.{◌≡◌, ◌≤◌, ◌⊎◌, ◌++◌, ◌∷◌, [], None, Some, true, length, drop, IfOk, IfSome};
+ghost use Rattle.std.specs.Prelude.{◌≡◌, ◌≤◌, ◌⊎◌, ◌++◌, ◌∷◌, [], None, Some, true, length};
+ghost use Rattle.std.specs.Prelude.{drop, IfOk, IfSome};
 ghost use Rattle.std.specs.Prelude.{OnOk, MatchOption, MatchResult};
 ghost use Rattle.std.specs.List.{list_any, position, position_or_len};
 ghost use Rattle.path_names.specs.Quoting.{quote, quoted, quoted_byte, is_special, short, unquote, unquoted};

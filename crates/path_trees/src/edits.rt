@@ -80,7 +80,8 @@ fn edited(
     change: Option<Found>,
 ) -> Result<Name, TreeFault>
     requires root { has Tree store.old root.0 ≡ true }
-    requires held { IfSome change (λ f. (has_child store.old f.mode f.name.0 ≡ true) × (is_name f.name.0 ≡ true)) }
+    requires held { IfSome change (λ f. (has_child store.old f.mode f.name.0 ≡ true)
+        × (is_name f.name.0 ≡ true)) }
     requires clear { IfNone change (IsClear (flat store.old root.0) path.now) }
     ensures ok { IfOk result (λ n. StandsFor store.new n.0
         (edited (flat store.old root.0) path.now (option_map (node store.old) change))) }

@@ -1,5 +1,6 @@
 // Two trees put together.
-ghost use Rattle.std.specs.Prelude.{◌≡◌, ◌+◌, ◌≤◌, ◌++◌, true, length, drop, map, IfOk, IfErr, OnOk, Some, None};
+ghost use Rattle.std.specs.Prelude.{◌≡◌, ◌+◌, ◌≤◌, ◌++◌, true, length, drop, map, IfOk, IfErr};
+ghost use Rattle.std.specs.Prelude.{OnOk, Some, None};
 ghost use Rattle.git_objects.specs.Entries.{body_text};
 ghost use Rattle.git_objects.specs.Paths.{is_nil};
 ghost use Rattle.git_objects.specs.declared.kind.Kind.TheVariants.{Tree};

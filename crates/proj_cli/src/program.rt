@@ -42,13 +42,15 @@ fn perform_loaded<S: Source, K: Keeper>(
         (asked : Asked) → IsJudged asked judged.now → loads asked ≡ true →
         IsMade asked (read input.old) (read input.new) (kept store.old) (kept store.new)
         (OnlyAdds (K.moment store.old) (K.moment store.new) (K.left_since store.old) (K.left_since store.new)) result }
-    ensures taken { (asked : Asked) (items : List Bytes) → IsJudged asked judged.now → K.items store.old ≡ Some items →
+    ensures taken { (asked : Asked) (items : List Bytes) → IsJudged asked judged.now →
+        K.items store.old ≡ Some items →
         TakesUpTo (waited_by (case asked (loaded items))) (S.left input.old) (S.left input.new) }
     ensures within { TakesWithin (S.left input.old) (S.left input.new) }
     ensures caseless { (asked : Asked) (items : List Bytes) → IsJudged asked judged.now →
         K.items store.old ≡ Some items → ((all : Bytes) → IsErr (case asked (loaded items) all)) →
         input.new ≡ input.old }
-    ensures unread { (asked : Asked) → IsJudged asked judged.now → reads asked ≡ false → input.new ≡ input.old }
+    ensures unread { (asked : Asked) → IsJudged asked judged.now → reads asked ≡ false →
+        input.new ≡ input.old }
     ensures is_open { result ≢ Err Outcome.StoreFault → K.is_open store.new }
 {
     match load(alloc, store) {
@@ -77,9 +79,11 @@ fn perform_judged<S: Source, O: Sink, K: Keeper>(
     ensures fronts { (items : List Bytes) → K.items store.old ≡ Some items → result ≢ Outcome.StoreFault →
         OnlyGrows items (K.items store.new) (OnlyAdds (K.moment store.old) (K.moment store.new)
         (K.left_since store.old) (K.left_since store.new)) }
-    ensures unread { (asked : Asked) → IsJudged asked judged.now → reads asked ≡ false → input.new ≡ input.old }
+    ensures unread { (asked : Asked) → IsJudged asked judged.now → reads asked ≡ false →
+        input.new ≡ input.old }
     ensures within { TakesWithin (S.left input.old) (S.left input.new) }
-    ensures unloaded { (asked : Asked) → IsJudged asked judged.now → loads asked ≡ false → store.new ≡ store.old }
+    ensures unloaded { (asked : Asked) → IsJudged asked judged.now → loads asked ≡ false →
+        store.new ≡ store.old }
     ensures is_open { result ≢ Outcome.StoreFault → K.is_open store.new }
 {
     recall_law();

@@ -129,13 +129,15 @@ pub fn serve<S: Source, O: Sink, E: Sink, D: Disk>(
     // back as the items after; or there was no journal.
     ensures served { let at = seen S.left S.faults O.written O.faults O.refusals E.written E.faults E.refusals
         D.content D.faults in
-        IsServed (command (map (λ word. string_bytes word) words.now)) ((input.new ≡ input.old) × (out.new ≡ out.old))
+        IsServed (command (map (λ word. string_bytes word) words.now))
+        ((input.new ≡ input.old) × (out.new ≡ out.old))
         (at input.old out.old err.old disk) (at input.new out.new err.new result.disk) result.status }
     // At most 2^29 bytes of the input are taken, and one more.
     ensures within { TakesWithin (S.left input.old) (S.left input.new) }
     // A form that doesn't read leaves the input, and so does a command whose filter is refused; for words without a
     // form nothing is written.
-    ensures unread { reads (command (map (λ word. string_bytes word) words.now)) ≡ false → input.new ≡ input.old }
+    ensures unread { reads (command (map (λ word. string_bytes word) words.now)) ≡ false →
+        input.new ≡ input.old }
     ensures unjudged { let asked = command (map (λ word. string_bytes word) words.now) in
         is_one asked ≡ true → IsErr (verdict asked) → input.new ≡ input.old }
     ensures idle { command (map (λ word. string_bytes word) words.now) ≡ Unknown → out.new ≡ out.old }

@@ -1,5 +1,6 @@
 // The projected history of a ref's commit, as a stream.
-ghost use Rattle.std.specs.Prelude.{◌≡◌, ◌↔◌, ◌≤◌, ◌≢◌, ◌++◌, ℕ, false, take, map, List, Ok, Err, Some};
+ghost use Rattle.std.specs.Prelude.{◌≡◌, ◌↔◌, ◌≤◌, ◌≢◌, ◌++◌, ℕ, false, take, map, List};
+ghost use Rattle.std.specs.Prelude.{Ok, Err, Some};
 ghost use Rattle.std.specs.Prelude.{OnErr, OnOk, IsErrOf};
 ghost use Rattle.std.specs.Io.KnownBytes.{Appends};
 ghost use Rattle.git_objects.specs.Parts.{name_bytes};

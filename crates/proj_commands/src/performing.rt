@@ -47,7 +47,8 @@ pub fn perform<S: Source, K: Keeper>(
     requires state { IsState state.old }
     requires judged { IsSomeJudged judged.now }
     ensures made { let seen = keeper_view K.items K.number K.faults in
-        (asked : Asked) (items : List Bytes) (h : Held) → IsJudged asked judged.now → IsStateOf items h state.old →
+        (asked : Asked) (items : List Bytes) (h : Held) → IsJudged asked judged.now →
+        IsStateOf items h state.old →
         ForInput (S.left input.old) (λ all.
         IsCommandMade asked all items h state.old state.new (seen store.old) (seen store.new)
         (OnlyAdds (K.moment store.old) (K.moment store.new) (K.left_since store.old) (K.left_since store.new)) result) }
@@ -84,7 +85,8 @@ fn perform_permitted<S: Source, K: Keeper>(
     requires permitted { (items : List Bytes) (h : Held) → IsStateOf items h state.old →
         permission h judged.now ≡ Ok tt }
     ensures made { let seen = keeper_view K.items K.number K.faults in
-        (asked : Asked) (items : List Bytes) (h : Held) → IsJudged asked judged.now → IsStateOf items h state.old →
+        (asked : Asked) (items : List Bytes) (h : Held) → IsJudged asked judged.now →
+        IsStateOf items h state.old →
         ForInput (S.left input.old) (λ all.
         IsCommandMade asked all items h state.old state.new (seen store.old) (seen store.new)
         (OnlyAdds (K.moment store.old) (K.moment store.new) (K.left_since store.old) (K.left_since store.new)) result) }

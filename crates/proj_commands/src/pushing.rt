@@ -1,5 +1,6 @@
 // Taking a push back.
-ghost use Rattle.std.specs.Prelude.{◌≡◌, ◌≢◌, ◌↔◌, List, Err, None, map, true, IfOk, IfSome, IsSome, Some};
+ghost use Rattle.std.specs.Prelude.{◌≡◌, ◌≢◌, ◌↔◌, List, Err, None, map, true, IfOk, IfSome, IsSome};
+ghost use Rattle.std.specs.Prelude.{Some};
 ghost use Rattle.std.specs.FinMap.{find};
 ghost use Rattle.git_objects.specs.Paths.{Bytes, is_bytes};
 ghost use Rattle.git_objects.specs.Refs.{bytes_cmp};

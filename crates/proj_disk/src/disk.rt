@@ -1,5 +1,6 @@
 // A disk.
-ghost use Rattle.std.specs.Prelude.{◌≡◌, ◌<◌, ◌≤◌, ◌+◌, ◌-◌, ◌^◌, List, ℕ, length, take, drop, Option, IfOk};
+ghost use Rattle.std.specs.Prelude.{◌≡◌, ◌<◌, ◌≤◌, ◌+◌, ◌-◌, ◌^◌, List, ℕ, length, take};
+ghost use Rattle.std.specs.Prelude.{drop, Option, IfOk};
 ghost use Rattle.std.specs.Prelude.{OnOk, IfSome, IsErr, IsErrOf};
 ghost use Rattle.std.specs.Option.{option_map};
 ghost use Rattle.proj_io.specs.Counts.{Counts};
@@ -68,7 +69,8 @@ pub trait Disk {
         ensures calm { OnOk result (faults self.new ≡ faults self.old) };
 
     /// What a stop may leave now counts since each moment so far.
-    ghost counts_now: { (disk : Self) (t : ℕ) (image : List ℕ) → t ≤ moment disk → IsLeftBy (content disk) image →
+    ghost counts_now: { (disk : Self) (t : ℕ) (image : List ℕ) → t ≤ moment disk →
+        IsLeftBy (content disk) image →
         left_since disk t image };
 
     /// Since this moment there is nothing else.

@@ -1,5 +1,6 @@
 // A disk in memory. Which call fails is decided by its number alone.
-ghost use Rattle.std.specs.Prelude.{◌≡◌, ◌<◌, ◌≤◌, ◌+◌, ◌-◌, ◌^◌, ◌↔◌, [], ◌∷◌, ◌++◌, length, take, drop};
+ghost use Rattle.std.specs.Prelude.{◌≡◌, ◌<◌, ◌≤◌, ◌+◌, ◌-◌, ◌^◌, ◌↔◌, [], ◌∷◌};
+ghost use Rattle.std.specs.Prelude.{◌++◌, length, take, drop};
 ghost use Rattle.std.specs.Prelude.{Contains, Option, IfOk, OnOk, OnErr, IsErr, IsErrOf, Some, None};
 ghost use Rattle.std.specs.Prelude.{unwrap_or};
 ghost use Rattle.std.specs.Option.{option_map, is_some};
@@ -66,13 +67,14 @@ impl Model for MemDisk {
       faults = s.faults;
     } };
 
-    ghost invariant = { λ s. unwrap_or (option_map (λ bytes. bytes.items) s.changed) s.start.items ≡ (view_of (record {
-      start = s.start.items;
-      writes = s.writes.items;
-      failing = s.failing.items;
-      calls = s.calls;
-      faults = s.faults;
-    })).bytes };
+    ghost invariant = { λ s. unwrap_or (option_map (λ bytes. bytes.items) s.changed) s.start.items
+        ≡ (view_of (record {
+          start = s.start.items;
+          writes = s.writes.items;
+          failing = s.failing.items;
+          calls = s.calls;
+          faults = s.faults;
+        })).bytes };
 }
 
 impl MemDisk {
@@ -433,7 +435,8 @@ fn fill_in(
     write: &DiskWrite,
     fill: Fill,
 ) -> Result<(), AllocError>
-    ensures { OnOk result ((disk : DiskView) → IsImage disk image.old.items → image.old.items ≡ filled fill disk →
+    ensures { OnOk result ((disk : DiskView) → IsImage disk image.old.items →
+        image.old.items ≡ filled fill disk →
         IsImage (written write.now.at write.now.piece disk) image.new.items
         × (image.new.items ≡ filled fill (written write.now.at write.now.piece disk))) }
 {

@@ -67,7 +67,8 @@ impl Policy {
     pub fn parse(alloc: Global, text: &[u8]) -> Result<Policy, PolicyFault>
         ensures { MatchResult result
             (λ p. rules text.now ≡ Ok (rule_values p))
-            (λ e. (e ≡ PolicyFault.OutOfMemory) ⊎ ((n : ℕ) × (e ≡ PolicyFault.Bad n) × (rules text.now ≡ Err n))) }
+            (λ e. (e ≡ PolicyFault.OutOfMemory) ⊎ ((n : ℕ) × (e ≡ PolicyFault.Bad n)
+            × (rules text.now ≡ Err n))) }
     {
         if text.len() > POLICY_BYTES {
             return Err(PolicyFault::Bad { line: 0 });

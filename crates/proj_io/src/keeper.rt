@@ -1,5 +1,6 @@
 // A keeper of items.
-ghost use Rattle.std.specs.Prelude.{◌≡◌, ◌<◌, ◌≤◌, ◌+◌, ◌-◌, ◌^◌, ◌⊎◌, ◌↔◌, List, ℕ, length, take, drop, Option};
+ghost use Rattle.std.specs.Prelude.{◌≡◌, ◌<◌, ◌≤◌, ◌+◌, ◌-◌, ◌^◌, ◌⊎◌, ◌↔◌};
+ghost use Rattle.std.specs.Prelude.{List, ℕ, length, take, drop, Option};
 ghost use Rattle.std.specs.Prelude.{IfOk, OnOk, IfSome, IsErr, IsErrOf, IsSome, MatchResult};
 ghost use Rattle.git_objects.specs.declared.limits.TheConstants.{ITEM_BYTES, ITEMS};
 ghost use Rattle.proj_io.specs.Counts.{Counts};
@@ -121,7 +122,8 @@ pub trait Keeper {
         ensures items { OnOk result (Gets (items self.old) (items self.new) (joined parts.now)) }
         ensures failed { IsErrOf result KeepError.Failed →
             ((number self.new ≡ number self.old) × Stays (items self.old) (items self.new))
-            ⊎ ((number self.new ≡ number self.old + 1) × Gets (items self.old) (items self.new) (joined parts.now)) }
+            ⊎ ((number self.new ≡ number self.old + 1)
+            × Gets (items self.old) (items self.new) (joined parts.now)) }
         ensures memory { IsErrOf result KeepError.OutOfMemory →
             (number self.new ≡ number self.old) × Stays (items self.old) (items self.new) }
         ensures closed { IsErrOf result KeepError.Failed → ¬ is_open self.new }
@@ -148,6 +150,7 @@ pub trait Keeper {
     ghost counted: { (keeper : Self) → IfSome (items keeper) (λ all. length all ≡ number keeper) };
 
     /// Where a call may be made, a stop leaves the items as they are.
-    ghost settled: { (keeper : Self) (list : List (List ℕ)) → is_open keeper → left_since keeper (moment keeper) list →
+    ghost settled: { (keeper : Self) (list : List (List ℕ)) → is_open keeper →
+        left_since keeper (moment keeper) list →
         IsPresent (items keeper) list };
 }

@@ -1,5 +1,6 @@
 // A keeper in memory. Which call fails is decided by its number alone.
-ghost use Rattle.std.specs.Prelude.{◌≡◌, ◌==◌, ◌<◌, ◌≤◌, ◌+◌, ◌^◌, ◌⊎◌, ◌↔◌, ◌++◌, [], ◌∷◌, List, ℕ, min, length};
+ghost use Rattle.std.specs.Prelude.{◌≡◌, ◌==◌, ◌<◌, ◌≤◌, ◌+◌, ◌^◌, ◌⊎◌, ◌↔◌};
+ghost use Rattle.std.specs.Prelude.{◌++◌, [], ◌∷◌, List, ℕ, min, length};
 ghost use Rattle.std.specs.Prelude.{take, drop, All, find, true, false, Option, Some, None, IfOk, OnOk, OnErr};
 ghost use Rattle.std.specs.Prelude.{IfSome, IsErr, IsErrOf, MatchResult, ⊤, refl};
 ghost use Rattle.git_objects.specs.declared.limits.TheConstants.{ITEM_BYTES, ITEMS};
@@ -49,7 +50,8 @@ impl Model for MemKeeper {
       broken = s.broken;
     } };
 
-    ghost invariant = { λ s. (length s.items.items ≤ ITEMS) × All (λ item. length item ≤ ITEM_BYTES) s.items.items };
+    ghost invariant = { λ s. (length s.items.items ≤ ITEMS)
+        × All (λ item. length item ≤ ITEM_BYTES) s.items.items };
 }
 
 impl MemKeeper {

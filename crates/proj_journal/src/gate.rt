@@ -16,7 +16,8 @@ pub(crate) enum Gate {
 
 // Tells by the first five bytes there, by the number of records before and by the number of bytes from there on.
 pub(crate) fn read_gate(head: &[u8], number: usize, room: u64) -> Gate
-    ensures told { (rest : List ℕ) → head.now ≡ take 5 rest → room ≡ length rest → IsGate number rest result }
+    ensures told { (rest : List ℕ) → head.now ≡ take 5 rest → room ≡ length rest →
+        IsGate number rest result }
     ensures bounds { MayBeOpen number room result }
 {
     if head.is_empty() {

@@ -1,5 +1,6 @@
 // The journal, a keeper of items over a disk.
-ghost use Rattle.std.specs.Prelude.{◌≡◌, ◌≢◌, [], ◌<◌, ◌≤◌, ◌+◌, ◌^◌, ◌⊎◌, ℕ, length, take, drop, IsSome};
+ghost use Rattle.std.specs.Prelude.{◌≡◌, ◌≢◌, [], ◌<◌, ◌≤◌, ◌+◌, ◌^◌, ◌⊎◌, ℕ};
+ghost use Rattle.std.specs.Prelude.{length, take, drop, IsSome};
 ghost use Rattle.std.specs.Prelude.{◌↔◌, IsErr, IfOk, IfErr, IfSome, IsErrOf, MatchResult, OnOk, false};
 ghost use Rattle.std.specs.Option.{option_map};
 ghost use Rattle.git_objects.specs.declared.limits.TheConstants.{ITEM_BYTES, ITEMS};

@@ -1,5 +1,6 @@
 // Reading where the items of a journal stand.
-ghost use Rattle.std.specs.Prelude.{◌≡◌, ◌<◌, ◌≤◌, ◌+◌, ◌*◌, ℕ, length, [], ◌-◌, take, ◌↔◌, IsTrue, OnOk, Err};
+ghost use Rattle.std.specs.Prelude.{◌≡◌, ◌<◌, ◌≤◌, ◌+◌, ◌*◌, ℕ, length, [], ◌-◌, take};
+ghost use Rattle.std.specs.Prelude.{◌↔◌, IsTrue, OnOk, Err};
 ghost use Rattle.std.specs.Prelude.{IsErr, IfOk, IfSome, OnErr};
 ghost use Rattle.std.specs.Option.{option_map};
 ghost use Rattle.git_objects.specs.declared.limits.TheConstants.{ITEM_BYTES, ITEMS};
@@ -81,7 +82,8 @@ pub(crate) fn find_records<D: Disk>(
     ensures few { IfOk result (λ found. length found.places.items ≤ ITEMS) }
     ensures room { IfOk result (λ found. found.end ≤ 8 + length found.places.items * (ITEM_BYTES + 5)) }
     ensures fit { IfOk result (λ found. AllFit found.places.items) }
-    ensures broken { (place : ℕ) → result ≡ Err (JournalError.Broken place) → IsBrokenAt place (D.content disk.old) }
+    ensures broken { (place : ℕ) → result ≡ Err (JournalError.Broken place) →
+        IsBrokenAt place (D.content disk.old) }
     ensures same { D.content disk.new ≡ D.content disk.old }
     ensures stops { OnlyAdds (D.moment disk.old) (D.moment disk.new)
         (D.left_since disk.old) (D.left_since disk.new) Nothing }
@@ -115,7 +117,8 @@ pub(crate) fn find_places<D: Disk>(alloc: Global, disk: &mut D) -> Result<Found,
     ensures fit { IfOk result (λ found. AllFit found.places.items) }
     ensures stable { OnOk result (D.content disk.new ≡ option_map (λ view. stable view.bytes) (D.content disk.old)) }
     ensures kept { OnErr result (IsSameOrSynced (D.content disk.old) (D.content disk.new)) }
-    ensures broken { (place : ℕ) → result ≡ Err (JournalError.Broken place) → IsBrokenAt place (D.content disk.old) }
+    ensures broken { (place : ℕ) → result ≡ Err (JournalError.Broken place) →
+        IsBrokenAt place (D.content disk.old) }
     ensures stops { OnlyAdds (D.moment disk.old) (D.moment disk.new)
         (D.left_since disk.old) (D.left_since disk.new) Nothing }
     ensures cause { Counts (D.faults disk.old) (D.faults disk.new) (result ≡ Err JournalError.Failed) }

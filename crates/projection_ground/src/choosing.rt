@@ -235,8 +235,10 @@ fn leads(
     requires ground { IsGround ground.now }
     requires parents { All (λ p. p < length ground.now.graph) parents.now }
     requires kept { AreKept ground.now parents.now }
-    requires members { map shown_value projected.now ≡ members ground.now.map (names_at ground.now.graph parents.now) }
-    ensures { (place : ℕ) → IsBehind ground.now parents.now place → IfOk result (IsTest ground.now place parents.now
+    requires members { map shown_value projected.now
+        ≡ members ground.now.map (names_at ground.now.graph parents.now) }
+    ensures { (place : ℕ) → IsBehind ground.now parents.now place →
+        IfOk result (IsTest ground.now place parents.now
         (λ ks. leads_upon ground.now place parents.now ks (shown_value m.now))) }
 {
     match first_shown_as(ground, parents, m) {
@@ -256,8 +258,10 @@ fn has_and_leads(
     requires ground { IsGround ground.now }
     requires parents { All (λ p. p < length ground.now.graph) parents.now }
     requires kept { AreKept ground.now parents.now }
-    requires members { map shown_value projected.now ≡ members ground.now.map (names_at ground.now.graph parents.now) }
-    ensures { (place : ℕ) → IsBehind ground.now parents.now place → IfOk result (IsTest ground.now place parents.now
+    requires members { map shown_value projected.now
+        ≡ members ground.now.map (names_at ground.now.graph parents.now) }
+    ensures { (place : ℕ) → IsBehind ground.now parents.now place →
+        IfOk result (IsTest ground.now place parents.now
         (λ ks. same_bytes m.now.tree.0 tree.now.0 && leads_upon ground.now place parents.now ks (shown_value m.now))) }
 {
     if m.tree != *tree {
@@ -276,7 +280,8 @@ fn first_leading(
     requires ground { IsGround ground.now }
     requires parents { All (λ p. p < length ground.now.graph) parents.now }
     requires kept { AreKept ground.now parents.now }
-    requires members { map shown_value projected.now ≡ members ground.now.map (names_at ground.now.graph parents.now) }
+    requires members { map shown_value projected.now
+        ≡ members ground.now.map (names_at ground.now.graph parents.now) }
     ensures { (place : ℕ) (d : Snapshot) → IsBehind ground.now parents.now place →
         IfOk result (IsChoice ground.now place parents.now d
         (λ ks. member_or (find (λ m. same_bytes m.tree tree.now.0 && leads_upon ground.now place parents.now ks m)
@@ -313,7 +318,8 @@ pub(crate) fn chosen(
     requires ground { IsGround ground.now }
     requires parents { All (λ p. p < length ground.now.graph) parents.now }
     requires kept { AreKept ground.now parents.now }
-    requires members { map shown_value projected.now ≡ members ground.now.map (names_at ground.now.graph parents.now) }
+    requires members { map shown_value projected.now
+        ≡ members ground.now.map (names_at ground.now.graph parents.now) }
     requires tree { has Tree ground.now.store tree.now.0 ≡ true }
     ensures { (place : ℕ) (letter : Letter) → IsBehind ground.now parents.now place →
         IfOk result (IsChoice ground.now place parents.now

@@ -152,7 +152,8 @@ fn shown_by<L: Ledger>(
     requires ground { IsGround ground.old }
     requires root { has Tree ground.old.store root.0 ≡ true }
     requires number { number < length ground.old.tables }
-    ensures { (f : FilterValue) → HasAt ground.old.tables f number → IsShownBy f root.0 ground.old ground.new result }
+    ensures { (f : FilterValue) → HasAt ground.old.tables f number →
+        IsShownBy f root.0 ground.old ground.new result }
 {
     let mut steps = Steps::<L>::new(blank);
     let Some(table) = ground.tables.get(number) else {

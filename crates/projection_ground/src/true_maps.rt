@@ -1,5 +1,6 @@
 // Maps of projections that were made from scratch.
-ghost use Rattle.std.specs.Prelude.{◌≡◌, ◌⊎◌, ◌<◌, ◌+◌, ◌++◌, ◌∷◌, ℕ, [], drop, length, slice_get, take, IfSome, Some};
+ghost use Rattle.std.specs.Prelude.{◌≡◌, ◌⊎◌, ◌<◌, ◌+◌, ◌++◌, ◌∷◌, ℕ, [], drop, length};
+ghost use Rattle.std.specs.Prelude.{slice_get, take, IfSome, Some};
 ghost use Rattle.filter_text.specs.Shapes.{shape};
 ghost use Rattle.projection_ground.specs.TrueMaps.{IsMapOf, IsPutBehind, IsTakenOut};
 ghost use Rattle.projection_ground.specs.declared.true_maps.TrueMap.{TrueMap as TrueMapValue};

@@ -1,5 +1,6 @@
 // The originals of pushed commits.
-ghost use Rattle.std.specs.Prelude.{◌≡◌, ◌≤◌, ◌++◌, ◌∷◌, [], List, true, length, IfOk, IfErr, IsSome, OnOk};
+ghost use Rattle.std.specs.Prelude.{◌≡◌, ◌≤◌, ◌++◌, ◌∷◌, [], List, true, length, IfOk, IfErr};
+ghost use Rattle.std.specs.Prelude.{IsSome, OnOk};
 ghost use Rattle.git_objects.specs.Snapshots.{Snapshot, tree_at};
 ghost use Rattle.git_objects.specs.declared.kind.Kind.TheVariants.{Commit, Tree};
 ghost use Rattle.git_objects.specs.declared.limits.TheConstants.{STREAM_BYTES};

@@ -1,5 +1,6 @@
 // What a filter shows of a commit, and what its workspace's file gives.
-ghost use Rattle.std.specs.Prelude.{◌≡◌, ◌++◌, ◌∷◌, [], List, decimal, length, true, IfErr, IfOk, IsSome, OnOk};
+ghost use Rattle.std.specs.Prelude.{◌≡◌, ◌++◌, ◌∷◌, [], List, decimal, length, true, IfErr, IfOk};
+ghost use Rattle.std.specs.Prelude.{IsSome, OnOk};
 ghost use Rattle.git_objects.specs.Paths.{Bytes};
 ghost use Rattle.git_objects.specs.Snapshots.{tree_at};
 ghost use Rattle.git_objects.specs.declared.kind.Kind.TheVariants.{Tree};

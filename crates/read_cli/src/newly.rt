@@ -1,5 +1,6 @@
 // What is new beside commits that are there.
-ghost use Rattle.std.specs.Prelude.{◌≡◌, ◌≤◌, ◌↔◌, ◌++◌, ◌∷◌, [], List, filter, map, reverse, IfErr, IfOk, IsSome, Ok};
+ghost use Rattle.std.specs.Prelude.{◌≡◌, ◌≤◌, ◌↔◌, ◌++◌, ◌∷◌, [], List, filter, map};
+ghost use Rattle.std.specs.Prelude.{reverse, IfErr, IfOk, IsSome, Ok};
 ghost use Rattle.git_objects.specs.Parts.{name_bytes};
 ghost use Rattle.git_objects.specs.Paths.{Bytes};
 ghost use Rattle.git_objects.specs.Snapshots.{ancestors, tree_at};

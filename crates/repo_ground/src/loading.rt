@@ -1,5 +1,6 @@
 // Reading a keeper's items, one after another.
-ghost use Rattle.std.specs.Prelude.{◌≡◌, ◌≤◌, ◌+◌, ◌^◌, ◌&&◌, ◌⊎◌, Err, nat_lt, nat_le, IfOk};
+ghost use Rattle.std.specs.Prelude.{◌≡◌, ◌≤◌, ◌+◌, ◌^◌, ◌&&◌, ◌⊎◌, Err, nat_lt, nat_le};
+ghost use Rattle.std.specs.Prelude.{IfOk};
 ghost use Rattle.std.specs.Prelude.{IfErr, IfSome, IsErr, MatchResult};
 ghost use Rattle.git_objects.specs.declared.limits.TheConstants.{ITEM_BYTES, ITEMS, STORE_BYTES};
 ghost use Rattle.proj_io.specs.Counts.{Counts};

@@ -42,7 +42,8 @@ fn backward_at(
     requires may { (S : List Object) × (cs : List Snapshot) × (sorted : Heads) ×
         MayTest S graph.now cs refs.now sorted (setting_value setting.now ∷ []) }
     ensures { (S : List Object) (cs : List Snapshot) (sorted : Heads) →
-        MayTest S graph.now cs refs.now sorted (setting_value setting.now ∷ []) → let e = setting_value setting.now in
+        MayTest S graph.now cs refs.now sorted (setting_value setting.now ∷ []) →
+        let e = setting_value setting.now in
         IfOk result (IsMove (backward cs e (find bytes_cmp e.0 sorted))) }
 {
     match refs.get(&setting.refname) {

@@ -1,5 +1,6 @@
 // Nodes in one vector, linked by their numbers.
-ghost use Rattle.std.specs.Prelude.{◌≡◌, ◌++◌, ◌+◌, ◌<◌, ◌≤◌, true, false, length, slice_range, slice_set, Some};
+ghost use Rattle.std.specs.Prelude.{◌≡◌, ◌++◌, ◌+◌, ◌<◌, ◌≤◌, true, false, length, slice_range};
+ghost use Rattle.std.specs.Prelude.{slice_set, Some};
 ghost use Rattle.std.specs.Prelude.{IfOk, IfSome, OnErr, OnOk};
 ghost use Rattle.std.specs.Ordering.{is_lt};
 ghost use Rattle.stage_nodes.specs.Forests.{IsWalk, bytes_cmp, forest, is_link, node_component, sought, target, weight};
@@ -147,7 +148,8 @@ impl Nodes {
         ensures number { IfOk result (λ k. k ≡ place_number self.old.cells.items self.old.free) }
         ensures cells { OnOk result (self.new.cells.items ≡ placed self.old.cells.items self.old.free node) }
         ensures free { OnOk result (self.new.free ≡ free_after self.old.cells.items self.old.free) }
-        ensures same { OnErr result ((self.new.cells.items ≡ self.old.cells.items) × (self.new.free ≡ self.old.free)) }
+        ensures same { OnErr result ((self.new.cells.items ≡ self.old.cells.items)
+            × (self.new.free ≡ self.old.free)) }
         ensures names { self.new.names ≡ self.old.names }
     {
         match self.free {

@@ -1,5 +1,6 @@
 // Walks to a path, from the root down.
-ghost use Rattle.std.specs.Prelude.{◌≡◌, ◌+◌, ◌<◌, ◌≤◌, [], true, length, IfOk, IfSome, OnErr, OnOk};
+ghost use Rattle.std.specs.Prelude.{◌≡◌, ◌+◌, ◌<◌, ◌≤◌, [], true, length, IfOk, IfSome, OnErr};
+ghost use Rattle.std.specs.Prelude.{OnOk};
 ghost use Rattle.stage_nodes.specs.Forests.{is_link, target};
 ghost use Rattle.stage_nodes.specs.Pools.{Walks, hanging};
 ghost use Rattle.git_objects.specs.Names.{tops};

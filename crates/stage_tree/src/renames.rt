@@ -1,5 +1,6 @@
 // Nodes moved from one path to another.
-ghost use Rattle.std.specs.Prelude.{◌≡◌, ◌+◌, ◌<◌, ◌≤◌, [], true, drop, length, IfErr, IfOk, OnErr, OnOk};
+ghost use Rattle.std.specs.Prelude.{◌≡◌, ◌+◌, ◌<◌, ◌≤◌, [], true, drop, length, IfErr, IfOk, OnErr};
+ghost use Rattle.std.specs.Prelude.{OnOk};
 ghost use Rattle.git_objects.specs.Paths.{comparable, is_path};
 ghost use Rattle.git_objects.specs.Trees.{Flat, IsTree, under};
 ghost use Rattle.git_objects.specs.Names.{tops};

@@ -1,5 +1,6 @@
 // Writing items.
-ghost use Rattle.std.specs.Prelude.{◌≡◌, ◌≤◌, ◌<◌, ◌^◌, ◌+◌, ◌*◌, ◌++◌, None, filter, length, map, nat_le};
+ghost use Rattle.std.specs.Prelude.{◌≡◌, ◌≤◌, ◌<◌, ◌^◌, ◌+◌, ◌*◌, ◌++◌, None, filter};
+ghost use Rattle.std.specs.Prelude.{length, map, nat_le};
 ghost use Rattle.std.specs.Prelude.{IfOk, IsSome, List, OnOk, ℕ};
 ghost use Rattle.std.specs.Int.{to_be_bytes, w32};
 ghost use Rattle.std.specs.List.{flat_map};
@@ -202,7 +203,8 @@ pub fn first_passed(
     number: u32,
     size: u64,
 ) -> Option<Quantity>
-    ensures first { (S : List Object) (bytes : List ℕ) → commits ≡ length (filter is_commit S) → objects ≡ length S →
+    ensures first { (S : List Object) (bytes : List ℕ) → commits ≡ length (filter is_commit S) →
+        objects ≡ length S →
         item ≡ sized (length bytes) → result ≡ passed_by_objects S
         (passed_by_item (record { number = number; size = size }) bytes) }
     ensures large { item ≡ None → IsSome result }

@@ -1,5 +1,6 @@
 // A lexer of a stream that is fed in pieces.
-ghost use Rattle.std.specs.Prelude.{◌≡◌, ◌+◌, ◌-◌, ◌≤◌, [], false, true, OnOk, OnErr, length, drop, vec_len};
+ghost use Rattle.std.specs.Prelude.{◌≡◌, ◌+◌, ◌-◌, ◌≤◌, [], false, true, OnOk, OnErr, length, drop};
+ghost use Rattle.std.specs.Prelude.{vec_len};
 ghost use Rattle.git_objects.specs.declared.limits.TheConstants.{STREAM_BYTES};
 ghost use Rattle.stream_lex.specs.Lines.{line_at, block_at};
 ghost use Rattle.stream_lex.specs.Views.{input};

@@ -1,5 +1,6 @@
 // Lines.
-ghost use Rattle.std.specs.Prelude.{◌≡◌, ◌≤◌, ◌<◌, ◌+◌, Some, false, length, take, drop, IfOk, IfNone, IfSome};
+ghost use Rattle.std.specs.Prelude.{◌≡◌, ◌≤◌, ◌<◌, ◌+◌, Some, false, length, take, drop, IfOk};
+ghost use Rattle.std.specs.Prelude.{IfNone, IfSome};
 ghost use Rattle.git_objects.specs.declared.limits.TheConstants.{LINE_BYTES, STREAM_BYTES};
 ghost use Rattle.stream_lex.specs.Lines.{split_line, any_line, line_at, is_comment, HasNone};
 ghost use Rattle.stream_lex.specs.Cutting.{Advances};
