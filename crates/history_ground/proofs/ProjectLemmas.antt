@@ -1,5 +1,5 @@
 -- The projection of a head.
-use Rattle.std.proofs.Common.{◌≡◌, ℕ, ◌+◌, ◌<◌, ◌≤◌, true, List, [], length, get_or, Option, Some, None, IsSome, refl, sym, ap, subst, ◌∙◌, arith, true≢false}
+use Rattle.std.proofs.Common.{◌≡◌, ℕ, ◌+◌, ◌<◌, ◌≤◌, true, List, [], length, get_or, Option, Some, None, IsSome, Result, Ok, Err, IfOk, refl, sym, ap, subst, ◌∙◌, arith, true≢false}
 use Rattle.std.specs.Option.{option_map_or}
 use Rattle.std.specs.Cmp.Lexicographic.{bytes_decides}
 use Rattle.std.proofs.lemmas.Option.{slice_get-get_or}
@@ -22,6 +22,11 @@ use Rattle.projection_ground.specs.declared.ground.Ground.{Ground}
 use Rattle.projection_ground.proofs.Growing.{commits-same, extends-as, extends-then}
 use Rattle.projection_ground.proofs.Filling.{entry-wins, filled-value}
 use Rattle.history_ground.proofs.Waiting.{has-named}
+
+-- what holds of a result's value, by what holds of it
+pub ok-still : {T E : Type 0} (P Q : T → Type 0) → (r : Result T E) → ((x : T) → P x → Q x) → IfOk r P → IfOk r Q
+ok-still P Q (Ok x) f h = f x h
+ok-still P Q (Err e) f h = tt
 
 nobody : Row
 nobody = record { name = []; tree = []; parents = [] }

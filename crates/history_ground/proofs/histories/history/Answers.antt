@@ -1,5 +1,5 @@
 -- Proves what src/histories.rt needs of `history`.
-use Rattle.std.proofs.Common.{◌≡◌, ◌∷◌, [], Result, Ok, Err, IfOk, None, map}
+use Rattle.std.proofs.Common.{◌≡◌, ◌∷◌, [], None, map}
 use Rattle.std.specs.List.{last_or}
 use Rattle.std.specs.Option.{option_map}
 use Rattle.git_objects.specs.Parts.{name_bytes}
@@ -11,12 +11,8 @@ use Rattle.projection_laws.specs.Projections.{history_graph, own_commits, projec
 use Rattle.projection_laws.proofs.StoredGraphs.{whole-graph}
 use Rattle.projection_ground.specs.Grounds.{commits_of}
 use Rattle.history_ground.proofs.LastNames.{last-made}
+use Rattle.history_ground.proofs.ProjectLemmas.{ok-still}
 use Rattle.history_ground.proofs.histories.history.Goals as goal
-
--- what holds of a result's value, by what holds of it
-ok-still : {T E : Type 0} (P Q : T → Type 0) → (r : Result T E) → ((x : T) → P x → Q x) → IfOk r P → IfOk r Q
-ok-still P Q (Ok x) f h = f x h
-ok-still P Q (Err e) f h = tt
 
 pub returns-clause-last : goal.returns-clause-last
 returns-clause-last c =

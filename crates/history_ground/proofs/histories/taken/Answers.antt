@@ -1,4 +1,4 @@
-use Rattle.std.proofs.Common.{◌≡◌, List, Result, Ok, Err, IfOk, IfErr, ap, map, subst, sym}
+use Rattle.std.proofs.Common.{◌≡◌, List, Result, Ok, Err, IfErr, ap, map, subst, sym}
 use Rattle.std.proofs.lemmas.Result.{err_from_is_err_and}
 use Rattle.git_objects.specs.Parts.{name_bytes}
 use Rattle.git_objects.specs.Snapshots.{Graph}
@@ -15,14 +15,9 @@ use Rattle.projection_ground.specs.Grounds.{commits_of}
 use Rattle.history_ground.specs.Histories.{IsOfHistory}
 use Rattle.projection_ground.proofs.Asking.{extends-none}
 use Rattle.history_ground.proofs.HistoryEnds.{history-fault, history-grown, history-same}
-use Rattle.history_ground.proofs.ProjectLemmas.{named-head, place-within}
+use Rattle.history_ground.proofs.ProjectLemmas.{named-head, ok-still, place-within}
 use Rattle.projection_ground.proofs.TurnLemmas.{handed-on, tree-held}
 use Rattle.history_ground.proofs.histories.taken.Goals as goal
-
--- what holds of a result's value, by what holds of it
-ok-still : {T E : Type 0} (P Q : T → Type 0) → (r : Result T E) → ((x : T) → P x → Q x) → IfOk r P → IfOk r Q
-ok-still P Q (Ok x) f h = f x h
-ok-still P Q (Err e) f h = tt
 
 -- want of memory is a fault whatever is made
 no-memory : {T : Type 0} (made : Object → Type 0) (S : List Object) → (r : Result T ApplyError) → IfErr r (λ e. e ≡ OutOfMemory) → IfErr r (IsApplyFault made S)
