@@ -56,6 +56,30 @@ impl Session {
         }
         Ok(())
     }
+
+    // Changes what the next call works on: its store, the bytes that devices move, or the calls that fail.
+    fn change(
+        &mut self,
+        alloc: Global,
+        texts: &Texts,
+        word: &[u8],
+        inner: &[Word],
+    ) -> Result<(), Fault> {
+        match word {
+            b"store" => self.keeper = MemKeeper::new(alloc, failing_of(alloc, inner)?),
+            b"keep" => self.keep(alloc, texts, inner)?,
+            b"pieces" => self.most = pieces_of(inner)?,
+            b"fail" => self.fail(inner)?,
+            _ => return Err(Fault::BadLine),
+        }
+        Ok(())
+    }
+
+    // Keeps the item that is spelled.
+    fn keep(&mut self, alloc: Global, texts: &Texts, pieces: &[Word]) -> Result<(), Fault> {
+        let item = texts.spelled(pieces)?;
+        add_item(alloc, &mut self.keeper, &item)
+    }
 }
 
 impl Answers for Session {
@@ -73,24 +97,10 @@ impl Answers for Session {
             b"judged" => Ok(Some(run_judged(alloc, texts, self, inner)?)),
             b"fronts" => Ok(Some(run_fronts(alloc, texts, &self.keeper, inner)?)),
             b"outcome" => Ok(Some(outcome(alloc, texts, inner)?)),
-            b"store" => {
-                self.keeper = MemKeeper::new(alloc, failing_of(alloc, inner)?);
+            word => {
+                self.change(alloc, texts, word, inner)?;
                 Ok(None)
             }
-            b"keep" => {
-                let item = texts.spelled(inner)?;
-                add_item(alloc, &mut self.keeper, &item)?;
-                Ok(None)
-            }
-            b"pieces" => {
-                self.most = pieces_of(inner)?;
-                Ok(None)
-            }
-            b"fail" => {
-                self.fail(inner)?;
-                Ok(None)
-            }
-            _ => Err(Fault::BadLine),
         }
     }
 }

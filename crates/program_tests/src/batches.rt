@@ -106,16 +106,26 @@ fn run_batch(alloc: Global, failing: Vec<u64>) -> Result<Ran, Fail> {
     })
 }
 
+// Whether these are the replies to the first so many entries, and that to one at which the store fails.
+fn is_cut(alloc: Global, written: &[u8], number: usize) -> Result<bool, AllocError> {
+    let mut replies = replies(alloc, number)?;
+    replies.extend_from_slice(FAULT)?;
+    Ok(written == replies.as_slice())
+}
+
 // How many entries were acknowledged when the disk had made so many calls. The next one fails.
 fn acknowledged(alloc: Global, calls: u64) -> Result<usize, Fail> {
     let cut = run_batch(alloc, [calls].to_vec(alloc)?)?;
     if cut.status != 24 {
         return Err(Fail::from("no store fault"));
     }
+    replied(alloc, cut.out.bytes())
+}
+
+// How many entries have these replies, of a batch at which the store fails.
+fn replied(alloc: Global, written: &[u8]) -> Result<usize, Fail> {
     for number in 0..4usize {
-        let mut written = replies(alloc, number)?;
-        written.extend_from_slice(FAULT)?;
-        if cut.out.bytes() == written.as_slice() {
+        if is_cut(alloc, written, number)? {
             return Ok(number);
         }
     }
@@ -140,14 +150,23 @@ fn each_image_has_the_acknowledged_entries(rt: HostRuntime) -> Result<(), Fail> 
     let alloc = rt.alloc();
     let whole = run_batch(alloc, Vec::new(alloc))?;
     assert!(rt; whole.status == 0);
-    assert!(rt; whole.out.bytes() == replies(alloc, 4)?.as_slice());
+    assert!(rt; is_whole(alloc, whole.out.bytes())?);
+    each_image(alloc, &whole)
+}
+
+// Whether these are the replies to all entries.
+fn is_whole(alloc: Global, written: &[u8]) -> Result<bool, AllocError> {
+    Ok(written == replies(alloc, 4)?.as_slice())
+}
+
+// Fails with the number of an entry of which a stop leaves another state than its reply lets it.
+fn each_image(alloc: Global, whole: &Ran) -> Result<(), Fail> {
     let mut before = whole.before;
     for number in 0..4usize {
         let after = reply_moment(alloc, &whole.disk, before, number)?;
-        assert!(rt;
-            leaves_state(alloc, &whole.disk, before, after, &STATES, number)?,
-            "{number}"
-        );
+        if !leaves_state(alloc, &whole.disk, before, after, &STATES, number)? {
+            return Err(Fail::new(number));
+        }
         before = after;
     }
     Ok(())

@@ -29,13 +29,23 @@ fn follower(answer: &Result<Next, StreamFault>) -> Option<bool>
     }
 }
 
+// Adds the line of what a reader told, and says what follows.
+fn add_followed(
+    lines: &mut String,
+    answer: &Result<Next, StreamFault>,
+) -> Result<Option<bool>, AllocError>
+    ensures { IfOk result (λ follows. follows ≡ what_follows answer.now) }
+{
+    add_answer(lines, answer)?;
+    Ok(follower(answer))
+}
+
 // Adds the line of what a reader tells next.
 fn add_next(reader: &mut Reader, lines: &mut String) -> Result<Option<bool>, AllocError>
     ensures { IfOk result (λ told. told ≢ Some false → reader.new.ended ≡ reader.old.ended) }
 {
     let answer = reader.next();
-    add_answer(lines, &answer)?;
-    Ok(follower(&answer))
+    add_followed(lines, &answer)
 }
 
 // What a reader tells, a line each, up to the end, a fault, or that more must come, which is true.
