@@ -27,6 +27,7 @@ pub mod Settings
 pub mod Intaking
 pub mod Imports
 pub mod RecalledTexts
+pub mod Uses
 pub mod Forming
 pub mod JudgedCases
 pub mod Headless

@@ -6,10 +6,13 @@ use Rattle.filter_text.specs.Filters.{Filter}
 use Rattle.filter_text.specs.Shapes.{shape}
 use Rattle.proj_io.specs.Views.{KeeperView, keeper_view}
 use Rattle.std.proofs.lemmas.Option.{none-some}
-use Rattle.proj_commands.proofs.Outcomes.{some-input}
+use Rattle.proj_words.specs.declared.outcome.Outcome.TheVariants.{ReadFault, StoreFault}
+use Rattle.proj_commands.proofs.Outcomes.{commit-read, commit-store, some-input}
 use Rattle.proj_commands.proofs.PushPlans.{takes-at}
 use Rattle.proj_commands.proofs.Pushes.{commit-done, commit-refused, is-batch, last-at, no-memory, no-ref, none-pushed, unplanned}
 use Rattle.proj_commands.proofs.StatesShown.{head-placed}
+use Rattle.proj_commands.specs.Refusals.{commit_outcome}
+use Rattle.proj_commands.proofs.Uses.{counts-as, counts-none, err-of, ok-never, used-as, used-none}
 use Rattle.proj_commands.proofs.pushing.push.Goals as goal
 use Rattle.fast_import.proofs.Stopping.{within_none}
 
@@ -134,3 +137,48 @@ returns-in-Err-clause-taken g c = λ items h n w is. takes-at c.args.manner h (s
 
 pub returns-in_default-clause-within : goal.returns-in_default-clause-within
 returns-in_default-clause-within g c = within_none (g.S.Source.left c.args.input.now)
+
+-- ---- which faults are answered
+
+pub returns-in_default-clause-read : goal.returns-in_default-clause-read
+returns-in_default-clause-read g c = counts-none _ _ (λ q. cc)
+
+pub returns-in_err-plan-clause-read : goal.returns-in_err-plan-clause-read
+returns-in_err-plan-clause-read g c =
+    let p = err_from_is_err_and c.from_residual.result c.from_residual.ensures.1 in
+    counts-as _ _ _ _ (λ q. ap Err (sym p.2 ∙ err-of p.0 ReadFault (sym p.1 ∙ q))) c.in_err-plan.ensures.read
+
+pub returns-in_default-copied-clause-read : goal.returns-in_default-copied-clause-read
+returns-in_default-copied-clause-read g c = counts-as _ _ _ _ (λ q. absurd (ok-never _ _ q)) c.in_ok-plan.ensures.read
+
+pub returns-in_default-push_prepared-clause-read : goal.returns-in_default-push_prepared-clause-read
+returns-in_default-push_prepared-clause-read g c = counts-as _ _ _ _ (λ q. absurd cc) c.in_ok-plan.ensures.read
+
+pub returns-in-Ok-commit-clause-read : goal.returns-in-Ok-commit-clause-read
+returns-in-Ok-commit-clause-read g c = counts-as _ _ _ _ (λ q. absurd (ok-never _ _ q)) c.in_ok-plan.ensures.read
+
+pub returns-in-Err-clause-read : goal.returns-in-Err-clause-read
+returns-in-Err-clause-read g c =
+    counts-as _ _ _ _ (λ q. absurd (commit-read c.in-Err.error (sym c.commit_outcome.ensures ∙ err-of _ _ q))) c.in_ok-plan.ensures.read
+
+pub returns-in_default-clause-used : goal.returns-in_default-clause-used
+returns-in_default-clause-used g c = used-none _ _ _ _ _ c.requires.open.0 (λ q. cc)
+
+pub returns-in_err-plan-clause-used : goal.returns-in_err-plan-clause-used
+returns-in_err-plan-clause-used g c =
+    let p = err_from_is_err_and c.from_residual.result c.from_residual.ensures.1 in
+    used-none _ _ _ _ _ c.requires.open.0 (λ q. c.in_err-plan.ensures.early.1 (ap Err (sym p.2 ∙ err-of p.0 StoreFault (sym p.1 ∙ q))))
+
+pub returns-in_default-copied-clause-used : goal.returns-in_default-copied-clause-used
+returns-in_default-copied-clause-used g c = used-none _ _ _ _ _ c.requires.open.0 (ok-never _ _)
+
+pub returns-in_default-push_prepared-clause-used : goal.returns-in_default-push_prepared-clause-used
+returns-in_default-push_prepared-clause-used g c = used-none _ _ _ _ _ c.requires.open.0 (λ q. cc)
+
+pub returns-in-Ok-commit-clause-used : goal.returns-in-Ok-commit-clause-used
+returns-in-Ok-commit-clause-used g c = used-as _ _ _ _ _ _ _ (λ f. absurd (ok-never _ _ f)) (λ q. absurd (ok-never _ _ q)) c.in-Ok-commit.ensures.used
+
+pub returns-in-Err-clause-used : goal.returns-in-Err-clause-used
+returns-in-Err-clause-used g c =
+    let o = c.commit_outcome.ensures in
+    used-as _ _ _ _ _ _ _ (λ f. ap Err (o ∙ ap commit_outcome (err-of _ _ f))) (λ q. ap Err (commit-store c.in-Err.error (sym o ∙ err-of _ _ q))) c.in-Err.ensures.used
