@@ -26,3 +26,4 @@ mod BelowFilters
 mod Nears
 pub mod LayingLemmas
 mod Hidings
+pub mod Shadows

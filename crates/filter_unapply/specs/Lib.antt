@@ -9,3 +9,4 @@ pub mod Moved
 pub mod Routed
 pub mod Hands
 pub mod Rows
+pub mod Shadows

@@ -7,7 +7,7 @@ use Rattle.object_store.specs.Unfolding.{flat}
 use Rattle.filter_text.specs.Shapes.{shape}
 use Rattle.filter_unapply.specs.Laying.{unseen}
 use Rattle.filter_unapply.proofs.Told.{is_tree}
-use Rattle.filter_unapply.proofs.hiding.unseen.Goals as goal
+use Rattle.filter_unapply.proofs.hiding.first_unseen.Goals as goal
 
 pub leaves-init : goal.leaves-init
 leaves-init c =
@@ -15,6 +15,7 @@ leaves-init c =
     let t = flat S c.args.base.0 in
     let same : c.in_ok-walk.walk.left ≡ t = ap (λ w. w.left) c.in_ok-walk.ensures in
     record {
+      shadow = c.requires.shadow;
       left = ap (λ (u : Flat). unseen (shape c.args.old.now.filter) (shape c.args.new.now.filter) u (flat S c.args.pushed.0)) same;
       own = subst (λ (u : Flat). Each (λ (e : Path × Leaf). at t e.0 ≡ Some e.1) u) (sym same) (each_at t (is_tree S c.store_law.ensures.store c.args.base.0 c.requires.base).sorted);
     }
