@@ -1,12 +1,12 @@
 -- What lies in a cone that no entry of a list meets has no image.
-use Rattle.std.proofs.Common.{◌≡◌, ◌∙◌, ◌&&◌, ◌||◌, Bool, not, false, true, [], ◌∷◌, List, Option, Some, None, refl, sym, ap, true≢false, inl, inr}
+use Rattle.std.proofs.Common.{◌≡◌, ◌∙◌, ◌&&◌, ◌||◌, Bool, false, true, [], ◌∷◌, List, Option, Some, None, refl, sym, ap, true≢false, inl, inr}
 use Rattle.std.specs.Prelude.{◌⊎◌, is_some}
 use Rattle.std.specs.Option.{is_none, option_map_or}
 use Rattle.git_objects.specs.Paths.{Path, is_path}
 use Rattle.git_objects.specs.Trees.{Flat, Leaf}
 use Rattle.decision_lists.specs.Entries.{Cone, Entry, decide, run, tail}
 use Rattle.decision_lists.specs.Operations.{covers}
-use Rattle.decision_lists.proofs.Clash.{nested}
+use Rattle.decision_lists.proofs.Clash.{alive-parts, nested}
 use Rattle.filter_text.specs.Filters.{Filter}
 use Rattle.filter_routes.specs.Images.{image}
 use Rattle.filter_routes.specs.Lists.{IsListOf}
@@ -17,10 +17,6 @@ use Rattle.filter_unapply.specs.Shadows.{IsShadow, ShowsNone, is_apart, is_withi
 neither : (a b : Bool) → (a || b) ≡ false → (a ≡ false) × (b ≡ false)
 neither true b e = absurd (true≢false e)
 neither false b e = (refl, e)
-
-apart-parts : (a b : Bool) → (not a && b) ≡ true → (a ≡ false) × (b ≡ true)
-apart-parts true b e = absurd (true≢false (sym e))
-apart-parts false b e = (refl, e)
 
 module _ (c d : Cone) (p : Path) (no : covers c d ≡ false) (nor : covers d c ≡ false) where
   never : (covers c d ≡ true) ⊎ (covers d c ≡ true) → ⊥
@@ -43,7 +39,7 @@ run-none : (es : List Entry) (c : Cone) (p : Path) → is_apart es c ≡ true �
 run-none [] c p a h = refl
 run-none ((d, None) ∷ es) c p a h = gives-none (tail d p) (run None es p) (run-none es c p a h)
 run-none ((d, Some t) ∷ es) c p a h =
-    let k = apart-parts (covers d c || covers c d) (is_apart es c) a in
+    let k = alive-parts (covers d c || covers c d) (is_apart es c) a in
     let n = neither (covers d c) (covers c d) k.0 in
     ap (λ o. decide o (Some t) (run None es p)) (not-in-both d c p n.0 n.1 h) ∙ run-none es c p k.1 h
 

@@ -125,7 +125,8 @@ pub fn project_to<L: Ledger>(
     requires ground { IsGround ground.old }
     requires head { IsSome (place_of head.now.0 ground.old.graph) }
     ensures ok { IfOk result (λ o. option_map shown_value o
-        ≡ projection_by ground.old.rule (shown (shape filter.now)) ground.old.map (commits_of ground.old) head.now.0) }
+        ≡ projection_by ground.old.rule (shown (shape filter.now)) ground.old.map
+        (commits_of ground.old) head.now.0) }
     ensures map { IsFilled ground.old.rule (shown (shape filter.now)) (commits_of ground.old) head.now.0
         ground.old.map ground.new.map }
     ensures kept { OnOk result (IsSome (kept_at head.now.0 ground.new.map)) }

@@ -153,7 +153,8 @@ pub fn write_commit<O: Sink>(
         (commits_text (tree_in store.now) refname.now (marks_in store.now marks.old)
         (snapshots_at store.now (name.now.0 ∷ []))) result }
     ensures marks { OnOk result (marks_in store.now marks.new
-        ≡ marks_behind (tree_in store.now) (marks_in store.now marks.old) (snapshots_at store.now (name.now.0 ∷ []))) }
+        ≡ marks_behind (tree_in store.now) (marks_in store.now marks.old)
+        (snapshots_at store.now (name.now.0 ∷ []))) }
     ensures given { OnOk result (AreGivenIn store.now marks.new) }
     ensures names { OnOk result (commit_names marks.new ≡ commit_names marks.old ++ name.now ∷ []) }
     ensures store { IsStore store.now }

@@ -79,7 +79,8 @@ fn projected<L: Ledger>(
     requires ground { IsGround ground.old }
     requires head { IsSome (place_of head.now.0 ground.old.graph) }
     ensures ok { IfOk result (λ o. option_map shown_value o
-        ≡ projection_by ground.old.rule (shown (shape filter.now)) ground.old.map (commits_of ground.old) head.now.0) }
+        ≡ projection_by ground.old.rule (shown (shape filter.now)) ground.old.map
+        (commits_of ground.old) head.now.0) }
     ensures same { Extends (IsShownOf (shape filter.now) (commits_of ground.old)) ground.old ground.new }
     ensures err { IfErr result
         (IsApplyFault (IsShownOf (shape filter.now) (commits_of ground.old)) ground.new.store) }

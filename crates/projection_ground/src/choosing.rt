@@ -189,7 +189,8 @@ fn reaches_each_from(
     requires low { low ≤ first }
     ensures decided { IfOk result (λ o. low ≡ 0 → IsSome o) }
     ensures test { (place : ℕ) → IsBehind ground.now (first ∷ []) place → IfOk result (λ o. IfSome o
-        (IsTest ground.now place (first ∷ []) (reaches_each ground.now place first (map shown_value projected.now)))) }
+        (IsTest ground.now place (first ∷ [])
+        (reaches_each ground.now place first (map shown_value projected.now)))) }
 {
     let places = ground.graph.ancestors_from(first, low)?;
     if let Some(place) = last_lacking(ground, &places) {

@@ -151,7 +151,8 @@ pub fn originals(
     requires commits { (cs : List Snapshot) × AreCommitsIn ground.old.store commits.now cs }
     requires few { length commits.now ≤ STREAM_BYTES }
     ensures ok { (cs : List Snapshot) → AreCommitsIn ground.old.store commits.now cs
-        → IfOk result (λ names. AreOriginals (shape filter.now) head.now.0 (tree_at (commits_of ground.old) head.now.0)
+        → IfOk result (λ names. AreOriginals (shape filter.now)
+        head.now.0 (tree_at (commits_of ground.old) head.now.0)
         (flat ground.old.store seen.0) cs ground.new.store names.items) }
     ensures err { (cs : List Snapshot) → AreCommitsIn ground.old.store commits.now cs
         → IfErr result (IsOriginalError (shape filter.now) head.now.0 (tree_at (commits_of ground.old) head.now.0)

@@ -108,7 +108,8 @@ pub fn put_last(
     ensures ok { OnOk result ((S : List Object)
         (w : IsWay S nodes.old nodes.old components.now way.level way.spot.link way.spot.child)
         → is_held S (Content.Held found) ≡ true
-        → (k : ℕ) × IsPutAt S nodes.old nodes.new components.now way.level way.spot.link way.spot.child found k w) }
+        → (k : ℕ)
+        × IsPutAt S nodes.old nodes.new components.now way.level way.spot.link way.spot.child found k w) }
     ensures err { OnErr result (IsWaste nodes.old nodes.new) }
     ensures child { IfSome last.new.child
         (IsChildOf nodes.new last.new.directory.items last.new.numbers.items) }
@@ -135,7 +136,8 @@ pub fn put_kept(
     ensures ok { OnOk result ((S : List Object)
         (w : IsWay S nodes.old nodes.old components.items way.level way.spot.link way.spot.child)
         → is_held S (Content.Held found) ≡ true
-        → (k : ℕ) × IsPutAt S nodes.old nodes.new components.items way.level way.spot.link way.spot.child found k w) }
+        → (k : ℕ)
+        × IsPutAt S nodes.old nodes.new components.items way.level way.spot.link way.spot.child found k w) }
     ensures err { OnErr result (IsWaste nodes.old nodes.new) }
     ensures child { IfSome last.new.child
         (IsChildOf nodes.new last.new.directory.items last.new.numbers.items) }

@@ -12,7 +12,9 @@ use Rattle.proj_commands.proofs.PushPlans.{takes-at}
 use Rattle.proj_commands.proofs.Pushes.{commit-done, commit-refused, is-batch, last-at, no-memory, no-ref, none-pushed, unplanned}
 use Rattle.proj_commands.proofs.StatesShown.{head-placed}
 use Rattle.proj_commands.specs.Refusals.{commit_outcome}
-use Rattle.proj_commands.proofs.Uses.{counts-as, counts-none, err-of, ok-never, used-as, used-none}
+use Rattle.proj_commands.proofs.Uses.{counts-none, err-of, ok-never}
+use Rattle.proj_commands.proofs.NamesGiven.{counts-by}
+use Rattle.repo_ground.proofs.Cuts.{unused, used-as}
 use Rattle.proj_commands.proofs.pushing.push.Goals as goal
 use Rattle.fast_import.proofs.Stopping.{within_none}
 
@@ -146,34 +148,34 @@ returns-in_default-clause-read g c = counts-none _ _ (λ q. cc)
 pub returns-in_err-plan-clause-read : goal.returns-in_err-plan-clause-read
 returns-in_err-plan-clause-read g c =
     let p = err_from_is_err_and c.from_residual.result c.from_residual.ensures.1 in
-    counts-as _ _ _ _ (λ q. ap Err (sym p.2 ∙ err-of p.0 ReadFault (sym p.1 ∙ q))) c.in_err-plan.ensures.read
+    counts-by _ _ _ _ c.in_err-plan.ensures.read (λ q. ap Err (sym p.2 ∙ err-of p.0 ReadFault (sym p.1 ∙ q)))
 
 pub returns-in_default-copied-clause-read : goal.returns-in_default-copied-clause-read
-returns-in_default-copied-clause-read g c = counts-as _ _ _ _ (λ q. absurd (ok-never _ _ q)) c.in_ok-plan.ensures.read
+returns-in_default-copied-clause-read g c = counts-by _ _ _ _ c.in_ok-plan.ensures.read (λ q. absurd (ok-never _ _ q))
 
 pub returns-in_default-push_prepared-clause-read : goal.returns-in_default-push_prepared-clause-read
-returns-in_default-push_prepared-clause-read g c = counts-as _ _ _ _ (λ q. absurd cc) c.in_ok-plan.ensures.read
+returns-in_default-push_prepared-clause-read g c = counts-by _ _ _ _ c.in_ok-plan.ensures.read (λ q. absurd cc)
 
 pub returns-in-Ok-commit-clause-read : goal.returns-in-Ok-commit-clause-read
-returns-in-Ok-commit-clause-read g c = counts-as _ _ _ _ (λ q. absurd (ok-never _ _ q)) c.in_ok-plan.ensures.read
+returns-in-Ok-commit-clause-read g c = counts-by _ _ _ _ c.in_ok-plan.ensures.read (λ q. absurd (ok-never _ _ q))
 
 pub returns-in-Err-clause-read : goal.returns-in-Err-clause-read
 returns-in-Err-clause-read g c =
-    counts-as _ _ _ _ (λ q. absurd (commit-read c.in-Err.error (sym c.commit_outcome.ensures ∙ err-of _ _ q))) c.in_ok-plan.ensures.read
+    counts-by _ _ _ _ c.in_ok-plan.ensures.read (λ q. absurd (commit-read c.in-Err.error (sym c.commit_outcome.ensures ∙ err-of _ _ q)))
 
 pub returns-in_default-clause-used : goal.returns-in_default-clause-used
-returns-in_default-clause-used g c = used-none _ _ _ _ _ c.requires.open.0 (λ q. cc)
+returns-in_default-clause-used g c = unused _ _ _ _ _ c.requires.open.0 (λ q. cc)
 
 pub returns-in_err-plan-clause-used : goal.returns-in_err-plan-clause-used
 returns-in_err-plan-clause-used g c =
     let p = err_from_is_err_and c.from_residual.result c.from_residual.ensures.1 in
-    used-none _ _ _ _ _ c.requires.open.0 (λ q. c.in_err-plan.ensures.early.1 (ap Err (sym p.2 ∙ err-of p.0 StoreFault (sym p.1 ∙ q))))
+    unused _ _ _ _ _ c.requires.open.0 (λ q. c.in_err-plan.ensures.early.1 (ap Err (sym p.2 ∙ err-of p.0 StoreFault (sym p.1 ∙ q))))
 
 pub returns-in_default-copied-clause-used : goal.returns-in_default-copied-clause-used
-returns-in_default-copied-clause-used g c = used-none _ _ _ _ _ c.requires.open.0 (ok-never _ _)
+returns-in_default-copied-clause-used g c = unused _ _ _ _ _ c.requires.open.0 (ok-never _ _)
 
 pub returns-in_default-push_prepared-clause-used : goal.returns-in_default-push_prepared-clause-used
-returns-in_default-push_prepared-clause-used g c = used-none _ _ _ _ _ c.requires.open.0 (λ q. cc)
+returns-in_default-push_prepared-clause-used g c = unused _ _ _ _ _ c.requires.open.0 (λ q. cc)
 
 pub returns-in-Ok-commit-clause-used : goal.returns-in-Ok-commit-clause-used
 returns-in-Ok-commit-clause-used g c = used-as _ _ _ _ _ _ _ (λ f. absurd (ok-never _ _ f)) (λ q. absurd (ok-never _ _ q)) c.in-Ok-commit.ensures.used
