@@ -5,7 +5,7 @@ pub mod Cones
 pub mod Handing
 pub mod Deciding
 pub mod Bases
-pub mod Behind
+pub mod Cursors
 pub mod Placements
 pub mod Restricting
 pub mod Routing

@@ -1,5 +1,5 @@
--- Look-ups in a listing that go on where the last one ended.
-use Rattle.std.specs.Prelude.{◌≡◌, Bool, true, false, cond, ◌==◌, nat_lt, List, [], ◌∷◌, ◌++◌, Some}
+-- Cursors: look-ups in a directory of a tree.
+use Rattle.std.specs.Prelude.{◌≡◌, true, List, [], ◌∷◌, ◌++◌, Some}
 use Rattle.std.specs.Option.{option_map}
 use Rattle.git_objects.specs.Entries.{AreEntries}
 use Rattle.git_objects.specs.Paths.{Bytes, Path}
@@ -11,22 +11,6 @@ use Rattle.path_trees.specs.Standing.{node}
 use Rattle.path_trees.specs.declared.found.Found.{Found}
 use Rattle.filter_apply.specs.declared.cursor.Cursor.{Cursor}
 
--- whether a has the lesser byte where the two first differ; neither is a front of the other
-abbrev pub precedes : Bytes → Bytes → Bool
-precedes [] b = false
-precedes (x ∷ a) [] = false
-precedes (x ∷ a) (y ∷ b) = cond (x == y) (precedes a b) (nat_lt x y)
-
--- What is left of a listing has each component that is above this one as the whole listing has it.
-pub record IsBehind (c : Bytes) (all rest : List Entry) : Type 0 where
-  pub order : AreEntries rest
-  pub above : (d : Bytes) → precedes c d ≡ true → found_at d rest ≡ found_at d all
-
--- and this one, too
-pub record IsFrom (c : Bytes) (all rest : List Entry) : Type 0 where
-  pub behind : IsBehind c all rest
-  pub here : found_at c rest ≡ found_at c all
-
 -- these entries are what the directory at the path lists; none, where none is there
 pub record IsListedAt (S : List Object) (t : Flat) (p : Path) (es : List Entry) : Type 0 where
   pub order : AreEntries es
@@ -35,5 +19,4 @@ pub record IsListedAt (S : List Object) (t : Flat) (p : Path) (es : List Entry) 
 
 -- a cursor in the directory at its path
 pub record IsCursor (S : List Object) (t : Flat) (k : Cursor) : Type 0 where
-  pub listed : IsListedAt S t k.parent.now k.all
-  pub behind : IsBehind k.last.now k.all k.rest
+  pub listed : IsListedAt S t k.parent.now k.finder

@@ -34,15 +34,15 @@ fn found_by<'a, 'b, L: Ledger>(
     };
     match cursor_at(store, root, parent, cursor, steps) {
         None => (None, None),
-        Some(there) => {
-            let (found, next) = there.find(last.bytes());
-            (found, Some(next))
+        Some(mut there) => {
+            let found = there.finder.find(last.bytes());
+            (found, Some(there))
         }
     }
 }
 
-// What stands at the base of each entry. A step is the body of a directory on the way. Bases in one directory that
-// come in its order are found in one pass over it.
+/// What stands at the base of each entry. A step is the body of a directory on the way. Bases in one directory that
+/// come in its order are found in one pass over it.
 pub fn founds_of<L: Ledger>(
     alloc: Global,
     store: &Store,

@@ -13,6 +13,7 @@ mod showing;
 mod standing;
 
 pub use fault::ApplyError;
+pub use founds::founds_of;
 pub use laws::stays_true_law;
 pub use parts::part;
 pub use placing::placed;

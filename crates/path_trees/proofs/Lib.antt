@@ -1,5 +1,7 @@
 pub mod Grown
 pub mod Listings
+pub mod Searching
+pub mod Rebuilding
 pub mod Levels
 pub mod Trees
 pub mod Taken

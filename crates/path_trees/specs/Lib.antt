@@ -2,6 +2,7 @@ pub mod Standing
 pub mod Made
 pub mod Clashes
 pub mod Listed
+pub mod Searches
 pub mod Walked
 pub mod Levels
 pub mod Merged

@@ -12,9 +12,8 @@ ghost use Rattle.path_trees.specs.Listed.{listed};
 ghost use Rattle.path_trees.specs.Paired.{first_behind, pair_behind};
 ghost use Rattle.path_trees.specs.Standing.{node};
 
-use crate::Found;
-use crate::directory::find;
 use crate::walk::{copied, entries_at, go_up, next_leaf};
+use crate::{Finder, Found};
 use git_objects::{Component, Mode, Name, TreeView};
 use object_store::{Store, store_law};
 use path_names::Path;
@@ -24,7 +23,7 @@ use std::alloc::{AllocError, Global};
 #[derive(Drop)]
 pub struct Level<'a> {
     left: TreeView<'a>,
-    right: TreeView<'a>,
+    right: Finder<'a, 'a>,
 }
 
 // What is left to read of the directories of these names, one of each tree, at the front of a path.
@@ -37,7 +36,7 @@ fn level_at<'a>(store: &'a Store, left: &Name, right: &Name) -> Level<'a>
 {
     Level {
         left: entries_at(store, left),
-        right: entries_at(store, right),
+        right: Finder::new(entries_at(store, right)),
     }
 }
 
@@ -61,7 +60,7 @@ pub fn first_clash(
             go_up(&mut components);
             continue 'levels;
         };
-        let found = find(level.right.copy(), entry.component);
+        let found = level.right.find(entry.component);
         levels.push(level)?;
         let Some(found) = found else {
             continue 'levels;

@@ -3,6 +3,7 @@ use Rattle.std.specs.Cmp.{first_so, second_so}
 use Rattle.git_objects.specs.Paths.{Bytes}
 use Rattle.git_objects.specs.Entries.{is_dir}
 use Rattle.git_objects.specs.Views.{entry_value}
+use Rattle.git_objects.specs.declared.entry.Entry.{Entry}
 use Rattle.path_trees.specs.Listed.{found_at}
 use Rattle.path_trees.specs.declared.clash.Level.{Level}
 use Rattle.path_trees.proofs.ClashSteps.{clash_left, first_level, closed, next_child, next_component, found_child, passed, entered, clashed}
@@ -34,14 +35,16 @@ levels-preserved-in_default-next c =
 pub levels-smaller-in_default-found : goal.levels-smaller-in_default-found
 levels-smaller-in_default-found c =
     let S = c.args.store.now in
-    let n : found_at c.in-Some-next.entry.component.now c.in-Some.level.right ≡ None = sym (c.in_default-found.ensures ∙ ap (found_at c.in-Some-next.entry.component.now) c.copy.ensures) in
-    (passed S c.level_at.ensures.store c.levels.levels.items c.pop.new.self.items c.in-Some.level c.next.new.self (entry_value c.in-Some-next.entry) c.in-Some.ensures.items c.in-Some-next.ensures.entry c.in-Some-next.ensures.rest c.levels.invariant.levels n c.levels.components.items c.push-in-Some.new.self.items c.in_ok-push-2.ensures.items).2
+    let n : found_at c.in-Some-next.entry.component.now c.in-Some.level.right ≡ None = sym c.in_default-found.ensures.found in
+    let items = c.in_ok-push-2.ensures.items ∙ ap (λ (fs : List Entry). let top : Level = record { left = c.next.new.self; right = fs } in c.pop.new.self.items ++ top ∷ []) c.in_default-found.ensures.same in
+    (passed S c.level_at.ensures.store c.levels.levels.items c.pop.new.self.items c.in-Some.level c.next.new.self (entry_value c.in-Some-next.entry) c.in-Some.ensures.items c.in-Some-next.ensures.entry c.in-Some-next.ensures.rest c.levels.invariant.levels n c.levels.components.items c.push-in-Some.new.self.items items).2
 
 pub levels-preserved-in_default-found : goal.levels-preserved-in_default-found
 levels-preserved-in_default-found c =
     let S = c.args.store.now in
-    let n : found_at c.in-Some-next.entry.component.now c.in-Some.level.right ≡ None = sym (c.in_default-found.ensures ∙ ap (found_at c.in-Some-next.entry.component.now) c.copy.ensures) in
-    let r = passed S c.level_at.ensures.store c.levels.levels.items c.pop.new.self.items c.in-Some.level c.next.new.self (entry_value c.in-Some-next.entry) c.in-Some.ensures.items c.in-Some-next.ensures.entry c.in-Some-next.ensures.rest c.levels.invariant.levels n c.levels.components.items c.push-in-Some.new.self.items c.in_ok-push-2.ensures.items in
+    let n : found_at c.in-Some-next.entry.component.now c.in-Some.level.right ≡ None = sym c.in_default-found.ensures.found in
+    let items = c.in_ok-push-2.ensures.items ∙ ap (λ (fs : List Entry). let top : Level = record { left = c.next.new.self; right = fs } in c.pop.new.self.items ++ top ∷ []) c.in_default-found.ensures.same in
+    let r = passed S c.level_at.ensures.store c.levels.levels.items c.pop.new.self.items c.in-Some.level c.next.new.self (entry_value c.in-Some-next.entry) c.in-Some.ensures.items c.in-Some-next.ensures.entry c.in-Some-next.ensures.rest c.levels.invariant.levels n c.levels.components.items c.push-in-Some.new.self.items items in
     record { levels = r.0; components = c.levels.invariant.components; same = r.1 ∙ c.levels.invariant.same }
 
 pub copied-requires : goal.copied-requires
@@ -57,7 +60,7 @@ clash_at-requires-clause-left c =
 pub clash_at-requires-clause-right : goal.clash_at-requires-clause-right
 clash_at-requires-clause-right c =
     let S = c.args.store.now in
-    let k : found_at c.in-Some-next.entry.component.now c.in-Some.level.right ≡ Some c.in-Some-found.found = sym (c.in-Some-found.ensures ∙ ap (found_at c.in-Some-next.entry.component.now) c.copy.ensures) in
+    let k : found_at c.in-Some-next.entry.component.now c.in-Some.level.right ≡ Some c.in-Some-found.found = sym c.in-Some-found.ensures.found in
     found_child S c.level_at.ensures.store c.levels.levels.items c.pop.new.self.items c.in-Some.level c.next.new.self (entry_value c.in-Some-next.entry) c.in-Some.ensures.items c.in-Some-next.ensures.entry c.in-Some-next.ensures.rest c.levels.invariant.levels c.in-Some-found.found k
 
 pub clash_at-requires-clause-path : goal.clash_at-requires-clause-path
@@ -72,7 +75,7 @@ returns-then-not-are_directories c =
     let items : c.push.new.self.items ≡ [] ++ c.level_at.result ∷ [] = c.in_ok-push.ensures.items ∙ ap (λ (ls : List Level). ls ++ c.level_at.result ∷ []) c.new-levels.ensures.items in
     let root = first_level S c.level_at.ensures.store c.args.a.now.0 c.args.b.now.0 c.level_at.result c.requires.first c.requires.second c.level_at.ensures.left c.level_at.ensures.right c.push.new.self.items items in
     let whole = ap (clash_left S c.push.new.self.items) c.new-components.ensures.items ∙ root.1 in
-    let k : found_at c.in-Some-next.entry.component.now c.in-Some.level.right ≡ Some c.in-Some-found.found = sym (c.in-Some-found.ensures ∙ ap (found_at c.in-Some-next.entry.component.now) c.copy.ensures) in
+    let k : found_at c.in-Some-next.entry.component.now c.in-Some.level.right ≡ Some c.in-Some-found.found = sym c.in-Some-found.ensures.found in
     let path : c.push-in-Some-2.new.self.items ≡ c.levels.components.items ++ c.in-Some-next.entry.component.now ∷ [] = c.in_ok-push-3.ensures.items ∙ ap (λ (x : Bytes). c.levels.components.items ++ x ∷ []) c.in_ok-copied.ensures in
     sym (sym whole ∙ sym c.levels.invariant.same ∙ clashed S c.level_at.ensures.store c.levels.levels.items c.pop.new.self.items c.in-Some.level c.next.new.self (entry_value c.in-Some-next.entry) c.in-Some.ensures.items c.in-Some-next.ensures.entry c.in-Some-next.ensures.rest c.levels.invariant.levels c.in-Some-found.found k c.levels.components.items c.push-in-Some-2.new.self.items path c.in_ok-clash_at.field-0 c.in_ok-clash_at.ensures)
 
@@ -84,22 +87,24 @@ level_at-requires-in-Some-clause-left c =
 pub level_at-requires-in-Some-clause-right : goal.level_at-requires-in-Some-clause-right
 level_at-requires-in-Some-clause-right c =
     let S = c.args.store.now in
-    let k : found_at c.in-Some-next.entry.component.now c.in-Some.level.right ≡ Some c.in-Some-found.found = sym (c.in-Some-found.ensures ∙ ap (found_at c.in-Some-next.entry.component.now) c.copy.ensures) in
+    let k : found_at c.in-Some-next.entry.component.now c.in-Some.level.right ≡ Some c.in-Some-found.found = sym c.in-Some-found.ensures.found in
     tree_held S c.in-Some-found.found.mode c.in-Some-found.found.name.0 (second_so (is_dir c.in-Some-next.entry.mode) (is_dir c.in-Some-found.found.mode) (sym c.if-not-are_directories.ensures)) (found_child S c.level_at.ensures.store c.levels.levels.items c.pop.new.self.items c.in-Some.level c.next.new.self (entry_value c.in-Some-next.entry) c.in-Some.ensures.items c.in-Some-next.ensures.entry c.in-Some-next.ensures.rest c.levels.invariant.levels c.in-Some-found.found k)
 
 pub levels-smaller : goal.levels-smaller
 levels-smaller c =
     let S = c.args.store.now in
-    let k : found_at c.in-Some-next.entry.component.now c.in-Some.level.right ≡ Some c.in-Some-found.found = sym (c.in-Some-found.ensures ∙ ap (found_at c.in-Some-next.entry.component.now) c.copy.ensures) in
+    let k : found_at c.in-Some-next.entry.component.now c.in-Some.level.right ≡ Some c.in-Some-found.found = sym c.in-Some-found.ensures.found in
     let path : c.push-in-Some-2.new.self.items ≡ c.levels.components.items ++ c.in-Some-next.entry.component.now ∷ [] = c.in_ok-push-3.ensures.items ∙ ap (λ (x : Bytes). c.levels.components.items ++ x ∷ []) c.in_ok-copied.ensures in
-    (entered S c.level_at.ensures.store c.levels.levels.items c.pop.new.self.items c.in-Some.level c.next.new.self (entry_value c.in-Some-next.entry) c.in-Some.ensures.items c.in-Some-next.ensures.entry c.in-Some-next.ensures.rest c.levels.invariant.levels c.in-Some-found.found k (first_so (is_dir c.in-Some-next.entry.mode) (is_dir c.in-Some-found.found.mode) (sym c.if-not-are_directories.ensures)) (second_so (is_dir c.in-Some-next.entry.mode) (is_dir c.in-Some-found.found.mode) (sym c.if-not-are_directories.ensures)) c.level_at-in-Some.result c.level_at-in-Some.ensures.left c.level_at-in-Some.ensures.right c.levels.components.items c.push-in-Some-2.new.self.items path c.push-in-Some.new.self.items c.push-in-Some-3.new.self.items c.in_ok-push-2.ensures.items c.in_ok-push-4.ensures.items).2
+    let items = c.in_ok-push-2.ensures.items ∙ ap (λ (fs : List Entry). let top : Level = record { left = c.next.new.self; right = fs } in c.pop.new.self.items ++ top ∷ []) c.in-Some-found.ensures.same in
+    (entered S c.level_at.ensures.store c.levels.levels.items c.pop.new.self.items c.in-Some.level c.next.new.self (entry_value c.in-Some-next.entry) c.in-Some.ensures.items c.in-Some-next.ensures.entry c.in-Some-next.ensures.rest c.levels.invariant.levels c.in-Some-found.found k (first_so (is_dir c.in-Some-next.entry.mode) (is_dir c.in-Some-found.found.mode) (sym c.if-not-are_directories.ensures)) (second_so (is_dir c.in-Some-next.entry.mode) (is_dir c.in-Some-found.found.mode) (sym c.if-not-are_directories.ensures)) c.level_at-in-Some.result c.level_at-in-Some.ensures.left c.level_at-in-Some.ensures.right c.levels.components.items c.push-in-Some-2.new.self.items path c.push-in-Some.new.self.items c.push-in-Some-3.new.self.items items c.in_ok-push-4.ensures.items).2
 
 pub levels-preserved : goal.levels-preserved
 levels-preserved c =
     let S = c.args.store.now in
-    let k : found_at c.in-Some-next.entry.component.now c.in-Some.level.right ≡ Some c.in-Some-found.found = sym (c.in-Some-found.ensures ∙ ap (found_at c.in-Some-next.entry.component.now) c.copy.ensures) in
+    let k : found_at c.in-Some-next.entry.component.now c.in-Some.level.right ≡ Some c.in-Some-found.found = sym c.in-Some-found.ensures.found in
     let path : c.push-in-Some-2.new.self.items ≡ c.levels.components.items ++ c.in-Some-next.entry.component.now ∷ [] = c.in_ok-push-3.ensures.items ∙ ap (λ (x : Bytes). c.levels.components.items ++ x ∷ []) c.in_ok-copied.ensures in
-    let r = entered S c.level_at.ensures.store c.levels.levels.items c.pop.new.self.items c.in-Some.level c.next.new.self (entry_value c.in-Some-next.entry) c.in-Some.ensures.items c.in-Some-next.ensures.entry c.in-Some-next.ensures.rest c.levels.invariant.levels c.in-Some-found.found k (first_so (is_dir c.in-Some-next.entry.mode) (is_dir c.in-Some-found.found.mode) (sym c.if-not-are_directories.ensures)) (second_so (is_dir c.in-Some-next.entry.mode) (is_dir c.in-Some-found.found.mode) (sym c.if-not-are_directories.ensures)) c.level_at-in-Some.result c.level_at-in-Some.ensures.left c.level_at-in-Some.ensures.right c.levels.components.items c.push-in-Some-2.new.self.items path c.push-in-Some.new.self.items c.push-in-Some-3.new.self.items c.in_ok-push-2.ensures.items c.in_ok-push-4.ensures.items in
+    let items = c.in_ok-push-2.ensures.items ∙ ap (λ (fs : List Entry). let top : Level = record { left = c.next.new.self; right = fs } in c.pop.new.self.items ++ top ∷ []) c.in-Some-found.ensures.same in
+    let r = entered S c.level_at.ensures.store c.levels.levels.items c.pop.new.self.items c.in-Some.level c.next.new.self (entry_value c.in-Some-next.entry) c.in-Some.ensures.items c.in-Some-next.ensures.entry c.in-Some-next.ensures.rest c.levels.invariant.levels c.in-Some-found.found k (first_so (is_dir c.in-Some-next.entry.mode) (is_dir c.in-Some-found.found.mode) (sym c.if-not-are_directories.ensures)) (second_so (is_dir c.in-Some-next.entry.mode) (is_dir c.in-Some-found.found.mode) (sym c.if-not-are_directories.ensures)) c.level_at-in-Some.result c.level_at-in-Some.ensures.left c.level_at-in-Some.ensures.right c.levels.components.items c.push-in-Some-2.new.self.items path c.push-in-Some.new.self.items c.push-in-Some-3.new.self.items items c.in_ok-push-4.ensures.items in
     record { levels = r.0; components = all_more c.levels.components.items c.push-in-Some-2.new.self.items c.in-Some-next.entry.component.now path c.levels.invariant.components (next_component S c.level_at.ensures.store c.levels.levels.items c.pop.new.self.items c.in-Some.level c.next.new.self (entry_value c.in-Some-next.entry) c.in-Some.ensures.items c.in-Some-next.ensures.entry c.in-Some-next.ensures.rest c.levels.invariant.levels); same = r.1 ∙ c.levels.invariant.same }
 
 pub returns : goal.returns

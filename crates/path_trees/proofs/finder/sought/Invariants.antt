@@ -1,6 +1,6 @@
 use Rattle.std.proofs.Common.{◌≡◌, length}
-use Rattle.filter_apply.specs.Cursors.{IsFrom}
-use Rattle.filter_apply.proofs.cursor.sought.Given as goal
+use Rattle.path_trees.specs.Searches.{IsFrom}
+use Rattle.path_trees.proofs.finder.sought.Given as goal
 
 abbrev pub invariant-entries : goal.invariant-entries
 invariant-entries l = record {

@@ -1,6 +1,6 @@
 use Rattle.std.proofs.Common.{◌≤◌, length, min, sym, ◌∙◌, arith}
-use Rattle.filter_apply.proofs.Behind.{below_end}
-use Rattle.filter_apply.proofs.cursor.precedes.Goals as goal
+use Rattle.path_trees.proofs.Searching.{below_end}
+use Rattle.path_trees.proofs.finder.precedes.Goals as goal
 
 pub returns : goal.returns
 returns c =

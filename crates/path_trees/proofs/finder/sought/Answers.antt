@@ -1,9 +1,9 @@
 use Rattle.std.proofs.Common.{sym, subst, ◌∙◌}
 use Rattle.std.specs.Cmp.Lexicographic.{bytes_decides}
 use Rattle.git_objects.specs.Views.{entry_value}
-use Rattle.filter_apply.specs.Cursors.{IsFrom}
-use Rattle.filter_apply.proofs.Behind.{passed_by, behind_found, none_left}
-use Rattle.filter_apply.proofs.cursor.sought.Goals as goal
+use Rattle.path_trees.specs.Searches.{IsFrom}
+use Rattle.path_trees.proofs.Searching.{passed_by, behind_found, none_left}
+use Rattle.path_trees.proofs.finder.sought.Goals as goal
 
 pub returns-then-eq-clause-rest : goal.returns-then-eq-clause-rest
 returns-then-eq-clause-rest c =
