@@ -21,7 +21,8 @@ use Rattle.path_trees.specs.declared.found.Found.{Found}
 use Rattle.decision_lists.specs.Entries.{Entry, cone_of, decide, run}
 use Rattle.filter_unapply.specs.StoredLeaves.{HasLeaves}
 use Rattle.filter_unapply.specs.Hands.{IsMadeOf}
-use Rattle.filter_unapply.specs.Sifted.{IsFitting, chosen, put_back, sifted, stays, taken_out}
+use Rattle.filter_apply.specs.Founds.{IsFoundAt}
+use Rattle.filter_unapply.specs.Sifted.{IsFitting, chosen, fitted, put_back, sifted, stays, taken_out}
 use Rattle.filter_unapply.proofs.Places.{leaf_stands}
 use Rattle.filter_unapply.proofs.Sieves.{back-directory, back-leaf, directory-absent, leaf-absent, nothing-absent, out-directory, out-leaf}
 use Rattle.filter_unapply.proofs.Told.{dir_node, leaf_node}
@@ -36,6 +37,16 @@ other-kind S t true s f h e i = directory-absent t s (flat S f.name.0) (sym e �
 other-kind S t false s f h e i =
     let x = leaf_node S f.mode f.name.0 i in
     leaf-absent t s x.0 h (leaf_stands t s x.0 (sym e ∙ ap Some x.1))
+
+pub fits : (S : List Object) (t : Flat) (b : Bool) (s : Path) (o : Option Found) → IsTree t → IsFoundAt S t s o → IsFitting S t b s (fitted b o)
+fits S t b s None h w = nothing-fits S t b s w.stands
+fits S t b s (Some f) h w = by b (is_dir f.mode) refl
+  where
+    by : (b d : Bool) → is_dir f.mode ≡ d → IsFitting S t b s (if d then (if b then None else Some f) else (if b then Some f else None))
+    by true true e = other-kind S t true s f h w.stands e
+    by true false e = (sym w.stands, w.held, e)
+    by false true e = (sym w.stands, w.held, e)
+    by false false e = other-kind S t false s f h w.stands e
 
 -- ---- put into a part of a tree, and taken out of a tree
 

@@ -11,6 +11,7 @@ mod MadeTrees
 mod Sieves
 mod Fittings
 mod Stages
+mod Runs
 mod Empties
 mod Moves
 mod Cellwise

@@ -1,5 +1,5 @@
 -- What a stage shows after one entry of a list more.
-use Rattle.std.proofs.Common.{◌≡◌, Bool, true, false, cond, T, List, [], ◌∷◌, Option, Some, None, Result, Ok, Err, refl, sym, ap, subst, ◌∙◌, true≢false}
+use Rattle.std.proofs.Common.{◌≡◌, Bool, true, false, cond, T, List, [], ◌∷◌, ◌++◌, Option, Some, None, Result, Ok, Err, refl, sym, ap, subst, ◌∙◌, true≢false}
 use Rattle.std.proofs.lemmas.Option.{none-some}
 use Rattle.std.specs.Prelude.{IfOk, OnOk, is_some, if◌then◌else◌}
 use Rattle.std.specs.FinMap.{is_sorted}
@@ -12,10 +12,10 @@ use Rattle.path_trees.specs.Standing.{node}
 use Rattle.path_trees.specs.declared.found.Found.{Found}
 use Rattle.stage_nodes.specs.Closing.{HasDirectory}
 use Rattle.stage_tree.specs.Stages.{Shows, Staged}
-use Rattle.decision_lists.specs.Entries.{Cone, Entry, at as at_cone, below as below_cone, cone_of, run, tail}
+use Rattle.decision_lists.specs.Entries.{Cone, Entry, at as at_cone, below as below_cone, cone_of, decide, run, tail}
 use Rattle.filter_routes.proofs.Carried.{nowhere}
 use Rattle.filter_unapply.specs.Hands.{IsIn, IsMadeOf}
-use Rattle.filter_unapply.specs.Sifted.{IsFitting, IsShown, IsWithin, asked, chosen, put_back, sifted, stays, taken_out}
+use Rattle.filter_unapply.specs.Sifted.{AreAlike, IsAbsent, IsFitting, IsShown, IsWithin, asked, chosen, put_back, sifted, stays, taken_out}
 use Rattle.filter_unapply.proofs.Fittings.{asked-is, at-sifted, out-fits, put-fits, sorted-sifted, started}
 use Rattle.filter_unapply.proofs.MadeTrees.{directory-made}
 use Rattle.filter_unapply.proofs.Sieves.{removed-at}
@@ -40,6 +40,30 @@ module _ (S : List Object) (v : Staged) (t u : Flat) (h : IsTree t) (w : IsWithi
       shows = g;
       leaves = λ q. removed-at u s q ∙ same-out _ (is_some (tail (cone_of b s) q)) (at t q) (at u q) (w q) (sym (removed-at t s q) ∙ out-fits S b s f t h k q);
     }
+
+-- ---- a cone in which the whole tree has nothing
+
+module _ (S : List Object) (v : Staged) (t u : Flat) (w : IsWithin u t) (c : Cone) (no : IsAbsent c t) (g : Shows S v u) where
+  nothing-there : (q : Path) → is_some (tail c q) ≡ true → at u q ≡ None
+  nothing-there q k = by (at u q) (w q)
+    where
+      by : (o : Option Leaf) → ((x : Leaf) → o ≡ Some x → at t q ≡ Some x) → o ≡ None
+      by None f = refl
+      by (Some x) f = absurd (none-some x (sym (no q k) ∙ f x refl))
+
+  pub back-absent : IsShown S v (put_back c t u)
+  back-absent = record { tree = u; shows = g; leaves = λ q. by q (is_some (tail c q)) refl }
+    where
+      by : (q : Path) (b : Bool) → is_some (tail c q) ≡ b → at u q ≡ cond b (at t q) (at u q)
+      by q true k = nothing-there q k ∙ sym (no q k)
+      by q false k = refl
+
+  pub out-absent : IsShown S v (taken_out c u)
+  out-absent = record { tree = u; shows = g; leaves = λ q. by q (is_some (tail c q)) refl }
+    where
+      by : (q : Path) (b : Bool) → is_some (tail c q) ≡ b → at u q ≡ cond b None (at u q)
+      by q true k = nothing-there q k
+      by q false k = refl
 
 -- ---- all paths
 
@@ -104,6 +128,48 @@ shown-one S v t u g e k h =
     by None k o x y = absurd (true≢false (sym k))
     by (Some r) k None x y = refl
     by (Some r) k (Some s) x y = refl
+
+-- ---- entries that all have targets, or all have none, the first of them first
+
+-- an entry that hasn't the path may be left out
+run-past : (xs rest : List Entry) (e : Entry) (q : Path) → tail e.0 q ≡ None → run None (xs ++ e ∷ rest) q ≡ run None (xs ++ rest) q
+run-past [] rest e q n = ap (λ o. decide o e.1 (run None rest q)) n
+run-past (d ∷ xs) rest e q n = ap (decide (tail d.0 q) d.1) (run-past xs rest e q n)
+
+stays-decided : (b : Bool) (r : Path) (a more : Option Path) → stays b (decide (Some r) a more) ≡ stays b a
+stays-decided true r None more = refl
+stays-decided false r None more = refl
+stays-decided true r (Some t) more = refl
+stays-decided false r (Some t) more = refl
+
+stays-alike : (b : Bool) (a c : Option Path) → is_some a ≡ is_some c → stays b a ≡ stays b c
+stays-alike b None None h = refl
+stays-alike b None (Some t) h = absurd (true≢false (sym h))
+stays-alike b (Some t) None h = absurd (true≢false h)
+stays-alike true (Some t) (Some u) h = refl
+stays-alike false (Some t) (Some u) h = refl
+
+-- what an entry has stays or goes by it, or by another one that is like it
+run-alike : (b k : Bool) (xs rest : List Entry) (e : Entry) (q r : Path) → AreAlike k xs → is_some e.1 ≡ k → tail e.0 q ≡ Some r → stays b (run None (xs ++ e ∷ rest) q) ≡ stays b e.1
+run-alike b k [] rest e q r h is has = ap (λ o. stays b (decide o e.1 (run None rest q))) has ∙ stays-decided b r e.1 (run None rest q)
+run-alike b k (d ∷ xs) rest e q r h is has = by (tail d.0 q) (run-alike b k xs rest e q r h.1 is has)
+  where
+    by : (o : Option Path) → stays b (run None (xs ++ e ∷ rest) q) ≡ stays b e.1 → stays b (decide o d.1 (run None (xs ++ e ∷ rest) q)) ≡ stays b e.1
+    by None later = later
+    by (Some s) later = stays-decided b s d.1 (run None (xs ++ e ∷ rest) q) ∙ stays-alike b d.1 e.1 (h.0 ∙ sym is)
+
+chosen-alike : (b k : Bool) (xs rest : List Entry) (e : Entry) (q : Path) (y : Option Leaf) → AreAlike k xs → is_some e.1 ≡ k → (o : Option Path) → tail e.0 q ≡ o →
+    chosen b e.1 o y (cond (stays b (run None (xs ++ rest) q)) y None) ≡ cond (stays b (run None (xs ++ e ∷ rest) q)) y None
+chosen-alike b k xs rest e q y h is None has = ap (λ x. cond (stays b x) y None) (sym (run-past xs rest e q has))
+chosen-alike b k xs rest e q y h is (Some r) has = ap (λ s. cond s y None) (sym (run-alike b k xs rest e q r h is has))
+
+pub shown-run : (S : List Object) (v : Staged) (t : Flat) → IsTree t → (b k : Bool) (xs rest : List Entry) (e : Entry) → AreAlike k xs → is_some e.1 ≡ k → IsShown S v (asked b e t (sifted b (xs ++ rest) t)) → Shows S v (sifted b (xs ++ e ∷ rest) t)
+shown-run S v t g b k xs rest e h is s =
+    shown-as S v (asked b e t (sifted b (xs ++ rest) t)) (sifted b (xs ++ e ∷ rest) t) (sorted-sifted b (xs ++ e ∷ rest) t g.sorted)
+    (λ q.
+    ap (chosen b e.1 (tail e.0 q) (at t q)) (at-sifted b (xs ++ rest) t q)
+    ∙ chosen-alike b k xs rest e q (at t q) h is (tail e.0 q) refl
+    ∙ sym (at-sifted b (xs ++ e ∷ rest) t q)) s
 
 -- ---- an entry that keeps what it has, or takes it out
 

@@ -1,5 +1,6 @@
 -- What a decision list takes out of a tree, or leaves in it.
-use Rattle.std.specs.Prelude.{◌≡◌, Bool, true, false, not, if◌then◌else◌, filter, is_some, is_none, List, Option, Some, None}
+use Rattle.std.specs.Prelude.{◌≡◌, ℕ, ◌-◌, Bool, true, false, not, if◌then◌else◌, filter, is_some, is_none, take, drop, List, Option, Some, None}
+use Rattle.git_objects.specs.Lists.{Each}
 use Rattle.git_objects.specs.Paths.{Path}
 use Rattle.git_objects.specs.Trees.{Leaf, Flat, at, standing}
 use Rattle.git_objects.specs.Entries.{is_dir}
@@ -17,6 +18,14 @@ stays false o = is_none o
 -- the leaves of the paths that the list gives something, or those of the others
 abbrev pub sifted : Bool → List Entry → Flat → Flat
 sifted inside es t = filter (λ e. stays inside (run None es e.0)) t
+
+-- each entry has a target, or none has one
+abbrev pub AreAlike : Bool → List Entry → Type 0
+AreAlike k es = Each (λ e. is_some e.1 ≡ k) es
+
+-- so it is with those from one place up to another
+abbrev pub IsRun : List Entry → ℕ → ℕ → Type 0
+IsRun es i j = (k : Bool) × AreAlike k (take (j - i) (drop i es))
 
 -- ---- one entry asked before others
 
@@ -53,6 +62,11 @@ pub record IsShown (S : List Object) (v : Staged) (o : Path → Option Leaf) : T
 -- no path of the cone has a leaf
 abbrev pub IsAbsent : Cone → Flat → Type 0
 IsAbsent c t = (q : Path) → is_some (tail c q) ≡ true → at t q ≡ None
+
+-- what was found, where it is of this kind: a leaf, or a directory
+abbrev pub fitted : Bool → Option Found → Option Found
+fitted point None = None
+fitted point (Some f) = if is_dir f.mode then (if point then None else Some f) else (if point then Some f else None)
 
 -- what stands at a path, where it is of this kind: a leaf, or a directory
 abbrev pub IsFitting : List Object → Flat → Bool → Path → Option Found → Type 0

@@ -1,23 +1,29 @@
 // What a decision list takes out of a tree, or leaves in it.
-ghost use Rattle.std.specs.Prelude.{◌≡◌, [], true, false, Some, if◌then◌else◌, IfOk, IfErr, OnOk};
+ghost use Rattle.std.specs.Prelude.{◌≡◌, ◌<◌, ◌≤◌, [], true, false, Some, if◌then◌else◌, drop, length, IfOk};
+ghost use Rattle.std.specs.Prelude.{IfErr, OnOk};
 ghost use Rattle.git_objects.specs.Trees.{Flat};
 ghost use Rattle.git_objects.specs.declared.kind.Kind.TheVariants.{Tree};
 ghost use Rattle.object_store.specs.Growth.{IsGrownBy, IsOnly};
 ghost use Rattle.object_store.specs.Objects.{IsStore, has};
 ghost use Rattle.object_store.specs.Unfolding.{flat, StandsFor};
 ghost use Rattle.stage_tree.specs.Stages.{Shows};
-ghost use Rattle.decision_lists.specs.Entries.{cone_of};
+ghost use Rattle.decision_lists.specs.Entries.{base, cone_of};
+ghost use Rattle.filter_apply.specs.Founds.{AreFoundAt, IsFoundAt};
 ghost use Rattle.filter_unapply.specs.Hands.{IsFaultOf, IsIn, IsMadeOf};
-ghost use Rattle.filter_unapply.specs.Sifted.{IsFitting, IsShown, IsWithin, asked, put_back, sifted, stays, taken_out};
+ghost use Rattle.filter_unapply.specs.Sifted.{IsFitting, IsRun, IsShown, IsWithin, asked, fitted, put_back};
+ghost use Rattle.filter_unapply.specs.Sifted.{sifted, stays, taken_out};
 
 use crate::LayFault;
 use decision_lists::Entry;
-use git_objects::Name;
+use filter_apply::founds_of;
+use git_objects::{Name, Steps};
 use object_store::{Store, store_law};
 use path_names::Path;
 use path_trees::{Found, entry_at, taken_in};
 use stage_tree::Stage;
 use std::alloc::{AllocError, Global};
+use std::marker::Brand;
+use std::sync::ledger::{Blank, Ledger};
 
 // The tree of the paths that the list gives something, or of the others. Whole directories are taken by their names,
 // and only those on the way to the list's cones are made anew, each once.
@@ -51,13 +57,77 @@ fn staged(
     ensures { IfOk result (λ s. Shows store.now s (sifted inside list.now (flat store.now root.0))) }
 {
     store_law(store);
+    let founds = founds_by::<Brand>(alloc, store, list, root, Blank::new(1))?;
     let mut stage = start(alloc, store, inside, root)?;
-    let mut level = list.len();
-    'entries: while level > 0 {
-        level -= 1;
-        with_entry(alloc, store, &list[level], inside, root, &mut stage)?;
+    let mut end = list.len();
+    'runs: while end > 0 {
+        let first = run_start(list, end);
+        with_run(
+            alloc, store, list, &founds, first, end, inside, root, &mut stage,
+        )?;
+        end = first;
     }
     Ok(stage)
+}
+
+// What stands at the bases of entries.
+fn founds_by<L: Ledger>(
+    alloc: Global,
+    store: &Store,
+    list: &[Entry],
+    root: Name,
+    blank: Blank,
+) -> Result<Vec<Option<Found>>, AllocError>
+    requires blank { (blank.name ≡ L.name) × (blank.parts ≡ L.parts) × (0 < blank.parts) }
+    requires root { has Tree store.now root.0 ≡ true }
+    ensures { IfOk result (λ v. AreFoundAt store.now (flat store.now root.0) list.now v.items) }
+{
+    let mut steps = Steps::<L>::new(blank);
+    founds_of(alloc, store, root, list, &mut steps)
+}
+
+// Where the run of entries begins that ends at a place, and that all have targets or all have none.
+fn run_start(list: &[Entry], end: usize) -> usize
+    requires some { 0 < end }
+    requires within { end ≤ length list.now }
+    ensures before { result < end }
+    ensures alike { IsRun list.now result end }
+{
+    let mut first = end - 1;
+    let kept = stays(&list[first], true);
+    'entries: while first > 0 && stays(&list[first - 1], true) == kept {
+        first -= 1;
+    }
+    first
+}
+
+// Changes what a stage shows by the entries of a run, of which each takes out what it has, or each puts it back: so they
+// may be asked in any order, and are in that of the list, which mostly is the order of their bases.
+fn with_run(
+    alloc: Global,
+    store: &Store,
+    list: &[Entry],
+    founds: &[Option<Found>],
+    first: usize,
+    end: usize,
+    inside: bool,
+    root: Name,
+    stage: &mut Stage,
+) -> Result<(), AllocError>
+    requires root { has Tree store.now root.0 ≡ true }
+    requires founds { AreFoundAt store.now (flat store.now root.0) list.now founds.now }
+    requires before { first ≤ end }
+    requires within { end ≤ length list.now }
+    requires alike { IsRun list.now first end }
+    requires shows { Shows store.now stage.old (sifted inside (drop end list.now) (flat store.now root.0)) }
+    ensures { OnOk result
+        (Shows store.now stage.new (sifted inside (drop first list.now) (flat store.now root.0))) }
+{
+    store_law(store);
+    for i in first..end {
+        with_entry(alloc, store, &list[i], founds[i], inside, root, stage)?;
+    }
+    Ok(())
 }
 
 // A stage that shows what an empty list leaves.
@@ -94,7 +164,8 @@ pub fn without(
         return Ok(());
     }
     if list.len() == 1 && stays(&list[0], true) {
-        with_entry(alloc, store, &list[0], false, root, stage)?;
+        let founds = founds_by::<Brand>(alloc, store, list, root, Blank::new(1))?;
+        with_entry(alloc, store, &list[0], founds[0], false, root, stage)?;
         return Ok(());
     }
     let part = stage.finish(store)?;
@@ -117,11 +188,13 @@ fn with_entry(
     alloc: Global,
     store: &Store,
     entry: &Entry,
+    found: Option<Found>,
     inside: bool,
     root: Name,
     stage: &mut Stage,
 ) -> Result<(), AllocError>
     requires root { has Tree store.now root.0 ≡ true }
+    requires found { IsFoundAt store.now (flat store.now root.0) (base entry.now.0) found }
     requires shows { (u : Flat) × Shows store.now stage.old u }
     ensures { OnOk result ((u : Flat) → Shows store.now stage.old u → IsWithin u (flat store.now root.0) →
         IsShown store.now stage.new (asked inside entry.now (flat store.now root.0) u)) }
@@ -133,9 +206,9 @@ fn with_entry(
     }
     let path = Path::of_parts(alloc, entry.base.as_slice(), &[])?;
     if stays {
-        return put_back(store, entry.point, &path, root, stage);
+        return put_back(store, entry.point, &path, found, root, stage);
     }
-    taken_out(store, entry.point, &path, root, stage)
+    taken_out(store, entry.point, &path, found, root, stage)
 }
 
 // Whether a path stays that an entry has.
@@ -177,15 +250,18 @@ fn put_back(
     store: &Store,
     point: bool,
     path: &Path,
+    found: Option<Found>,
     root: Name,
     stage: &mut Stage,
 ) -> Result<(), AllocError>
     requires root { has Tree store.now root.0 ≡ true }
+    requires found { IsFoundAt store.now (flat store.now root.0) path.now found }
     requires shows { (u : Flat) × Shows store.now stage.old u }
     ensures { OnOk result ((u : Flat) → Shows store.now stage.old u → IsWithin u (flat store.now root.0) →
         IsShown store.now stage.new (put_back (cone_of point path.now) (flat store.now root.0) u)) }
 {
-    if let Some(found) = fitting(store, root, point, path) {
+    store_law(store);
+    if let Some(found) = fitted(point, found) {
         stage.put(store, path, found)?;
     }
     Ok(())
@@ -197,18 +273,31 @@ fn taken_out(
     store: &Store,
     point: bool,
     path: &Path,
+    found: Option<Found>,
     root: Name,
     stage: &mut Stage,
 ) -> Result<(), AllocError>
     requires root { has Tree store.now root.0 ≡ true }
+    requires found { IsFoundAt store.now (flat store.now root.0) path.now found }
     requires shows { (u : Flat) × Shows store.now stage.old u }
     ensures { OnOk result ((u : Flat) → Shows store.now stage.old u → IsWithin u (flat store.now root.0) →
         IsShown store.now stage.new (taken_out (cone_of point path.now) u)) }
 {
-    if let Some(_) = fitting(store, root, point, path) {
+    store_law(store);
+    if let Some(_) = fitted(point, found) {
         stage.remove(store, path)?;
     }
     Ok(())
+}
+
+// What was found, where it is of this kind: a leaf for one path alone, or else a directory.
+fn fitted(point: bool, found: Option<Found>) -> Option<Found>
+    ensures { result ≡ fitted point found }
+{
+    match found {
+        Some(found) if found.mode.is_dir() != point => Some(found),
+        _ => None,
+    }
 }
 
 // What stands at a path: the leaf, or the directory of all below it. Nothing where the other kind stands there.
@@ -218,8 +307,5 @@ pub fn fitting(store: &Store, root: Name, point: bool, path: &Path) -> Option<Fo
     ensures store { IsStore store.now }
 {
     store_law(store);
-    match entry_at(store, root, path) {
-        Some(found) if found.mode.is_dir() != point => Some(found),
-        _ => None,
-    }
+    fitted(point, entry_at(store, root, path))
 }

@@ -1,7 +1,9 @@
-use Rattle.std.proofs.Common.{Some, subst}
+use Rattle.std.proofs.Common.{Some, None, sym, subst, ◌∙◌}
 use Rattle.object_store.specs.Unfolding.{flat}
+use Rattle.decision_lists.specs.Entries.{cone_of}
 use Rattle.filter_unapply.specs.Sifted.{IsFitting}
-use Rattle.filter_unapply.proofs.Stages.{back-found}
+use Rattle.filter_unapply.proofs.Fittings.{fits}
+use Rattle.filter_unapply.proofs.Stages.{back-absent, back-found}
 use Rattle.filter_unapply.proofs.Told.{is_tree}
 use Rattle.filter_unapply.proofs.sifting.put_back.Goals as goal
 
@@ -9,5 +11,14 @@ pub returns-in_ok-put : goal.returns-in_ok-put
 returns-in_ok-put c =
     let S = c.args.store.now in
     let t = flat S c.args.root.0 in
-    let k : IsFitting S t c.args.point c.args.path.now (Some c.in-Some.found) = subst (IsFitting S t c.args.point c.args.path.now) c.in-Some.is c.fitting.ensures.found in
-    λ u s w. back-found S c.put.new.self t u (is_tree S c.fitting.ensures.store c.args.root.0 c.requires.root) w c.args.point c.args.path.now c.in-Some.found k (c.in_ok-put.ensures.ok u s)
+    let tree = is_tree S c.store_law.ensures.store c.args.root.0 c.requires.root in
+    let k : IsFitting S t c.args.point c.args.path.now (Some c.in-Some.found) = subst (IsFitting S t c.args.point c.args.path.now) (sym c.fitted.ensures ∙ c.in-Some.is) (fits S t c.args.point c.args.path.now c.args.found tree c.requires.found) in
+    λ u s w. back-found S c.put.new.self t u tree w c.args.point c.args.path.now c.in-Some.found k (c.in_ok-put.ensures.ok u s)
+
+pub returns-in_default : goal.returns-in_default
+returns-in_default c =
+    let S = c.args.store.now in
+    let t = flat S c.args.root.0 in
+    let tree = is_tree S c.store_law.ensures.store c.args.root.0 c.requires.root in
+    let k : IsFitting S t c.args.point c.args.path.now None = subst (IsFitting S t c.args.point c.args.path.now) (sym c.fitted.ensures ∙ c.in_default.is) (fits S t c.args.point c.args.path.now c.args.found tree c.requires.found) in
+    λ u s w. back-absent S c.args.stage.now t u w (cone_of c.args.point c.args.path.now) k s

@@ -12,6 +12,7 @@ use Rattle.path_trees.proofs.MadeObjects.{grown-by}
 use Rattle.filter_unapply.proofs.MadeTrees.{err-again, err-by, known-as}
 use Rattle.filter_unapply.proofs.Moves.{no-component}
 use Rattle.filter_unapply.proofs.Stages.{directories-made, shown-all, shown-one}
+use Rattle.filter_unapply.proofs.Runs.{found-in}
 use Rattle.filter_unapply.proofs.sifting.without.Goals as goal
 
 pub returns-then-is_empty-clause-ok : goal.returns-then-is_empty-clause-ok
@@ -112,3 +113,9 @@ returns-clause-store c =
     let more : (o : Object) → IsMadeOf (IsIn v) o → IsMadeOf (IsIn t) o = known-as (IsIn v) (IsIn t) (λ p x e. w p x (ap (λ (z : Flat). at z p) (sym same) ∙ e)) in
     grown_then (IsMadeOf (IsIn t)) S R c.sifted.new.store (grown-by (HasDirectory u) (IsMadeOf (IsIn t)) made S R (c.finish.ensures u s).grown)
     (grown_as (IsMadeOf (IsIn v)) (IsMadeOf (IsIn t)) R c.sifted.new.store more c.sifted.ensures.store)
+
+pub with_entry-requires-clause-found : goal.with_entry-requires-clause-found
+with_entry-requires-clause-found c =
+    let S = c.args.store.now in
+    let less : 0 < length c.args.list.now = omega (arith, c.if-list-eq1.true) in
+    found-in S (flat S c.args.root.0) c.args.list.now c.in_ok-founds.founds.items c.in_ok-founds.ensures 0 c.index-list-0-then-stays.result less c.index-list-0-then-stays.is c.index.result.now c.index.result.now c.index.ensures
